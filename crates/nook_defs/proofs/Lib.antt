@@ -1,0 +1,12 @@
+pub mod OnLiterals
+pub mod TraceOnLiterals
+pub mod KnownLemmas
+pub mod InputOnLiterals
+pub mod NameText
+pub mod AsmText
+pub mod AsmNumbers
+pub mod AsmInstrs
+pub mod AsmDecoded
+pub mod AsmSteps
+pub mod AsmWhole
+pub mod ImageBack

@@ -1,0 +1,202 @@
+use Rattle.std.specs.Prelude.{ℕ, ◌+◌, List, [], ◌∷◌, codes, bytes_eq, Bool, true, false, ◌||◌, Option, Some, None, Result, Ok, Err, if◌then◌else◌}
+use Rattle.nook_defs.specs.AsmTokens.{kind_of, but_last, register_of, is_register}
+use Rattle.nook_defs.specs.Keys.{key_text, class_named, entry_keys}
+use Rattle.nook_defs.specs.Mnemonics.{mnemonic_named, form_of}
+use Rattle.nook_defs.specs.declared.assembler.AsmKind.{AsmKind}
+use Rattle.nook_defs.specs.declared.assembler.AsmKind.TheVariants as fault
+use Rattle.nook_defs.specs.declared.assembler.Form.{Form}
+use Rattle.nook_defs.specs.declared.assembler.Form.TheVariants as form
+use Rattle.nook_defs.specs.declared.assembler.Label.{Label}
+use Rattle.nook_defs.specs.declared.assembler.Mnemonic.{Mnemonic}
+use Rattle.nook_defs.specs.declared.assembler.Operands.{Operands}
+use Rattle.nook_defs.specs.declared.assembler.Section.{Section}
+use Rattle.nook_defs.specs.declared.assembler.Section.TheVariants as section
+use Rattle.nook_defs.specs.declared.assembler.Statement.{Statement}
+use Rattle.nook_defs.specs.declared.assembler.Statement.TheVariants as statement
+use Rattle.nook_defs.specs.declared.assembler.TokenKind.{TokenKind}
+use Rattle.nook_defs.specs.declared.assembler.TokenKind.TheVariants as kind
+use Rattle.nook_defs.specs.declared.assembler.Value.{Value}
+use Rattle.nook_defs.specs.declared.assembler.Value.TheVariants as value
+use Rattle.nook_defs.specs.declared.data.Class.{Class}
+use Rattle.nook_defs.specs.declared.input.Key.{Key}
+
+-- What the tokens of one line say, or the smallest of the kinds 1 to 3 that the line has. It hangs on the labels of the
+-- text only by the values that they give, on the class so far, and on the section that the line stands in.
+
+-- what each name is defined as, if it is
+abbrev pub Labels : Type 0
+Labels = List ℕ → Option Label
+
+-- no name is defined
+abbrev pub no_labels : Labels
+no_labels name = None
+
+-- the first definition of a name
+abbrev pub first_of : List Label → Labels
+first_of [] name = None
+first_of (label ∷ more) name = if bytes_eq name label.name then Some label else first_of more name
+
+-- ---- operands
+
+-- the place of a label that is defined
+abbrev pub label_value : Option Label → Value
+label_value None = value.Missing
+label_value (Some label) = value.Known label.place
+
+-- the value of a token of a kind: a number, or a name that is no register
+abbrev pub value_by : TokenKind → Labels → List ℕ → Option Value
+value_by kind.Name labels token = if is_register token then None else Some (label_value (labels token))
+value_by kind.Definition labels token = None
+value_by kind.Directive labels token = None
+value_by (kind.Number number) labels token = Some (value.Known number)
+value_by kind.Bad labels token = None
+
+-- the value of a token, where it may be one
+unfoldable pub value_of : Labels → List ℕ → Option Value
+value_of labels token = value_by (kind_of token) labels token
+
+-- registers and a value, where each is right
+abbrev pub operands_with : Option ℕ → Option ℕ → Option Value → Option Operands
+operands_with (Some a) (Some b) (Some imm) = Some (record { a = a; b = b; imm = imm })
+operands_with _ _ _ = None
+
+-- for a form without the register
+abbrev pub no_register : Option ℕ
+no_register = Some 0
+
+-- for a form without the immediate
+abbrev pub no_value : Option Value
+no_value = Some (value.Known 0)
+
+-- the operands of a form; None where there are more or fewer, or one is of another sort
+unfoldable pub operands_of : Labels → Form → List (List ℕ) → Option Operands
+operands_of labels form.Bare [] = operands_with no_register no_register no_value
+operands_of labels form.A (a ∷ []) = operands_with (register_of a) no_register no_value
+operands_of labels form.Imm (imm ∷ []) = operands_with no_register no_register (value_of labels imm)
+operands_of labels form.AB (a ∷ b ∷ []) = operands_with (register_of a) (register_of b) no_value
+operands_of labels form.AImm (a ∷ imm ∷ []) = operands_with (register_of a) no_register (value_of labels imm)
+operands_of labels form.ABImm (a ∷ b ∷ imm ∷ []) = operands_with (register_of a) (register_of b) (value_of labels imm)
+operands_of _ _ _ = None
+
+-- ---- statements
+
+-- a statement, where its operands are right
+abbrev pub right_or_wrong : {T : Type 0} → (T → Statement) → Option T → Result Statement AsmKind
+right_or_wrong says (Some right) = Ok (says right)
+right_or_wrong says None = Err fault.WrongOperands
+
+-- an instruction stands in the text alone
+abbrev pub instr_statement : Labels → Section → Mnemonic → List (List ℕ) → Result Statement AsmKind
+instr_statement labels section.Text mnemonic rest = right_or_wrong (statement.Instr mnemonic) (operands_of labels (form_of mnemonic) rest)
+instr_statement labels section.Data mnemonic rest = Err fault.WrongOperands
+
+-- a first token that is a name must be a mnemonic
+abbrev pub named_statement : Labels → Section → Option Mnemonic → List (List ℕ) → Result Statement AsmKind
+named_statement labels section (Some mnemonic) rest = instr_statement labels section mnemonic rest
+named_statement labels section None rest = Err fault.UnknownName
+
+-- a directive without operands
+abbrev pub bare_statement : Statement → List (List ℕ) → Result Statement AsmKind
+bare_statement says [] = Ok says
+bare_statement says (token ∷ more) = Err fault.WrongOperands
+
+-- `.word` and one value
+unfoldable pub word_statement : Labels → List (List ℕ) → Result Statement AsmKind
+word_statement labels (token ∷ []) = right_or_wrong statement.Word (value_of labels token)
+word_statement labels _ = Err fault.WrongOperands
+
+-- `.class` and a name: a name that is no class is told before operands that are too many
+abbrev pub class_by : TokenKind → Option Class → List (List ℕ) → Result Statement AsmKind
+class_by kind.Name (Some class) more = bare_statement (statement.Class class) more
+class_by kind.Name None more = Err fault.UnknownName
+class_by _ _ more = Err fault.WrongOperands
+
+-- `.class` and one class
+unfoldable pub class_statement : List (List ℕ) → Result Statement AsmKind
+class_statement [] = Err fault.WrongOperands
+class_statement (name ∷ more) = class_by (kind_of name) (class_named name) more
+
+-- the place of an entry's name among the entries of a class
+abbrev pub place_among : ℕ → List Key → List ℕ → Option ℕ
+place_among place [] name = None
+place_among place (known ∷ more) name = if bytes_eq name (key_text known) then Some place else place_among (place + 1) more name
+
+-- the one value of an entry
+abbrev pub entry_value : Labels → ℕ → List (List ℕ) → Result Statement AsmKind
+entry_value labels place (token ∷ []) = right_or_wrong (statement.Entry place) (value_of labels token)
+entry_value labels place _ = Err fault.WrongOperands
+
+-- `.entry` by its name: one that the class does not have is told before operands that are too few or too many
+abbrev pub entry_by : Labels → TokenKind → Option ℕ → List (List ℕ) → Result Statement AsmKind
+entry_by labels kind.Name (Some place) more = entry_value labels place more
+entry_by labels kind.Name None more = Err fault.UnknownName
+entry_by labels _ _ more = Err fault.WrongOperands
+
+-- `.entry`, a name of the class so far and a value
+unfoldable pub entry_statement : Labels → Option Class → List (List ℕ) → Result Statement AsmKind
+entry_statement labels (Some class) (name ∷ more) = entry_by labels (kind_of name) (place_among 0 (entry_keys class) name) more
+entry_statement labels _ _ = Err fault.WrongOperands
+
+-- one of the five directives and its operands
+unfoldable pub directive_statement : Labels → Option Class → List ℕ → List (List ℕ) → Result Statement AsmKind
+directive_statement labels class directive rest =
+    if bytes_eq directive (codes ".class") then class_statement rest
+    else if bytes_eq directive (codes ".entry") then entry_statement labels class rest
+    else if bytes_eq directive (codes ".text") then bare_statement (statement.Section section.Text) rest
+    else if bytes_eq directive (codes ".data") then bare_statement (statement.Section section.Data) rest
+    else if bytes_eq directive (codes ".word") then word_statement labels rest
+    else Err fault.WrongOperands
+
+-- a statement, by what its first token is
+abbrev pub statement_by : TokenKind → Labels → Option Class → Section → List ℕ → List (List ℕ) → Result Statement AsmKind
+statement_by kind.Name labels class section first rest = named_statement labels section (mnemonic_named first) rest
+statement_by kind.Directive labels class section first rest = directive_statement labels class first rest
+statement_by _ labels class section first rest = Err fault.WrongOperands
+
+-- what the tokens behind the definition say
+unfoldable pub statement_of : Labels → Option Class → Section → List (List ℕ) → Result Statement AsmKind
+statement_of labels class section [] = Ok statement.Nothing
+statement_of labels class section (first ∷ rest) = statement_by (kind_of first) labels class section first rest
+
+-- ---- lines
+
+-- a name and a colon
+abbrev pub is_definition : TokenKind → Bool
+is_definition kind.Definition = true
+is_definition _ = false
+
+-- the name that a line defines, a register's too
+abbrev pub definition_of : List (List ℕ) → Option (List ℕ)
+definition_of [] = None
+definition_of (first ∷ rest) = if is_definition (kind_of first) then Some (but_last first) else None
+
+-- the tokens behind the definition
+abbrev pub behind_definition : List (List ℕ) → List (List ℕ)
+behind_definition [] = []
+behind_definition (first ∷ rest) = if is_definition (kind_of first) then rest else first ∷ rest
+
+-- no token of the language
+abbrev pub is_bad : TokenKind → Bool
+is_bad kind.Bad = true
+is_bad _ = false
+
+-- one of the tokens is none of the language
+abbrev pub has_bad_token : List (List ℕ) → Bool
+has_bad_token [] = false
+has_bad_token (token ∷ more) = is_bad (kind_of token) || has_bad_token more
+
+-- a statement that stands in a line with wrong operands elsewhere
+abbrev pub at_most_wrong : Result Statement AsmKind → Result Statement AsmKind
+at_most_wrong (Ok says) = Err fault.WrongOperands
+at_most_wrong (Err kind) = Err kind
+
+-- a register's name may not be defined
+abbrev pub behind_name : Option (List ℕ) → Result Statement AsmKind → Result Statement AsmKind
+behind_name None said = said
+behind_name (Some name) said = if is_register name then at_most_wrong said else said
+
+-- what a line says, or the smallest of its faults of the kinds 1 to 3
+unfoldable pub line_says : Labels → Option Class → Section → List (List ℕ) → Result Statement AsmKind
+line_says labels class section tokens =
+    if has_bad_token tokens then Err fault.BadToken
+    else behind_name (definition_of tokens) (statement_of labels class section (behind_definition tokens))

@@ -1,0 +1,83 @@
+use Rattle.std.specs.Prelude.{ℕ, ◌+◌, ◌-◌, ◌==◌, ◌&&◌, ◌||◌, not, nat_le, min, Bool, List, [], ◌∷◌, length, take, drop, take_while, filter, slice_index, codes, bytes_eq, Option, Some, None, is_some, if◌then◌else◌}
+use Rattle.std.specs.Char.{is_digit, digit_value}
+use Rattle.std.specs.List.{list_all, slice_split}
+use Rattle.std.specs.Str.Parse.{digits_value}
+use Rattle.nook_defs.specs.declared.assembler.TokenKind.{TokenKind}
+use Rattle.nook_defs.specs.declared.assembler.TokenKind.TheVariants as kind
+
+-- the bytes that end a line, begin a comment and stand between tokens
+
+-- a line ends here
+abbrev pub is_line_feed : ℕ → Bool
+is_line_feed b = b == 10
+
+-- anything but the `;` that begins a comment
+abbrev pub is_before_comment : ℕ → Bool
+is_before_comment b = not (b == 59)
+
+-- space, tab, carriage return or comma
+abbrev pub is_separator : ℕ → Bool
+is_separator b = b == 32 || b == 9 || b == 13 || b == 44
+
+-- some bytes
+abbrev pub is_not_empty : List ℕ → Bool
+is_not_empty bytes = not (length bytes == 0)
+
+-- the pieces, but for an empty one at the end
+abbrev pub without_empty_last : List (List ℕ) → List (List ℕ)
+without_empty_last [] = []
+without_empty_last (piece ∷ []) = filter is_not_empty (piece ∷ [])
+without_empty_last (piece ∷ next ∷ more) = piece ∷ without_empty_last (next ∷ more)
+
+-- the lines of a text: behind the last line feed there is one only where something stands there
+unfoldable pub lines_of : List ℕ → List (List ℕ)
+lines_of text = without_empty_last (slice_split is_line_feed text)
+
+-- the tokens of a line: the runs between separators, up to the comment
+unfoldable pub tokens_of : List ℕ → List (List ℕ)
+tokens_of line = filter is_not_empty (slice_split is_separator (take_while is_before_comment line))
+
+-- a letter or `_`
+abbrev pub is_letter : ℕ → Bool
+is_letter b = nat_le 65 b && nat_le b 90 || nat_le 97 b && nat_le b 122 || b == 95
+
+-- a letter, `_` or a digit
+abbrev pub is_letter_or_digit : ℕ → Bool
+is_letter_or_digit b = is_letter b || nat_le 48 b && nat_le b 57
+
+-- 1 to 32 letters, digits and `_`, no digit first
+unfoldable pub is_label_name : List ℕ → Bool
+is_label_name bytes = nat_le 1 (length bytes) && nat_le (length bytes) 32 && is_letter (slice_index bytes 0) && list_all is_letter_or_digit bytes
+
+-- one digit or more of the base, and nothing else
+unfoldable pub is_numeral : ℕ → List ℕ → Bool
+is_numeral base bytes = nat_le 1 (length bytes) && list_all (λ b. is_digit b base) bytes
+
+-- the number that the digits write, where 2^32 stands for all numbers from there on
+abbrev pub numeral_value : ℕ → List ℕ → ℕ
+numeral_value base bytes = min (digits_value base bytes) 4294967296
+
+-- the token without its last byte
+abbrev pub but_last : List ℕ → List ℕ
+but_last bytes = take (length bytes - 1) bytes
+
+-- what a token is
+unfoldable pub kind_of : List ℕ → TokenKind
+kind_of token =
+    if is_label_name token then kind.Name
+    else if is_label_name (but_last token) && slice_index token (length token - 1) == 58 then kind.Definition
+    else if slice_index token 0 == 46 && is_label_name (drop 1 token) then kind.Directive
+    else if is_numeral 10 token then kind.Number (numeral_value 10 token)
+    else if bytes_eq (take 2 token) (codes "0x") && is_numeral 16 (drop 2 token) then kind.Number (numeral_value 16 (drop 2 token))
+    else kind.Bad
+
+-- the register that a name is, of `r0` to `r15`
+unfoldable pub register_of : List ℕ → Option ℕ
+register_of name =
+    if length name == 2 && slice_index name 0 == 114 && is_digit (slice_index name 1) 10 then Some (digit_value (slice_index name 1))
+    else if length name == 3 && slice_index name 0 == 114 && slice_index name 1 == 49 && is_digit (slice_index name 2) 6 then Some (10 + digit_value (slice_index name 2))
+    else None
+
+-- a register's name, which is no label
+abbrev pub is_register : List ℕ → Bool
+is_register name = is_some (register_of name)

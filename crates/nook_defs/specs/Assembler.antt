@@ -1,0 +1,184 @@
+use Rattle.std.specs.Prelude.{ℕ, ◌+◌, ◌==◌, ◌++◌, nat_lt, List, [], ◌∷◌, length, replicate, slice_get, slice_set, Bool, true, false, not, ◌||◌, Option, Some, None, is_some, option_map, Result, Ok, Err, ⊤, if◌then◌else◌}
+use Rattle.nook_defs.specs.AsmLines.{Labels, no_labels, first_of, definition_of, line_says}
+use Rattle.nook_defs.specs.AsmTokens.{is_register, lines_of, tokens_of}
+use Rattle.nook_defs.specs.Classes.{entry_count}
+use Rattle.nook_defs.specs.Machine.{encode_of}
+use Rattle.nook_defs.specs.Mnemonics.{instr_with}
+use Rattle.nook_defs.specs.Results.{◌>>=◌}
+use Rattle.nook_defs.specs.declared.assembler.AsmFault.{AsmFault}
+use Rattle.nook_defs.specs.declared.assembler.AsmKind.{AsmKind}
+use Rattle.nook_defs.specs.declared.assembler.AsmKind.TheVariants as fault
+use Rattle.nook_defs.specs.declared.assembler.Label.{Label}
+use Rattle.nook_defs.specs.declared.assembler.Section.{Section}
+use Rattle.nook_defs.specs.declared.assembler.Section.TheVariants as section
+use Rattle.nook_defs.specs.declared.assembler.Statement.{Statement}
+use Rattle.nook_defs.specs.declared.assembler.Statement.TheVariants as statement
+use Rattle.nook_defs.specs.declared.assembler.Value.{Value}
+use Rattle.nook_defs.specs.declared.assembler.Value.TheVariants as value
+use Rattle.nook_defs.specs.declared.data.Class.{Class}
+use Rattle.nook_defs.specs.declared.data.Image.{Image}
+
+-- ---- first pass: the labels
+
+-- where the next words go: the line, the section, and the words that each section has
+pub record Places : Type 0 where
+  pub line : ℕ
+  pub in_section : Section
+  pub text : ℕ
+  pub initial : ℕ
+
+-- the place of the next word; data comes behind the 2,048 words of the text
+abbrev pub place_in : Section → Places → ℕ
+place_in section.Text at = at.text
+place_in section.Data at = 2048 + at.initial
+
+-- the label that a line defines: a register's name defines none
+abbrev pub label_of : Option (List ℕ) → Places → List Label
+label_of None at = []
+label_of (Some name) at = if is_register name then [] else record { name = name; place = place_in at.in_section at; line = at.line } ∷ []
+
+-- one line further
+abbrev pub next_line : Places → Places
+next_line at = record at { line = at.line + 1 }
+
+-- a section with one word more
+abbrev pub one_word : Section → Places → Places
+one_word section.Text at = record at { text = at.text + 1 }
+one_word section.Data at = record at { initial = at.initial + 1 }
+
+-- places behind a line: one with a fault of the kinds 1 to 3 adds no word and leaves the section
+abbrev pub places_after : Result Statement AsmKind → Places → Places
+places_after (Ok (statement.Section in_section)) at = record at { in_section = in_section }
+places_after (Ok (statement.Word value)) at = one_word at.in_section at
+places_after (Ok (statement.Instr mnemonic operands)) at = one_word at.in_section at
+places_after _ at = at
+
+-- the labels that the lines define, in order. No place hangs on a label's value or on the class.
+unfoldable pub labels_from : Places → List (List ℕ) → List Label
+labels_from at [] = []
+labels_from at (line ∷ more) = let tokens = tokens_of line in
+    label_of (definition_of tokens) at ++ labels_from (next_line (places_after (line_says no_labels None at.in_section tokens) at)) more
+
+-- places at the first line
+abbrev pub first_places : Places
+first_places = record { line = 1; in_section = section.Text; text = 0; initial = 0 }
+
+-- ---- second pass: the image
+
+-- what the lines so far have given; `entries` has a place for each entry of the class
+pub record Draft : Type 0 where
+  pub class : Option Class
+  pub entries : List (Option ℕ)
+  pub in_section : Section
+  pub text : List ℕ
+  pub initial : List ℕ
+
+-- nothing given yet, in the text
+abbrev pub first_draft : Draft
+first_draft = record { class = None; entries = []; in_section = section.Text; text = []; initial = [] }
+
+-- a fault where a test holds
+abbrev pub fault_if : Bool → AsmKind → Result ⊤ AsmKind
+fault_if true kind = Err kind
+fault_if false kind = Ok tt
+
+-- a known value is above the most that may stand
+abbrev pub is_above : ℕ → Value → Bool
+is_above most (value.Known number) = nat_lt most number
+is_above most value.Missing = false
+
+-- a value is above what it may be
+abbrev pub is_out_of_range : Statement → Bool
+is_out_of_range (statement.Entry place value) = is_above 2047 value
+is_out_of_range (statement.Word value) = is_above 4294967295 value
+is_out_of_range (statement.Instr mnemonic operands) = is_above 65535 operands.imm
+is_out_of_range _ = false
+
+-- the first definition of the name stands on another line
+abbrev pub is_other_line : Option Label → ℕ → Bool
+is_other_line None line = false
+is_other_line (Some label) line = not (label.line == line)
+
+-- the line defines a name again
+abbrev pub is_second_label : Labels → ℕ → Option (List ℕ) → Bool
+is_second_label labels line None = false
+is_second_label labels line (Some name) = is_other_line (labels name) line
+
+-- an entry of the class that has its value
+abbrev pub is_given : Option (Option ℕ) → Bool
+is_given (Some (Some number)) = true
+is_given _ = false
+
+-- the class or the entry was given before
+abbrev pub is_second_given : Draft → Statement → Bool
+is_second_given draft (statement.Class class) = is_some draft.class
+is_second_given draft (statement.Entry place value) = is_given (slice_get draft.entries place)
+is_second_given draft _ = false
+
+-- the number of a value; its label must be defined
+abbrev pub known : Value → Result ℕ AsmKind
+known (value.Known number) = Ok number
+known value.Missing = Err fault.MissingLabel
+
+-- the draft with one more word, of at most 2,048 in each section
+abbrev pub with_word : Section → ℕ → Draft → Result Draft AsmKind
+with_word section.Text word draft =
+    if nat_lt (length draft.text) 2048 then Ok (record draft { text = draft.text ++ word ∷ [] }) else Err fault.TextTooLong
+with_word section.Data word draft =
+    if nat_lt (length draft.initial) 2048 then Ok (record draft { initial = draft.initial ++ word ∷ [] }) else Err fault.DataTooLong
+
+-- the draft with its class, and none of its entries given
+abbrev pub with_class : Class → Draft → Draft
+with_class class draft = record draft { class = Some class; entries = replicate (entry_count class) None }
+
+-- the draft after a statement
+abbrev pub with_statement : Statement → Draft → Result Draft AsmKind
+with_statement statement.Nothing draft = Ok draft
+with_statement (statement.Class class) draft = Ok (with_class class draft)
+with_statement (statement.Entry place value) draft = do
+  number ← known value
+  Ok (record draft { entries = slice_set draft.entries place (Some number) })
+with_statement (statement.Section in_section) draft = Ok (record draft { in_section = in_section })
+with_statement (statement.Word value) draft = do
+  number ← known value
+  with_word draft.in_section number draft
+with_statement (statement.Instr mnemonic operands) draft = do
+  number ← known operands.imm
+  with_word draft.in_section (encode_of (instr_with mnemonic operands.a operands.b number)) draft
+
+-- the draft after a line, or the smallest kind of fault that the line has: kinds 1 to 3, then 4, then 5, then 6 to 8
+unfoldable pub draft_after : Labels → ℕ → List (List ℕ) → Draft → Result Draft AsmKind
+draft_after labels line tokens draft = do
+  says ← line_says labels draft.class draft.in_section tokens
+  in_range ← fault_if (is_out_of_range says) fault.NumberRange
+  first ← fault_if (is_second_label labels line (definition_of tokens) || is_second_given draft says) fault.DoubleLabel
+  with_statement says draft
+
+-- a fault at a line
+abbrev pub at_line : {T : Type 0} → ℕ → Result T AsmKind → Result T AsmFault
+at_line line (Ok made) = Ok made
+at_line line (Err kind) = Err (record { kind = kind; line = line })
+
+-- the draft after all lines, the first of them with its number, or the fault of the first line that has one
+unfoldable pub draft_from : Labels → ℕ → List (List ℕ) → Draft → Result Draft AsmFault
+draft_from labels line [] draft = Ok draft
+draft_from labels line (first ∷ more) draft = do
+  next ← at_line line (draft_after labels line (tokens_of first) draft)
+  draft_from labels (line + 1) more next
+
+-- the values, where each is given
+abbrev pub all_given : List (Option ℕ) → Option (List ℕ)
+all_given [] = Some []
+all_given (None ∷ more) = None
+all_given (Some number ∷ more) = option_map (number ∷◌) (all_given more)
+
+-- the image of a draft that has a class and its entries
+abbrev pub image_with : Option Class → Option (List ℕ) → Draft → Result Image AsmKind
+image_with (Some class) (Some entries) draft = Ok (record { class = class; entries = entries; text = draft.text; initial = draft.initial })
+image_with _ _ draft = Err fault.MissingEntry
+
+-- the image of an assembler text, or its first fault. A class or an entry that is missing stands behind the last line.
+unfoldable pub assembled : List ℕ → Result Image AsmFault
+assembled text = let lines = lines_of text in do
+  draft ← draft_from (first_of (labels_from first_places lines)) 1 lines first_draft
+  at_line (length lines + 1) (image_with draft.class (all_given draft.entries) draft)

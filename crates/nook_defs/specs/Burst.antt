@@ -1,0 +1,115 @@
+use Rattle.std.specs.Prelude.{ℕ, zero, suc, ◌-◌, ◌+◌, ◌==◌, nat_le, nat_lt, if◌then◌else◌, Bool, true, false, Option, Some, None, List, [], ◌∷◌, ◌++◌, length, slice_set}
+use Rattle.nook_defs.specs.declared.data.Act.{Act}
+use Rattle.nook_defs.specs.declared.data.Entry.{Entry}
+use Rattle.nook_defs.specs.declared.data.Fault.{Fault}
+use Rattle.nook_defs.specs.declared.data.FaultKind.{FaultKind}
+use Rattle.nook_defs.specs.declared.data.FaultKind.TheVariants as fault
+use Rattle.nook_defs.specs.declared.data.TrapCause.{TrapCause}
+use Rattle.nook_defs.specs.declared.data.TrapCause.TheVariants as trap
+use Rattle.nook_defs.specs.declared.machine.BurstEnd.{BurstEnd}
+use Rattle.nook_defs.specs.declared.machine.BurstEnd.TheVariants as ends
+use Rattle.nook_defs.specs.Pages.{written}
+use Rattle.nook_defs.specs.Turn.{Machine, Turn, turn}
+
+-- a burst: the machine after it, its acts in order, the number of its turns, and how it ended
+pub record Burst : Type 0 where
+  pub machine : Machine
+  pub acts : List Act
+  pub count : ℕ
+  pub ending : BurstEnd
+
+abbrev pub ended : ℕ → Machine → List Act → BurstEnd → Burst
+ended count m acts ending = record { machine = m; acts = acts; count = count; ending = ending }
+
+-- the machine after the faults of one place struck, the faults that are left, and the trap that one of them is
+pub record Struck : Type 0 where
+  pub machine : Machine
+  pub rest : List Fault
+  pub stopped : Option TrapCause
+
+-- a fault's change of memory: a poke only where the driver may write, a code fault only in the text
+abbrev pub struck_memory : List Entry → FaultKind → List ℕ → List ℕ
+struck_memory entries fault.Trap memory = memory
+struck_memory entries fault.Hang memory = memory
+struck_memory entries (fault.Poke address value) memory = written entries address value memory
+struck_memory entries (fault.Code address value) memory =
+    if nat_lt address 2048 then slice_set memory address value else memory
+struck_memory entries (fault.Reg register value) memory = memory
+
+-- a fault's change of the registers
+abbrev pub struck_registers : FaultKind → List ℕ → List ℕ
+struck_registers fault.Trap registers = registers
+struck_registers fault.Hang registers = registers
+struck_registers (fault.Poke address value) registers = registers
+struck_registers (fault.Code address value) registers = registers
+struck_registers (fault.Reg register value) registers =
+    if nat_lt register 16 then slice_set registers register value else registers
+
+-- the trap that a fault is
+abbrev pub trap_of : FaultKind → Option TrapCause
+trap_of fault.Trap = Some trap.Injected
+trap_of fault.Hang = Some trap.Hang
+trap_of (fault.Poke address value) = None
+trap_of (fault.Code address value) = None
+trap_of (fault.Reg register value) = None
+
+abbrev pub struck_machine : List Entry → FaultKind → Machine → Machine
+struck_machine entries k m = record m {
+  cpu = record m.cpu { registers = struck_registers k m.cpu.registers };
+  memory = struck_memory entries k m.memory;
+}
+
+abbrev pub past_trap : Struck → Machine → List Fault → Option TrapCause → Struck
+past_trap more m rest None = more
+past_trap more m rest (Some cause) = record { machine = m; rest = rest; stopped = Some cause }
+
+-- the faults of one place strike in order, up to a trap
+abbrev pub strikes_at : ℕ → List Entry → List Fault → Machine → Struck
+strikes_at place entries [] m = record { machine = m; rest = []; stopped = None }
+strikes_at place entries (f ∷ faults) m =
+    elim (f.after == place) [
+      | true ↦ past_trap (strikes_at place entries faults (struck_machine entries f.kind m)) m faults (trap_of f.kind)
+      | false ↦ record { machine = m; rest = f ∷ faults; stopped = None }
+    ]
+
+-- an injected hang has the count of a whole burst, an injected trap that of the turns before it
+abbrev pub count_at : ℕ → TrapCause → ℕ
+count_at count trap.Hang = 4096
+count_at count _ = count
+
+abbrev pub acts_of : Option Act → List Act
+acts_of None = []
+acts_of (Some done) = done ∷ []
+
+-- the 64th act ends a burst
+abbrev pub past_acts : (Machine → List Act → Burst) → ℕ → Machine → List Act → Bool → Burst
+past_acts go_on count m acts true = ended count m acts ends.Pause
+past_acts go_on count m acts false = go_on m acts
+
+-- a crossing ends a burst
+abbrev pub past_crossing : (Machine → List Act → Burst) → ℕ → Machine → List Act → Option BurstEnd → Burst
+past_crossing go_on count m acts None = past_acts go_on count m acts (nat_le 64 (length acts))
+past_crossing go_on count m acts (Some crossing) = ended count m acts crossing
+
+abbrev pub past_turn : (Machine → List Act → Burst) → ℕ → List Act → Turn → Burst
+past_turn go_on count acts t = past_crossing go_on count t.machine (acts ++ acts_of t.act) t.crossing
+
+-- a fault's trap ends a burst
+abbrev pub past_stop : (List Fault → Machine → Burst) → ℕ → List Act → Machine → List Fault → Option TrapCause → Burst
+past_stop go_on count acts m rest None = go_on rest m
+past_stop go_on count acts m rest (Some cause) = ended (count_at count cause) m acts (ends.Trap cause)
+
+abbrev pub past_strikes : (List Fault → Machine → Burst) → ℕ → List Act → Struck → Burst
+past_strikes go_on count acts s = past_stop go_on count acts s.machine s.rest s.stopped
+
+-- a burst with so many turns left: the faults of this place, then a turn; a burst without a crossing is a hang
+unfoldable pub burst_from : ℕ → List Entry → List Fault → Machine → List Act → Burst
+burst_from zero entries faults m acts = ended 4096 m acts (ends.Trap trap.Hang)
+burst_from (suc left) entries faults m acts =
+    past_strikes
+    (λ rest struck. past_turn (λ m' acts'. burst_from left entries rest m' acts') (4096 - left) acts (turn entries struck))
+    (4096 - suc left) acts (strikes_at (4096 - suc left) entries faults m)
+
+-- one burst up to its crossing, with the faults of the burst in rising order of their places
+unfoldable pub burst : List Entry → List Fault → Machine → Burst
+burst entries faults m = burst_from 4096 entries faults m []

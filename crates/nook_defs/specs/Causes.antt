@@ -1,0 +1,35 @@
+-- What the outside tells of its faults, and what a whole read or write leaves.
+use Rattle.std.specs.Prelude.{◌≡◌, ℕ, ◌+◌, ◌-◌, ◌^◌, ◌<◌, ◌≤◌, min, List, [], ◌++◌, length, Option, Some, None, Result, OnErr, MatchResult}
+use Rattle.std.specs.Io.KnownBytes.{Appends}
+
+-- a count of faults rose, or it stands at the end of its type
+abbrev pub Rose : ℕ → ℕ → Type 0
+Rose before now = min (before + 1) (2 ^ 64 - 1) ≤ now
+
+-- a count of faults never falls, and a refusal comes only where it rose
+pub record HasCause {T E : Type 0} (before now : ℕ) (result : Result T E) : Type 0 where
+  pub later : before ≤ now
+  pub failed : OnErr result (Rose before now)
+
+-- the same for a write, which may also refuse by taking nothing
+pub record HasWriteCause {E : Type 0} (before now : ℕ) (result : Result ℕ E) : Type 0 where
+  pub later : before ≤ now
+  pub failed : MatchResult result (λ n. n ≡ 0 → Rose before now) (λ _. Rose before now)
+
+-- bytes were read to the end: where the source tells its bytes they are all of them, and none are left
+abbrev pub ReadsAll : Option (List ℕ) → Option (List ℕ) → List ℕ → Type 0
+ReadsAll None now bytes = Unit {0}
+ReadsAll (Some left) None bytes = ⊥
+ReadsAll (Some left) (Some rest) bytes = (bytes ≡ left) × (rest ≡ [])
+
+-- where the source tells its bytes, there are more than the limit
+abbrev pub HoldsMore : Option (List ℕ) → ℕ → Type 0
+HoldsMore None limit = Unit {0}
+HoldsMore (Some left) limit = limit < length left
+
+-- a sink gained a front of a text
+pub record AppendsPrefix (old new : Option (List ℕ)) (text : List ℕ) : Type 0 where
+  pub front : List ℕ
+  pub rest : List ℕ
+  pub gained : Appends old new front
+  pub whole : front ++ rest ≡ text

@@ -1,0 +1,178 @@
+use Rattle.std.specs.Prelude.{ℕ, ◌+◌, ◌*◌, ◌==◌, ◌&&◌, if◌then◌else◌, Bool, true, false, Option, Some, None, Result, Ok, Err, List, [], ◌∷◌, length, slice_index, slice_set}
+use Rattle.nook_defs.specs.declared.classes.Accept.{Accept}
+use Rattle.nook_defs.specs.declared.classes.Accept.TheVariants as accepts
+use Rattle.nook_defs.specs.declared.data.Answer.{Answer}
+use Rattle.nook_defs.specs.declared.data.Answer.TheVariants as answer
+use Rattle.nook_defs.specs.declared.data.CallEntry.{CallEntry}
+use Rattle.nook_defs.specs.declared.data.End.{End}
+use Rattle.nook_defs.specs.declared.data.End.TheVariants as end
+use Rattle.nook_defs.specs.declared.data.FailCause.{FailCause}
+use Rattle.nook_defs.specs.declared.data.FailCause.TheVariants as fail
+use Rattle.nook_defs.specs.declared.data.Mode.{Mode}
+use Rattle.nook_defs.specs.declared.data.Mode.TheVariants as mode
+use Rattle.nook_defs.specs.declared.data.Op.{Op}
+use Rattle.nook_defs.specs.declared.data.Op.TheVariants as op
+use Rattle.nook_defs.specs.declared.data.Stage.{Stage}
+use Rattle.nook_defs.specs.declared.data.Stage.TheVariants as stage
+use Rattle.nook_defs.specs.declared.machine.BadParam.{BadParam}
+use Rattle.nook_defs.specs.declared.machine.BurstEnd.{BurstEnd}
+use Rattle.nook_defs.specs.declared.machine.BurstEnd.TheVariants as ends
+use Rattle.nook_defs.specs.declared.machine.Service.{Service}
+use Rattle.nook_defs.specs.Classes.{accept}
+use Rattle.nook_defs.specs.Domain.{no_context, first_argument, second_argument, attempt_bursts, result_set, left_domain, noted, buffer_words}
+use Rattle.nook_defs.specs.Entries.{is_registered}
+use Rattle.nook_defs.specs.Log.{call_of_thread, acknowledged, answered, frame_or_empty, queue_after, replay_after}
+use Rattle.nook_defs.specs.Pages.{buffer_start}
+use Rattle.nook_defs.specs.Services.{Served, checked, served}
+use Rattle.nook_defs.specs.State.{DomainState, PartState}
+
+-- What the crossing at the end of a burst asks is done in the same step.
+
+-- the part after a crossing, and what the event shows of it
+pub record Crossed : Type 0 where
+  pub state : PartState
+  pub end : End
+  pub answer : Option Answer
+  pub failure : Option FailCause
+
+-- Failures
+
+abbrev pub without_shadow : DomainState → DomainState
+without_shadow d = record d { contexts = slice_set d.contexts 16 no_context }
+
+-- a failure: it is counted, also in object 0, the shadow's call ends, and the part recovers from Stop on
+unfoldable pub fails : PartState → PartState
+fails p = record p {
+  domain = noted 4 (p.failures + 1) (without_shadow p.domain);
+  mode = mode.Recovering stage.Stop;
+  failures = p.failures + 1;
+}
+
+abbrev pub failed : PartState → End → FailCause → Crossed
+failed p e cause = record { state = fails p; end = e; answer = None; failure = Some cause }
+
+abbrev pub goes_on : PartState → End → Crossed
+goes_on p e = record { state = p; end = e; answer = None; failure = None }
+
+-- the burst was the 32nd of its attempt
+abbrev pub is_last : ℕ → PartState → Bool
+is_last context p = attempt_bursts context p.domain == 32
+
+-- Kernel calls
+
+-- a kernel call that is not served
+abbrev pub refused_service : ℕ → ℕ → PartState → End
+refused_service number context p =
+    end.Service number (first_argument context p.domain) (second_argument context p.domain) None []
+
+abbrev pub heap_start : PartState → ℕ
+heap_start p = 2048 + length p.spec.image.initial
+
+abbrev pub with_served : ℕ → Served → PartState → PartState
+with_served context s p = record p {
+  domain = result_set context s.answer (record p.domain { memory = s.memory; entries = s.entries });
+  queue = s.queue;
+}
+
+abbrev pub served_call : ℕ → ℕ → Served → PartState → Crossed
+served_call number context s p = goes_on (with_served context s p)
+    (end.Service number (first_argument context p.domain) (second_argument context p.domain) (Some s.answer) s.moved)
+
+abbrev pub serve_by : ℕ → ℕ → PartState → Result Service BadParam → Crossed
+serve_by number context p (Err bad) =
+    failed p (refused_service number context p) (fail.BadParam bad.service bad.argument)
+serve_by number context p (Ok s) =
+    served_call number context (served (heap_start p) s p.domain.memory p.domain.entries p.queue) p
+
+abbrev pub kernel_call : ℕ → ℕ → PartState → Crossed
+kernel_call number context p = serve_by number context p
+    (checked number (first_argument context p.domain) (second_argument context p.domain) p.spec.class p.domain.entries)
+
+-- Replies of the shadow's own calls
+
+abbrev pub stage_in : Mode → Stage
+stage_in (mode.Boot s) = s
+stage_in (mode.Recovering s) = s
+stage_in mode.Running = stage.Resume
+stage_in (mode.Dead collected) = stage.Collect
+
+abbrev pub is_init : Stage → Bool
+is_init stage.Init = true
+is_init _ = false
+
+abbrev pub next_mode : Mode → PartState → Mode
+next_mode (mode.Boot s) p = mode.Boot stage.Resume
+next_mode (mode.Recovering s) p = mode.Recovering (replay_after s p.log)
+next_mode m p = m
+
+-- the shadow's call is accepted: status 0, and for Init the driver is registered
+abbrev pub is_accepted : ℕ → PartState → Bool
+is_accepted status p =
+    status == 0 && (if is_init (stage_in p.mode) then is_registered p.domain.entries else true)
+
+abbrev pub shadow_fault : ℕ → Stage → FailCause
+shadow_fault status s = if is_init s then fail.BadInit status else fail.BadReply status
+
+unfoldable pub next_stage : PartState → PartState
+next_stage p = record p { domain = left_domain 16 p.domain; mode = next_mode p.mode p }
+
+abbrev pub shadow_replied : ℕ → PartState → Crossed
+shadow_replied status p =
+    if is_accepted status p
+    then goes_on (next_stage p) (end.Reply status)
+    else failed p (end.Reply status) (shadow_fault status (stage_in p.mode))
+
+-- Replies of applications' calls
+
+-- the answer to an operation whose reply has status 0
+abbrev pub reply_answer : Op → ℕ → PartState → Answer
+reply_answer (op.Read first count) thread p = answer.Blocks (buffer_words thread (16 * count) p.domain)
+reply_answer (op.Write first words) thread p = answer.Done
+reply_answer (op.Send frame) thread p = answer.Done
+reply_answer op.Recv thread p = frame_or_empty p.queue
+reply_answer op.Open thread p = answer.Done
+reply_answer (op.Play samples) thread p = answer.Done
+reply_answer op.Close thread p = answer.Done
+reply_answer (op.Get key) thread p = answer.Value (slice_index p.domain.memory (buffer_start thread))
+reply_answer (op.Set key value) thread p = answer.Done
+
+-- an acknowledged Set stands in object 0
+abbrev pub noted_set : Op → DomainState → DomainState
+noted_set (op.Set key value) d = noted key value d
+noted_set _ d = d
+
+-- the call is answered: its loan ends, and the record and the holder follow
+unfoldable pub closes : CallEntry → PartState → PartState
+closes c p = record p {
+  domain = noted_set c.op (left_domain c.thread p.domain);
+  log = answered c.call (acknowledged c.thread c.op p.log);
+  queue = queue_after c.op p.queue;
+}
+
+abbrev pub accepted : CallEntry → ℕ → Answer → PartState → Crossed
+accepted c status a p = record { state = closes c p; end = end.Reply status; answer = Some a; failure = None }
+
+abbrev pub reply_by : CallEntry → ℕ → PartState → Accept → Crossed
+reply_by c status p accepts.Take = accepted c status (reply_answer c.op c.thread p) p
+reply_by c status p (accepts.IoError block) = accepted c status (answer.IoError block) p
+reply_by c status p (accepts.Fail cause) = failed p (end.Reply status) cause
+
+abbrev pub call_replied : ℕ → PartState → Option CallEntry → Crossed
+call_replied status p None = goes_on p (end.Reply status)
+call_replied status p (Some c) = reply_by c status p (accept c.op status)
+
+abbrev pub replied : ℕ → ℕ → PartState → Crossed
+replied status context p =
+    if context == 16 then shadow_replied status p
+    else call_replied status p (call_of_thread context p.log.pending)
+
+-- the crossing of a context: a trap; a 32nd burst that is no reply; a kernel call; a pause; a reply
+unfoldable pub crossed : ℕ → BurstEnd → PartState → Crossed
+crossed context (ends.Trap cause) p = failed p end.Trap (fail.Trap cause)
+crossed context (ends.Kcall number) p =
+    if is_last context p
+    then failed p (refused_service number context p) fail.TooManyCrossings
+    else kernel_call number context p
+crossed context ends.Pause p =
+    if is_last context p then failed p end.Pause fail.TooManyCrossings else goes_on p end.Pause
+crossed context (ends.Reply status) p = replied status context p

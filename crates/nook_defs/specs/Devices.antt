@@ -1,0 +1,220 @@
+use Rattle.std.specs.Prelude.{ℕ, ◌+◌, ◌-◌, ◌*◌, ◌%◌, ◌^◌, min, ◌==◌, ◌&&◌, ◌||◌, nat_le, nat_lt, not, if◌then◌else◌, Bool, true, false, Option, Some, None, List, [], ◌∷◌, ◌++◌, take, length, replicate, slice_get, slice_index, slice_index_or, slice_set, unwrap_or}
+use Rattle.std.specs.List.{list_any}
+use Rattle.nook_defs.specs.declared.data.Act.{Act}
+use Rattle.nook_defs.specs.declared.data.Act.TheVariants as act
+use Rattle.nook_defs.specs.declared.data.BadBlock.{BadBlock}
+use Rattle.nook_defs.specs.declared.data.Class.{Class}
+use Rattle.nook_defs.specs.declared.data.Class.TheVariants as class
+use Rattle.nook_defs.specs.declared.data.DeviceKind.{DeviceKind}
+use Rattle.nook_defs.specs.declared.data.DeviceKind.TheVariants as kind
+use Rattle.nook_defs.specs.declared.data.DeviceState.{DeviceState}
+use Rattle.nook_defs.specs.declared.data.Disk.{Disk}
+use Rattle.nook_defs.specs.declared.data.Link.{Link}
+
+-- what a device gives at a port, and the device after it
+pub record Given : Type 0 where
+  pub word : ℕ
+  pub device : DeviceState
+
+-- the device after it took a word at a port, and its act, if it did one
+pub record Taken : Type 0 where
+  pub act : Option Act
+  pub device : DeviceState
+
+abbrev pub gives : ℕ → DeviceState → Option Given
+gives word device = Some (record { word = word; device = device })
+
+abbrev pub takes : Option Act → DeviceState → Option Taken
+takes done device = Some (record { act = done; device = device })
+
+abbrev pub with_disk : DeviceState → Disk → DeviceState
+with_disk d k = record d { kind = kind.Disk k }
+
+abbrev pub with_link : DeviceState → Link → DeviceState
+with_link d k = record d { kind = kind.Link k }
+
+-- the disk
+
+-- a block of a medium
+abbrev pub block_at : List (List ℕ) → ℕ → List ℕ
+block_at medium block = unwrap_or (slice_get medium block) []
+
+-- the word is a command, and the block register names a block
+abbrev pub is_command : ℕ → Disk → Bool
+is_command word k = (word == 1 || word == 2) && nat_lt k.block (length k.medium)
+
+-- the bad block's commands fail once so many were given
+abbrev pub strikes : ℕ → ℕ → BadBlock → Bool
+strikes block count b = b.block == block && nat_le b.after count
+
+-- a command on the block of the block register fails
+abbrev pub is_failing : Disk → Bool
+is_failing k = list_any (strikes k.block (slice_index k.counts k.block)) k.bad
+
+abbrev pub raised : ℕ → ℕ
+raised count = min (count + 1) (2 ^ 32 - 1)
+
+-- the disk after a command: a load fills the buffer, a store the medium, a command that fails neither
+abbrev pub commanded : ℕ → Disk → Disk
+commanded word k = record k {
+  medium = if word == 2 && not (is_failing k) then slice_set k.medium k.block k.buffer else k.medium;
+  counts = slice_set k.counts k.block (raised (slice_index k.counts k.block));
+  buffer = if word == 1 && not (is_failing k) then block_at k.medium k.block else k.buffer;
+  position = 0;
+  status = if is_failing k then 1 else 0;
+}
+
+-- the act of a command
+abbrev pub command_act : ℕ → Disk → Act
+command_act word k =
+    if is_failing k then act.Failed k.block (word == 2)
+    else (if word == 1 then act.Load k.block else act.Store k.block k.buffer)
+
+abbrev pub disk_input : ℕ → DeviceState → Disk → Option Given
+disk_input port d k =
+    if port == 1 then gives k.block d
+    else (if port == 2 then gives (slice_index k.buffer k.position) (with_disk d (record k { position = (k.position + 1) % 16 }))
+    else (if port == 3 then gives k.status d
+    else None))
+
+abbrev pub disk_output : ℕ → ℕ → DeviceState → Disk → Option Taken
+disk_output port word d k =
+    if port == 0 then
+    (if is_command word k then takes (Some (command_act word k)) (with_disk d (commanded word k)) else takes None d)
+    else (if port == 1 then takes None (with_disk d (record k { block = word; position = 0 }))
+    else (if port == 2 then takes None (with_disk d (record k { buffer = slice_set k.buffer k.position word; position = (k.position + 1) % 16 }))
+    else None))
+
+-- the net device
+
+-- the first frame of a ring, or no words
+abbrev pub head_of : List (List ℕ) → List ℕ
+head_of [] = []
+head_of (frame ∷ ring) = frame
+
+abbrev pub tail_of : List (List ℕ) → List (List ℕ)
+tail_of [] = []
+tail_of (frame ∷ ring) = ring
+
+abbrev pub is_empty_ring : List (List ℕ) → Bool
+is_empty_ring [] = true
+is_empty_ring (frame ∷ ring) = false
+
+-- the receive position after a word was read: it stays at an empty ring, and at 64, where no frame has a word
+abbrev pub next_reading : Link → ℕ
+next_reading k = if is_empty_ring k.ring then k.reading else min (k.reading + 1) 64
+
+abbrev pub link_input : ℕ → DeviceState → Link → Option Given
+link_input port d k =
+    if port == 1 then gives k.length d
+    else (if port == 3 then gives (length (head_of k.ring)) d
+    else (if port == 4 then gives (slice_index_or (head_of k.ring) k.reading 0) (with_link d (record k { reading = next_reading k }))
+    else None))
+
+-- word 1 sends the first words of the transmit buffer, word 2 lets the ring's head leave
+abbrev pub link_command : ℕ → DeviceState → Link → Option Taken
+link_command word d k =
+    if word == 1 && (nat_le 1 k.length && nat_le k.length 64) then takes (Some (act.Sent (take k.length k.buffer))) d
+    else (if word == 2 && not (is_empty_ring k.ring) then
+    takes (Some (act.Popped (head_of k.ring))) (with_link d (record k { ring = tail_of k.ring; reading = 0 }))
+    else takes None d)
+
+abbrev pub link_output : ℕ → ℕ → DeviceState → Link → Option Taken
+link_output port word d k =
+    if port == 0 then link_command word d k
+    else (if port == 1 then takes None (with_link d (record k { length = word; buffer = replicate 64 0; position = 0 }))
+    else (if port == 2 then
+    (if nat_lt k.position 64 then takes None (with_link d (record k { buffer = slice_set k.buffer k.position word; position = k.position + 1 })) else takes None d)
+    else None))
+
+-- the sound device
+
+abbrev pub speaker_output : ℕ → ℕ → DeviceState → Option Taken
+speaker_output port word d =
+    if port == 0 then takes (Some (act.Played word (slice_index d.registers 0) (slice_index d.registers 1))) d
+    else None
+
+-- every device
+
+abbrev pub kind_input : ℕ → DeviceState → DeviceKind → Option Given
+kind_input port d (kind.Disk k) = disk_input port d k
+kind_input port d (kind.Link k) = link_input port d k
+kind_input port d kind.Speaker = None
+
+abbrev pub kind_output : ℕ → ℕ → DeviceState → DeviceKind → Option Taken
+kind_output port word d (kind.Disk k) = disk_output port word d k
+kind_output port word d (kind.Link k) = link_output port word d k
+kind_output port word d kind.Speaker = speaker_output port word d
+
+-- ports 8 to 11 are the registers
+abbrev pub is_register_port : ℕ → Bool
+is_register_port port = nat_le 8 port && nat_le port 11
+
+-- what IN gives at a port; None where there is no such port
+abbrev pub input_of : ℕ → DeviceState → Option Given
+input_of port d =
+    if is_register_port port then gives (slice_index d.registers (port - 8)) d else kind_input port d d.kind
+
+-- what OUT does at a port; None where there is no such port
+abbrev pub output_of : ℕ → ℕ → DeviceState → Option Taken
+output_of port word d =
+    if is_register_port port then
+    takes (Some (act.Register (port - 8) word)) (record d { registers = slice_set d.registers (port - 8) word })
+    else kind_output port word d d.kind
+
+abbrev pub reset_kind : DeviceKind → DeviceKind
+reset_kind (kind.Disk k) = kind.Disk (record k { block = 0; buffer = replicate 16 0; position = 0; status = 0 })
+reset_kind (kind.Link k) = kind.Link (record { length = 0; buffer = replicate 64 0; position = 0; ring = []; reading = 0 })
+reset_kind kind.Speaker = kind.Speaker
+
+-- a reset: the registers take the defaults, all else is cleared but the medium and the counts of commands
+unfoldable pub reset_device : List ℕ → DeviceState → DeviceState
+reset_device defaults d = record { registers = defaults; kind = reset_kind d.kind }
+
+abbrev pub opening_kind : Class → ℕ → List BadBlock → DeviceKind
+opening_kind class.Block blocks bad = kind.Disk (record {
+  medium = replicate blocks (replicate 16 0);
+  bad = bad;
+  counts = replicate blocks 0;
+  block = 0;
+  buffer = replicate 16 0;
+  position = 0;
+  status = 0;
+})
+opening_kind class.Net blocks bad = kind.Link (record { length = 0; buffer = replicate 64 0; position = 0; ring = []; reading = 0 })
+opening_kind class.Sound blocks bad = kind.Speaker
+
+-- a device as after a reset, its medium zeros
+unfoldable pub opening_device : Class → ℕ → List BadBlock → List ℕ → DeviceState
+opening_device c blocks bad defaults = record { registers = defaults; kind = opening_kind c blocks bad }
+
+-- the frames in the ring
+abbrev pub ring_of_kind : DeviceKind → List (List ℕ)
+ring_of_kind (kind.Disk k) = []
+ring_of_kind (kind.Link k) = k.ring
+ring_of_kind kind.Speaker = []
+
+abbrev pub ring_of : DeviceState → List (List ℕ)
+ring_of d = ring_of_kind d.kind
+
+abbrev pub medium_of_kind : DeviceKind → List (List ℕ)
+medium_of_kind (kind.Disk k) = k.medium
+medium_of_kind (kind.Link k) = []
+medium_of_kind kind.Speaker = []
+
+abbrev pub medium_of : DeviceState → List (List ℕ)
+medium_of d = medium_of_kind d.kind
+
+-- an arriving frame is kept where the ring holds fewer than 16
+abbrev pub has_room : DeviceState → Bool
+has_room d = nat_lt (length (ring_of d)) 16
+
+abbrev pub kind_with_arrival : List ℕ → DeviceKind → DeviceKind
+kind_with_arrival frame (kind.Disk k) = kind.Disk k
+kind_with_arrival frame (kind.Link k) =
+    kind.Link (record k { ring = if nat_lt (length k.ring) 16 then k.ring ++ frame ∷ [] else k.ring })
+kind_with_arrival frame kind.Speaker = kind.Speaker
+
+-- the device after a frame arrived
+unfoldable pub with_arrival : List ℕ → DeviceState → DeviceState
+with_arrival frame d = record d { kind = kind_with_arrival frame d.kind }

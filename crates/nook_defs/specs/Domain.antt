@@ -1,0 +1,201 @@
+use Rattle.std.specs.Prelude.{ℕ, ◌+◌, ◌*◌, ◌/◌, Bool, true, false, Option, Some, None, List, [], ◌∷◌, ◌++◌, length, replicate, slice_get, slice_index, slice_range, slice_set}
+use Rattle.nook_defs.specs.declared.data.Act.{Act}
+use Rattle.nook_defs.specs.declared.data.DeviceState.{DeviceState}
+use Rattle.nook_defs.specs.declared.data.Entry.{Entry}
+use Rattle.nook_defs.specs.declared.data.Entry.TheVariants as entry
+use Rattle.nook_defs.specs.declared.data.Fault.{Fault}
+use Rattle.nook_defs.specs.declared.data.Image.{Image}
+use Rattle.nook_defs.specs.declared.data.Op.{Op}
+use Rattle.nook_defs.specs.declared.data.Op.TheVariants as op
+use Rattle.nook_defs.specs.declared.data.PartSpec.{PartSpec}
+use Rattle.nook_defs.specs.declared.machine.BurstEnd.{BurstEnd}
+use Rattle.nook_defs.specs.declared.machine.BurstEnd.TheVariants as ends
+use Rattle.nook_defs.specs.declared.machine.Context.{Context}
+use Rattle.nook_defs.specs.declared.machine.Cpu.{Cpu}
+use Rattle.nook_defs.specs.Burst.{Burst, burst}
+use Rattle.nook_defs.specs.Classes.{defaults_of}
+use Rattle.nook_defs.specs.Devices.{opening_device}
+use Rattle.nook_defs.specs.Entries.{opening_entries, with_entry, without_buffer, registered, collected}
+use Rattle.nook_defs.specs.Pages.{buffer_start, stack_end, object_start, opening_memory, loaded_memory, padded_words, with_words}
+use Rattle.nook_defs.specs.State.{DomainState}
+use Rattle.nook_defs.specs.Turn.{Machine}
+
+unfoldable pub opening_domain : PartSpec → DomainState
+opening_domain spec = record {
+  starts = spec.image.entries;
+  memory = opening_memory (defaults_of spec.class);
+  entries = opening_entries;
+  device = opening_device spec.class spec.blocks spec.bad (defaults_of spec.class);
+  contexts = replicate 17 None;
+}
+
+-- what an entry is given
+
+-- registers r1, r2 and r3 at an entry, the buffer's address among them
+pub record Arguments : Type 0 where
+  pub first : ℕ
+  pub second : ℕ
+  pub third : ℕ
+
+abbrev pub three : ℕ → ℕ → ℕ → Arguments
+three first second third = record { first = first; second = second; third = third }
+
+abbrev pub arguments_of : ℕ → Op → Arguments
+arguments_of context (op.Read first count) = three first count (buffer_start context)
+arguments_of context (op.Write first words) = three first (length words / 16) (buffer_start context)
+arguments_of context (op.Send frame) = three 0 (length frame) (buffer_start context)
+arguments_of context op.Recv = three 0 0 0
+arguments_of context op.Open = three 0 0 0
+arguments_of context (op.Play samples) = three 0 (length samples) (buffer_start context)
+arguments_of context op.Close = three 0 0 0
+arguments_of context (op.Get key) = three key 0 (buffer_start context)
+arguments_of context (op.Set key value) = three key value 0
+
+-- the words that a buffer is lent with, and whether the driver may write them
+pub record Lent : Type 0 where
+  pub writable : Bool
+  pub words : List ℕ
+
+abbrev pub lent : Bool → List ℕ → Option Lent
+lent writable words = Some (record { writable = writable; words = words })
+
+abbrev pub buffer_of : Op → Option Lent
+buffer_of (op.Read first count) = lent true []
+buffer_of (op.Write first words) = lent false words
+buffer_of (op.Send frame) = lent false frame
+buffer_of op.Recv = None
+buffer_of op.Open = None
+buffer_of (op.Play samples) = lent false samples
+buffer_of op.Close = None
+buffer_of (op.Get key) = lent true []
+buffer_of (op.Set key value) = None
+
+-- the processor at an entry: r14 is the end of the context's stack, all other registers are zero
+abbrev pub entry_registers : ℕ → Arguments → List ℕ
+entry_registers context a =
+    0 ∷ a.first ∷ a.second ∷ a.third ∷ (replicate 10 0 ++ stack_end context ∷ 0 ∷ [])
+
+abbrev pub entry_context : ℕ → ℕ → Arguments → Context
+entry_context start context a =
+    record { cpu = record { counter = start; registers = entry_registers context a }; bursts = 0 }
+
+-- the buffer's two pages hold the words and then zeros
+abbrev pub lent_memory : ℕ → Option Lent → List ℕ → List ℕ
+lent_memory context None memory = memory
+lent_memory context (Some l) memory = with_words (buffer_start context) (padded_words 128 l.words) memory
+
+abbrev pub lent_entries : ℕ → Option Lent → List Entry → List Entry
+lent_entries context None entries = entries
+lent_entries context (Some l) entries = with_entry (entry.Buffer context l.writable) entries
+
+-- the context enters the entry at a place, for an operation
+unfoldable pub entered_domain : ℕ → ℕ → Op → DomainState → DomainState
+entered_domain context place o d = record d {
+  memory = lent_memory context (buffer_of o) d.memory;
+  entries = lent_entries context (buffer_of o) d.entries;
+  contexts = slice_set d.contexts context (Some (entry_context (slice_index d.starts place) context (arguments_of context o)));
+}
+
+-- the context enters the entry at a place, with no arguments
+unfoldable pub plainly_entered : ℕ → ℕ → DomainState → DomainState
+plainly_entered context place d = record d
+    { contexts = slice_set d.contexts context (Some (entry_context (slice_index d.starts place) context (three 0 0 0))) }
+
+-- one context, where it is Inside
+
+abbrev pub no_context : Option Context
+no_context = None
+
+abbrev pub context_of : ℕ → List (Option Context) → Option Context
+context_of context contexts = joined (slice_get contexts context)
+  where
+    joined : Option (Option Context) → Option Context
+    joined None = None
+    joined (Some x) = x
+
+-- what a burst of a context leaves
+pub record DomainBurst : Type 0 where
+  pub domain : DomainState
+  pub count : ℕ
+  pub ending : BurstEnd
+  pub acts : List Act
+
+abbrev pub machine_of : Context → DomainState → Machine
+machine_of x d = record { cpu = x.cpu; memory = d.memory; device = d.device }
+
+-- the domain after a burst of a context: one burst more of its attempt
+abbrev pub after_burst : ℕ → Context → Burst → DomainState → DomainBurst
+after_burst context x b d = record {
+  domain = record d {
+    memory = b.machine.memory;
+    device = b.machine.device;
+    contexts = slice_set d.contexts context (Some (record { cpu = b.machine.cpu; bursts = x.bursts + 1 }));
+  };
+  count = b.count;
+  ending = b.ending;
+  acts = b.acts;
+}
+
+abbrev pub burst_by : ℕ → List Fault → DomainState → Option Context → DomainBurst
+burst_by context faults d None = record { domain = d; count = 0; ending = ends.Pause; acts = [] }
+burst_by context faults d (Some x) = after_burst context x (burst d.entries faults (machine_of x d)) d
+
+-- one burst of a context that is Inside, with the faults of the burst
+unfoldable pub domain_burst : ℕ → List Fault → DomainState → DomainBurst
+domain_burst context faults d = burst_by context faults d (context_of context d.contexts)
+
+abbrev pub register_of : ℕ → Option Context → ℕ
+register_of number None = 0
+register_of number (Some x) = slice_index x.cpu.registers number
+
+-- r1 and r2 of a context
+abbrev pub first_argument : ℕ → DomainState → ℕ
+first_argument context d = register_of 1 (context_of context d.contexts)
+
+abbrev pub second_argument : ℕ → DomainState → ℕ
+second_argument context d = register_of 2 (context_of context d.contexts)
+
+abbrev pub bursts_of : Option Context → ℕ
+bursts_of None = 0
+bursts_of (Some x) = x.bursts
+
+-- the bursts of a context's attempt so far
+abbrev pub attempt_bursts : ℕ → DomainState → ℕ
+attempt_bursts context d = bursts_of (context_of context d.contexts)
+
+abbrev pub with_result : ℕ → Option Context → Option Context
+with_result word None = None
+with_result word (Some x) =
+    Some (record x { cpu = record x.cpu { registers = slice_set x.cpu.registers 1 word } })
+
+-- a kernel call's result goes to r1
+unfoldable pub result_set : ℕ → ℕ → DomainState → DomainState
+result_set context word d =
+    record d { contexts = slice_set d.contexts context (with_result word (context_of context d.contexts)) }
+
+-- the context is free, and its buffer is lent no more
+unfoldable pub left_domain : ℕ → DomainState → DomainState
+left_domain context d = record d {
+  entries = without_buffer context d.entries;
+  contexts = slice_set d.contexts context no_context;
+}
+
+-- every context is free, and the driver is not registered
+unfoldable pub stopped_domain : DomainState → DomainState
+stopped_domain d = record d { entries = registered false d.entries; contexts = replicate 17 None }
+
+-- everything but the registration is released
+unfoldable pub collected_domain : DomainState → DomainState
+collected_domain d = record d { entries = collected d.entries }
+
+-- the image is put in place
+unfoldable pub loaded_domain : Image → DomainState → DomainState
+loaded_domain image d = record d { memory = loaded_memory image d.memory }
+
+-- the kernel writes a word of object 0
+unfoldable pub noted : ℕ → ℕ → DomainState → DomainState
+noted word value d = record d { memory = slice_set d.memory (object_start 0 + word) value }
+
+-- the first words of a context's buffer
+abbrev pub buffer_words : ℕ → ℕ → DomainState → List ℕ
+buffer_words context count d = slice_range d.memory (buffer_start context) (buffer_start context + count)

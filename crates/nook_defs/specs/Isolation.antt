@@ -1,0 +1,94 @@
+use Rattle.std.specs.Prelude.{◌≡◌, ◌⊎◌, ℕ, ◌+◌, ◌<◌, ◌≤◌, ◌==◌, ◌&&◌, ◌||◌, nat_lt, Bool, true, false, is_some, Option, Some, None, List, [], ◌∷◌, ◌++◌, replicate, slice_index}
+use Rattle.std.specs.List.{list_any}
+use Rattle.nook_defs.specs.declared.data.Answer.{Answer}
+use Rattle.nook_defs.specs.declared.data.Answer.TheVariants as answers
+use Rattle.nook_defs.specs.declared.data.CallEntry.{CallEntry}
+use Rattle.nook_defs.specs.declared.data.End.{End}
+use Rattle.nook_defs.specs.declared.data.End.TheVariants as end
+use Rattle.nook_defs.specs.declared.data.Entry.{Entry}
+use Rattle.nook_defs.specs.declared.data.Event.{Event}
+use Rattle.nook_defs.specs.declared.data.Event.TheVariants as event
+use Rattle.nook_defs.specs.declared.data.Fault.{Fault}
+use Rattle.nook_defs.specs.declared.data.FaultKind.{FaultKind}
+use Rattle.nook_defs.specs.declared.data.FaultKind.TheVariants as fault
+use Rattle.nook_defs.specs.declared.data.PartSpec.{PartSpec}
+use Rattle.nook_defs.specs.Classes.{is_set}
+use Rattle.nook_defs.specs.Entries.{is_borrow_of}
+use Rattle.nook_defs.specs.Log.{call_of_thread}
+use Rattle.nook_defs.specs.Pages.{may_write, object_words}
+use Rattle.nook_defs.specs.Runs.{step_of, state_after}
+use Rattle.nook_defs.specs.State.{PartState}
+use Rattle.nook_defs.specs.Steps.{opening}
+
+-- No driver changes a kernel object that is not lent to it.
+
+-- the 64 words of a part's kernel object
+abbrev pub object_of : ℕ → PartState → List ℕ
+object_of object p = object_words object p.domain.memory
+
+-- a served give_back of an object that moved these words
+abbrev pub IsGiveBack : ℕ → List ℕ → End → Type 0
+IsGiveBack object words (end.Service number first second answer moved) =
+    (number ≡ 5) × (first ≡ object) × (is_some answer ≡ true) × (moved ≡ words)
+IsGiveBack object words end.Pause = ⊥
+IsGiveBack object words end.Trap = ⊥
+IsGiveBack object words (end.Reply status) = ⊥
+
+abbrev pub GivesBack : ℕ → List ℕ → Event → Type 0
+GivesBack object words (event.Burst context call burst count e acts answer failure) = IsGiveBack object words e
+GivesBack object words _ = ⊥
+
+-- from one part to the next, an object 1 to 12 stays, or it was lent and its copy is given back to it
+abbrev pub KeepsObject : ℕ → PartState → Event → PartState → Type 0
+KeepsObject object p e q =
+    (object_of object q ≡ object_of object p)
+    ⊎ ((list_any (is_borrow_of object) p.domain.entries ≡ true) × GivesBack object (object_of object q) e)
+
+abbrev pub is_done : Option Answer → Bool
+is_done (Some answers.Done) = true
+is_done _ = false
+
+abbrev pub is_set_call : Option CallEntry → Bool
+is_set_call None = false
+is_set_call (Some c) = is_set c.op
+
+-- the event answers a Set Done, or carries a failure: what the kernel notes in object 0
+abbrev pub is_noted : PartState → Event → Bool
+is_noted p (event.Burst context call burst count e acts answer failure) =
+    is_some failure || (is_done answer && is_set_call (call_of_thread context p.log.pending))
+is_noted p _ = false
+
+-- object 0 is the record, the count of failures, and zeros
+abbrev pub kernel_object : PartState → List ℕ
+kernel_object p = p.log.config ++ (p.failures ∷ replicate 59 0)
+
+-- what a step may change of the kernel's objects
+pub record IsIsolatedStep (p : PartState) (e : Event) (q : PartState) : Type 0 where
+  pub objects : (object : ℕ) → 1 ≤ object → object ≤ 12 → KeepsObject object p e q
+  pub kernel : (object_of 0 q ≡ object_of 0 p) ⊎ (is_noted p e ≡ true)
+  pub record_told : object_of 0 q ≡ kernel_object q
+
+unfoldable pub IsIsolatedFrom : PartState → List Event → Type 0
+IsIsolatedFrom p [] = Unit {0}
+IsIsolatedFrom p (e ∷ events) =
+    IsIsolatedStep p e (state_after p (step_of e)) × IsIsolatedFrom (state_after p (step_of e)) events
+
+-- over a journal a kernel object changes only where it was lent, or the kernel changes it
+abbrev pub IsIsolated : PartSpec → List Event → Type 0
+IsIsolated spec journal = IsIsolatedFrom (opening spec) journal
+
+-- Inside a burst
+
+-- a fault writes the text word at the address
+abbrev pub is_code_at : ℕ → FaultKind → Bool
+is_code_at address (fault.Code a value) = nat_lt a 2048 && a == address
+is_code_at address _ = false
+
+abbrev pub writes_code : ℕ → Fault → Bool
+writes_code address f = is_code_at address f.kind
+
+-- no word changes that the driver may not write, but a text word that a fault of the burst names
+abbrev pub ChangesOnlyAllowed : List Entry → List Fault → List ℕ → List ℕ → Type 0
+ChangesOnlyAllowed entries faults before after =
+    (address : ℕ) → may_write entries address ≡ false → list_any (writes_code address) faults ≡ false
+    → slice_index after address ≡ slice_index before address

@@ -1,0 +1,79 @@
+use Rattle.std.specs.Prelude.{ℕ, zero, suc, ◌+◌, ◌-◌, ◌*◌, ◌/◌, ◌<◌, ◌≡◌, ◌==◌, ◌&&◌, ◌||◌, nat_le, nat_lt, if◌then◌else◌, Bool, true, false, Option, Some, None, List, [], ◌∷◌, ◌++◌, take, drop, length, replicate, slice_index, slice_set, slice_range}
+use Rattle.std.specs.List.{list_any}
+use Rattle.nook_defs.specs.declared.data.Entry.{Entry}
+use Rattle.nook_defs.specs.declared.data.Entry.TheVariants as entry
+use Rattle.nook_defs.specs.declared.data.Image.{Image}
+
+-- Addresses 0 to 8,191 in pages of 64 words: text to 2,047; initial words and the heap to 4,095; a stack page for
+-- each of the 17 contexts to 5,183; two buffer pages for each to 7,359; and the 13 kernel objects, a page each.
+
+-- the first address behind a context's stack page
+abbrev pub stack_end : ℕ → ℕ
+stack_end context = (65 + context) * 64
+
+-- where a context's buffer begins
+abbrev pub buffer_start : ℕ → ℕ
+buffer_start context = (81 + 2 * context) * 64
+
+-- where a kernel object begins
+abbrev pub object_start : ℕ → ℕ
+object_start object = (115 + object) * 64
+
+-- the entry lends the buffer of the context for writing
+abbrev pub lends : ℕ → Entry → Bool
+lends context (entry.Heap start len) = false
+lends context (entry.Borrow object start) = false
+lends context (entry.Buffer c writable) = c == context && writable
+lends context (entry.Registration live) = false
+
+-- the context's buffer is lent for writing
+abbrev pub is_lent : List Entry → ℕ → Bool
+is_lent entries context = list_any (lends context) entries
+
+-- a driver may write the address: the data area and the stacks, and a buffer while it is lent for writing
+abbrev pub may_write : List Entry → ℕ → Bool
+may_write entries address =
+    nat_le 2048 address && nat_lt address 5184
+    || (nat_le 5184 address && nat_lt address 7360) && is_lent entries ((address - 5184) / 128)
+
+-- the word at an address, where it may be read
+abbrev pub read_word : List ℕ → ℕ → Option ℕ
+read_word memory address = if nat_lt address 8192 then Some (slice_index memory address) else None
+
+-- the word at an address of the text, where it may be fetched
+abbrev pub fetch_word : List ℕ → ℕ → Option ℕ
+fetch_word memory address = if nat_lt address 2048 then Some (slice_index memory address) else None
+
+-- memory after a driver's write: as before where it may not write there
+abbrev pub written : List Entry → ℕ → ℕ → List ℕ → List ℕ
+written entries address word memory =
+    if may_write entries address then slice_set memory address word else memory
+
+-- memory with these words from an address on
+abbrev pub with_words : ℕ → List ℕ → List ℕ → List ℕ
+with_words start words memory = take start memory ++ (words ++ drop (start + length words) memory)
+
+-- words and then zeros, n in all
+abbrev pub padded_words : ℕ → List ℕ → List ℕ
+padded_words n words = words ++ replicate (n - length words) 0
+
+-- the 64 words of a kernel object
+abbrev pub object_words : ℕ → List ℕ → List ℕ
+object_words object memory = slice_range memory (object_start object) (object_start object + 64)
+
+-- what a kernel object holds at first: its number and zeros; object 0 the class's defaults
+abbrev pub opening_object : ℕ → List ℕ
+opening_object object = object ∷ replicate 63 0
+
+abbrev pub opening_objects : ℕ → ℕ → List ℕ
+opening_objects object zero = []
+opening_objects object (suc more) = opening_object object ++ opening_objects (suc object) more
+
+-- memory at first: zeros, then object 0 with the defaults, then objects 1 to 12
+unfoldable pub opening_memory : List ℕ → List ℕ
+opening_memory defaults = replicate 7360 0 ++ (padded_words 64 defaults ++ opening_objects 1 12)
+
+-- memory with an image put in place: its text, its initial words, zeros to the last buffer page; the objects stay
+unfoldable pub loaded_memory : Image → List ℕ → List ℕ
+loaded_memory image memory =
+    padded_words 2048 image.text ++ (padded_words 5312 image.initial ++ drop 7360 memory)

@@ -1,0 +1,207 @@
+use Rattle.std.specs.Prelude.{ℕ, zero, suc, Bool, true, false, List, [], ◌∷◌, ◌++◌, length, replicate, Option, Some, None, is_some, ◌+◌, ◌||◌, if◌then◌else◌, bytes_eq, codes, decimal}
+use Rattle.nook_defs.specs.declared.data.Act.{Act}
+use Rattle.nook_defs.specs.declared.data.Act.TheVariants as act
+use Rattle.nook_defs.specs.declared.data.Answer.{Answer}
+use Rattle.nook_defs.specs.declared.data.Break.{Break}
+use Rattle.nook_defs.specs.declared.data.Class.{Class}
+use Rattle.nook_defs.specs.declared.data.Class.TheVariants as class
+use Rattle.nook_defs.specs.declared.data.Event.{Event}
+use Rattle.nook_defs.specs.declared.data.Event.TheVariants as event
+use Rattle.nook_defs.specs.declared.data.Losses.{Losses}
+use Rattle.nook_defs.specs.declared.data.PartSpec.{PartSpec}
+use Rattle.nook_defs.specs.declared.data.Scenario.{Scenario}
+use Rattle.nook_defs.specs.declared.data.ThreadSpec.{ThreadSpec}
+use Rattle.nook_defs.specs.Contract.{first_break}
+use Rattle.nook_defs.specs.Devices.{medium_of}
+use Rattle.nook_defs.specs.Losses.{losses}
+use Rattle.nook_defs.specs.Pages.{object_words, opening_object}
+use Rattle.nook_defs.specs.Keys.{class_text}
+use Rattle.nook_defs.specs.ReportLines.{with_number, spaced, with_list, line_feed, answer_text, event_lines}
+use Rattle.nook_defs.specs.Runs.{state_of}
+use Rattle.nook_defs.specs.Stages.{is_given_up}
+use Rattle.nook_defs.specs.State.{PartState}
+
+-- The text of a report: the parts in order, then the threads, the taps and the status.
+
+-- ---- a part's first line
+
+-- part P NAME CLASS limit L
+abbrev pub part_line : ℕ → PartSpec → List ℕ
+part_line place s =
+    with_number (codes "part ") place ++ (codes " " ++ (s.name ++ (codes " " ++ (class_text s.class
+    ++ (with_number (codes " limit ") s.limit ++ line_feed)))))
+
+-- ---- lines of what a journal left
+
+-- a kernel object, where it differs from what it held at first
+abbrev pub object_line : ℕ → List ℕ → List ℕ
+object_line object words =
+    if bytes_eq words (opening_object object) then []
+    else with_number (codes "object ") object ++ (with_list (codes " ") words ++ line_feed)
+
+-- so many objects from one on
+abbrev pub object_lines : ℕ → ℕ → List ℕ → List ℕ
+object_lines object zero memory = []
+object_lines object (suc more) memory =
+    object_line object (object_words object memory) ++ object_lines (suc object) more memory
+
+-- a block, where it has another word than 0
+abbrev pub block_line : ℕ → List ℕ → List ℕ
+block_line block words =
+    if bytes_eq words (replicate 16 0) then []
+    else with_number (codes "disk ") block ++ (with_list (codes " ") words ++ line_feed)
+
+-- the blocks of a medium, the first of them number `block`
+abbrev pub block_lines : ℕ → List (List ℕ) → List ℕ
+block_lines block [] = []
+block_lines block (words ∷ medium) = block_line block words ++ block_lines (suc block) medium
+
+abbrev pub acts_of_event : Event → List Act
+acts_of_event (event.Burst context call burst count end acts a failure) = acts
+acts_of_event e = []
+
+-- the acts of a journal
+abbrev pub acts_of : List Event → List Act
+acts_of [] = []
+acts_of (e ∷ events) = acts_of_event e ++ acts_of events
+
+-- the frames sent
+abbrev pub wire_lines : List Act → List ℕ
+wire_lines [] = []
+wire_lines (act.Sent frame ∷ acts) = with_list (codes "wire ") frame ++ (line_feed ++ wire_lines acts)
+wire_lines (a ∷ acts) = wire_lines acts
+
+-- the samples played
+abbrev pub played_lines : List Act → List ℕ
+played_lines [] = []
+played_lines (act.Played word rate volume ∷ acts) =
+    with_number (codes "played ") word ++ (spaced rate ++ (spaced volume ++ (line_feed ++ played_lines acts)))
+played_lines (a ∷ acts) = played_lines acts
+
+-- what the device was left with or gave
+abbrev pub device_lines : Class → List Event → PartState → List ℕ
+device_lines class.Block events p = block_lines 0 (medium_of p.domain.device)
+device_lines class.Net events p = wire_lines (acts_of events)
+device_lines class.Sound events p = played_lines (acts_of events)
+
+abbrev pub spaced_each : List ℕ → List ℕ
+spaced_each [] = []
+spaced_each (word ∷ words) = spaced word ++ spaced_each words
+
+abbrev pub config_line : List ℕ → List ℕ
+config_line config = codes "config" ++ (spaced_each config ++ line_feed)
+
+-- the numbers of losses that are told of a class
+abbrev pub losses_lines : Class → Losses → List ℕ
+losses_lines class.Block n = []
+losses_lines class.Net n =
+    with_number (codes "losses sends ") n.sends ++ (line_feed
+    ++ (with_number (codes "frames arrived ") n.arrived ++ (with_number (codes " received ") n.received
+    ++ (with_number (codes " queued ") n.queued ++ (with_number (codes " ring ") n.ring
+    ++ (with_number (codes " driver ") n.driver ++ (with_number (codes " reset ") n.reset
+    ++ (with_number (codes " full_ring ") n.full_ring ++ (with_number (codes " full_queue ") n.full_queue ++ line_feed)))))))))
+losses_lines class.Sound n =
+    with_number (codes "losses samples ") n.samples ++ (with_number (codes " busy ") n.busy ++ line_feed)
+
+abbrev pub failures_line : ℕ → List ℕ
+failures_line failures = with_number (codes "failures ") failures ++ line_feed
+
+abbrev pub contract_line : Option Break → List ℕ
+contract_line None = codes "contract kept" ++ line_feed
+contract_line (Some b) =
+    with_number (codes "contract broken event ") b.event ++ (with_number (codes " clause ") b.clause ++ line_feed)
+
+-- the lines behind the events of a part: by the journal's numbers, its verdict and the state that it ends in
+abbrev pub final_lines : Class → List Event → Losses → Option Break → PartState → List ℕ
+final_lines c events n verdict p =
+    object_lines 1 12 p.domain.memory ++ (device_lines c events p ++ (config_line p.log.config
+    ++ (losses_lines c n ++ (failures_line p.failures ++ contract_line verdict))))
+
+-- a part's lines
+unfoldable pub part_text : ℕ → PartSpec → List Event → List ℕ
+part_text place s events =
+    part_line place s ++ (event_lines 1 events
+    ++ final_lines s.class events (losses events) (first_break s.class s.blocks events) (state_of s events))
+
+-- the parts, the first of them number `place`, each with its journal
+unfoldable pub parts_text : ℕ → List PartSpec → List (List Event) → List ℕ
+parts_text place [] journals = []
+parts_text place (s ∷ specs) [] = []
+parts_text place (s ∷ specs) (events ∷ journals) = part_text place s events ++ parts_text (suc place) specs journals
+
+-- ---- threads, taps, the status
+
+-- the answers of a thread, the first of them number `place`: K pP ANSWER
+abbrev pub answer_lines : ℕ → List (ℕ × Answer) → List ℕ
+answer_lines place [] = []
+answer_lines place (a ∷ answers) =
+    decimal place ++ (with_number (codes " p") a.0 ++ (codes " " ++ (answer_text a.1 ++ (line_feed ++ answer_lines (suc place) answers))))
+
+abbrev pub thread_line : ℕ → ThreadSpec → List ℕ
+thread_line place t = with_number (codes "thread ") place ++ (codes " " ++ (t.name ++ line_feed))
+
+-- the threads, the first of them number `place`, each with its answers
+unfoldable pub threads_text : ℕ → List ThreadSpec → List (List (ℕ × Answer)) → List ℕ
+threads_text place [] answers = []
+threads_text place (t ∷ threads) [] = []
+threads_text place (t ∷ threads) (own ∷ answers) =
+    thread_line place t ++ (answer_lines 1 own ++ threads_text (suc place) threads answers)
+
+abbrev pub tap_text : Bool → List ℕ
+tap_text true = codes " kept"
+tap_text false = codes " dropped"
+
+-- a listener's total, and whether it was kept
+abbrev pub tap_line : ℕ → ℕ × Bool → List ℕ
+tap_line place t =
+    with_number (codes "tap ") place ++ (with_number (codes " total ") t.0 ++ (tap_text t.1 ++ line_feed))
+
+-- the listeners, the first of them number `place`
+unfoldable pub taps_text : ℕ → List (ℕ × Bool) → List ℕ
+taps_text place [] = []
+taps_text place (t ∷ taps) = tap_line place t ++ taps_text (suc place) taps
+
+abbrev pub status_line : ℕ → List ℕ
+status_line status = with_number (codes "status ") status ++ line_feed
+
+-- some part broke its contract
+unfoldable pub has_break : List PartSpec → List (List Event) → Bool
+has_break [] journals = false
+has_break (s ∷ specs) [] = false
+has_break (s ∷ specs) (events ∷ journals) =
+    is_some (first_break s.class s.blocks events) || has_break specs journals
+
+-- some part was given up
+unfoldable pub has_given_up : List PartSpec → List (List Event) → Bool
+has_given_up [] journals = false
+has_given_up (s ∷ specs) [] = false
+has_given_up (s ∷ specs) (events ∷ journals) = is_given_up (state_of s events) || has_given_up specs journals
+
+-- the status of a run: 7 where a part broke its contract, else 1 where a part was given up, else 0
+abbrev pub status_of : List PartSpec → List (List Event) → ℕ
+status_of specs journals = if has_break specs journals then 7 else if has_given_up specs journals then 1 else 0
+
+-- the report of a scenario's journals, its threads' answers, its listeners' totals and a status
+unfoldable pub report_text : Scenario → List (List Event) → List (List (ℕ × Answer)) → List (ℕ × Bool) → ℕ → List ℕ
+report_text scenario journals answers taps status =
+    parts_text 0 scenario.parts journals ++ (threads_text 0 scenario.threads answers
+    ++ (taps_text 0 taps ++ status_line status))
+
+-- ---- the line that sums a generated scenario up
+
+-- the number of events of some journals
+abbrev pub events_count : List (List Event) → ℕ
+events_count [] = 0
+events_count (events ∷ journals) = length events + events_count journals
+
+unfoldable pub failures_count : List PartSpec → List (List Event) → ℕ
+failures_count [] journals = 0
+failures_count (s ∷ specs) [] = 0
+failures_count (s ∷ specs) (events ∷ journals) = (state_of s events).failures + failures_count specs journals
+
+-- gen N events E failures F status S
+unfoldable pub summary_line : ℕ → List PartSpec → List (List Event) → List ℕ
+summary_line n specs journals =
+    with_number (codes "gen ") n ++ (with_number (codes " events ") (events_count journals)
+    ++ (with_number (codes " failures ") (failures_count specs journals)
+    ++ (with_number (codes " status ") (status_of specs journals) ++ line_feed)))

@@ -1,0 +1,109 @@
+use Rattle.std.specs.Prelude.{◌≡◌, ℕ, zero, suc, ◌+◌, ◌==◌, ◌&&◌, if◌then◌else◌, Bool, true, false, is_some, Option, Some, None, List, [], ◌∷◌, ◌++◌, length}
+use Rattle.std.specs.List.{list_any}
+use Rattle.nook_defs.specs.declared.data.Answer.{Answer}
+use Rattle.nook_defs.specs.declared.data.CallEntry.{CallEntry}
+use Rattle.nook_defs.specs.declared.data.Event.{Event}
+use Rattle.nook_defs.specs.declared.data.Event.TheVariants as event
+use Rattle.nook_defs.specs.declared.data.PartSpec.{PartSpec}
+use Rattle.nook_defs.specs.declared.data.Step.{Step}
+use Rattle.nook_defs.specs.declared.data.Step.TheVariants as step
+use Rattle.nook_defs.specs.Calls.{Turned}
+use Rattle.nook_defs.specs.State.{PartState}
+use Rattle.nook_defs.specs.Steps.{opening, enabled, turned}
+
+-- a part with its journal
+pub record PartRun : Type 0 where
+  pub state : PartState
+  pub journal : List Event
+
+abbrev pub opening_run : PartSpec → PartRun
+opening_run spec = record { state = opening spec; journal = [] }
+
+abbrev pub state_after : PartState → Step → PartState
+state_after p s = (turned p s).state
+
+abbrev pub event_of : PartState → Step → Event
+event_of p s = (turned p s).event
+
+-- the part after a step: the journal has its event
+abbrev pub run_after : PartRun → Step → PartRun
+run_after r s = record { state = state_after r.state s; journal = r.journal ++ event_of r.state s ∷ [] }
+
+-- the step that an event names
+abbrev pub step_of : Event → Step
+step_of (event.Invoke call thread o answer) = step.Invoke thread o
+step_of (event.Enter call thread attempt answer) = step.Enter thread
+step_of (event.Burst context call burst count end acts answer failure) = step.Burst context
+step_of (event.Stage stage answers released) = step.Stage
+step_of (event.Arrive frame kept) = step.Arrive frame
+
+-- the events are made by their steps, each of which may be taken, from a part on
+unfoldable pub IsRunFrom : PartState → List Event → Type 0
+IsRunFrom p [] = Unit {0}
+IsRunFrom p (e ∷ events) =
+    (enabled p (step_of e) ≡ true) × (event_of p (step_of e) ≡ e) × IsRunFrom (state_after p (step_of e)) events
+
+-- the part that the steps of the events lead to
+unfoldable pub state_from : PartState → List Event → PartState
+state_from p [] = p
+state_from p (e ∷ events) = state_from (state_after p (step_of e)) events
+
+-- a journal is a run of a part
+abbrev pub IsRun : PartSpec → List Event → Type 0
+IsRun spec journal = IsRunFrom (opening spec) journal
+
+-- the part that a journal ends in
+abbrev pub state_of : PartSpec → List Event → PartState
+state_of spec journal = state_from (opening spec) journal
+
+-- What comes next
+
+abbrev pub if_enabled : PartState → Step → Option Step → Option Step
+if_enabled p s others = if enabled p s then Some s else others
+
+-- the Enter or Burst of a thread's open call, where it may be taken
+unfoldable pub next_for : PartState → ℕ → Option Step
+next_for p thread = if_enabled p (step.Enter thread) (if_enabled p (step.Burst thread) None)
+
+-- the stage or the burst of the shadow's context, where it may be taken
+unfoldable pub next_recovery : PartState → Option Step
+next_recovery p = if_enabled p step.Stage (if_enabled p (step.Burst 16) None)
+
+abbrev pub or_step : Option Step → Option Step → Option Step
+or_step None others = others
+or_step (Some s) others = Some s
+
+-- the next step of the first of the calls that has one
+abbrev pub next_of_calls : PartState → List CallEntry → Option Step
+next_of_calls p [] = None
+next_of_calls p (c ∷ calls) = or_step (next_for p c.thread) (next_of_calls p calls)
+
+-- the recovery's step, else that of the open call with the smallest number that has one
+unfoldable pub next_any : PartState → Option Step
+next_any p = or_step (next_recovery p) (next_of_calls p p.log.pending)
+
+-- Answers
+
+abbrev pub if_call : ℕ → ℕ → Option Answer → Option Answer
+if_call call c answer = if c == call then answer else None
+
+abbrev pub answer_among : ℕ → List (ℕ × Answer) → Option Answer
+answer_among call [] = None
+answer_among call ((c, a) ∷ answers) = if c == call then Some a else answer_among call answers
+
+-- the answer that an event gives to a call
+abbrev pub answer_at : ℕ → Event → Option Answer
+answer_at call (event.Invoke c thread o answer) = if_call call c answer
+answer_at call (event.Enter c thread attempt answer) = if_call call c answer
+answer_at call (event.Burst context c burst count end acts answer failure) = if_call call c answer
+answer_at call (event.Stage stage answers released) = answer_among call answers
+answer_at call (event.Arrive frame kept) = None
+
+abbrev pub answered_from : ℕ → ℕ → List Event → Option ℕ
+answered_from place call [] = None
+answered_from place call (e ∷ events) =
+    if is_some (answer_at call e) then Some place else answered_from (place + 1) call events
+
+-- the number of the event that answers a call
+abbrev pub answered_at : List Event → ℕ → Option ℕ
+answered_at journal call = answered_from 1 call journal

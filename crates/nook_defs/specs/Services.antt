@@ -1,0 +1,113 @@
+use Rattle.std.specs.Prelude.{ℕ, ◌+◌, ◌==◌, ◌&&◌, ◌||◌, nat_lt, nat_le, not, if◌then◌else◌, Bool, true, false, Option, Some, None, Result, Ok, Err, List, [], ◌∷◌, ◌++◌, length, slice_range}
+use Rattle.std.specs.List.{list_any}
+use Rattle.nook_defs.specs.declared.data.Class.{Class}
+use Rattle.nook_defs.specs.declared.data.Entry.{Entry}
+use Rattle.nook_defs.specs.declared.data.Entry.TheVariants as entry
+use Rattle.nook_defs.specs.declared.machine.BadParam.{BadParam}
+use Rattle.nook_defs.specs.declared.machine.Service.{Service}
+use Rattle.nook_defs.specs.declared.machine.Service.TheVariants as service
+use Rattle.nook_defs.specs.declared.data.Class.TheVariants as class
+use Rattle.nook_defs.specs.Classes.{class_code, same_class}
+use Rattle.nook_defs.specs.Entries.{is_heap_at, is_borrow_of, is_registered, free_start, borrow_start, with_entry, without_heap, without_borrow, registered}
+use Rattle.nook_defs.specs.Pages.{object_start, object_words, with_words}
+
+-- the service, where its argument passes, else the failing argument
+abbrev pub needs : Bool → ℕ → ℕ → Service → Result Service BadParam
+needs passes number argument s =
+    if passes then Ok s else Err (record { service = number; argument = argument })
+
+abbrev pub is_frame_length : ℕ → Bool
+is_frame_length len = nat_le 1 len && nat_le len 64
+
+-- the length that the range of a frame is tested with
+abbrev pub tested_length : ℕ → ℕ
+tested_length len = if is_frame_length len then len else 1
+
+-- a frame to be handed up: the class, then where it lies, then its length
+abbrev pub checked_frame : ℕ → ℕ → Class → Result Service BadParam
+checked_frame first second c =
+    if not (same_class c class.Net) then Err (record { service = 6; argument = 0 })
+    else (if not (nat_le 2048 first && nat_le (first + tested_length second) 7360) then Err (record { service = 6; argument = 1 })
+    else needs (is_frame_length second) 6 2 (service.NetRx first second))
+
+-- the service of a kernel call by its number and two arguments, or its smallest failing argument
+abbrev pub checked : ℕ → ℕ → ℕ → Class → List Entry → Result Service BadParam
+checked number first second c entries =
+    if number == 1 then needs (nat_le 1 first && nat_le first 2048) 1 1 (service.Alloc first)
+    else (if number == 2 then needs (list_any (is_heap_at first) entries) 2 1 (service.Free first)
+    else (if number == 3 then needs (first == class_code c && not (is_registered entries)) 3 1 service.Register
+    else (if number == 4 then
+    needs ((nat_le 1 first && nat_le first 12) && not (list_any (is_borrow_of first) entries)) 4 1 (service.Borrow first)
+    else (if number == 5 then needs (list_any (is_borrow_of first) entries) 5 1 (service.GiveBack first)
+    else (if number == 6 then checked_frame first second c
+    else (if number == 7 then Ok service.Log
+    else (if number == 8 then Ok service.Yield
+    else Err (record { service = number; argument = 0 }))))))))
+
+-- what a service leaves, its result, and the words that it moved
+pub record Served : Type 0 where
+  pub memory : List ℕ
+  pub entries : List Entry
+  pub queue : List (List ℕ)
+  pub answer : ℕ
+  pub moved : List ℕ
+
+abbrev pub alloc_served : ℕ → Option ℕ → List ℕ → List Entry → List (List ℕ) → Served
+alloc_served n None memory entries queue =
+    record { memory = memory; entries = entries; queue = queue; answer = 0; moved = [] }
+alloc_served n (Some start) memory entries queue =
+    record { memory = memory; entries = with_entry (entry.Heap start n) entries; queue = queue; answer = start; moved = [] }
+
+abbrev pub borrow_served : ℕ → Option ℕ → List ℕ → List Entry → List (List ℕ) → Served
+borrow_served object None memory entries queue =
+    record { memory = memory; entries = entries; queue = queue; answer = 0; moved = [] }
+borrow_served object (Some start) memory entries queue = record {
+  memory = with_words start (object_words object memory) memory;
+  entries = with_entry (entry.Borrow object start) entries;
+  queue = queue;
+  answer = start;
+  moved = [];
+}
+
+-- the copy at a start goes to its object
+abbrev pub give_back_served : ℕ → Option ℕ → List ℕ → List Entry → List (List ℕ) → Served
+give_back_served object None memory entries queue =
+    record { memory = memory; entries = entries; queue = queue; answer = 0; moved = [] }
+give_back_served object (Some start) memory entries queue = record {
+  memory = with_words (object_start object) (slice_range memory start (start + 64)) memory;
+  entries = without_borrow object entries;
+  queue = queue;
+  answer = 0;
+  moved = slice_range memory start (start + 64);
+}
+
+-- the kernel's queue takes a frame while it holds fewer than 64
+abbrev pub frame_served : List ℕ → List ℕ → List Entry → List (List ℕ) → Served
+frame_served frame memory entries queue = record {
+  memory = memory;
+  entries = entries;
+  queue = if nat_lt (length queue) 64 then queue ++ frame ∷ [] else queue;
+  answer = if nat_lt (length queue) 64 then 1 else 0;
+  moved = frame;
+}
+
+abbrev pub plainly_served : List ℕ → List Entry → List (List ℕ) → Served
+plainly_served memory entries queue =
+    record { memory = memory; entries = entries; queue = queue; answer = 0; moved = [] }
+
+-- the eight services, over memory, the entry list and the kernel's queue
+unfoldable pub served : ℕ → Service → List ℕ → List Entry → List (List ℕ) → Served
+served heap_start (service.Alloc n) memory entries queue =
+    alloc_served n (free_start heap_start n entries) memory entries queue
+served heap_start (service.Free address) memory entries queue =
+    plainly_served memory (without_heap address entries) queue
+served heap_start service.Register memory entries queue =
+    plainly_served memory (registered true entries) queue
+served heap_start (service.Borrow object) memory entries queue =
+    borrow_served object (free_start heap_start 64 entries) memory entries queue
+served heap_start (service.GiveBack object) memory entries queue =
+    give_back_served object (borrow_start object entries) memory entries queue
+served heap_start (service.NetRx start len) memory entries queue =
+    frame_served (slice_range memory start (start + len)) memory entries queue
+served heap_start service.Log memory entries queue = plainly_served memory entries queue
+served heap_start service.Yield memory entries queue = plainly_served memory entries queue

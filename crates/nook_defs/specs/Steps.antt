@@ -1,0 +1,144 @@
+use Rattle.std.specs.Prelude.{ℕ, ◌+◌, ◌==◌, ◌&&◌, nat_lt, nat_le, not, if◌then◌else◌, Bool, true, false, is_some, is_none, Option, Some, None, List, [], ◌∷◌, filter, length}
+use Rattle.nook_defs.specs.declared.data.CallEntry.{CallEntry}
+use Rattle.nook_defs.specs.declared.data.Class.TheVariants as class
+use Rattle.nook_defs.specs.declared.data.Event.TheVariants as event
+use Rattle.nook_defs.specs.declared.data.Fault.{Fault}
+use Rattle.nook_defs.specs.declared.data.Mode.{Mode}
+use Rattle.nook_defs.specs.declared.data.Mode.TheVariants as mode
+use Rattle.nook_defs.specs.declared.data.PartSpec.{PartSpec}
+use Rattle.nook_defs.specs.declared.data.Stage.TheVariants as stage
+use Rattle.nook_defs.specs.declared.data.Step.{Step}
+use Rattle.nook_defs.specs.declared.data.Step.TheVariants as step
+use Rattle.nook_defs.specs.Calls.{Turned, invoked, entered_part}
+use Rattle.nook_defs.specs.Classes.{defaults_of, same_class}
+use Rattle.nook_defs.specs.Crossing.{Crossed, crossed}
+use Rattle.nook_defs.specs.Devices.{has_room, with_arrival}
+use Rattle.nook_defs.specs.Domain.{DomainBurst, opening_domain, domain_burst, context_of}
+use Rattle.nook_defs.specs.Log.{opening_log, call_of_thread, is_blocked}
+use Rattle.nook_defs.specs.Stages.{stage_due, stage_turned}
+use Rattle.nook_defs.specs.State.{DomainState, PartState}
+
+-- The one step of a part.
+
+-- a part at first: it boots from Load
+unfoldable pub opening : PartSpec → PartState
+opening spec = record {
+  spec = spec;
+  domain = opening_domain spec;
+  log = opening_log (defaults_of spec.class);
+  queue = [];
+  mode = mode.Boot stage.Load;
+  failures = 0;
+  bursts = 0;
+  arrived = 0;
+}
+
+-- Which steps may be taken
+
+abbrev pub is_running : Mode → Bool
+is_running (mode.Boot s) = false
+is_running mode.Running = true
+is_running (mode.Recovering s) = false
+is_running (mode.Dead collected) = false
+
+-- the shadow's own call is Inside
+abbrev pub is_driven : PartState → Bool
+is_driven p = is_some (context_of 16 p.domain.contexts)
+
+-- a held call that no open call with a smaller number conflicts with
+abbrev pub is_ready : PartState → Option CallEntry → Bool
+is_ready p None = false
+is_ready p (Some c) = not c.inside && not (is_blocked p.spec.class c p.log.pending)
+
+abbrev pub is_inside : Option CallEntry → Bool
+is_inside None = false
+is_inside (Some c) = c.inside
+
+abbrev pub can_invoke : PartState → ℕ → Bool
+can_invoke p thread =
+    nat_lt thread 16 && is_none (call_of_thread thread p.log.pending) && nat_lt p.log.count 100000
+
+abbrev pub can_enter : PartState → ℕ → Bool
+can_enter p thread = is_running p.mode && is_ready p (call_of_thread thread p.log.pending)
+
+abbrev pub can_burst : PartState → ℕ → Bool
+can_burst p context =
+    if context == 16 then is_driven p
+    else is_running p.mode && is_inside (call_of_thread context p.log.pending)
+
+abbrev pub can_stage : PartState → Bool
+can_stage p = is_some (stage_due p.mode) && not (is_driven p)
+
+abbrev pub can_arrive : PartState → List ℕ → Bool
+can_arrive p frame =
+    same_class p.spec.class class.Net && (nat_le 1 (length frame) && nat_le (length frame) 64) && nat_lt p.arrived 100000
+
+-- the step may be taken
+unfoldable pub enabled : PartState → Step → Bool
+enabled p (step.Invoke thread o) = can_invoke p thread
+enabled p (step.Enter thread) = can_enter p thread
+enabled p (step.Burst context) = can_burst p context
+enabled p step.Stage = can_stage p
+enabled p (step.Arrive frame) = can_arrive p frame
+
+-- A burst of a context
+
+abbrev pub is_of_burst : ℕ → Fault → Bool
+is_of_burst number f = f.burst == number
+
+-- a fault before the later ones of a list, behind those of its own place
+abbrev pub with_fault : Fault → List Fault → List Fault
+with_fault f [] = f ∷ []
+with_fault f (g ∷ faults) = if nat_le f.after g.after then f ∷ g ∷ faults else g ∷ with_fault f faults
+
+abbrev pub in_order : List Fault → List Fault
+in_order [] = []
+in_order (f ∷ faults) = with_fault f (in_order faults)
+
+-- the faults of a burst in rising order of their places, those of one place as given
+unfoldable pub faults_of_burst : ℕ → List Fault → List Fault
+faults_of_burst number faults = in_order (filter (is_of_burst number) faults)
+
+abbrev pub number_of : Option CallEntry → ℕ
+number_of None = 0
+number_of (Some c) = c.call
+
+-- the number of the call that a context serves; 0 for the shadow's own
+abbrev pub served_number : ℕ → PartState → ℕ
+served_number context p = if context == 16 then 0 else number_of (call_of_thread context p.log.pending)
+
+abbrev pub with_burst : DomainState → PartState → PartState
+with_burst d p = record p { domain = d; bursts = p.bursts + 1 }
+
+abbrev pub burst_event : ℕ → PartState → DomainBurst → Crossed → Turned
+burst_event context p b c = record {
+  state = c.state;
+  event = event.Burst context (served_number context p) (p.bursts + 1) b.count c.end b.acts c.answer c.failure;
+}
+
+abbrev pub past_burst : ℕ → PartState → DomainBurst → Turned
+past_burst context p b = burst_event context p b (crossed context b.ending (with_burst b.domain p))
+
+-- a burst of a context with the faults of its number, and what its crossing asks
+unfoldable pub burst_turned : ℕ → PartState → Turned
+burst_turned context p =
+    past_burst context p (domain_burst context (faults_of_burst (p.bursts + 1) p.spec.faults) p.domain)
+
+-- A frame arrives
+
+unfoldable pub arrived : List ℕ → PartState → Turned
+arrived frame p = record {
+  state = record p {
+    domain = record p.domain { device = with_arrival frame p.domain.device };
+    arrived = p.arrived + 1;
+  };
+  event = event.Arrive frame (has_room p.domain.device);
+}
+
+-- the part after a step that may be taken, and the step's event
+unfoldable pub turned : PartState → Step → Turned
+turned p (step.Invoke thread o) = invoked thread o p
+turned p (step.Enter thread) = entered_part thread p
+turned p (step.Burst context) = burst_turned context p
+turned p step.Stage = stage_turned p
+turned p (step.Arrive frame) = arrived frame p

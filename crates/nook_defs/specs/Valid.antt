@@ -1,0 +1,129 @@
+use Rattle.std.specs.Prelude.{ℕ, ◌^◌, ◌<◌, ◌≤◌, ◌≡◌, ◌&&◌, not, List, [], ◌∷◌, length, All, Bool, true, ⊤}
+use Rattle.nook_defs.specs.Classes.{entry_count}
+use Rattle.nook_defs.specs.Names.{is_name}
+use Rattle.nook_defs.specs.PartReading.{is_among, part_names}
+use Rattle.nook_defs.specs.ScenarioReading.{thread_names}
+use Rattle.nook_defs.specs.declared.data.BadBlock.{BadBlock}
+use Rattle.nook_defs.specs.declared.data.Class.{Class}
+use Rattle.nook_defs.specs.declared.data.Class.TheVariants as class
+use Rattle.nook_defs.specs.declared.data.Fault.{Fault}
+use Rattle.nook_defs.specs.declared.data.FaultKind.{FaultKind}
+use Rattle.nook_defs.specs.declared.data.FaultKind.TheVariants as strikes
+use Rattle.nook_defs.specs.declared.data.Image.{Image}
+use Rattle.nook_defs.specs.declared.data.Op.{Op}
+use Rattle.nook_defs.specs.declared.data.Op.TheVariants as op
+use Rattle.nook_defs.specs.declared.data.PartSpec.{PartSpec}
+use Rattle.nook_defs.specs.declared.data.Scenario.{Scenario}
+use Rattle.nook_defs.specs.declared.data.ScheduleSpec.{ScheduleSpec}
+use Rattle.nook_defs.specs.declared.data.ScheduleSpec.TheVariants as schedule
+use Rattle.nook_defs.specs.declared.data.ThreadSpec.{ThreadSpec}
+
+-- The limits that images, parts and scenarios keep. Every call that takes one has this as its condition, and every reader
+-- gives what keeps it.
+
+-- a number of 32 bits
+abbrev pub IsWord : ℕ → Type 0
+IsWord word = word < 2 ^ 32
+
+-- up to so many words
+abbrev pub AreWords : ℕ → List ℕ → Type 0
+AreWords most words = (length words ≤ most) × All IsWord words
+
+-- a place in the text
+abbrev pub IsTextPlace : ℕ → Type 0
+IsTextPlace place = place ≤ 2047
+
+-- an image has a place in the text for each entry of its class, and up to 2,048 text words and initial words
+pub record IsValidImage (image : Image) : Type 0 where
+  pub entries : length image.entries ≡ entry_count image.class
+  pub places : All IsTextPlace image.entries
+  pub text : AreWords 2048 image.text
+  pub initial : AreWords 2048 image.initial
+
+-- a fault's numbers are words, and its register is one
+abbrev pub IsValidKind : FaultKind → Type 0
+IsValidKind strikes.Trap = ⊤
+IsValidKind strikes.Hang = ⊤
+IsValidKind (strikes.Poke address value) = IsWord address × IsWord value
+IsValidKind (strikes.Code address value) = IsWord address × IsWord value
+IsValidKind (strikes.Reg register value) = (register ≤ 15) × IsWord value
+
+-- a fault of burst 1 or later, after up to 4,095 turns
+pub record IsValidFault (fault : Fault) : Type 0 where
+  pub burst : (1 ≤ fault.burst) × IsWord fault.burst
+  pub after : fault.after ≤ 4095
+  pub kind : IsValidKind fault.kind
+
+-- a bad block of a disk of so many blocks
+pub record IsValidBadBlock (blocks : ℕ) (bad : BadBlock) : Type 0 where
+  pub block : bad.block < blocks
+  pub after : IsWord bad.after
+
+-- 1 to 64 words
+abbrev pub IsValidFrame : List ℕ → Type 0
+IsValidFrame frame = (1 ≤ length frame) × AreWords 64 frame
+
+-- what only parts of one class have: a disk has 1 to 256 blocks, a net part up to 256 arrivals
+abbrev pub FitsClass : Class → PartSpec → Type 0
+FitsClass class.Block part = (1 ≤ part.blocks) × (part.blocks ≤ 256) × (part.arrivals ≡ [])
+FitsClass class.Net part = (part.blocks ≡ 0) × (part.bad ≡ []) × (length part.arrivals ≤ 256) × All IsValidFrame part.arrivals
+FitsClass class.Sound part = (part.blocks ≡ 0) × (part.bad ≡ []) × (part.arrivals ≡ [])
+
+-- a part keeps every limit, and its image is of its class
+pub record IsValidPart (part : PartSpec) : Type 0 where
+  pub name : is_name part.name ≡ true
+  pub fits : FitsClass part.class part
+  pub bad_count : length part.bad ≤ 64
+  pub bad : All (IsValidBadBlock part.blocks) part.bad
+  pub limit : part.limit ≤ 16
+  pub class : part.image.class ≡ part.class
+  pub image : IsValidImage part.image
+  pub fault_count : length part.faults ≤ 64
+  pub faults : All IsValidFault part.faults
+
+-- an operation of a script has numbers of 32 bits and up to 256 words
+abbrev pub IsValidOp : Op → Type 0
+IsValidOp (op.Read first count) = IsWord first × IsWord count
+IsValidOp (op.Write first words) = IsWord first × AreWords 256 words
+IsValidOp (op.Send frame) = AreWords 256 frame
+IsValidOp op.Recv = ⊤
+IsValidOp op.Open = ⊤
+IsValidOp (op.Play samples) = AreWords 256 samples
+IsValidOp op.Close = ⊤
+IsValidOp (op.Get key) = IsWord key
+IsValidOp (op.Set key value) = IsWord key × IsWord value
+
+-- a script's step, on one of so many parts
+abbrev pub IsValidStep : ℕ → ℕ × Op → Type 0
+IsValidStep parts step = (step.0 < parts) × IsValidOp step.1
+
+-- a thread of a scenario of so many parts
+pub record IsValidThread (parts : ℕ) (thread : ThreadSpec) : Type 0 where
+  pub name : is_name thread.name ≡ true
+  pub op_count : length thread.ops ≤ 256
+  pub ops : All (IsValidStep parts) thread.ops
+
+-- a number of 16 bits
+abbrev pub IsPick : ℕ → Type 0
+IsPick pick = pick < 2 ^ 16
+
+-- a start of 64 bits, or up to 65,536 picks
+abbrev pub IsValidSchedule : ScheduleSpec → Type 0
+IsValidSchedule schedule.RoundRobin = ⊤
+IsValidSchedule (schedule.Drawn start) = start < 2 ^ 64
+IsValidSchedule (schedule.Listed picks) = (length picks ≤ 65536) × All IsPick picks
+
+-- no name stands twice
+abbrev pub are_distinct : List (List ℕ) → Bool
+are_distinct [] = true
+are_distinct (name ∷ more) = not (is_among more name) && are_distinct more
+
+-- 1 to 8 parts and up to 16 threads, each valid and each with a name of its own
+pub record IsValidScenario (scenario : Scenario) : Type 0 where
+  pub schedule : IsValidSchedule scenario.schedule
+  pub part_count : (1 ≤ length scenario.parts) × (length scenario.parts ≤ 8)
+  pub parts : All IsValidPart scenario.parts
+  pub part_names : are_distinct (part_names scenario.parts) ≡ true
+  pub thread_count : length scenario.threads ≤ 16
+  pub threads : All (IsValidThread (length scenario.parts)) scenario.threads
+  pub thread_names : are_distinct (thread_names scenario.threads) ≡ true

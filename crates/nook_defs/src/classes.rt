@@ -1,0 +1,33 @@
+//! What a class decides about a call at its Enter and at its driver's reply.
+
+use crate::data::{Answer, FailCause};
+
+/// What becomes of a held call when it is entered.
+#[derive(Drop)]
+pub enum Admit {
+    /// It is answered at once.
+    Reply(Answer),
+    /// It is answered with the front of the kernel's receive queue.
+    TakeFrame,
+    /// It goes to its driver: the place, in the class's order, of the driver's entry.
+    Enter { entry: u32 },
+}
+
+/// What becomes of a call when its driver replies.
+#[derive(Clone, Copy)]
+pub enum Accept {
+    /// The reply is accepted, and the call has its answer.
+    Take,
+    /// The reply is accepted: the medium failed at this block.
+    IoError { block: u32 },
+    /// The reply is a failure of the driver.
+    Fail(FailCause),
+}
+
+/// What of a part's state a class looks at: the thread that has the stream, and the number of frames in the
+/// kernel's receive queue.
+#[derive(Clone, Copy)]
+pub struct ClassState {
+    pub holder: Option<u8>,
+    pub queued: usize,
+}

@@ -1,0 +1,166 @@
+//! The one list type: contracts see it as the list of its items. Its aliases name what they hold.
+
+ghost use Rattle.std.specs.Prelude.{◌≡◌, ◌+◌, ◌<◌, ◌≤◌, ℕ, [], ◌∷◌, ◌++◌, List, Some, length, slice_get, slice_set, IfOk, OnOk, OnErr};
+
+use crate::memory::{NoMemory, Room};
+use std::alloc::Global;
+use std::marker::Model;
+
+/// A list of items in order.
+#[derive(Drop)]
+pub struct Items<T> {
+    items: Vec<T>,
+}
+
+impl<T> Model for Items<T> {
+    ghost use Rattle.std.specs.Prelude.{List};
+
+    ghost Value = { List T };
+
+    ghost view = { λ s. s.items.items };
+}
+
+impl<T> Items<T> {
+    /// The empty list. It takes no memory.
+    pub fn new(alloc: Global) -> Self
+        ensures { result ≡ [] }
+    {
+        Items {
+            items: Vec::new(alloc),
+        }
+    }
+
+    /// The number of items.
+    pub fn len(&self) -> usize
+        ensures { result ≡ length self.now }
+    {
+        self.items.len()
+    }
+
+    /// The item at place `i`, counted from 0.
+    pub fn get(&self, i: usize) -> &T
+        requires { i < length self.now }
+        ensures { slice_get self.now i ≡ Some result.now }
+    {
+        &self.items[i]
+    }
+
+    /// All items, in order.
+    pub fn as_slice(&self) -> &[T]
+        ensures { result.now ≡ self.now }
+    {
+        self.items.as_slice()
+    }
+
+    /// The list of a vector's items.
+    pub fn from_vec(items: Vec<T>) -> Self
+        ensures { result ≡ items.items }
+    {
+        Items { items }
+    }
+
+    /// The vector of the list's items.
+    pub fn into_vec(self) -> Vec<T>
+        ensures { result.items ≡ self }
+    {
+        self.items
+    }
+}
+
+impl<T: Drop> Items<T> {
+    /// Adds an item at the back.
+    pub fn push(&mut self, item: T) -> Result<(), NoMemory>
+        ensures ok { OnOk result (self.new ≡ self.old ++ item ∷ []) }
+        ensures err { OnErr result (self.new ≡ self.old) }
+    {
+        self.items.push(item)?;
+        Ok(())
+    }
+
+    /// Puts an item in place of the one at place `i`, counted from 0.
+    pub fn set(&mut self, i: usize, item: T)
+        requires { i < length self.old }
+        ensures { self.new ≡ slice_set self.old i item }
+    {
+        self.items[i] = item;
+    }
+}
+
+impl<T: Copy> Items<T> {
+    /// An equal list in the memory of `room`, which has room for it. It takes no memory.
+    pub fn copy_in_room(&self, room: Room<T>) -> Items<T>
+        requires { length self.now ≤ room }
+        ensures { result ≡ self.now }
+    {
+        let mut items = room.into_vec();
+        for item in &self.items {
+            items.push(*item).unwrap();
+        }
+        Items { items }
+    }
+}
+
+/// A copy that may want memory.
+pub trait TryCopy {
+    /// An equal value of its own.
+    fn copy(&self, alloc: Global) -> Result<Self, NoMemory>
+        ensures { IfOk result (λ made. made ≡ self.now) };
+}
+
+impl<T: TryCopy + Drop> TryCopy for Items<T> {
+    fn copy(&self, alloc: Global) -> Result<Self, NoMemory> {
+        let mut made = Items::new(alloc);
+        for item in &self.items {
+            made.push(item.copy(alloc)?)?;
+        }
+        Ok(made)
+    }
+}
+
+impl TryCopy for u8 {
+    fn copy(&self, _alloc: Global) -> Result<u8, NoMemory> {
+        Ok(*self)
+    }
+}
+
+impl TryCopy for u16 {
+    fn copy(&self, _alloc: Global) -> Result<u16, NoMemory> {
+        Ok(*self)
+    }
+}
+
+impl TryCopy for u32 {
+    fn copy(&self, _alloc: Global) -> Result<u32, NoMemory> {
+        Ok(*self)
+    }
+}
+
+impl<A: TryCopy + Drop, B: TryCopy + Drop> TryCopy for (A, B) {
+    fn copy(&self, alloc: Global) -> Result<(A, B), NoMemory> {
+        let first = self.0.copy(alloc)?;
+        let second = self.1.copy(alloc)?;
+        Ok((first, second))
+    }
+}
+
+/// A machine word.
+pub type Word = u32;
+/// A list of words.
+pub type Words = Items<Word>;
+/// A list of bytes.
+pub type Words8 = Items<u8>;
+/// The picks of a listed schedule.
+pub type Picks = Items<u16>;
+/// A list of frames, each a list of words.
+pub type Frames = Items<Words>;
+
+impl Items<u32> {
+    /// An empty list with room for `n` words: adding so many takes no memory.
+    pub fn with_room(alloc: Global, n: u32) -> Result<Words, NoMemory>
+        ensures { IfOk result (λ made. made ≡ []) }
+    {
+        Ok(Items {
+            items: Vec::with_capacity(alloc, n as usize)?,
+        })
+    }
+}

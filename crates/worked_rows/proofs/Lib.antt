@@ -1,0 +1,6 @@
+pub mod DiskCases
+pub mod FailingDiskCases
+pub mod LinkCases
+pub mod StreamCases
+pub mod ClassLaws
+pub mod BurstBounds

@@ -1,0 +1,14 @@
+pub mod Texts
+pub mod Scenarios
+pub mod FirstRun
+pub mod DriverRuns
+pub mod DiskRuns
+pub mod LinkAndStreamRuns
+pub mod Cases
+pub mod DiskCases
+pub mod FailingDiskCases
+pub mod LinkCases
+pub mod StreamCases
+pub mod EntryNames
+pub mod MachineLaws
+pub mod Verdicts

@@ -1,0 +1,27 @@
+use Rattle.std.specs.Prelude.{◌≡◌, ℕ, ◌≤◌, Bool, true, false, List, [], ◌∷◌, length}
+use Rattle.nook_defs.specs.declared.data.Entry.{Entry}
+use Rattle.nook_defs.specs.declared.data.Entry.TheVariants as entry
+use Rattle.nook_defs.specs.Burst.{Burst}
+use Rattle.nook_defs.specs.Pages.{may_write}
+
+-- a burst has at most 4,096 turns and at most 64 acts
+pub record IsBounded (b : Burst) : Type 0 where
+  pub turns : b.count ≤ 4096
+  pub acts : length b.acts ≤ 64
+
+-- what a driver may write, address by address at the edges of the table of pages: the text, the data, the stacks, the
+-- buffer of context 0, of which the last word is 5,311, the last buffer, and the kernel objects
+abbrev pub IsPageTable : Type 0
+IsPageTable =
+    (may_write [] 0 ≡ false) × (may_write [] 2047 ≡ false) × (may_write [] 2048 ≡ true) × (may_write [] 4095 ≡ true)
+    × (may_write [] 4096 ≡ true) × (may_write [] 5183 ≡ true) × (may_write [] 5184 ≡ false) × (may_write [] 7359 ≡ false)
+    × (may_write [] 7360 ≡ false) × (may_write [] 8191 ≡ false) × (may_write [] 8192 ≡ false) × (may_write [] 4294967295 ≡ false)
+
+-- a buffer that is lent for writing may be written, one that is lent for reading may not, and no other is touched
+abbrev pub IsLentBuffer : Type 0
+IsLentBuffer =
+    (may_write (entry.Buffer 0 true ∷ []) 5183 ≡ true) × (may_write (entry.Buffer 0 true ∷ []) 5184 ≡ true)
+    × (may_write (entry.Buffer 0 true ∷ []) 5311 ≡ true) × (may_write (entry.Buffer 0 true ∷ []) 5312 ≡ false)
+    × (may_write (entry.Buffer 0 false ∷ []) 5184 ≡ false) × (may_write (entry.Buffer 16 true ∷ []) 7231 ≡ false)
+    × (may_write (entry.Buffer 16 true ∷ []) 7232 ≡ true) × (may_write (entry.Buffer 16 true ∷ []) 7359 ≡ true)
+    × (may_write (entry.Buffer 16 true ∷ []) 7360 ≡ false)

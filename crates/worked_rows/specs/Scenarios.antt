@@ -1,0 +1,110 @@
+use Rattle.std.specs.Prelude.{ℕ, Result, Ok, Err, List, [], ◌∷◌, length, map, codes}
+use Rattle.nook_defs.specs.declared.assembler.AsmFault.{AsmFault}
+use Rattle.nook_defs.specs.declared.data.Answer.{Answer}
+use Rattle.nook_defs.specs.declared.data.Class.TheVariants as class
+use Rattle.nook_defs.specs.declared.data.Fault.{Fault}
+use Rattle.nook_defs.specs.declared.data.FaultKind.{FaultKind}
+use Rattle.nook_defs.specs.declared.data.Image.{Image}
+use Rattle.nook_defs.specs.declared.data.Op.{Op}
+use Rattle.nook_defs.specs.declared.data.PartSpec.{PartSpec}
+use Rattle.nook_defs.specs.declared.data.Scenario.{Scenario}
+use Rattle.nook_defs.specs.declared.data.ThreadSpec.{ThreadSpec}
+use Rattle.nook_defs.specs.declared.input.Refusal.{Refusal}
+use Rattle.nook_defs.specs.Assembler.{assembled}
+use Rattle.nook_defs.specs.Faults.{fault_line}
+use Rattle.nook_defs.specs.Generated.{generated}
+use Rattle.nook_defs.specs.References.{block_image}
+use Rattle.nook_defs.specs.ReportText.{report_text, status_of, summary_line}
+use Rattle.nook_defs.specs.ScenarioReading.{scenario_from}
+use Rattle.nook_defs.specs.Simulation.{Simulation, Choice, begins, runs, choices_of, journals_of, answer_table}
+
+-- Small scenarios, and the reports of their runs.
+
+-- the image of an assembler text; of a text with a fault, none that a case names
+abbrev pub image_or : Result Image AsmFault → Image
+image_or (Ok image) = image
+image_or (Err fault) = block_image
+
+abbrev pub driver : List ℕ → Image
+driver text = image_or (assembled text)
+
+-- a fault of a burst behind so many of its turns
+abbrev pub strike : ℕ → ℕ → FaultKind → Fault
+strike burst after kind = record { burst = burst; after = after; kind = kind }
+
+-- parts with so many failures allowed, a driver and faults
+abbrev pub disk : ℕ → ℕ → Image → List Fault → PartSpec
+disk blocks limit image faults = record {
+  name = codes "d0";
+  class = class.Block;
+  blocks = blocks;
+  bad = [];
+  limit = limit;
+  image = image;
+  faults = faults;
+  arrivals = [];
+}
+
+abbrev pub link : ℕ → Image → List Fault → List (List ℕ) → PartSpec
+link limit image faults arrivals = record {
+  name = codes "d0";
+  class = class.Net;
+  blocks = 0;
+  bad = [];
+  limit = limit;
+  image = image;
+  faults = faults;
+  arrivals = arrivals;
+}
+
+abbrev pub stream : ℕ → Image → List Fault → PartSpec
+stream limit image faults = record {
+  name = codes "d0";
+  class = class.Sound;
+  blocks = 0;
+  bad = [];
+  limit = limit;
+  image = image;
+  faults = faults;
+  arrivals = [];
+}
+
+abbrev pub thread : List ℕ → List (ℕ × Op) → ThreadSpec
+thread name ops = record { name = name; ops = ops }
+
+-- the report of a run without listeners; of a run that is not at its end, no text
+abbrev pub report_at : Scenario → Simulation → List Choice → List ℕ
+report_at s m [] = report_text s (journals_of m) (answer_table m) [] (status_of s.parts (journals_of m))
+report_at s m (c ∷ choices) = []
+
+abbrev pub report_after : Scenario → Simulation → List ℕ
+report_after s m = report_at s m (choices_of m)
+
+-- the report of a scenario whose run has at most 100,000 steps
+abbrev pub report_of : Scenario → List ℕ
+report_of s = report_after s (runs 100000 (begins s))
+
+-- what is written for the bytes of a scenario: its report, or its first fault
+abbrev pub output_of : Result Scenario Refusal → List ℕ
+output_of (Ok s) = report_of s
+output_of (Err fault) = fault_line fault
+
+abbrev pub output : List ℕ → List ℕ
+output bytes = output_of (scenario_from bytes)
+
+-- the summary line of a generated scenario, and the number of each of its threads' answers
+abbrev pub summary_after : ℕ → Scenario → Simulation → List Choice → List ℕ
+summary_after n s m [] = summary_line n s.parts (journals_of m)
+summary_after n s m (c ∷ choices) = []
+
+abbrev pub summary_at : ℕ → Scenario → Simulation → List ℕ
+summary_at n s m = summary_after n s m (choices_of m)
+
+abbrev pub summary_of : ℕ → List ℕ
+summary_of n = summary_at n (generated n) (runs 100000 (begins (generated n)))
+
+abbrev pub count_of : List (ℕ × Answer) → ℕ
+count_of answers = length answers
+
+abbrev pub answers_of : ℕ → List ℕ
+answers_of n = map count_of (answer_table (runs 100000 (begins (generated n))))

@@ -1,0 +1,110 @@
+use Rattle.std.specs.Prelude.{ℕ, List, [], ◌∷◌, ◌++◌, take, replicate, codes, Result}
+use Rattle.serde_json.specs.Written.{compact_text}
+use Rattle.nook_defs.specs.Faults.{told}
+use Rattle.nook_defs.specs.ImageReading.{image_from}
+use Rattle.nook_defs.specs.ImageText.{image_data}
+use Rattle.nook_defs.specs.Built.{built_from}
+use Rattle.nook_defs.specs.References.{block_words, failing_block_image}
+use Rattle.nook_defs.specs.ScenarioReading.{scenario_from}
+use Rattle.nook_defs.specs.declared.data.BadBlock.{BadBlock}
+use Rattle.nook_defs.specs.declared.data.Class.TheVariants as class
+use Rattle.nook_defs.specs.declared.data.Image.{Image}
+use Rattle.nook_defs.specs.declared.data.Op.TheVariants as op
+use Rattle.nook_defs.specs.declared.data.PartSpec.{PartSpec}
+use Rattle.nook_defs.specs.declared.data.Scenario.{Scenario}
+use Rattle.nook_defs.specs.declared.data.ScheduleSpec.TheVariants as schedule
+use Rattle.nook_defs.specs.declared.input.Refusal.{Refusal}
+
+-- what is told of an input: nothing where it is right, else its first fault
+abbrev pub told_fault : {T : Type 0} → Result T Refusal → List ℕ
+told_fault read = told (λ right. []) read
+
+abbrev pub scenario_fault : List ℕ → List ℕ
+scenario_fault bytes = told_fault (scenario_from bytes)
+
+abbrev pub built_fault : List ℕ → List ℕ
+built_fault bytes = told_fault (built_from bytes)
+
+abbrev pub image_fault : List ℕ → List ℕ
+image_fault bytes = told_fault (image_from bytes)
+
+-- ---- a small driver, which answers every read with a word of its own
+
+abbrev pub lying_text : List ℕ
+lying_text =
+    codes ".class block\n.entry init a\n.entry read b\n.entry write b\n.entry get b\n.entry set b\n"
+    ++ codes "a: LI r1 0\nKCALL 3\nLI r1 0\nRET r1\n"
+    ++ codes "b: LI r5 1\nST r5 r3 0\nRET r0\n"
+
+abbrev pub lying_json : List ℕ
+lying_json =
+    codes "{\"class\":\"block\",\"data\":[],\"entries\":{\"get\":4,\"init\":0,\"read\":4,\"set\":4,\"write\":4},"
+    ++ codes "\"text\":[\"01100000\",\"16000003\",\"01100000\",\"17100000\",\"01500001\",\"0d530000\",\"17000000\"]}\n"
+
+-- the same as the disassembler writes it
+abbrev pub lying_numbers : List ℕ
+lying_numbers =
+    codes ".class block\n.entry init 0\n.entry read 4\n.entry write 4\n.entry get 4\n.entry set 4\n"
+    ++ codes "LI r1 0\nKCALL 3\nLI r1 0\nRET r1\nLI r5 1\nST r5 r3 0\nRET r0\n"
+
+-- ---- one thread writes a block and reads it back
+
+-- the block driver's init, read and write; get and set end in a fault
+abbrev pub short_image : Image
+short_image = record { class = class.Block; entries = 0 ∷ 4 ∷ 18 ∷ 33 ∷ 33 ∷ []; text = take 33 block_words ++ 0x18000000 ∷ []; initial = [] }
+
+abbrev pub write_and_read_json : List ℕ
+write_and_read_json =
+    codes "{\"version\":1,\"parts\":[{\"name\":\"d0\",\"class\":\"block\",\"blocks\":4,\"driver\":{\"image\":{\"class\":\"block\",\"data\":[],"
+    ++ codes "\"entries\":{\"get\":33,\"init\":0,\"read\":4,\"set\":33,\"write\":18},\"text\":["
+    ++ codes "\"01100000\", \"16000003\", \"01100000\", \"17100000\", \"01500010\", \"01600001\", \"15100001\", \"15600000\", "
+    ++ codes "\"01700000\", \"14800002\", \"0d830000\", \"0b330001\", \"0b770001\", \"11750009\", \"0b110001\", \"05260000\", "
+    ++ codes "\"10200006\", \"17000000\", \"01500010\", \"01600001\", \"01900002\", \"15100001\", \"01700000\", \"0c830000\", "
+    ++ codes "\"15800002\", \"0b330001\", \"0b770001\", \"11750017\", \"15900000\", \"0b110001\", \"05260000\", \"10200015\", "
+    ++ codes "\"17000000\", \"18000000\"]}}}],\"threads\":[{\"name\":\"t0\",\"ops\":["
+    ++ codes "{\"part\":0,\"op\":\"write\",\"first\":1,\"data\":[1,2,3,4,5,6,7,8,9,10,11,12,13,14,15,16]},"
+    ++ codes "{\"part\":0,\"op\":\"read\",\"first\":1,\"count\":1}]}]}"
+
+abbrev pub one_to_sixteen : List ℕ
+one_to_sixteen = 1 ∷ 2 ∷ 3 ∷ 4 ∷ 5 ∷ 6 ∷ 7 ∷ 8 ∷ 9 ∷ 10 ∷ 11 ∷ 12 ∷ 13 ∷ 14 ∷ 15 ∷ 16 ∷ []
+
+-- a disk of four blocks, with these bad ones
+abbrev pub disk_part : Image → List BadBlock → PartSpec
+disk_part image bad = record {
+  name = codes "d0";
+  class = class.Block;
+  blocks = 4;
+  bad = bad;
+  limit = 0;
+  image = image;
+  faults = [];
+  arrivals = [];
+}
+
+abbrev pub write_and_read : Scenario
+write_and_read = record {
+  schedule = schedule.RoundRobin;
+  parts = disk_part short_image [] ∷ [];
+  threads = record { name = codes "t0"; ops = (0, op.Write 1 one_to_sixteen) ∷ (0, op.Read 1 1) ∷ [] } ∷ [];
+}
+
+-- ---- a disk with a bad block
+
+-- the JSON text of an image as a driver
+abbrev pub driver_json : Image → List ℕ
+driver_json image = codes "{\"image\":" ++ compact_text (image_data image) ++ codes "}"
+
+-- a scenario of a version, in which block 2 fails from its first command on
+abbrev pub bad_block_json : List ℕ → List ℕ
+bad_block_json version =
+    codes "{\"version\":" ++ version ++ codes ",\"parts\":[{\"name\":\"d0\",\"class\":\"block\",\"driver\":" ++ driver_json failing_block_image
+    ++ codes ",\"bad\":[{\"block\":2,\"after\":0}],\"blocks\":4}],\"threads\":[{\"name\":\"t0\",\"ops\":["
+    ++ codes "{\"part\":0,\"op\":\"write\",\"first\":1,\"data\":[1,1,1,1,1,1,1,1,1,1,1,1,1,1,1,1,2,2,2,2,2,2,2,2,2,2,2,2,2,2,2,2]},"
+    ++ codes "{\"part\":0,\"op\":\"read\",\"first\":1,\"count\":1},{\"part\":0,\"op\":\"read\",\"first\":2,\"count\":1}]}]}"
+
+abbrev pub bad_block : Scenario
+bad_block = record {
+  schedule = schedule.RoundRobin;
+  parts = disk_part failing_block_image (record { block = 2; after = 0 } ∷ []) ∷ [];
+  threads = record { name = codes "t0"; ops = (0, op.Write 1 (replicate 16 1 ++ replicate 16 2)) ∷ (0, op.Read 1 1) ∷ (0, op.Read 2 1) ∷ [] } ∷ [];
+}

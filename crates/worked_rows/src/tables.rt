@@ -1,0 +1,34 @@
+//! Small laws of the class tables.
+
+ghost use Rattle.std.specs.Prelude.{◌≡◌, ◌<◌, ◌+◌, ℕ, true, Some, length, slice_get};
+ghost use Rattle.nook_defs.specs.Classes.{conflicts, is_of_class, entry_count, entry_place, accept, blocks_of_op, first_of_op};
+ghost use Rattle.nook_defs.specs.declared.classes.Accept.TheVariants.{IoError};
+ghost use Rattle.worked_rows.specs.EntryNames.{entry_name, entry_names};
+
+use nook_defs::data::{Class, Op};
+
+/// Two operations conflict in both orders or in none.
+#[tactic(auto, using(crate::proofs::ClassLaws::conflicts_symmetric))]
+pub fn conflicts_are_symmetric(class: Class, first: &Op, second: &Op)
+    ensures { conflicts class first.now second.now ≡ conflicts class second.now first.now }
+{}
+
+/// The place of an operation's entry has the entry's name.
+#[tactic(auto, using(crate::proofs::ClassLaws::entry_named))]
+pub fn entries_have_their_places(class: Class, op: &Op)
+    requires { is_of_class class op.now ≡ true }
+    ensures { slice_get (entry_names class) (entry_place class op.now) ≡ Some (entry_name op.now) }
+{}
+
+/// There are as many entries as names.
+#[tactic(auto, using(crate::proofs::ClassLaws::entries_counted))]
+pub fn entries_are_counted(class: Class)
+    ensures { entry_count class ≡ length (entry_names class) }
+{}
+
+/// The status 256 + `place` tells that the block at this place of a read or write failed.
+#[tactic(auto, using(crate::proofs::ClassLaws::io_status_accepted))]
+pub fn block_statuses_are_accepted(op: &Op, place: u32)
+    requires { place < blocks_of_op op.now }
+    ensures { accept op.now (256 + place) ≡ IoError (first_of_op op.now + place) }
+{}

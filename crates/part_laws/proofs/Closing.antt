@@ -1,0 +1,108 @@
+use Rattle.std.proofs.Common.{◌≡◌, ◌⊎◌, ℕ, suc, not, true, false, Option, Some, None, List, ◌∷◌, ◌++◌, map, filter, length, set, slice_index, sym, ap, subst, ◌∙◌, inl, inr, arith, length-set}
+use Rattle.nook_defs.specs.declared.data.Answer.{Answer}
+use Rattle.nook_defs.specs.declared.data.Mode.TheVariants as mode
+use Rattle.nook_defs.specs.Classes.{is_recv, static_check}
+use Rattle.nook_defs.specs.Contract.{is_empty}
+use Rattle.nook_defs.specs.Ideal.{Ideal, Opened, ran, closes, answers_with, answers_found, answers_waiting, answers_checked}
+use Rattle.nook_defs.specs.Log.{is_call}
+use Rattle.nook_defs.specs.Trace.{Visible, answer}
+use Rattle.part_laws.specs.Facts.{At, CallsFacts, DiskFacts, HolderFits, IsSetting, KeyIn, ReplayFits, BootFits, Sub, Facts}
+use Rattle.part_laws.specs.Views.{View, Past, Core, Call, core_of, cores, open_from, stage_of}
+use Rattle.part_laws.proofs.Acts.{ran_step}
+use Rattle.part_laws.proofs.Keeping.{Less, AllLess, calls_less, all_less_set}
+use Rattle.part_laws.proofs.OpenCalls.{open_close}
+use Rattle.part_laws.proofs.Places.{get_map, get_set, map_set}
+
+-- A call is answered: it is open no more.
+
+-- ---- the never-failing device answers an open call
+
+pub answer_shown : (m m' : Ideal) (k : ℕ) (o : Opened) (a : Answer) (kept : List ℕ) (more : List Visible) → At m.opened k o → o.waits ≡ true
+    → static_check m.class m.size o.op ≡ None → answers_with (closes (suc k) m) o.thread o.op a kept ≡ Some m'
+    → ran m (answer (suc k) a kept ∷ more) ≡ ran m' more
+answer_shown m m' k o a kept more h w c e = ran_step m m' (answer (suc k) a kept) more
+    (ap (λ p. answers_found p (closes (suc k) m) a kept) h
+    ∙ ap (λ t. answers_waiting t (closes (suc k) m) o a kept) w
+    ∙ ap (λ r. answers_checked r (closes (suc k) m) o.thread o.op a kept) c
+    ∙ e)
+
+-- ---- the facts
+
+-- a closed core of the same call
+pub record Closed (c d : Core) : Type 0 where
+  pub thread : d.thread ≡ c.thread
+  pub op : d.op ≡ c.op
+  pub waits : d.waits ≡ false
+  pub inside : d.inside ≡ false
+
+pub closed_less : (c d : Core) → Closed c d → Less c d
+closed_less c d x = record {
+  thread = x.thread;
+  op = x.op;
+  waits = λ w. absurd cc (x.waits, w);
+  inside = λ i. absurd cc (x.inside, i);
+  opened = λ i. absurd cc (x.inside, i);
+  attempts = λ w. absurd cc (x.waits, w);
+  once = λ o w i. absurd cc (x.waits, w);
+}
+
+abbrev pub closed_view : ℕ → List ℕ → Option ℕ → List (List ℕ) → View → View
+closed_view n config holder queue v =
+    record v { pending = filter (λ c. not (is_call n c)) v.pending; config = config; holder = holder; queue = queue }
+
+-- what is to be shown for the facts behind an answer
+pub record ClosedFacts (v : View) (b : Past) (k : ℕ) (d : Call) (config : List ℕ) (holder : Option ℕ) (queue : List (List ℕ))
+    (plain frames : List (List ℕ)) : Type 0 where
+  pub keys : length config ≡ 4
+  pub disk : DiskFacts (set (cores b) k d.core) plain v.dev.medium
+  pub holders : (j : ℕ) (c : Core) → At (cores b) j c → (j ≡ k → ⊥) → c.inside ≡ true → HolderFits holder c.thread c.op
+  pub registers : (key : ℕ) → (slice_index v.dev.registers key ≡ slice_index config key)
+      ⊎ IsSetting (set (cores b) k d.core) key (slice_index v.dev.registers key)
+  pub chain : Sub (queue ++ (b.rest ++ v.dev.ring)) frames
+  pub handed_up : (j : ℕ) (c : Call) → At b.calls j c → (j ≡ k → ⊥) → c.core.inside ≡ true → is_recv c.core.op ≡ true → c.handed ≡ true
+      → is_empty queue ≡ false
+
+pub closed_facts : (v : View) (b : Past) (k : ℕ) (c d : Call) (config : List ℕ) (holder : Option ℕ) (queue : List (List ℕ))
+    (plain frames : List (List ℕ)) → Facts v b → v.mode ≡ mode.Running → At b.calls k c → Closed c.core d.core
+    → ClosedFacts v b k d config holder queue plain frames
+    → Facts (closed_view (suc k) config holder queue v) (record b { calls = set b.calls k d; blocks = plain; frames = frames })
+closed_facts v b k c d config holder queue plain frames f r h x g = record {
+  linked = f.linked;
+  width = f.width;
+  keys = g.keys;
+  defaults = f.defaults;
+  pending = ap (filter (λ c. not (is_call (suc k) c))) f.pending
+      ∙ ap (λ n. filter (λ c. not (is_call n c)) (open_from 1 (cores b))) (omega arith)
+      ∙ open_close 1 (cores b) k c.core d.core at x.waits ∙ ap (open_from 1) (sym same);
+  count = f.count ∙ sym (length-set b.calls k d);
+  calls = subst (λ cs. CallsFacts v.class v.size cs) (sym same) (calls_less v.class v.size (cores b) (set (cores b) k d.core) f.calls less);
+  disk = subst (λ cs. DiskFacts cs plain v.dev.medium) (sym same) g.disk;
+  holders = λ j y i s. holders j y s (get_set (cores b) j k d.core y (subst (λ cs. At cs j y) same i));
+  registers = λ key. subst (λ cs. KeyIn cs config v.defaults v.driven v.mode key (slice_index v.dev.registers key)) (sym same)
+      (subst (λ m. KeyIn (set (cores b) k d.core) config v.defaults v.driven m key (slice_index v.dev.registers key)) (sym r) (g.registers key));
+  replay = subst (λ m. ReplayFits config (stage_of m)) (sym r) tt;
+  booting = subst (λ m. BootFits config v.defaults m) (sym r) tt;
+  chain = g.chain;
+  handed_up = λ m j y i s u t. handed j y s u t (get_set b.calls j k d y i);
+  insides = λ j y i s. f.insides j (less j y (subst (λ cs. At cs j y) same i)).0 (less j y (subst (λ cs. At cs j y) same i)).1
+      ((less j y (subst (λ cs. At cs j y) same i)).2.inside s);
+  driving = f.driving;
+}
+  where
+    at : At (cores b) k c.core
+    at = get_map core_of b.calls k c h
+
+    same : map core_of (set b.calls k d) ≡ set (cores b) k d.core
+    same = map_set core_of b.calls k d
+
+    less : AllLess (cores b) (set (cores b) k d.core)
+    less = all_less_set v.class v.size (cores b) f.calls k c.core d.core at (closed_less c.core d.core x)
+
+    holders : (j : ℕ) (y : Core) → y.inside ≡ true → ((j ≡ k) × (y ≡ d.core)) ⊎ ((j ≡ k → ⊥) × At (cores b) j y) → HolderFits holder y.thread y.op
+    holders j y s (inl i) = absurd cc (x.inside, sym (ap (λ z. z.inside) i.1) ∙ s)
+    holders j y s (inr i) = g.holders j y i.1 i.0 s
+
+    handed : (j : ℕ) (y : Call) → y.core.inside ≡ true → is_recv y.core.op ≡ true → y.handed ≡ true
+        → ((j ≡ k) × (y ≡ d)) ⊎ ((j ≡ k → ⊥) × At b.calls j y) → is_empty queue ≡ false
+    handed j y s u t (inl i) = absurd cc (x.inside, sym (ap (λ z. z.core.inside) i.1) ∙ s)
+    handed j y s u t (inr i) = g.handed_up j y i.1 i.0 s u t

@@ -1,0 +1,12 @@
+use Rattle.std.specs.Prelude.{◌≡◌, List, length}
+use Rattle.nook_defs.specs.declared.data.Entry.{Entry}
+use Rattle.nook_defs.specs.declared.data.Fault.{Fault}
+use Rattle.nook_defs.specs.Burst.{burst}
+use Rattle.nook_defs.specs.Isolation.{ChangesOnlyAllowed}
+use Rattle.nook_defs.specs.Turn.{Machine}
+
+-- a burst changes no word that the driver may not write, but a text word that a fault of the burst names, and
+-- memory keeps its length
+pub record IsIsolatedBurst (entries : List Entry) (faults : List Fault) (m : Machine) : Type 0 where
+  pub changes : ChangesOnlyAllowed entries faults m.memory (burst entries faults m).machine.memory
+  pub same_length : length (burst entries faults m).machine.memory ≡ length m.memory

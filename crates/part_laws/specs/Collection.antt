@@ -1,0 +1,32 @@
+use Rattle.std.specs.Prelude.{◌≡◌, Bool, List, [], ◌∷◌, ◌++◌}
+use Rattle.nook_defs.specs.declared.data.Entry.{Entry}
+use Rattle.nook_defs.specs.declared.data.Entry.TheVariants as entry
+use Rattle.nook_defs.specs.declared.data.Event.{Event}
+use Rattle.nook_defs.specs.declared.data.Event.TheVariants as event
+use Rattle.nook_defs.specs.declared.data.PartSpec.{PartSpec}
+use Rattle.nook_defs.specs.declared.data.Stage.TheVariants as stage
+use Rattle.nook_defs.specs.Runs.{step_of, state_after}
+use Rattle.nook_defs.specs.State.{PartState}
+use Rattle.nook_defs.specs.Steps.{opening}
+use Rattle.part_laws.specs.Fit.{IsOrdered}
+
+-- Collect releases everything but the registration, and tells it in order.
+
+-- the entries stood in Collect's order; those before the registration are released, and it alone is left
+pub record IsCollection (before released after : List Entry) : Type 0 where
+  pub in_order : IsOrdered before
+  pub live : Bool
+  pub told : before ≡ released ++ entry.Registration live ∷ []
+  pub left : after ≡ entry.Registration live ∷ []
+
+abbrev pub CollectsAt : PartState → Event → PartState → Type 0
+CollectsAt p (event.Stage stage.Collect answers released) q = IsCollection p.domain.entries released q.domain.entries
+CollectsAt p _ q = Unit {0}
+
+unfoldable pub CollectsFrom : PartState → List Event → Type 0
+CollectsFrom p [] = Unit {0}
+CollectsFrom p (e ∷ events) = CollectsAt p e (state_after p (step_of e)) × CollectsFrom (state_after p (step_of e)) events
+
+-- each Collect of a journal is a collection
+abbrev pub IsCollecting : PartSpec → List Event → Type 0
+IsCollecting spec journal = CollectsFrom (opening spec) journal

@@ -1,0 +1,55 @@
+use Rattle.std.specs.Prelude.{◌≡◌, ℕ, ◌+◌, ◌≤◌, ◌<◌, true, false, None, List, [], ◌∷◌, length}
+use Rattle.std.specs.List.{AllByRecursion}
+use Rattle.nook_defs.specs.declared.data.CallEntry.{CallEntry}
+use Rattle.nook_defs.specs.declared.data.Class.{Class}
+use Rattle.nook_defs.specs.declared.data.Entry.{Entry}
+use Rattle.nook_defs.specs.declared.data.Entry.TheVariants as entry
+use Rattle.nook_defs.specs.declared.data.PartSpec.{PartSpec}
+use Rattle.nook_defs.specs.Classes.{static_check, defaults_of}
+use Rattle.nook_defs.specs.Crossing.{heap_start}
+use Rattle.nook_defs.specs.Entries.{comes_before, is_registration}
+use Rattle.nook_defs.specs.Isolation.{object_of, kernel_object}
+use Rattle.nook_defs.specs.State.{DomainState, CallLog, PartState}
+
+-- What every part keeps at every step.
+
+-- the image of a part fits its memory
+pub record IsFitSpec (spec : PartSpec) : Type 0 where
+  pub text : length spec.image.text ≤ 2048
+  pub initial : length spec.image.initial ≤ 2048
+
+-- what the driver holds lies in the heap, which begins at `heap`, and is of a kernel object or a context
+abbrev pub IsFitEntry : ℕ → Entry → Type 0
+IsFitEntry heap (entry.Heap start len) = (heap ≤ start) × (start + len ≤ 4096)
+IsFitEntry heap (entry.Borrow object start) = (1 ≤ object) × (object ≤ 12) × (heap ≤ start) × (start + 64 ≤ 4096)
+IsFitEntry heap (entry.Buffer context writable) = context ≤ 16
+IsFitEntry heap (entry.Registration live) = Unit {0}
+
+-- the entries stand in Collect's order, the one registration last
+abbrev pub IsOrdered : List Entry → Type 0
+IsOrdered [] = ⊥
+IsOrdered (e ∷ []) = is_registration e ≡ true
+IsOrdered (e ∷ x ∷ entries) = (is_registration e ≡ false) × (comes_before x e ≡ false) × IsOrdered (x ∷ entries)
+
+pub record IsFitDomain (heap : ℕ) (d : DomainState) : Type 0 where
+  pub memory : length d.memory ≡ 8192
+  pub contexts : length d.contexts ≡ 17
+  pub entries : AllByRecursion (IsFitEntry heap) d.entries
+  pub ordered : IsOrdered d.entries
+
+-- an open call is of one of 16 threads, and its operation passed the static check
+pub record IsFitCall (class : Class) (blocks : ℕ) (c : CallEntry) : Type 0 where
+  pub thread : c.thread < 16
+  pub checked : static_check class blocks c.op ≡ None
+
+pub record IsFitLog (class : Class) (blocks : ℕ) (log : CallLog) : Type 0 where
+  pub config : length log.config ≡ 4
+  pub defaults : log.defaults ≡ defaults_of class
+  pub calls : AllByRecursion (IsFitCall class blocks) log.pending
+
+-- what every part keeps at every step; object 0 is the record, the count of failures, and zeros
+pub record IsFit (p : PartState) : Type 0 where
+  pub spec : IsFitSpec p.spec
+  pub domain : IsFitDomain (heap_start p) p.domain
+  pub log : IsFitLog p.spec.class p.spec.blocks p.log
+  pub told : object_of 0 p ≡ kernel_object p

@@ -1,0 +1,13 @@
+pub mod BurstLaws
+pub mod ActsOn
+pub mod Fit
+pub mod Collection
+pub mod Determined
+pub mod Tied
+pub mod Bound
+pub mod Progress
+pub mod Views
+pub mod Facts
+pub mod Moves
+pub mod Balance
+pub mod Recovery

@@ -1,0 +1,20 @@
+use Rattle.std.specs.Prelude.{◌≡◌, ℕ, true, false, None, Some, []}
+use Rattle.nook_defs.specs.declared.data.Step.{Step}
+use Rattle.nook_defs.specs.declared.data.Step.TheVariants as step
+use Rattle.nook_defs.specs.Runs.{next_any}
+use Rattle.nook_defs.specs.State.{PartState}
+use Rattle.nook_defs.specs.Steps.{enabled}
+
+-- Nothing more happens in a part but what comes from outside: an invocation or a frame.
+
+-- no call is open, and no stage, entry or burst may be taken
+pub record IsStill (p : PartState) : Type 0 where
+  pub calls : p.log.pending ≡ []
+  pub stage : enabled p step.Stage ≡ false
+  pub enter : (thread : ℕ) → enabled p (step.Enter thread) ≡ false
+  pub burst : (context : ℕ) → enabled p (step.Burst context) ≡ false
+
+-- the next step, where there is one, may be taken; where there is none, the part is still
+pub record HasProgress (p : PartState) : Type 0 where
+  pub enabled : (s : Step) → next_any p ≡ Some s → enabled p s ≡ true
+  pub still : next_any p ≡ None → IsStill p

@@ -1,0 +1,10 @@
+//! The laws of parts: theorems over the definitions alone, for every part, every list of steps and every fault.
+//!
+//! Each law is the contract of a public function with an empty body: what it promises holds of all its arguments,
+//! whoever made them.
+#![tactic(auto)]
+
+pub mod bounds;
+pub mod bursts;
+pub mod recovery;
+pub mod steps;

@@ -1,0 +1,62 @@
+//! Laws of steps and of journals that are runs: what every part keeps, isolation and collection.
+
+ghost use Rattle.nook_defs.specs.Isolation.{IsIsolated};
+ghost use Rattle.nook_defs.specs.Runs.{IsRun, event_of, state_after, state_of, step_of};
+ghost use Rattle.nook_defs.specs.Steps.{enabled, opening, turned};
+ghost use Rattle.nook_defs.specs.State.{PartState};
+ghost use Rattle.nook_defs.specs.Valid.{IsValidPart};
+ghost use Rattle.nook_defs.specs.declared.data.Event.{Event};
+ghost use Rattle.nook_defs.specs.declared.data.PartSpec.{PartSpec};
+ghost use Rattle.nook_defs.specs.declared.data.Step.{Step};
+ghost use Rattle.part_laws.specs.Collection.{IsCollecting};
+ghost use Rattle.part_laws.specs.Determined.{events_made, state_made};
+ghost use Rattle.part_laws.specs.Fit.{IsFit, IsFitSpec};
+ghost use Rattle.std.specs.Prelude.{List, [], ◌∷◌, ◌++◌, map, ◌≡◌, true};
+
+/// Each step that may be taken keeps what every part keeps: memory of 8,192 words, 17 contexts, entries in order
+/// that lie in the heap, open calls that passed the static check, and object 0 as the record and the count of
+/// failures.
+pub fn each_step_fits()
+    ensures { (p : PartState) (s : Step) → IsFit p → enabled p s ≡ true → IsFit (turned p s).state }
+{}
+
+/// A part whose image fits is so at first, and after every journal that is a run.
+pub fn every_run_fits()
+    ensures { (spec : PartSpec) (journal : List Event) → IsFitSpec spec → IsRun spec journal → IsFit (state_of spec journal) }
+{}
+
+/// No driver changes a kernel object that is not lent to it. Over each journal that is a run an object 1 to 12
+/// changes only by a served give_back of that object while it is borrowed, and then takes the words moved; object 0
+/// changes only where a Set is answered Done or a failure is carried, and is the record and the count of failures.
+pub fn every_run_is_isolated()
+    ensures { (spec : PartSpec) (journal : List Event) → IsFitSpec spec → IsRun spec journal → IsIsolated spec journal }
+{}
+
+/// Each Collect of a run leaves the registration alone, and its event lists all other entries in order: heap by
+/// start, borrow by object, buffer by context.
+pub fn every_collect_leaves_the_registration()
+    ensures { (spec : PartSpec) (journal : List Event) → IsFitSpec spec → IsRun spec journal → IsCollecting spec journal }
+{}
+
+/// A run is determined by its steps: the journal is the events that they make, and the part it ends in is the part
+/// that they lead to. So two journals with the same steps are one journal and end in one part.
+pub fn every_run_is_determined_by_its_steps()
+    ensures made { (spec : PartSpec) (journal : List Event) → IsRun spec journal
+        → (journal ≡ events_made (opening spec) (map step_of journal)) × (state_of spec journal ≡ state_made (opening spec) (map step_of journal)) }
+    ensures same { (spec : PartSpec) (a b : List Event) → IsRun spec a → IsRun spec b → map step_of a ≡ map step_of b
+        → (a ≡ b) × (state_of spec a ≡ state_of spec b) }
+{}
+
+/// An event names the step that makes it, and a run goes on by each step that may be taken.
+pub fn every_run_goes_on_by_an_enabled_step()
+    ensures named { (p : PartState) (s : Step) → step_of (event_of p s) ≡ s }
+    ensures more { (spec : PartSpec) (journal : List Event) (s : Step) → IsRun spec journal → enabled (state_of spec journal) s ≡ true
+        → IsRun spec (journal ++ event_of (state_of spec journal) s ∷ []) }
+    ensures state { (spec : PartSpec) (journal : List Event) (s : Step)
+        → state_of spec (journal ++ event_of (state_of spec journal) s ∷ []) ≡ state_after (state_of spec journal) s }
+{}
+
+/// What the laws ask of a part's image, every valid part has.
+pub fn every_valid_part_fits()
+    ensures { (spec : PartSpec) → IsValidPart spec → IsFitSpec spec }
+{}

@@ -1,0 +1,15 @@
+//! The driver machine: instructions as words, and bursts of turns over whatever memory and device a `Bus` lends.
+//!
+//! Nothing here takes memory. Whatever word, program, fault list or device is given, a burst ends.
+#![tactic(auto)]
+
+mod burst;
+mod bus;
+mod code;
+#[cfg(test)]
+mod tests;
+mod turn;
+
+pub use burst::{BurstDone, run_burst};
+pub use bus::Bus;
+pub use code::{decode, encode};

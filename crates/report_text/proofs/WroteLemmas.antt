@@ -1,0 +1,165 @@
+-- Texts that are written one after another.
+use Rattle.std.proofs.Common.{◌≡◌, ℕ, ◌+◌, ◌<◌, ◌≤◌, List, [], ◌++◌, length, drop, refl, sym, ◌∙◌, ap, append_assoc, append-nil, Option, None, Some, Result, Ok, Err, OnOk, OnErr, arith, get_or, add-one, ◌∷◌, decimal, codes, suc}
+use Rattle.std.proofs.Math.Seq.{drop-cons}
+use Rattle.std.proofs.Math.Nat.{le_refl, le_trans}
+use Rattle.std.specs.Io.KnownBytes.{Appends}
+use Rattle.nook_defs.specs.Causes.{AppendsPrefix, Rose}
+use Rattle.nook_defs.specs.declared.data.Answer.{Answer}
+use Rattle.nook_defs.specs.declared.data.Event.{Event}
+use Rattle.nook_defs.specs.ReportLines.{answer_text, event_line, event_lines, line_feed, with_number}
+use Rattle.nook_defs.specs.declared.data.PartSpec.{PartSpec}
+use Rattle.nook_defs.specs.declared.data.ThreadSpec.{ThreadSpec}
+use Rattle.nook_defs.specs.Room.{Kept}
+use Rattle.report_text.specs.declared.report.PartReport.{PartReport}
+use Rattle.nook_defs.specs.ReportText.{answer_lines, thread_line, threads_text}
+use Rattle.report_text.specs.Built.{answer_line, part_lines, parts_lines}
+use Rattle.report_text.specs.declared.write.WriteStop.{WriteStop}
+use Rattle.report_text.specs.Writing.{Wrote, each_text}
+
+-- one text and then another
+pub appends_more : (old mid new : Option (List ℕ)) (xs ys : List ℕ) → Appends old mid xs → Appends mid new ys → Appends old new (xs ++ ys)
+appends_more None mid new xs ys p q = tt
+appends_more (Some a) None new xs ys p q = absurd p
+appends_more (Some a) (Some b) None xs ys p q = absurd q
+appends_more (Some a) (Some b) (Some c) xs ys p q = q ∙ (ap (λ front. front ++ ys) p ∙ append_assoc a xs ys)
+
+-- known bytes that stay grow by none
+pub appends_nothing : (held : Option (List ℕ)) → Appends held held []
+appends_nothing None = tt
+appends_nothing (Some xs) = sym (append-nil xs)
+
+-- a text that is another
+pub appends_whole : (old new : Option (List ℕ)) (xs ys : List ℕ) → Appends old new xs → xs ≡ ys → Appends old new ys
+appends_whole None new xs ys p e = tt
+appends_whole (Some a) None xs ys p e = absurd p
+appends_whole (Some a) (Some b) xs ys p e = p ∙ ap (λ more. a ++ more) e
+
+-- one text and then a front of another
+pub prefix_more : (old mid new : Option (List ℕ)) (xs ys : List ℕ) → Appends old mid xs → AppendsPrefix mid new ys → AppendsPrefix old new (xs ++ ys)
+prefix_more old mid new xs ys p q = record {
+  front = xs ++ q.front;
+  rest = q.rest;
+  gained = appends_more old mid new xs q.front p q.gained;
+  whole = append_assoc xs q.front q.rest ∙ ap (λ more. xs ++ more) q.whole;
+}
+
+-- a front of one text is a front of it and another
+pub prefix_longer : (old new : Option (List ℕ)) (xs ys : List ℕ) → AppendsPrefix old new xs → AppendsPrefix old new (xs ++ ys)
+prefix_longer old new xs ys p = record {
+  front = p.front;
+  rest = p.rest ++ ys;
+  gained = p.gained;
+  whole = sym (append_assoc p.front p.rest ys) ∙ ap (λ more. more ++ ys) p.whole;
+}
+
+-- a count that rose before or after rose
+pub rose_later : (a b c : ℕ) → a ≤ b → Rose b c → Rose a c
+rose_later a b c p q = omega arith
+
+pub rose_earlier : (a b c : ℕ) → Rose a b → b ≤ c → Rose a c
+rose_earlier a b c p q = omega arith
+
+pub on_ok : {U E : Type 0} {P Q : Type 0} (r : Result U E) → (P → Q) → OnOk r P → OnOk r Q
+on_ok (Ok v) f p = f p
+on_ok (Err e) f p = tt
+
+pub on_err : {U E : Type 0} {P Q : Type 0} (r : Result U E) → (P → Q) → OnErr r P → OnErr r Q
+on_err (Ok v) f p = tt
+on_err (Err e) f p = f p
+
+-- one text was written, and then another
+pub both : {T U : Type 0} {a b c : Option (List ℕ)} {m n o : ℕ} {v : T} {r : Result U WriteStop} {x y : List ℕ} →
+    Wrote a b m n (Ok v) x → Wrote b c n o r y → Wrote a c m o r (x ++ y)
+both {a = a} {b = b} {c = c} {m = m} {n = n} {o = o} {r = r} {x = x} {y = y} p q = record {
+  ok = on_ok r (λ h. appends_more a b c x y p.ok h) q.ok;
+  err = on_err r (λ h. prefix_more a b c x y p.ok h) q.err;
+  later = le_trans p.later q.later;
+  fault = λ e. rose_later m n o p.later (q.fault e);
+}
+
+-- a text was not written whole, and so none behind it
+pub cut : {T : Type 0} {a b : Option (List ℕ)} {m n : ℕ} {e : WriteStop} {x : List ℕ} (y : List ℕ) →
+    Wrote {T = T} a b m n (Err e) x → Wrote {T = T} a b m n (Err e) (x ++ y)
+cut {a = a} {b = b} {x = x} y p = record { ok = tt; err = prefix_longer a b x y p.err; later = p.later; fault = p.fault }
+
+-- how far the writing of items has come: a front of the whole text is written, and the rest is left
+pub record Progress (old new : Option (List ℕ)) (before now : ℕ) (rest whole : List ℕ) : Type 0 where
+  pub front : List ℕ
+  pub gained : Appends old new front
+  pub parts : front ++ rest ≡ whole
+  pub later : before ≤ now
+
+pub progress_start : (held : Option (List ℕ)) (count : ℕ) (whole : List ℕ) → Progress held held count count whole whole
+progress_start held count whole = record { front = []; gained = appends_nothing held; parts = refl; later = le_refl count }
+
+pub progress_step : {T : Type 0} {v : T} {a b c : Option (List ℕ)} {m n o : ℕ} {x rest whole : List ℕ} →
+    Progress a b m n (x ++ rest) whole → Wrote b c n o (Ok v) x → Progress a c m o rest whole
+progress_step {a = a} {b = b} {c = c} {x = x} {rest = rest} p q = record {
+  front = p.front ++ x;
+  gained = appends_more a b c p.front x p.gained q.ok;
+  parts = append_assoc p.front x rest ∙ p.parts;
+  later = le_trans p.later q.later;
+}
+
+pub progress_stop : {T : Type 0} {e : WriteStop} {a b c : Option (List ℕ)} {m n o : ℕ} {x whole : List ℕ} (rest : List ℕ) →
+    Progress a b m n (x ++ rest) whole → Wrote {T = T} b c n o (Err e) x → Wrote {T = T} a c m o (Err e) whole
+progress_stop {a = a} {b = b} {c = c} {m = m} {n = n} {o = o} {x = x} rest p q =
+    let longer = prefix_longer a c (p.front ++ x) rest (prefix_more a b c p.front x p.gained q.err) in record {
+      ok = tt;
+      err = record { front = longer.front; rest = longer.rest; gained = longer.gained; whole = longer.whole ∙ (append_assoc p.front x rest ∙ p.parts) };
+      later = le_trans p.later q.later;
+      fault = λ e. rose_later m n o p.later (q.fault e);
+    }
+
+pub progress_done : {T : Type 0} {v : T} {a b : Option (List ℕ)} {m n : ℕ} {whole : List ℕ} →
+    Progress a b m n [] whole → Wrote a b m n (Ok v) whole
+progress_done {a = a} {b = b} {whole = whole} p = record {
+  ok = appends_whole a b p.front whole p.gained (sym (append-nil p.front) ∙ p.parts);
+  err = tt;
+  later = p.later;
+  fault = λ e. cc;
+}
+
+-- what is left of the texts of items begins with the next one's
+pub next_text : {T : Type 0} (text : ℕ → T → List ℕ) (items : List T) (i place : ℕ) (item : T) → i < length items → item ≡ get_or items i item →
+    each_text text place (drop i items) ≡ text place item ++ each_text text (place + 1) (drop (i + 1) items)
+next_text text items i place item h e = rw (drop-cons items i item h, add-one place, add-one i, sym e) refl
+
+-- the lines of events, one by one
+pub event_lines_each : (place : ℕ) (events : List Event) → event_lines place events ≡ each_text event_line place events
+unfolding event_lines
+event_lines_each place [] = refl
+event_lines_each place (e ∷ events) = ap (λ more. event_line place e ++ more) (event_lines_each (suc place) events)
+
+pub five : (a b c d e rest : List ℕ) → (a ++ (b ++ (c ++ (d ++ e)))) ++ rest ≡ a ++ (b ++ (c ++ (d ++ (e ++ rest))))
+five a b c d e rest =
+    append_assoc a (b ++ (c ++ (d ++ e))) rest
+    ∙ ap (λ t. a ++ t) (append_assoc b (c ++ (d ++ e)) rest
+    ∙ ap (λ t. b ++ t) (append_assoc c (d ++ e) rest
+    ∙ ap (λ t. c ++ t) (append_assoc d e rest)))
+
+-- the lines of answers, one by one
+pub answer_lines_each : (place : ℕ) (answers : List (ℕ × Answer)) → answer_lines place answers ≡ each_text answer_line place answers
+answer_lines_each place [] = refl
+answer_lines_each place (a ∷ answers) =
+    rw (answer_lines_each (suc place) answers)
+    (sym (five (decimal place) (with_number (codes " p") a.0) (codes " ") (answer_text a.1) line_feed (each_text answer_line (suc place) answers)))
+
+-- nothing was written, and nothing was to be
+pub wrote_nothing : {T : Type 0} (held : Option (List ℕ)) (count : ℕ) (v : T) (text : List ℕ) → text ≡ [] → Wrote held held count count (Ok v) text
+wrote_nothing held count v text e = rw e record { ok = appends_nothing held; err = tt; later = le_refl count; fault = λ e. cc }
+
+-- the first part's lines and the others'
+pub parts_first : (place : ℕ) (specs : List PartSpec) (journals : List (Kept Event)) (summed : List PartReport)
+    (s : PartSpec) (journal : Kept Event) (one : PartReport) (more_specs : List PartSpec) (more_journals : List (Kept Event)) (more_summed : List PartReport) →
+    specs ≡ s ∷ more_specs → journals ≡ journal ∷ more_journals → summed ≡ one ∷ more_summed →
+    parts_lines place specs journals summed ≡ part_lines place s journal.list one ++ parts_lines (place + 1) more_specs more_journals more_summed
+parts_first place specs journals summed s journal one more_specs more_journals more_summed e f h = rw (e, f, h, add-one place) refl
+
+-- the first thread's lines and the others'
+pub threads_first : (place : ℕ) (threads : List ThreadSpec) (answers : List (List (ℕ × Answer))) (t : ThreadSpec) (own : List (ℕ × Answer))
+    (more_threads : List ThreadSpec) (more_answers : List (List (ℕ × Answer))) →
+    threads ≡ t ∷ more_threads → answers ≡ own ∷ more_answers →
+    threads_text place threads answers ≡ thread_line place t ++ (answer_lines 1 own ++ threads_text (place + 1) more_threads more_answers)
+unfolding threads_text
+threads_first place threads answers t own more_threads more_answers e f = rw (e, f, add-one place) refl

@@ -1,0 +1,6 @@
+use Rattle.std.proofs.Common.{◌≡◌, ◌++◌, drop}
+use Rattle.nook_defs.specs.ReportLines.{comma_words}
+use Rattle.report_text.proofs.pieces.push_more_words.Given as goal
+
+abbrev pub invariant-loop-word : goal.invariant-loop-word
+invariant-loop-word l = l.line ++ comma_words (drop l.word-index l.words) ≡ l.initial.line ++ comma_words l.words

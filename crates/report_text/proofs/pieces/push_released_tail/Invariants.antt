@@ -1,0 +1,6 @@
+use Rattle.std.proofs.Common.{◌≡◌, ◌++◌, drop}
+use Rattle.nook_defs.specs.ReportLines.{released_tail}
+use Rattle.report_text.proofs.pieces.push_released_tail.Given as goal
+
+abbrev pub invariant-loop-entry : goal.invariant-loop-entry
+invariant-loop-entry l = l.line ++ released_tail (drop l.entry-index l.released) ≡ l.initial.line ++ released_tail l.released

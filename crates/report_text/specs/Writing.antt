@@ -1,0 +1,18 @@
+-- What the writing of a text leaves in a sink.
+use Rattle.std.specs.Prelude.{ℕ, suc, ◌≤◌, List, [], ◌∷◌, ◌++◌, Option, Result, OnOk, OnErr, IsErrOf}
+use Rattle.std.specs.Io.KnownBytes.{Appends}
+use Rattle.nook_defs.specs.Causes.{AppendsPrefix, Rose}
+use Rattle.report_text.specs.declared.write.WriteStop.{WriteStop}
+use Rattle.report_text.specs.declared.write.WriteStop.TheVariants.{Fault}
+
+-- a text was written whole, or a front of it; a fault comes only where the sink's count of faults rose
+pub record Wrote {T : Type 0} (old new : Option (List ℕ)) (before now : ℕ) (result : Result T WriteStop) (text : List ℕ) : Type 0 where
+  pub ok : OnOk result (Appends old new text)
+  pub err : OnErr result (AppendsPrefix old new text)
+  pub later : before ≤ now
+  pub fault : IsErrOf result Fault → Rose before now
+
+-- the texts of items one after another, the first of them number `place`
+abbrev pub each_text : {T : Type 0} → (ℕ → T → List ℕ) → ℕ → List T → List ℕ
+each_text text place [] = []
+each_text text place (item ∷ items) = text place item ++ each_text text (suc place) items

@@ -1,0 +1,7 @@
+//! The report of a run: its lines, what it sums up, and its writing into a sink, line by line.
+#![tactic(auto)]
+
+pub mod line;
+pub mod pieces;
+pub mod report;
+pub mod write;

@@ -1,0 +1,56 @@
+//! A line of text as it is put together.
+
+ghost use Rattle.std.specs.Prelude.{◌≡◌, [], ◌∷◌, ◌++◌, OnOk, decimal, string_bytes};
+
+use nook_defs::memory::NoMemory;
+use std::alloc::Global;
+use std::fmt::Write;
+use std::marker::Model;
+
+/// A line without its end. Contracts see its bytes.
+#[derive(Drop)]
+pub struct Line {
+    text: String,
+}
+
+impl Model for Line {
+    ghost use Rattle.std.specs.Prelude.{ℕ, List, string_bytes};
+
+    ghost Value = { List ℕ };
+
+    ghost view = { λ s. string_bytes s.text };
+}
+
+impl Line {
+    /// The empty line. It takes no memory.
+    pub fn new(alloc: Global) -> Line
+        ensures { result ≡ [] }
+    {
+        Line {
+            text: String::new(alloc),
+        }
+    }
+
+    /// Adds a text.
+    pub fn push(&mut self, text: &str) -> Result<(), NoMemory>
+        ensures { OnOk result (self.new ≡ self.old ++ text.now) }
+    {
+        self.text.push_str(text)?;
+        Ok(())
+    }
+
+    /// Adds a number in decimal.
+    pub fn number(&mut self, n: u64) -> Result<(), NoMemory>
+        ensures { OnOk result (self.new ≡ self.old ++ decimal n) }
+    {
+        write!(self.text, "{n}")?;
+        Ok(())
+    }
+
+    /// The bytes so far.
+    pub fn as_bytes(&self) -> &[u8]
+        ensures { result.now ≡ self.now }
+    {
+        self.text.as_bytes()
+    }
+}

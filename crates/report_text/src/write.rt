@@ -1,0 +1,307 @@
+//! The writing of a report into a sink, line by line.
+
+ghost use Rattle.std.specs.Prelude.{◌≡◌, ◌+◌, ◌^◌, ◌<◌, ◌++◌, ℕ, List, OnOk, length};
+ghost use Rattle.nook_defs.specs.ReportLines.{event_line, event_lines};
+ghost use Rattle.nook_defs.specs.ReportText.{answer_lines, failures_line, part_line, status_line, thread_line, threads_text};
+ghost use Rattle.report_text.specs.Built.{answer_line, part_lines, parts_lines, report_lines};
+ghost use Rattle.report_text.specs.Writing.{Wrote, each_text};
+
+use crate::line::Line;
+use crate::pieces::{push_answer, push_class, push_event, push_number};
+use crate::report::{PartReport, Report};
+use nook_defs::data::{Answer, Event, PartAnswers, PartSpec, Scenario, ThreadSpec};
+use nook_defs::journal::Journal;
+use nook_defs::memory::NoMemory;
+use nook_defs::outside::{Failed, Sink};
+use nook_defs::whole::write_all;
+use std::alloc::Global;
+
+/// Why a text was not written whole. The sink has gained a front of it.
+#[derive(Clone, Copy, Debug, PartialEq, Eq)]
+pub enum WriteStop {
+    /// The sink failed.
+    Fault,
+    /// Memory was wanting.
+    NoMemory,
+}
+
+impl From<Failed> for WriteStop {
+    ghost use Rattle.report_text.specs.declared.write.WriteStop.TheVariants.{Fault};
+
+    ghost from_gives = { λ _ stop. stop ≡ Fault };
+
+    fn from(_failed: Failed) -> WriteStop {
+        WriteStop::Fault
+    }
+}
+
+impl From<NoMemory> for WriteStop {
+    ghost use Rattle.report_text.specs.declared.write.WriteStop.TheVariants as stops;
+
+    ghost from_gives = { λ _ stop. stop ≡ stops.NoMemory };
+
+    fn from(_wanting: NoMemory) -> WriteStop {
+        WriteStop::NoMemory
+    }
+}
+
+/// What has a line for each of its items.
+pub trait Lined {
+    // the line of an item with this number
+    ghost text: { ℕ → Self → List ℕ };
+
+    /// Adds the item's line, its line feed with it.
+    fn push_line(&self, place: u64, line: &mut Line) -> Result<(), NoMemory>
+        ensures { OnOk result (line.new ≡ line.old ++ text place self.now) };
+}
+
+impl Lined for Event {
+    ghost text = { event_line };
+
+    #[tactic(auto, unfolding(nook_defs::specs::ReportLines::event_line))]
+    fn push_line(&self, place: u64, line: &mut Line) -> Result<(), NoMemory> {
+        line.number(place)?;
+        line.push(" ")?;
+        push_event(line, self)?;
+        line.push("\n")
+    }
+}
+
+impl Lined for (u32, Answer) {
+    ghost text = { answer_line };
+
+    fn push_line(&self, place: u64, line: &mut Line) -> Result<(), NoMemory> {
+        line.number(place)?;
+        push_number(line, " p", u64::from(self.0))?;
+        line.push(" ")?;
+        push_answer(line, &self.1)?;
+        line.push("\n")
+    }
+}
+
+/// Writes an item's line.
+fn write_line<K: Sink, T: Lined>(
+    alloc: Global,
+    sink: &mut K,
+    place: u64,
+    item: &T,
+) -> Result<(), WriteStop>
+    ensures { Wrote (K.held sink.old) (K.held sink.new) (K.count sink.old) (K.count sink.new) result (T.text place item.now) }
+{
+    let mut line = Line::new(alloc);
+    item.push_line(place, &mut line)?;
+    write_all(sink, line.as_bytes())?;
+    Ok(())
+}
+
+/// Writes the lines of items, the first of them number `first`.
+fn write_each<K: Sink, T: Lined>(
+    alloc: Global,
+    sink: &mut K,
+    first: u64,
+    items: &[T],
+) -> Result<(), WriteStop>
+    requires { first + length items.now < 2 ^ 64 }
+    ensures { Wrote (K.held sink.old) (K.held sink.new) (K.count sink.old) (K.count sink.new) result (each_text T.text first items.now) }
+{
+    let mut place = first;
+    for item in items {
+        write_line(alloc, sink, place, item)?;
+        place += 1;
+    }
+    Ok(())
+}
+
+/// Writes a line.
+fn write_text<K: Sink>(sink: &mut K, line: &Line) -> Result<(), WriteStop>
+    ensures { Wrote (K.held sink.old) (K.held sink.new) (K.count sink.old) (K.count sink.new) result line.now }
+{
+    write_all(sink, line.as_bytes())?;
+    Ok(())
+}
+
+/// Writes a part's first line.
+fn write_part_line<K: Sink>(
+    alloc: Global,
+    sink: &mut K,
+    place: u64,
+    spec: &PartSpec,
+) -> Result<(), WriteStop>
+    ensures { Wrote (K.held sink.old) (K.held sink.new) (K.count sink.old) (K.count sink.new) result (part_line place spec.now) }
+{
+    let mut line = Line::new(alloc);
+    push_part_line(&mut line, place, spec)?;
+    write_text(sink, &line)
+}
+
+fn push_part_line(line: &mut Line, place: u64, spec: &PartSpec) -> Result<(), NoMemory>
+    ensures { OnOk result (line.new ≡ line.old ++ part_line place spec.now) }
+{
+    push_number(line, "part ", place)?;
+    line.push(" ")?;
+    line.push(spec.name.as_str())?;
+    line.push(" ")?;
+    push_class(line, spec.class)?;
+    push_number(line, " limit ", u64::from(spec.limit))?;
+    line.push("\n")
+}
+
+/// Writes the lines of a journal's events.
+fn write_events<K: Sink>(alloc: Global, sink: &mut K, events: &[Event]) -> Result<(), WriteStop>
+    ensures { Wrote (K.held sink.old) (K.held sink.new) (K.count sink.old) (K.count sink.new) result (event_lines 1 events.now) }
+{
+    write_each(alloc, sink, 1, events)
+}
+
+/// Writes the line of a number of failures.
+fn write_failures_line<K: Sink>(alloc: Global, sink: &mut K, failures: u32) -> Result<(), WriteStop>
+    ensures { Wrote (K.held sink.old) (K.held sink.new) (K.count sink.old) (K.count sink.new) result (failures_line failures) }
+{
+    let mut line = Line::new(alloc);
+    push_number(&mut line, "failures ", u64::from(failures))?;
+    line.push("\n")?;
+    write_text(sink, &line)
+}
+
+/// Writes a part's lines.
+fn write_part<K: Sink>(
+    alloc: Global,
+    sink: &mut K,
+    place: u64,
+    spec: &PartSpec,
+    journal: &Journal,
+    summed: &PartReport,
+) -> Result<(), WriteStop>
+    ensures { Wrote (K.held sink.old) (K.held sink.new) (K.count sink.old) (K.count sink.new) result (part_lines place spec.now journal.now.list summed.now) }
+{
+    write_part_line(alloc, sink, place, spec)?;
+    write_events(alloc, sink, journal.as_slice())?;
+    write_failures_line(alloc, sink, summed.failures)
+}
+
+/// Writes the lines of the parts, the first of them number `place`.
+fn write_parts<K: Sink>(
+    alloc: Global,
+    sink: &mut K,
+    place: u64,
+    specs: &[PartSpec],
+    journals: &[Journal],
+    summed: &[PartReport],
+) -> Result<(), WriteStop>
+    requires { place + length specs.now < 2 ^ 64 }
+    ensures { Wrote (K.held sink.old) (K.held sink.new) (K.count sink.old) (K.count sink.new) result (parts_lines place specs.now journals.now summed.now) }
+{
+    let Some((spec, more_specs)) = specs.split_first() else {
+        return Ok(());
+    };
+    let Some((journal, more_journals)) = journals.split_first() else {
+        return Ok(());
+    };
+    let Some((one, more_summed)) = summed.split_first() else {
+        return Ok(());
+    };
+    write_part(alloc, sink, place, spec, journal, one)?;
+    write_parts(
+        alloc,
+        sink,
+        place + 1,
+        more_specs,
+        more_journals,
+        more_summed,
+    )
+}
+
+/// Writes a thread's first line.
+fn write_thread_line<K: Sink>(
+    alloc: Global,
+    sink: &mut K,
+    place: u64,
+    thread: &ThreadSpec,
+) -> Result<(), WriteStop>
+    ensures { Wrote (K.held sink.old) (K.held sink.new) (K.count sink.old) (K.count sink.new) result (thread_line place thread.now) }
+{
+    let mut line = Line::new(alloc);
+    push_thread_line(&mut line, place, thread)?;
+    write_text(sink, &line)
+}
+
+fn push_thread_line(line: &mut Line, place: u64, thread: &ThreadSpec) -> Result<(), NoMemory>
+    ensures { OnOk result (line.new ≡ line.old ++ thread_line place thread.now) }
+{
+    push_number(line, "thread ", place)?;
+    line.push(" ")?;
+    line.push(thread.name.as_str())?;
+    line.push("\n")
+}
+
+/// Writes a thread's answers.
+fn write_answers<K: Sink>(
+    alloc: Global,
+    sink: &mut K,
+    answers: &[(u32, Answer)],
+) -> Result<(), WriteStop>
+    ensures { Wrote (K.held sink.old) (K.held sink.new) (K.count sink.old) (K.count sink.new) result (answer_lines 1 answers.now) }
+{
+    write_each(alloc, sink, 1, answers)
+}
+
+/// Writes the lines of the threads, the first of them number `place`.
+#[tactic(auto, unfolding(nook_defs::specs::ReportText::threads_text))]
+fn write_threads<K: Sink>(
+    alloc: Global,
+    sink: &mut K,
+    place: u64,
+    threads: &[ThreadSpec],
+    answers: &[PartAnswers],
+) -> Result<(), WriteStop>
+    requires { place + length threads.now < 2 ^ 64 }
+    ensures { Wrote (K.held sink.old) (K.held sink.new) (K.count sink.old) (K.count sink.new) result (threads_text place threads.now answers.now) }
+{
+    let Some((thread, more_threads)) = threads.split_first() else {
+        return Ok(());
+    };
+    let Some((own, more_answers)) = answers.split_first() else {
+        return Ok(());
+    };
+    write_thread_line(alloc, sink, place, thread)?;
+    write_answers(alloc, sink, own.as_slice())?;
+    write_threads(alloc, sink, place + 1, more_threads, more_answers)
+}
+
+/// Writes the last line.
+fn write_status_line<K: Sink>(alloc: Global, sink: &mut K, status: u32) -> Result<(), WriteStop>
+    ensures { Wrote (K.held sink.old) (K.held sink.new) (K.count sink.old) (K.count sink.new) result (status_line status) }
+{
+    let mut line = Line::new(alloc);
+    push_number(&mut line, "status ", u64::from(status))?;
+    line.push("\n")?;
+    write_text(sink, &line)
+}
+
+/// Writes a report. After a failure the sink has gained a front of it; a fault comes only from the sink's own.
+pub fn write_report<K: Sink>(
+    alloc: Global,
+    scenario: &Scenario,
+    report: &Report,
+    sink: &mut K,
+) -> Result<(), WriteStop>
+    ensures { Wrote (K.held sink.old) (K.held sink.new) (K.count sink.old) (K.count sink.new) result (report_lines scenario.now report.now) }
+{
+    let journals = report.run.journals.as_slice();
+    write_parts(
+        alloc,
+        sink,
+        0,
+        scenario.parts.as_slice(),
+        journals,
+        report.parts.as_slice(),
+    )?;
+    write_threads(
+        alloc,
+        sink,
+        0,
+        scenario.threads.as_slice(),
+        report.run.answers.as_slice(),
+    )?;
+    write_status_line(alloc, sink, report.status)
+}

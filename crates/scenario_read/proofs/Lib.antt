@@ -1,0 +1,4 @@
+pub mod Counts
+pub mod HexWords
+pub mod JsonText
+pub mod Members

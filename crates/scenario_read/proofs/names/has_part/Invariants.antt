@@ -1,0 +1,6 @@
+use Rattle.std.proofs.Common.{◌≡◌, drop}
+use Rattle.nook_defs.specs.PartReading.{is_among, part_names}
+use Rattle.scenario_read.proofs.names.has_part.Given as goal
+
+abbrev pub invariant-loop-part : goal.invariant-loop-part
+invariant-loop-part l = is_among (part_names l.parts) l.name ≡ is_among (part_names (drop l.part-index l.parts)) l.name

@@ -1,0 +1,71 @@
+//! Drivers: an image, or an assembler text.
+
+ghost use Rattle.std.specs.Prelude.{◌≡◌};
+ghost use Rattle.serde_json.specs.View.{view};
+ghost use Rattle.nook_defs.specs.Classes.{same_class};
+ghost use Rattle.nook_defs.specs.ImageReading.{asm_of, driver_image, driver_of, or_bad_asm};
+ghost use Rattle.nook_defs.specs.Assembler.{assembled};
+ghost use Rattle.nook_defs.specs.Keys.{key_text};
+ghost use Rattle.nook_defs.specs.declared.input.Key.TheVariants as key;
+ghost use Rattle.serde_json.specs.Find.{get};
+ghost use Rattle.scenario_read.specs.Gives.{Gives};
+
+use crate::fields::{check_keys, field, text_in};
+use crate::image::image_of;
+use crate::keys::key_text;
+use crate::stop::{ScenarioFault, at, bad_here};
+use nook_defs::data::{Class, Image};
+use nook_defs::input::{InputFault, Key};
+use serde_json::Value;
+use std::alloc::Global;
+
+/// The image of a driver of a class, given under exactly one of the keys `image` and `asm`.
+#[tactic(auto, unfolding(nook_defs::specs::ImageReading::driver_of))]
+pub fn driver_of(alloc: Global, value: &Value, class: Class) -> Result<Image, ScenarioFault>
+    ensures { Gives result (driver_of class (view value.now)) }
+{
+    check_keys(alloc, value, &[Key::Image, Key::Asm])?;
+    if value.get(key_text(Key::Image)).is_some() && value.get(key_text(Key::Asm)).is_some() {
+        return bad_here(alloc, InputFault::UnknownKey);
+    }
+    let image = driver_image(alloc, value)?;
+    if !is_same(image.class, class) {
+        return bad_here(alloc, InputFault::BadImage);
+    }
+    Ok(image)
+}
+
+/// The image under `asm`, where that key is there, else the one under `image`.
+fn driver_image(alloc: Global, value: &Value) -> Result<Image, ScenarioFault>
+    ensures { Gives result (driver_image (get (key_text key.Asm) (view value.now)) (view value.now)) }
+{
+    match value.get(key_text(Key::Asm)) {
+        Some(text) => at(Key::Asm, asm_of(alloc, text)),
+        None => at(
+            Key::Image,
+            image_of(alloc, field(alloc, value, Key::Image)?),
+        ),
+    }
+}
+
+/// The image of an assembler text.
+fn asm_of(alloc: Global, value: &Value) -> Result<Image, ScenarioFault>
+    ensures { Gives result (asm_of (view value.now)) }
+{
+    let text = text_in(alloc, value)?;
+    read_asm(alloc, text)
+}
+
+/// The image that a text assembles to. No text is assembled yet.
+fn read_asm(_alloc: Global, text: &str) -> Result<Image, ScenarioFault>
+    ensures { Gives result (or_bad_asm (assembled text.now)) }
+{
+    Err(ScenarioFault::NoAssembler)
+}
+
+/// Whether two classes are the same.
+fn is_same(a: Class, b: Class) -> bool
+    ensures { result ≡ same_class a b }
+{
+    a == b
+}

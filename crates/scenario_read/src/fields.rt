@@ -1,0 +1,140 @@
+//! The fields of JSON objects, each of its kind and in its range.
+
+ghost use Rattle.std.specs.Prelude.{◌≡◌, ◌↔◌, All, IsTrue, IsSome, Ok, Some, None, IfOk, IfErr, string_bytes};
+ghost use Rattle.serde_json.specs.View.{view, members_view};
+ghost use Rattle.std.specs.BTreeMap.{keys};
+ghost use Rattle.serde_json.specs.Find.{as_object, get};
+ghost use Rattle.nook_defs.specs.Keys.{key_text, is_key};
+ghost use Rattle.nook_defs.specs.Reading.{all_known, bad, object_with, is_object, number_of, number_at, number_or, text_of};
+ghost use Rattle.scenario_read.specs.Gives.{Fails, Gives, IsMissing};
+
+use crate::keys::key_text;
+use crate::stop::{ScenarioFault, at, bad_here, missing};
+use nook_defs::input::{InputFault, Key};
+use serde_json::{Map, Value};
+use std::alloc::Global;
+
+/// The value is an object.
+pub fn check_object(alloc: Global, value: &Value) -> Result<(), ScenarioFault>
+    ensures ok { IfOk result (λ _. IsSome (as_object (view value.now))) }
+    ensures err { IfErr result (λ stop. Fails stop (is_object (view value.now))) }
+{
+    if value.is_object() {
+        Ok(())
+    } else {
+        bad_here(alloc, InputFault::WrongKind)
+    }
+}
+
+/// The value is an object that has no other keys than these.
+pub fn check_keys(alloc: Global, value: &Value, known: &[Key]) -> Result<(), ScenarioFault>
+    ensures { Gives result (object_with known.now (view value.now)) }
+{
+    match value.as_object() {
+        None => bad_here(alloc, InputFault::WrongKind),
+        Some(members) if has_only(members, known) => Ok(()),
+        Some(_) => bad_here(alloc, InputFault::UnknownKey),
+    }
+}
+
+/// Whether an object has no other members than these.
+#[tactic(auto, using(crate::proofs::Members::all_known_is))]
+fn has_only(members: &Map<String, Value>, known: &[Key]) -> bool
+    ensures { result ≡ all_known known.now (members_view members.now.entries) }
+{
+    has_only_names(members, known)
+}
+
+/// Whether each name of a member is one of these keys.
+fn has_only_names(members: &Map<String, Value>, known: &[Key]) -> bool
+    ensures { IsTrue result ↔ All (λ name. IsTrue (is_key known.now (string_bytes name))) (keys members.now) }
+{
+    members.keys().all(|name| is_key(known, name.as_str()))
+}
+
+/// Whether a name is one of these keys.
+fn is_key(known: &[Key], name: &str) -> bool
+    ensures { result ≡ is_key known.now name.now }
+{
+    for key in known {
+        if name == key_text(*key) {
+            return true;
+        }
+    }
+    false
+}
+
+/// The value under a key that must be there.
+pub fn field<'a>(alloc: Global, value: &'a Value, key: Key) -> Result<&'a Value, ScenarioFault>
+    ensures ok { IfOk result (λ inside. get (key_text key) (view value.now) ≡ Some (view inside.now)) }
+    ensures absent { IfErr result (λ _. get (key_text key) (view value.now) ≡ None) }
+    ensures err { IfErr result (IsMissing key) }
+{
+    match value.get(key_text(key)) {
+        None => Err(missing(alloc, key)),
+        Some(inside) => Ok(inside),
+    }
+}
+
+/// A text.
+pub fn text_in<'a>(alloc: Global, value: &'a Value) -> Result<&'a str, ScenarioFault>
+    ensures ok { IfOk result (λ text. text_of (view value.now) ≡ Ok text.now) }
+    ensures err { IfErr result (λ stop. Fails stop (text_of (view value.now))) }
+{
+    match value.as_str() {
+        None => bad_here(alloc, InputFault::WrongKind),
+        Some(text) => Ok(text),
+    }
+}
+
+/// A whole number from `low` to `high`.
+pub fn number_in(alloc: Global, value: &Value, low: u64, high: u64) -> Result<u64, ScenarioFault>
+    ensures { Gives result (number_of low high (view value.now)) }
+{
+    match value.as_u64() {
+        None => bad_here(alloc, InputFault::WrongKind),
+        Some(number) if number < low || high < number => {
+            bad_here(alloc, InputFault::NumberRange)
+        }
+        Some(number) => Ok(number),
+    }
+}
+
+/// The whole number from `low` to `high` under a key that must be there.
+pub fn number_at(
+    alloc: Global,
+    value: &Value,
+    key: Key,
+    low: u64,
+    high: u64,
+) -> Result<u64, ScenarioFault>
+    ensures { Gives result (number_at key low high (view value.now)) }
+{
+    let inside = field(alloc, value, key)?;
+    at(key, number_in(alloc, inside, low, high))
+}
+
+/// The whole number from `low` to `high` under a key, or `default` where the key is not there.
+pub fn number_or(
+    alloc: Global,
+    value: &Value,
+    key: Key,
+    low: u64,
+    high: u64,
+    default: u64,
+) -> Result<u64, ScenarioFault>
+    ensures { Gives result (number_or key low high default (view value.now)) }
+{
+    match value.get(key_text(key)) {
+        None => Ok(default),
+        Some(inside) => at(key, number_in(alloc, inside, low, high)),
+    }
+}
+
+/// The word under a key that must be there.
+pub fn word_at(alloc: Global, value: &Value, key: Key) -> Result<u32, ScenarioFault>
+    ensures { Gives result (number_at key 0 4294967295 (view value.now)) }
+{
+    let number = number_at(alloc, value, key, 0, 4_294_967_295)?;
+    Ok(number as u32)
+}

@@ -1,0 +1,214 @@
+//! The texts of keys, and names that stand for one of a few things.
+
+ghost use Rattle.std.specs.Prelude.{◌≡◌, ◌∷◌};
+ghost use Rattle.nook_defs.specs.Keys.{key_text, entry_keys, class_named};
+ghost use Rattle.nook_defs.specs.PartReading.{fault_named, fault_keys, part_keys};
+ghost use Rattle.nook_defs.specs.ScenarioReading.{schedule_named, schedule_keys, op_named, op_keys};
+ghost use Rattle.nook_defs.specs.declared.input.Key.TheVariants as key;
+
+use nook_defs::data::Class;
+use nook_defs::input::{FaultName, Key, OpName, ScheduleName};
+
+/// The text of a key.
+pub fn key_text(key: Key) -> &'static str
+    ensures { result.now ≡ key_text key }
+{
+    match key {
+        Key::Address => "address",
+        Key::After => "after",
+        Key::Arrivals => "arrivals",
+        Key::Asm => "asm",
+        Key::Bad => "bad",
+        Key::Base => "base",
+        Key::Block => "block",
+        Key::Blocks => "blocks",
+        Key::Burst => "burst",
+        Key::Class => "class",
+        Key::Close => "close",
+        Key::Count => "count",
+        Key::Data => "data",
+        Key::Driver => "driver",
+        Key::Entries => "entries",
+        Key::Faults => "faults",
+        Key::First => "first",
+        Key::Frame => "frame",
+        Key::Get => "get",
+        Key::Image => "image",
+        Key::Init => "init",
+        Key::Key => "key",
+        Key::Kind => "kind",
+        Key::Limit => "limit",
+        Key::Name => "name",
+        Key::Op => "op",
+        Key::Open => "open",
+        Key::Ops => "ops",
+        Key::Part => "part",
+        Key::Parts => "parts",
+        Key::Picks => "picks",
+        Key::Play => "play",
+        Key::Poll => "poll",
+        Key::Read => "read",
+        Key::Register => "register",
+        Key::Samples => "samples",
+        Key::Schedule => "schedule",
+        Key::Send => "send",
+        Key::Set => "set",
+        Key::Start => "start",
+        Key::Text => "text",
+        Key::Threads => "threads",
+        Key::Value => "value",
+        Key::Version => "version",
+        Key::Write => "write",
+    }
+}
+
+/// The entries of a class, in the class's order.
+pub fn entry_keys(class: Class) -> &'static [Key]
+    ensures { result.now ≡ entry_keys class }
+{
+    match class {
+        Class::Block => &[Key::Init, Key::Read, Key::Write, Key::Get, Key::Set],
+        Class::Net => &[Key::Init, Key::Send, Key::Poll, Key::Get, Key::Set],
+        Class::Sound => &[
+            Key::Init,
+            Key::Open,
+            Key::Play,
+            Key::Close,
+            Key::Get,
+            Key::Set,
+        ],
+    }
+}
+
+/// The keys of a part of a class, in a scenario of a version.
+pub fn part_keys(version: u32, class: Class) -> &'static [Key]
+    ensures { result.now ≡ part_keys version class }
+{
+    match class {
+        Class::Block if version == 2 => &[
+            Key::Name,
+            Key::Class,
+            Key::Limit,
+            Key::Driver,
+            Key::Faults,
+            Key::Blocks,
+            Key::Bad,
+        ],
+        Class::Block => &[
+            Key::Name,
+            Key::Class,
+            Key::Limit,
+            Key::Driver,
+            Key::Faults,
+            Key::Blocks,
+        ],
+        Class::Net => &[
+            Key::Name,
+            Key::Class,
+            Key::Limit,
+            Key::Driver,
+            Key::Faults,
+            Key::Arrivals,
+        ],
+        Class::Sound => &[Key::Name, Key::Class, Key::Limit, Key::Driver, Key::Faults],
+    }
+}
+
+/// The keys of a fault of a kind.
+pub fn fault_keys(name: FaultName) -> &'static [Key]
+    ensures { result.now ≡ key.Burst ∷ key.After ∷ key.Kind ∷ fault_keys name }
+{
+    match name {
+        FaultName::Trap | FaultName::Hang => &[Key::Burst, Key::After, Key::Kind],
+        FaultName::Poke | FaultName::Code => {
+            &[Key::Burst, Key::After, Key::Kind, Key::Address, Key::Value]
+        }
+        FaultName::Reg => &[Key::Burst, Key::After, Key::Kind, Key::Register, Key::Value],
+    }
+}
+
+/// The keys of a schedule of a kind.
+pub fn schedule_keys(name: ScheduleName) -> &'static [Key]
+    ensures { result.now ≡ schedule_keys name }
+{
+    match name {
+        ScheduleName::RoundRobin => &[Key::Kind],
+        ScheduleName::Drawn => &[Key::Kind, Key::Start],
+        ScheduleName::Listed => &[Key::Kind, Key::Picks],
+    }
+}
+
+/// The keys of an operation.
+pub fn op_keys(name: OpName) -> &'static [Key]
+    ensures { result.now ≡ key.Part ∷ key.Op ∷ op_keys name }
+{
+    match name {
+        OpName::Read => &[Key::Part, Key::Op, Key::First, Key::Count],
+        OpName::Write => &[Key::Part, Key::Op, Key::First, Key::Data],
+        OpName::Send => &[Key::Part, Key::Op, Key::Frame],
+        OpName::Recv | OpName::Open | OpName::Close => &[Key::Part, Key::Op],
+        OpName::Play => &[Key::Part, Key::Op, Key::Samples],
+        OpName::Get => &[Key::Part, Key::Op, Key::Key],
+        OpName::Set => &[Key::Part, Key::Op, Key::Key, Key::Value],
+    }
+}
+
+/// The class of a name.
+#[tactic(auto, unfolding(nook_defs::specs::Keys::class_named))]
+pub fn class_named(name: &str) -> Option<Class>
+    ensures { result ≡ class_named name.now }
+{
+    match name {
+        "block" => Some(Class::Block),
+        "net" => Some(Class::Net),
+        "sound" => Some(Class::Sound),
+        _ => None,
+    }
+}
+
+/// The kind of fault of a name.
+#[tactic(auto, unfolding(nook_defs::specs::PartReading::fault_named))]
+pub fn fault_named(name: &str) -> Option<FaultName>
+    ensures { result ≡ fault_named name.now }
+{
+    match name {
+        "trap" => Some(FaultName::Trap),
+        "hang" => Some(FaultName::Hang),
+        "poke" => Some(FaultName::Poke),
+        "code" => Some(FaultName::Code),
+        "reg" => Some(FaultName::Reg),
+        _ => None,
+    }
+}
+
+/// The kind of schedule of a name.
+#[tactic(auto, unfolding(nook_defs::specs::ScenarioReading::schedule_named))]
+pub fn schedule_named(name: &str) -> Option<ScheduleName>
+    ensures { result ≡ schedule_named name.now }
+{
+    match name {
+        "round_robin" => Some(ScheduleName::RoundRobin),
+        "drawn" => Some(ScheduleName::Drawn),
+        "listed" => Some(ScheduleName::Listed),
+        _ => None,
+    }
+}
+
+/// The operation of a name.
+#[tactic(auto, unfolding(nook_defs::specs::ScenarioReading::op_named))]
+pub fn op_named(name: &str) -> Option<OpName>
+    ensures { result ≡ op_named name.now }
+{
+    match name {
+        "read" => Some(OpName::Read),
+        "write" => Some(OpName::Write),
+        "send" => Some(OpName::Send),
+        "recv" => Some(OpName::Recv),
+        "open" => Some(OpName::Open),
+        "play" => Some(OpName::Play),
+        "close" => Some(OpName::Close),
+        "get" => Some(OpName::Get),
+        "set" => Some(OpName::Set),
+        _ => None,
+    }
+}

@@ -1,0 +1,130 @@
+//! Lists of JSON values, and the items that are plain numbers.
+
+ghost use Rattle.std.specs.Prelude.{◌≡◌, ◌≤◌, [], length, Result};
+ghost use Rattle.serde_json.specs.View.{view, items_view};
+ghost use Rattle.nook_defs.specs.Reading.{items_from, list_of, number_of, numbers_of};
+ghost use Rattle.scenario_read.specs.Gives.{Gives};
+
+use crate::fields::number_in;
+use crate::stop::{ScenarioFault, bad_here, behind};
+use nook_defs::input::{InputFault, PathStep};
+use nook_defs::lists::{Items, Words};
+use serde_json::Value;
+use std::alloc::Global;
+
+/// Reads the items of a list, each with those that stand before it at hand.
+pub trait ItemReader {
+    ghost use Rattle.std.specs.Prelude.{List, Result};
+    ghost use Rattle.serde_json.specs.Data.{Data};
+    ghost use Rattle.serde_json.specs.View.{view};
+    ghost use Rattle.nook_defs.specs.declared.input.Refusal.{Refusal};
+    ghost use Rattle.scenario_read.specs.Gives.{Gives};
+
+    /// What an item is read as.
+    type Item: Drop;
+
+    ghost item_of: { Self → List Self.Item → Data → Result Self.Item Refusal };
+
+    /// Reads one item, behind the earlier ones.
+    fn read(
+        &self,
+        alloc: Global,
+        earlier: &Items<Self::Item>,
+        value: &Value,
+    ) -> Result<Self::Item, ScenarioFault>
+        ensures { Gives result (item_of self.now earlier.now (view value.now)) };
+}
+
+/// A list of `least` to `most` items.
+#[tactic(auto, using(crate::proofs::Counts::count_items))]
+pub fn read_list<R: ItemReader>(
+    alloc: Global,
+    reader: &R,
+    value: &Value,
+    least: usize,
+    most: usize,
+) -> Result<Items<R::Item>, ScenarioFault>
+    requires { most ≤ 65536 }
+    ensures { Gives result (list_of (R.item_of reader.now) least most (view value.now)) }
+{
+    let Some(values) = value.as_array() else {
+        return bad_here(alloc, InputFault::WrongKind);
+    };
+    if values.len() > most {
+        return bad_here(alloc, InputFault::TooMany);
+    }
+    if values.len() < least {
+        return bad_here(alloc, InputFault::NumberRange);
+    }
+    read_items(alloc, reader, values.as_slice())
+}
+
+/// The items in order.
+fn read_items<R: ItemReader>(
+    alloc: Global,
+    reader: &R,
+    values: &[Value],
+) -> Result<Items<R::Item>, ScenarioFault>
+    requires { length values.now ≤ 65536 }
+    ensures { Gives result (items_from (R.item_of reader.now) [] 0 (items_view values.now)) }
+{
+    let mut items = Items::new(alloc);
+    let mut place = 0;
+    for value in values {
+        let read = reader.read(alloc, &items, value);
+        items.push(behind(PathStep::Place(place), read)?)?;
+        place += 1;
+    }
+    Ok(items)
+}
+
+/// Reads words of 32 bits.
+pub struct WordReader;
+
+impl ItemReader for WordReader {
+    type Item = u32;
+
+    ghost item_of = { λ _ earlier. number_of 0 4294967295 };
+
+    fn read(
+        &self,
+        alloc: Global,
+        _earlier: &Items<u32>,
+        value: &Value,
+    ) -> Result<u32, ScenarioFault> {
+        let number = number_in(alloc, value, 0, 4_294_967_295)?;
+        Ok(number as u32)
+    }
+}
+
+/// Reads picks of 16 bits.
+pub struct PickReader;
+
+impl ItemReader for PickReader {
+    type Item = u16;
+
+    ghost item_of = { λ _ earlier. number_of 0 65535 };
+
+    fn read(
+        &self,
+        alloc: Global,
+        _earlier: &Items<u16>,
+        value: &Value,
+    ) -> Result<u16, ScenarioFault> {
+        let number = number_in(alloc, value, 0, 65_535)?;
+        Ok(number as u16)
+    }
+}
+
+/// A list of `least` to `most` words.
+pub fn read_words(
+    alloc: Global,
+    value: &Value,
+    least: usize,
+    most: usize,
+) -> Result<Words, ScenarioFault>
+    requires { most ≤ 65536 }
+    ensures { Gives result (numbers_of least most 4294967295 (view value.now)) }
+{
+    read_list(alloc, &WordReader, value, least, most)
+}

@@ -1,0 +1,93 @@
+//! Why a value is not read, and the way to it.
+
+ghost use Rattle.std.specs.Prelude.{◌≡◌, [], ◌∷◌, Result, Ok, Err, IfOk};
+ghost use Rattle.nook_defs.specs.Reading.{bad, under};
+ghost use Rattle.nook_defs.specs.declared.input.Refusal.{Refusal};
+ghost use Rattle.nook_defs.specs.declared.input.PathStep.TheVariants as step;
+ghost use Rattle.scenario_read.specs.Gives.{Gives, IsMissing};
+
+use nook_defs::input::{InputFault, Key, Path, PathStep, Refusal};
+use nook_defs::lists::Items;
+use nook_defs::memory::NoMemory;
+use std::alloc::Global;
+
+/// Why nothing was read.
+#[derive(Drop)]
+pub enum ScenarioFault {
+    /// The first fault of the input, and where it stands.
+    Bad(Refusal),
+    /// Memory was wanting.
+    NoMemory,
+    /// A driver is given as an assembler text, and nothing before it has a fault. Such drivers are not read yet.
+    NoAssembler,
+}
+
+impl From<NoMemory> for ScenarioFault {
+    ghost use Rattle.scenario_read.specs.declared.stop.ScenarioFault.TheVariants as stops;
+
+    ghost from_gives = { λ _ stop. stop ≡ stops.NoMemory };
+
+    fn from(_wanting: NoMemory) -> ScenarioFault {
+        ScenarioFault::NoMemory
+    }
+}
+
+/// A fault of the value that is read.
+pub fn bad_here<T: Drop>(alloc: Global, fault: InputFault) -> Result<T, ScenarioFault>
+    ensures { Gives result (bad fault) }
+{
+    Err(ScenarioFault::Bad(Refusal {
+        fault,
+        path: Items::new(alloc),
+    }))
+}
+
+/// What was read behind a key.
+pub fn at<T: Drop>(key: Key, inside: Result<T, ScenarioFault>) -> Result<T, ScenarioFault>
+    ensures { (reading : Result T Refusal) → Gives inside reading → Gives result (under (step.At key) reading) }
+{
+    behind(PathStep::At(key), inside)
+}
+
+/// What was read behind a step: a refusal gets the step in front of its path.
+pub fn behind<T: Drop>(step: PathStep, inside: Result<T, ScenarioFault>) -> Result<T, ScenarioFault>
+    ensures { (reading : Result T Refusal) → Gives inside reading → Gives result (under step reading) }
+{
+    match inside {
+        Ok(read) => Ok(read),
+        Err(ScenarioFault::NoMemory) => Err(ScenarioFault::NoMemory),
+        Err(ScenarioFault::NoAssembler) => Err(ScenarioFault::NoAssembler),
+        Err(ScenarioFault::Bad(refusal)) => {
+            let path = with_front(step, refusal.path)?;
+            Err(ScenarioFault::Bad(Refusal {
+                fault: refusal.fault,
+                path,
+            }))
+        }
+    }
+}
+
+/// A path with a step in front.
+fn with_front(step: PathStep, path: Path) -> Result<Path, NoMemory>
+    ensures { IfOk result (λ made. made ≡ step ∷ path) }
+{
+    let mut steps = path.into_vec();
+    match steps.insert(0, step) {
+        Ok(()) => Ok(Items::from_vec(steps)),
+        Err(_) => Err(NoMemory),
+    }
+}
+
+/// A key that must be there and is not.
+pub fn missing(alloc: Global, key: Key) -> ScenarioFault
+    ensures { IsMissing key result }
+{
+    let mut path = Path::new(alloc);
+    match path.push(PathStep::At(key)) {
+        Ok(()) => ScenarioFault::Bad(Refusal {
+            fault: InputFault::MissingKey,
+            path,
+        }),
+        Err(NoMemory) => ScenarioFault::NoMemory,
+    }
+}

@@ -1,0 +1,49 @@
+//! Class sound at a call's Enter and at its driver's reply.
+#![tactic(auto)]
+
+ghost use Rattle.std.specs.Prelude.{◌≡◌, true};
+ghost use Rattle.nook_defs.specs.Classes.{accept, admit, is_of_class};
+
+use class_table::entry_place;
+use nook_defs::classes::{Accept, Admit, ClassState};
+use nook_defs::data::{Answer, Class, FailCause, Op};
+
+/// What becomes of an operation of class sound when it is entered. An Open goes to its driver where the stream
+/// is free, a Play or Close where the calling thread has it; else they are answered at once.
+pub fn admit(thread: u8, op: &Op, state: &ClassState) -> Admit
+    requires { is_of_class Class.Sound op.now ≡ true }
+    ensures { result ≡ admit Class.Sound thread op.now state.now.holder state.now.queued }
+{
+    match (op, state.holder) {
+        (Op::Open, Some(holder)) => Admit::Reply(Answer::InUse { holder }),
+        (Op::Play { .. } | Op::Close, None) => Admit::Reply(Answer::NotOpen),
+        (Op::Play { .. } | Op::Close, Some(holder)) if holder != thread => Admit::Reply(
+            Answer::NotOpen,
+        ),
+        (Op::Open | Op::Play { .. } | Op::Close | Op::Get { .. } | Op::Set { .. }, _) =>
+            Admit::Enter {
+                entry: entry_place(Class::Sound, op),
+            },
+        _ => unreachable!(),
+    }
+}
+
+/// What becomes of an operation of class sound whose driver replies with `status`: only 0 is accepted.
+pub fn accept(op: &Op, status: u32) -> Accept
+    requires { is_of_class Class.Sound op.now ≡ true }
+    ensures { result ≡ accept op.now status }
+{
+    match op {
+        Op::Open | Op::Play { .. } | Op::Close | Op::Get { .. } | Op::Set { .. } => {
+            if status == 0 {
+                Accept::Take
+            } else {
+                Accept::Fail(FailCause::BadReply { status })
+            }
+        }
+        _ => unreachable!(),
+    }
+}
+
+#[cfg(test)]
+mod tests;

@@ -1,0 +1,52 @@
+//! The four configuration words of a class: what each is at first, and how great it may be.
+
+ghost use Rattle.std.specs.Prelude.{◌≡◌, ◌<◌};
+ghost use Rattle.nook_defs.specs.Classes.{default_of, defaults_of, maximum_of};
+
+use nook_defs::data::Class;
+use nook_defs::lists::Word;
+
+/// What a register and the record hold at first, for key 0 to 3.
+pub fn default_of(class: Class, key: u32) -> Word
+    requires { key < 4 }
+    ensures { result ≡ default_of class key }
+{
+    match (class, key) {
+        (Class::Net, 0) => 100,
+        (Class::Net, 1) => 1,
+        (Class::Sound, 0) => 8000,
+        (Class::Sound, 1) => 5,
+        (Class::Sound, 2) => 1,
+        _ => 0,
+    }
+}
+
+/// The greatest value of key 0 to 3.
+pub fn maximum_of(class: Class, key: u32) -> Word
+    requires { key < 4 }
+    ensures { result ≡ maximum_of class key }
+{
+    match (class, key) {
+        (Class::Block, 0) => 1,
+        (Class::Block, 1) => 8,
+        (Class::Net, 0) => 1000,
+        (Class::Net, 1) => 1,
+        (Class::Net, 2) => 255,
+        (Class::Sound, 0) => 48000,
+        (Class::Sound, 1) => 10,
+        (Class::Sound, 2) => 2,
+        _ => Word::MAX,
+    }
+}
+
+/// What all four keys hold at first, in order.
+pub fn defaults_of(class: Class) -> [Word; 4]
+    ensures { result ≡ defaults_of class }
+{
+    [
+        default_of(class, 0),
+        default_of(class, 1),
+        default_of(class, 2),
+        default_of(class, 3),
+    ]
+}

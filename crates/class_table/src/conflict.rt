@@ -1,0 +1,68 @@
+//! Conflicts: of two open calls whose operations conflict, the later waits for the earlier.
+
+ghost use Rattle.std.specs.Prelude.{◌≡◌, ℕ, ◌+◌};
+ghost use Rattle.nook_defs.specs.Classes.{clash, conflicts, first_of_op, is_of_stream, is_recv, is_set, is_write, overlap};
+ghost use Rattle.nook_defs.specs.declared.data.Class.{Class};
+ghost use Rattle.nook_defs.specs.declared.data.Op.{Op};
+
+use crate::operation::{blocks_of_op, first_of_op};
+use nook_defs::data::{Class, Op};
+
+/// Whether two operations of the class conflict: a Set does with every other; of class block, a Write with a
+/// Read or Write of a common block; of class net, two Recvs; of class sound, any two of Open, Play and Close.
+pub fn conflicts(class: Class, first: &Op, second: &Op) -> bool
+    ensures { result ≡ conflicts class first.now second.now }
+{
+    is_set(first) || is_set(second) || clash(class, first, second)
+}
+
+/// A law: whichever of two operations is named first, the answer is the same.
+pub fn conflicts_are_symmetric()
+    ensures { (class : Class) (first second : Op) → conflicts class first second ≡ conflicts class second first }
+{}
+
+/// Two operations of the class, neither of them a Set.
+fn clash(class: Class, first: &Op, second: &Op) -> bool
+    ensures { result ≡ clash class first.now second.now }
+{
+    match class {
+        Class::Block => (is_write(first) || is_write(second)) && overlap(first, second),
+        Class::Net => is_recv(first) && is_recv(second),
+        Class::Sound => is_of_stream(first) && is_of_stream(second),
+    }
+}
+
+/// Whether two ranges of blocks have a block in common. Their sums do not wrap.
+fn overlap(first: &Op, second: &Op) -> bool
+    ensures { result ≡ overlap first.now second.now }
+{
+    let (one, other) = (
+        u64::from(first_of_op(first)),
+        u64::from(first_of_op(second)),
+    );
+    one < other + blocks_of_op(second) && other < one + blocks_of_op(first)
+}
+
+fn is_set(op: &Op) -> bool
+    ensures { result ≡ is_set op.now }
+{
+    matches!(op, Op::Set { .. })
+}
+
+fn is_write(op: &Op) -> bool
+    ensures { result ≡ is_write op.now }
+{
+    matches!(op, Op::Write { .. })
+}
+
+fn is_recv(op: &Op) -> bool
+    ensures { result ≡ is_recv op.now }
+{
+    matches!(op, Op::Recv)
+}
+
+fn is_of_stream(op: &Op) -> bool
+    ensures { result ≡ is_of_stream op.now }
+{
+    matches!(op, Op::Open | Op::Play { .. } | Op::Close)
+}

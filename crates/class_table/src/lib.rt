@@ -1,0 +1,20 @@
+//! What a class fixes for every part of it: which operations are right, which of them wait for each other, the
+//! configuration words, and the entries of a driver.
+//!
+//! Each function computes the definition of its name.
+#![tactic(auto)]
+
+mod config;
+mod conflict;
+mod entry;
+mod operation;
+
+pub use config::{default_of, defaults_of, maximum_of};
+pub use conflict::{conflicts, conflicts_are_symmetric};
+pub use entry::{
+    class_code, entry_count, entry_place, get_place, init_place, open_place, set_place,
+};
+pub use operation::{blocks_of_op, first_of_op, is_of_class, static_check};
+
+#[cfg(test)]
+mod tests;

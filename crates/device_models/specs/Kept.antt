@@ -1,0 +1,14 @@
+use Rattle.std.specs.Prelude.{◌≡◌, ◌<◌, length}
+use Rattle.nook_defs.specs.declared.data.DeviceKind.{DeviceKind}
+use Rattle.nook_defs.specs.declared.data.DeviceKind.TheVariants as kind
+use Rattle.nook_defs.specs.declared.data.Disk.{Disk}
+
+-- what is true of every disk: a count for each block, and the position within the buffer
+abbrev pub IsKeptDisk : Disk → Type 0
+IsKeptDisk k = (length k.counts ≡ length k.medium) × (k.position < 16)
+
+-- what is true of every device
+abbrev pub IsKept : DeviceKind → Type 0
+IsKept (kind.Disk k) = IsKeptDisk k
+IsKept (kind.Link k) = Unit {0}
+IsKept kind.Speaker = Unit {0}

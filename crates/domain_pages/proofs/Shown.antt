@@ -1,0 +1,260 @@
+-- How the words that a page map shows follow its frames, its table and its image.
+use Rattle.std.proofs.Common.{◌≡◌, ◌≢◌, ◌⊎◌, inl, inr, ℕ, suc, ◌+◌, ◌-◌, ◌*◌, ◌/◌, ◌<◌, ◌≤◌, Bool, true, false, List, [], ◌∷◌, ◌++◌, length, get_or, set, take, drop, replicate, slice_index, slice_index_or, slice_range, arith, refl, sym, ap, ◌∙◌, append_assoc}
+use Rattle.std.proofs.lemmas.Bool.{cases_eq, cases_lt}
+use Rattle.std.proofs.lemmas.Grind.{common_steps}
+use Rattle.std.proofs.lemmas.List.{get_or-set_same, get_or-set_other, get_or-drop, get_or_append_left, get_or-append_right, get_or-replicate, get_or_past, length-set, length-replicate, take-set-le, length-take, set_past, length-append, length-drop}
+use Rattle.std.specs.Global.{Vec}
+use Rattle.std.specs.Vec.{with_items}
+use Rattle.std.proofs.lemmas.List.{with_items_is}
+use Rattle.std.proofs.Math.Seq.{paste, take-set-lt}
+use Rattle.std.proofs.lemmas.List.Edits.{fill_from_more, paste_more, paste_all, between_more}
+use Rattle.std.proofs.lemmas.List.FromFn.{fill_by_all, length-map-range_with_len, get_or-map-range_with_len}
+use Rattle.nook_defs.specs.declared.data.Image.{Image}
+use Rattle.nook_defs.specs.Pages.{opening_memory, opening_object, opening_objects, padded_words, loaded_memory, with_words}
+use Rattle.nook_defs.specs.PageMap.{PageMap, none_written, none_lent, page_written}
+use Rattle.domain_pages.specs.Frames.{image_word, word_at, shown, opening_table, IsFramed}
+
+pub length-shown : (table : List Bool) (frames text initial : List ℕ) → length (shown table frames text initial) ≡ 8192
+unfolding shown
+length-shown table frames text initial = length-map-range_with_len (word_at table frames text initial) 0 8192
+
+-- the word at an address
+pub shown_at : (table : List Bool) (frames text initial : List ℕ) (k : ℕ) → k < 8192 → slice_index (shown table frames text initial) k ≡ word_at table frames text initial k
+unfolding shown
+shown_at table frames text initial k h = get_or-map-range_with_len (word_at table frames text initial) 0 8192 k k 0 h (omega arith)
+
+-- a list that has these words is what is shown
+shown_by : (table : List Bool) (frames text initial xs : List ℕ) → length xs ≡ 8192 → ((k : ℕ) → k < 8192 → get_or xs k 0 ≡ word_at table frames text initial k) → shown table frames text initial ≡ xs
+unfolding shown
+shown_by table frames text initial xs long h = sym (fill_by_all (word_at table frames text initial) xs 8192 0 long h)
+
+-- a write
+
+written_at : (table : List Bool) (frames text initial : List ℕ) (a v : ℕ) → slice_index_or table (a / 64) false ≡ true → a < length frames → word_at table (set frames a v) text initial a ≡ v
+written_at table frames text initial a v owned within = rw owned (get_or-set_same frames a v 0 within)
+
+kept_at : (table : List Bool) (frames text initial : List ℕ) (a v k : ℕ) → k ≢ a → word_at table (set frames a v) text initial k ≡ word_at table frames text initial k
+kept_at table frames text initial a v k differs = rw (get_or-set_other frames a k v 0 differs) refl
+
+-- a write into the frame of a page that has one
+pub shown_write : (table now : List Bool) (frames own text initial : List ℕ) (a v : ℕ) → a < 8192 → length own ≡ 8192 → slice_index_or now (a / 64) false ≡ true → ((k : ℕ) → k < 8192 → word_at now own text initial k ≡ word_at table frames text initial k) → shown now (set own a v) text initial ≡ set (shown table frames text initial) a v
+shown_write table now frames own text initial a v within size owned same =
+    let long = length-shown table frames text initial in
+    shown_by now (set own a v) text initial (set (shown table frames text initial) a v) (length-set _ a v ∙ long) (λ k lt. elim (cases_eq k a) [
+      | inl here ↦ rw here (get_or-set_same _ a v 0 (omega (arith, long)) ∙ sym (written_at now own text initial a v owned (omega arith)))
+      | inr there ↦
+          get_or-set_other _ a k v 0 there
+          ∙ shown_at table frames text initial k lt
+          ∙ sym (same k lt)
+          ∙ sym (kept_at now own text initial a v k there)
+    ])
+
+-- the same with the table in which the page has got its frame
+pub shown_put : (table : List Bool) (frames own text initial : List ℕ) (a v : ℕ) → a < 8192 → length own ≡ 8192 → length table ≡ 128 → ((k : ℕ) → k < 8192 → word_at (set table (a / 64) true) own text initial k ≡ word_at table frames text initial k) → shown (set table (a / 64) true) (set own a v) text initial ≡ set (shown table frames text initial) a v
+shown_put table frames own text initial a v within size pages same =
+    shown_write table (set table (a / 64) true) frames own text initial a v within size (get_or-set_same table (a / 64) true false (omega arith)) same
+
+-- a page that gets the image's words for its frame shows what it showed
+pub owned_at : (table : List Bool) (frames own text initial : List ℕ) (page k : ℕ) → page < length table → slice_index_or table page false ≡ false → (page * 64 ≤ k → k < page * 64 + 64 → slice_index own k ≡ image_word text initial k) → ((k < page * 64) ⊎ (page * 64 + 64 ≤ k) → slice_index own k ≡ slice_index frames k) → word_at (set table page true) own text initial k ≡ word_at table frames text initial k
+owned_at table frames own text initial page k within free inside outside =
+    elim (cases_eq (k / 64) page) [
+      | inl here ↦
+          rw (here, free, get_or-set_same table page true false within) (inside (omega (arith, here)) (omega (arith, here)))
+      | inr there ↦
+          rw (get_or-set_other table page (k / 64) true false there, outside (apart k page there)) refl
+    ]
+  where
+    apart : (k page : ℕ) → k / 64 ≢ page → (k < page * 64) ⊎ (page * 64 + 64 ≤ k)
+    apart k page there = grind arith
+
+-- the table
+
+pub table_low : (page : ℕ) → page < 115 → slice_index_or opening_table page false ≡ false
+unfolding opening_table
+table_low page low = get_or_append_left (replicate 115 false) (replicate 13 true) false page low ∙ get_or-replicate 115 page false false low
+
+pub table_high : (page : ℕ) → 115 ≤ page → page < 128 → slice_index_or opening_table page false ≡ true
+unfolding opening_table
+table_high page low high = get_or-append_right (replicate 115 false) (replicate 13 true) 115 page false refl low ∙ get_or-replicate 13 (page - 115) true false (omega arith)
+
+pub take_opening : take 115 opening_table ≡ none_written
+unfolding opening_table none_written
+take_opening = refl
+
+pub framed_opening : (frames : List ℕ) → length frames ≡ 8192 → IsFramed opening_table frames
+framed_opening frames size = record { frames_all = size; objects = table_high }
+
+pub framed_put : (table : List Bool) (frames own : List ℕ) (page : ℕ) → page < length table → IsFramed table frames → length own ≡ 8192 → IsFramed (set table page true) own
+framed_put table frames own page within f size = record {
+  frames_all = size;
+  objects = λ p low high. elim (cases_eq p page) [
+    | inl here ↦ rw here (get_or-set_same table page true false within)
+    | inr there ↦ get_or-set_other table page p true false there ∙ f.objects p low high
+  ];
+}
+
+pub own_put : (table : List Bool) (page : ℕ) → take 115 (set table page true) ≡ set (take 115 table) page true
+own_put table page = by_cases (cases_lt page 115)
+  where
+    by_cases : (page < 115) ⊎ (115 ≤ page) → take 115 (set table page true) ≡ set (take 115 table) page true
+    by_cases (inl low) = take-set-lt 115 table page true low
+    by_cases (inr high) =
+        take-set-le 115 table page true high
+        ∙ sym (set_past (take 115 table) page true (omega (arith, length-take 115 table)))
+
+-- a map of these fields
+abbrev pub map_of : List Bool → List ℕ → List ℕ → List ℕ → List Bool → PageMap
+map_of table frames text initial lent =
+    record { words = shown table frames text initial; lent = lent; own = take 115 table }
+
+-- a word is written: a vector's items are given back as they stand in the slice that was lent
+pub map_put : (table now : List Bool) (frames items own text initial : List ℕ) (lent : List Bool) (a v : ℕ) → items ≡ own → now ≡ set table (a / 64) true → shown now own text initial ≡ set (shown table frames text initial) a v → map_of now items text initial lent ≡ page_written (map_of table frames text initial lent) a v
+map_put table now frames items own text initial lent a v back got words =
+    rw (back, words, got, own_put table (a / 64)) refl
+
+-- a vector's items after a slice of them was written
+pub items_back : (v : Vec ℕ) (ws : List ℕ) → length v.items ≡ 8192 → length ws ≡ 8192 → (with_items v ws).items ≡ ws
+items_back v ws size same = with_items_is v ws (omega (arith, v.ok.0))
+
+-- at first
+
+pub objects_more : (frames : List ℕ) (o next more left : ℕ) → next ≡ suc o → left ≡ suc more → (frames ++ opening_object o) ++ opening_objects next more ≡ frames ++ opening_objects o left
+objects_more frames o next more left e f = rw (e, f) (append_assoc frames (opening_object o) (opening_objects (suc o) more))
+
+pub objects_none : (frames : List ℕ) → frames ++ opening_objects 13 0 ≡ frames
+objects_none frames = grind (arith, common_steps)
+
+pub objects_begin : replicate 7424 0 ++ opening_objects 1 12 ≡ opening_memory []
+unfolding opening_memory
+objects_begin = refl
+
+pub length-opening : length (opening_memory []) ≡ 8192
+unfolding opening_memory
+length-opening = refl
+
+low_zero : (k : ℕ) → k < 7360 → get_or (opening_memory []) k 0 ≡ 0
+unfolding opening_memory
+low_zero k low = get_or_append_left (replicate 7360 0) (padded_words 64 [] ++ opening_objects 1 12) 0 k low ∙ get_or-replicate 7360 k 0 0 low
+
+image_low : (text initial : List ℕ) (k : ℕ) → k < 2048 → image_word text initial k ≡ get_or text k 0
+image_low text initial k low = grind arith
+
+image_high : (text initial : List ℕ) (k : ℕ) → 2048 ≤ k → image_word text initial k ≡ get_or initial (k - 2048) 0
+image_high text initial k high = grind arith
+
+image_none : (k : ℕ) → image_word [] [] k ≡ 0
+image_none k = elim (cases_lt k 2048) [
+  | inl low ↦ image_low [] [] k low ∙ get_or_past [] k 0 (omega arith)
+  | inr high ↦ image_high [] [] k high ∙ get_or_past [] (k - 2048) 0 (omega arith)
+]
+
+-- where only the objects have frames
+word_low : (frames text initial : List ℕ) (k : ℕ) → k < 7360 → word_at opening_table frames text initial k ≡ image_word text initial k
+word_low frames text initial k low = rw (table_low (k / 64) (omega arith)) refl
+
+word_high : (table : List Bool) (frames text initial : List ℕ) (k : ℕ) → IsFramed table frames → 7360 ≤ k → k < 8192 → word_at table frames text initial k ≡ get_or frames k 0
+word_high table frames text initial k f high within = rw (f.objects (k / 64) (omega arith) (omega arith)) refl
+
+pub shown_opening : (frames : List ℕ) → frames ≡ opening_memory [] → shown opening_table frames [] [] ≡ opening_memory []
+shown_opening frames begun =
+    let size : length frames ≡ 8192 = ap length begun ∙ length-opening in
+    shown_by opening_table frames [] [] (opening_memory []) length-opening (λ k lt. elim (cases_lt k 7360) [
+      | inl low ↦ low_zero k low ∙ sym (word_low frames [] [] k low ∙ image_none k)
+      | inr high ↦ ap (λ xs. get_or xs k 0) (sym begun) ∙ sym (word_high opening_table frames [] [] k (framed_opening frames size) high lt)
+    ])
+
+-- a load
+
+padded_at : (n : ℕ) (words : List ℕ) (k : ℕ) → k < n → get_or (padded_words n words) k 0 ≡ get_or words k 0
+padded_at n words k within = elim (cases_lt k (length words)) [
+  | inl low ↦ get_or_append_left words _ 0 k low
+  | inr high ↦
+      get_or-append_right words (replicate (n - length words) 0) (length words) k 0 refl high
+      ∙ get_or-replicate (n - length words) (k - length words) 0 0 (omega arith)
+      ∙ sym (get_or_past words k 0 high)
+]
+
+length-padded : (n : ℕ) (words : List ℕ) → length words ≤ n → length (padded_words n words) ≡ n
+length-padded n words fits = omega (arith, length-append words (replicate (n - length words) 0), length-replicate {A = ℕ} (n - length words) 0)
+
+loaded_at : (text initial rest : List ℕ) (k : ℕ) → length text ≤ 2048 → length initial ≤ 5312 → k < 8192 → (k < 7360 → get_or (padded_words 2048 text ++ (padded_words 5312 initial ++ rest)) k 0 ≡ image_word text initial k) × (7360 ≤ k → get_or (padded_words 2048 text ++ (padded_words 5312 initial ++ rest)) k 0 ≡ get_or rest (k - 7360) 0)
+loaded_at text initial rest k short small within =
+    let front = padded_words 2048 text in
+    let middle = padded_words 5312 initial in
+    let fronts : length front ≡ 2048 = length-padded 2048 text short in
+    let middles : length middle ≡ 5312 = length-padded 5312 initial small in (
+      λ low. elim (cases_lt k 2048) [
+        | inl first ↦ get_or_append_left front _ 0 k (omega arith) ∙ padded_at 2048 text k first ∙ sym (image_low text initial k first)
+        | inr later ↦
+            get_or-append_right front (middle ++ rest) 2048 k 0 fronts later
+            ∙ get_or_append_left middle rest 0 (k - 2048) (omega arith)
+            ∙ padded_at 5312 initial (k - 2048) (omega arith)
+            ∙ sym (image_high text initial k later)
+      ],
+      λ high.
+          get_or-append_right front (middle ++ rest) 2048 k 0 fronts (omega arith)
+          ∙ get_or-append_right middle rest 5312 (k - 2048) 0 middles (omega arith)
+          ∙ ap (λ i. get_or rest i 0) (omega arith),
+    )
+
+pub shown_loaded : (table : List Bool) (frames before after : List ℕ) (image : Image) → IsFramed table frames → length image.text ≤ 2048 → length image.initial ≤ 2048 → shown opening_table frames image.text image.initial ≡ loaded_memory image (shown table frames before after)
+unfolding loaded_memory
+shown_loaded table frames before after image f short small =
+    let old = shown table frames before after in
+    let long = length-shown table frames before after in
+    let front = padded_words 2048 image.text in
+    let middle = padded_words 5312 image.initial in
+    let fronts : length front ≡ 2048 = length-padded 2048 image.text short in
+    let middles : length middle ≡ 5312 = length-padded 5312 image.initial (omega arith) in
+    let size : length (front ++ (middle ++ drop 7360 old)) ≡ 8192 =
+    omega (arith, length-append front (middle ++ drop 7360 old), length-append middle (drop 7360 old), length-drop 7360 old) in
+    shown_by opening_table frames image.text image.initial (front ++ (middle ++ drop 7360 old)) size (λ k lt. elim (cases_lt k 7360) [
+      | inl low ↦
+          (loaded_at image.text image.initial (drop 7360 old) k short (omega arith) lt).0 low
+          ∙ sym (word_low frames image.text image.initial k low)
+      | inr high ↦
+          (loaded_at image.text image.initial (drop 7360 old) k short (omega arith) lt).1 high
+          ∙ get_or-drop 7360 old (k - 7360) 0
+          ∙ ap (λ i. get_or old i 0) (omega arith)
+          ∙ shown_at table frames before after k lt
+          ∙ word_high table frames before after k f high lt
+          ∙ sym (word_high opening_table frames image.text image.initial k (framed_opening frames f.frames_all) high lt)
+    ])
+
+pub lent_opening : replicate 17 false ≡ none_lent
+unfolding none_lent
+lent_opening = refl
+
+-- the table is made from the first object's page on
+pub table_more : (page : ℕ) → 115 ≤ page → page < 128 → set (paste (replicate 128 false) 115 (replicate (page - 115) true) (page - 115)) page true ≡ paste (replicate 128 false) 115 (replicate (page + 1 - 115) true) (page + 1 - 115)
+table_more page low high =
+    let i = page - 115 in
+    let here : 115 + i ≡ page = omega arith in
+    let next : i + 1 ≡ page + 1 - 115 = omega arith in
+    let d = replicate 128 false in
+    ap (λ p. set (paste d 115 (replicate i true) i) p true) (sym here)
+    ∙ fill_from_more d 115 i true (omega arith)
+    ∙ ap (λ n. paste d 115 (replicate n true) n) next
+
+pub table_done : paste (replicate 128 false) 115 (replicate 13 true) 13 ≡ opening_table
+unfolding opening_table
+table_done = refl
+
+-- many words
+
+pub put_more : (d words : List ℕ) (start i count : ℕ) → length d ≡ 8192 → start + count ≤ 8192 → length words ≤ count → i < count → set (paste d start (padded_words count words) i) (start + i) (get_or words i 0) ≡ paste d start (padded_words count words) (i + 1)
+put_more d words start i count size within fits here =
+    ap (set (paste d start (padded_words count words) i) (start + i)) (sym (padded_at count words i here))
+    ∙ paste_more d start (padded_words count words) i 0 (omega arith) (omega (arith, length-padded count words fits))
+
+pub put_done : (d words : List ℕ) (start count : ℕ) → length words ≤ count → paste d start (padded_words count words) count ≡ with_words start (padded_words count words) d
+put_done d words start count fits =
+    let full = length-padded count words fits in
+    paste_all d start (padded_words count words) count (sym full)
+    ∙ ap (λ n. take start d ++ (padded_words count words ++ drop (start + n) d)) (sym full)
+
+-- one word more of a range
+pub range_more : (memory : List ℕ) (start i : ℕ) → start + i < length memory → slice_range memory start (start + i) ++ get_or memory (start + i) 0 ∷ [] ≡ slice_range memory start (start + (i + 1))
+range_more memory start i within =
+    let next : start + i + 1 ≡ start + (i + 1) = omega arith in
+    sym (between_more memory start (start + i) 0 (omega arith) within) ∙ ap (slice_range memory start) next

@@ -1,0 +1,29 @@
+use Rattle.std.specs.Prelude.{◌≡◌, ℕ, ◌-◌, ◌/◌, ◌<◌, ◌≤◌, nat_lt, if◌then◌else◌, Bool, true, false, List, ◌++◌, map, replicate, length, slice_index, slice_index_or}
+use Rattle.std.specs.List.{range_with_len}
+
+-- How a page map shows its words: a page that has a frame of its own shows the frame, every other page the image.
+
+-- an image's word at an address: its text to 2,047, its initial words behind that, zeros past the end of each
+abbrev pub image_word : List ℕ → List ℕ → ℕ → ℕ
+image_word text initial address =
+    if nat_lt address 2048 then slice_index text address else slice_index initial (address - 2048)
+
+-- the word at an address; the table says which of the 128 pages have a frame of their own
+abbrev pub word_at : List Bool → List ℕ → List ℕ → List ℕ → ℕ → ℕ
+word_at table frames text initial address =
+    if slice_index_or table (address / 64) false
+    then slice_index frames address
+    else image_word text initial address
+
+-- the words at all 8,192 addresses
+unfoldable pub shown : List Bool → List ℕ → List ℕ → List ℕ → List ℕ
+shown table frames text initial = map (word_at table frames text initial) (range_with_len 0 8192)
+
+-- only the 13 kernel objects have frames
+unfoldable pub opening_table : List Bool
+opening_table = replicate 115 false ++ replicate 13 true
+
+-- there is a frame for each page, and each kernel object has its frame
+pub record IsFramed (table : List Bool) (frames : List ℕ) : Type 0 where
+  pub frames_all : length frames ≡ 8192
+  pub objects : (page : ℕ) → 115 ≤ page → page < 128 → slice_index_or table page false ≡ true

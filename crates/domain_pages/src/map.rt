@@ -1,0 +1,216 @@
+//! The page map.
+
+ghost use Rattle.std.specs.Prelude.{◌≡◌, ◌+◌, ◌/◌, ◌<◌, ◌≤◌, true, false, length, slice_get, slice_set, slice_range, slice_index, slice_index_or, IfOk, OnOk, OnErr};
+ghost use Rattle.nook_defs.specs.Pages.{read_word, fetch_word, padded_words, with_words};
+ghost use Rattle.nook_defs.specs.PageMap.{opening_pages, may_change, page_written, driver_written, pages_loaded};
+
+use crate::frames::{
+    FIRST_OBJECT_PAGE, TEXT_WORDS, WORDS, opening_frames, opening_table, put, put_all, word_at,
+};
+use nook_defs::data::Image;
+use nook_defs::lists::{Items, TryCopy, Word, Words};
+use nook_defs::memory::{NoMemory, Room};
+use std::alloc::Global;
+use std::marker::Model;
+
+/// The words of a driver domain, and where the driver may write. Contracts see the 8,192 words, the contexts whose
+/// buffers are lent for writing, and the pages of the driver that have had a word written since the last load.
+#[derive(Drop)]
+pub struct PageMap {
+    alloc: Global,
+    text: Words,
+    initial: Words,
+    table: [bool; 128],
+    frames: Vec<Word>,
+    lent: [bool; 17],
+}
+
+impl Model for PageMap {
+    ghost use Rattle.std.specs.Prelude.{take};
+    ghost use Rattle.nook_defs.specs.PageMap.{PageMap};
+    ghost use Rattle.domain_pages.specs.Frames.{shown, IsFramed};
+
+    ghost Value = { PageMap };
+
+    ghost view = { λ s. record {
+      words = shown s.table s.frames.items s.text s.initial;
+      lent = s.lent;
+      own = take 115 s.table;
+    } };
+
+    ghost invariant = { λ s. IsFramed s.table s.frames.items };
+}
+
+impl PageMap {
+    /// The map as a domain begins: all words 0 but the first of kernel objects 1 to 12, which is the object's
+    /// number; nothing is lent. It takes every frame.
+    pub fn new(alloc: Global) -> Result<PageMap, NoMemory>
+        ensures { IfOk result (λ made. made ≡ opening_pages) }
+    {
+        let frames = opening_frames(alloc)?;
+        Ok(PageMap {
+            alloc,
+            text: Words::new(alloc),
+            initial: Words::new(alloc),
+            table: opening_table(),
+            frames,
+            lent: [false; 17],
+        })
+    }
+
+    /// The word at an address; `None` exactly where the address exceeds 8,191.
+    pub fn read(&self, address: u32) -> Option<Word>
+        ensures { result ≡ read_word self.now.words address }
+    {
+        if (address as usize) < WORDS {
+            Some(self.word(address))
+        } else {
+            None
+        }
+    }
+
+    /// The word of text at an address; `None` exactly where the address exceeds 2,047.
+    pub fn fetch(&self, address: u32) -> Option<Word>
+        ensures { result ≡ fetch_word self.now.words address }
+    {
+        if (address as usize) < TEXT_WORDS {
+            Some(self.word(address))
+        } else {
+            None
+        }
+    }
+
+    /// The word at an address up to 8,191.
+    fn word(&self, address: u32) -> Word
+        requires { address < 8192 }
+        ensures word { result ≡ slice_index self.now.words address }
+        ensures size { length self.now.words ≡ 8192 }
+    {
+        word_at(
+            &self.table,
+            &self.frames,
+            self.text.as_slice(),
+            self.initial.as_slice(),
+            address as usize,
+        )
+    }
+
+    /// A driver's write; false, with nothing changed, exactly where the driver may not write.
+    pub fn write(&mut self, address: u32, word: Word) -> bool
+        ensures allowed { result ≡ may_change self.old.lent address }
+        ensures written { self.new ≡ driver_written self.old address word }
+    {
+        let allowed = self.may_write(address);
+        if allowed {
+            self.kernel_write(address, word);
+        }
+        allowed
+    }
+
+    /// Whether the driver may write the address.
+    fn may_write(&self, address: u32) -> bool
+        ensures allowed { result ≡ may_change self.now.lent address }
+    {
+        match address {
+            2048..5184 => true,
+            5184..7360 => self.lent[((address - 5184) / 128) as usize],
+            _ => false,
+        }
+    }
+
+    /// Writes a word of text, for a fault.
+    pub fn poke_text(&mut self, address: u32, word: Word)
+        requires { address < 2048 }
+        ensures { self.new ≡ page_written self.old address word }
+    {
+        self.kernel_write(address, word);
+    }
+
+    /// The kernel's own write, at any address up to 8,191.
+    pub fn kernel_write(&mut self, address: u32, word: Word)
+        requires { address < 8192 }
+        ensures written { self.new ≡ page_written self.old address word }
+        ensures size { length self.old.words ≡ 8192 }
+    {
+        put(
+            &mut self.table,
+            &mut self.frames,
+            self.text.as_slice(),
+            self.initial.as_slice(),
+            address as usize,
+            word,
+        );
+    }
+
+    /// The kernel's own write of `count` words from an address on: these words and then zeros.
+    pub fn put_words(&mut self, start: u32, words: &[Word], count: u32)
+        requires within { start + count ≤ 8192 }
+        requires fits { length words.now ≤ count }
+        ensures words { self.new.words ≡ with_words start (padded_words count words.now) self.old.words }
+        ensures lent { self.new.lent ≡ self.old.lent }
+    {
+        put_all(
+            &mut self.table,
+            &mut self.frames,
+            self.text.as_slice(),
+            self.initial.as_slice(),
+            start as usize,
+            words,
+            count as usize,
+        );
+    }
+
+    /// `count` words from an address on, in the memory of `room`, which has room for them.
+    pub fn words(&self, start: u32, count: u32, room: Room<Word>) -> Words
+        requires within { start + count ≤ 8192 }
+        requires room { count ≤ room }
+        ensures words { result ≡ slice_range self.now.words start (start + count) }
+        ensures len { length result ≡ count }
+    {
+        let mut words = room.into_vec();
+        for i in 0..count {
+            words.push(self.word(start + i)).unwrap();
+        }
+        Items::from_vec(words)
+    }
+
+    /// The context's buffer may be written from now on. The context is at most 16.
+    pub fn lend(&mut self, context: u8)
+        requires { context < 17 }
+        ensures { self.new ≡ record self.old { lent = slice_set self.old.lent context true } }
+    {
+        self.lent[context as usize] = true;
+    }
+
+    /// The context's buffer may no longer be written. The context is at most 16.
+    pub fn revoke(&mut self, context: u8)
+        requires { context < 17 }
+        ensures { self.new ≡ record self.old { lent = slice_set self.old.lent context false } }
+    {
+        self.lent[context as usize] = false;
+    }
+
+    /// Puts an image in place: its text, its initial words, and zeros in every other word of pages 0 to 114.
+    pub fn load(&mut self, image: &Image) -> Result<(), NoMemory>
+        requires text { length image.now.text ≤ 2048 }
+        requires initial { length image.now.initial ≤ 2048 }
+        ensures ok { OnOk result (self.new ≡ pages_loaded image.now self.old) }
+        ensures err { OnErr result (self.new ≡ self.old) }
+    {
+        let text = image.text.copy(self.alloc)?;
+        let initial = image.initial.copy(self.alloc)?;
+        self.text = text;
+        self.initial = initial;
+        self.table = opening_table();
+        Ok(())
+    }
+
+    /// Whether a word of the page was written since the last load, or since `new` where there was none. The page
+    /// is at most 114.
+    pub fn own_copy(&self, page: u32) -> bool
+        requires { page < 115 }
+        ensures { result ≡ slice_index_or self.now.own page false }
+    {
+        self.table[page as usize]
+    }
+}

@@ -1,0 +1,12 @@
+//! The eight kernel services, and the kernel's queue of received frames.
+//!
+//! A service takes no memory: the rooms for what it moves are handed in.
+#![tactic(auto)]
+
+mod queue;
+mod services;
+#[cfg(test)]
+mod tests;
+
+pub use queue::RxQueue;
+pub use services::{Served, serve};

@@ -1,0 +1,71 @@
+//! The kernel's queue of received frames.
+
+ghost use Rattle.std.specs.Prelude.{◌≡◌, ◌<◌, [], length, nat_lt, IfOk};
+ghost use Rattle.nook_defs.specs.Devices.{tail_of};
+ghost use Rattle.nook_defs.specs.Log.{front_of};
+ghost use Rattle.kernel_services.specs.Outcome.{with_frame};
+
+use nook_defs::lists::Words;
+use nook_defs::memory::NoMemory;
+use nook_defs::outside::RxFront;
+use std::alloc::Global;
+use std::collections::VecDeque;
+use std::marker::Model;
+
+/// The most frames that wait.
+const MOST_FRAMES: usize = 64;
+
+/// The frames that were handed up and wait, the oldest first; at most 64. Contracts see the list.
+#[derive(Drop)]
+pub struct RxQueue {
+    frames: VecDeque<Words>,
+}
+
+impl Model for RxQueue {
+    ghost use Rattle.std.specs.Prelude.{◌≤◌, ℕ, List};
+    ghost use Rattle.std.specs.VecDeque.{deque_capacity};
+
+    ghost Value = { List (List ℕ) };
+
+    ghost view = { λ s. s.frames.items };
+
+    ghost invariant = { λ s. 64 ≤ deque_capacity s.frames };
+}
+
+impl RxQueue {
+    /// The empty queue. It takes room for 64 frames' places.
+    pub fn new(alloc: Global) -> Result<RxQueue, NoMemory>
+        ensures { IfOk result (λ made. made ≡ []) }
+    {
+        Ok(RxQueue {
+            frames: VecDeque::with_capacity(alloc, MOST_FRAMES)?,
+        })
+    }
+
+    /// The number of frames.
+    pub fn len(&self) -> usize
+        ensures { result ≡ length self.now }
+    {
+        self.frames.len()
+    }
+
+    /// A frame goes to the back; where 64 wait, it is dropped, and the answer is false. It takes no memory.
+    pub fn offer(&mut self, frame: Words) -> bool
+        ensures taken { result ≡ nat_lt (length self.old) 64 }
+        ensures queue { self.new ≡ with_frame frame self.old }
+    {
+        let taken = self.frames.len() < MOST_FRAMES;
+        if taken {
+            self.frames.push_back(frame).unwrap();
+        }
+        taken
+    }
+}
+
+impl RxFront for RxQueue {
+    ghost frames = { λ s. s };
+
+    fn take_front(&mut self) -> Option<Words> {
+        self.frames.pop_front()
+    }
+}

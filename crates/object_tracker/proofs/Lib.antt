@@ -1,0 +1,4 @@
+pub mod Counts
+pub mod Keys
+pub mod Kept
+pub mod Steps

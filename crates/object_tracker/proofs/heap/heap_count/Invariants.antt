@@ -1,0 +1,6 @@
+use Rattle.std.proofs.Common.{◌≡◌, ◌≤◌, take, count_by}
+use Rattle.nook_defs.specs.Entries.{is_heap_use}
+use Rattle.object_tracker.proofs.heap.heap_count.Given as goal
+
+abbrev pub invariant-loop-place : goal.invariant-loop-place
+invariant-loop-place l = (l.count ≤ l.place) × (l.count ≡ count_by is_heap_use (take l.place l.entries))

@@ -1,0 +1,102 @@
+//! The heap: the lowest free run of words.
+
+ghost use Rattle.std.specs.Prelude.{◌≡◌, ◌+◌, ◌-◌, ◌<◌, ◌≤◌, length, count_by};
+ghost use Rattle.nook_defs.specs.Entries.{is_heap_use, covers_some, overlap, is_free_run, lowest_run, free_start};
+
+use crate::ordered::Ordered;
+use nook_defs::data::Entry;
+use nook_defs::lists::Word;
+
+/// The end of the heap.
+const HEAP_END: u32 = 4096;
+
+/// The most heap and borrow entries that stand together.
+const MOST_HEAP_ENTRIES: usize = 64;
+
+/// The words of a kernel object, and so of its copy.
+const OBJECT_WORDS: u32 = 64;
+
+/// The lowest start of `n` free heap words: `None` where no run of free words is long enough, or 64 heap and borrow
+/// entries stand.
+pub fn free_start(entries: &Ordered, heap_start: u32, n: u32) -> Option<Word>
+    requires start { heap_start ≤ 4096 }
+    requires n { n ≤ 2048 }
+    ensures { result ≡ free_start heap_start n entries.now }
+{
+    if heap_count(entries) < MOST_HEAP_ENTRIES {
+        lowest_run(entries, heap_start, n)
+    } else {
+        None
+    }
+}
+
+/// The number of heap and borrow entries.
+fn heap_count(entries: &Ordered) -> usize
+    ensures { result ≡ count_by is_heap_use entries.now }
+{
+    let mut count = 0;
+    for place in 0..entries.len() {
+        count += usize::from(is_heap_use(entries.get(place)));
+    }
+    count
+}
+
+fn is_heap_use(entry: Entry) -> bool
+    ensures { result ≡ is_heap_use entry }
+{
+    matches!(
+        entry,
+        Entry::Heap { start: _, len: _ }
+            | Entry::Borrow {
+                object: _,
+                start: _
+            }
+    )
+}
+
+/// The lowest start of `n` free heap words.
+fn lowest_run(entries: &Ordered, heap_start: u32, n: u32) -> Option<Word>
+    requires n { n ≤ 2048 }
+    ensures { result ≡ lowest_run (4097 - (heap_start + n)) entries.now heap_start n }
+{
+    for start in heap_start..HEAP_END + 1 - n {
+        if is_free_run(entries, start, n) {
+            return Some(start);
+        }
+    }
+    None
+}
+
+/// Whether `n` words from a start on are free.
+fn is_free_run(entries: &Ordered, start: u32, n: u32) -> bool
+    ensures { result ≡ is_free_run entries.now start n }
+{
+    for place in 0..entries.len() {
+        if covers_some(entries.get(place), start, n) {
+            return false;
+        }
+    }
+    true
+}
+
+/// Whether the entry covers one of `n` words from a start on.
+fn covers_some(entry: Entry, start: u32, n: u32) -> bool
+    ensures { result ≡ covers_some start n entry }
+{
+    match entry {
+        Entry::Heap { start: other, len } => overlap(start, n, other, len),
+        Entry::Borrow {
+            object: _,
+            start: other,
+        } => overlap(start, n, other, OBJECT_WORDS),
+        _ => false,
+    }
+}
+
+/// Whether two runs of words meet.
+fn overlap(start: u32, n: u32, other: u32, len: u32) -> bool
+    ensures { result ≡ overlap start n other len }
+{
+    let (start, other) = (u64::from(start), u64::from(other));
+    start < other + u64::from(len) && other < start + u64::from(n)
+}

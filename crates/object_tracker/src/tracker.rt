@@ -1,0 +1,178 @@
+//! The tracker.
+
+ghost use Rattle.std.specs.Prelude.{◌≡◌, ◌+◌, ◌↔◌, ◌<◌, ◌≤◌, true, false, not, Contains, IsTrue, IfNone, IfSome, IfOk, OnErr, OnOk};
+ghost use Rattle.std.specs.List.{list_any};
+ghost use Rattle.nook_defs.specs.Entries.{opening_entries, with_entry, without_heap, without_borrow, without_buffer, is_heap_at, is_borrow_of, is_buffer_of, is_registered, registered, collected, released, borrow_start, free_start};
+
+use crate::heap::free_start;
+use crate::listing::{add, borrow_start, end_all, has, held, set_live};
+use crate::ordered::Ordered;
+use crate::wanted::Wanted;
+use nook_defs::data::{Entry, Released};
+use nook_defs::lists::Word;
+use nook_defs::memory::NoMemory;
+use std::alloc::Global;
+use std::marker::Model;
+
+/// The words of a kernel object, and so of its copy.
+const OBJECT_WORDS: u32 = 64;
+
+/// What a driver holds. Contracts see where the heap begins, and the entries in Collect's order: heap by start,
+/// copies by object, buffers by context, the registration last.
+#[derive(Drop)]
+pub struct Tracker {
+    alloc: Global,
+    heap_start: u32,
+    entries: Ordered,
+}
+
+impl Model for Tracker {
+    ghost use Rattle.nook_defs.specs.Tracker.{Tracker};
+    ghost use Rattle.object_tracker.specs.Tracked.{IsTracked};
+
+    ghost Value = { Tracker };
+
+    ghost view = { λ s. record { heap_start = s.heap_start; entries = s.entries } };
+
+    ghost invariant = { λ s. IsTracked s.heap_start s.entries };
+}
+
+impl Tracker {
+    /// The tracker of a domain as it begins, with a registration that is not live. The heap is what lies from
+    /// `heap_start` (2,048 to 4,096) to 4,095. It takes room for all entries that can stand.
+    pub fn new(alloc: Global, heap_start: u32) -> Result<Tracker, NoMemory>
+        requires { heap_start ≤ 4096 }
+        ensures { IfOk result (λ made. made ≡ record { heap_start = heap_start; entries = opening_entries }) }
+    {
+        let mut entries = Ordered::new(alloc)?;
+        entries.insert(0, Entry::Registration { live: false });
+        Ok(Tracker {
+            alloc,
+            heap_start,
+            entries,
+        })
+    }
+
+    /// Gives 1 to 2,048 heap words to the driver: their start, the lowest there is. `None`, with nothing changed,
+    /// where no run of free words is long enough, or 64 heap and borrow entries stand.
+    pub fn alloc(&mut self, n: u32) -> Option<Word>
+        requires { n ≤ 2048 }
+        ensures start { result ≡ free_start self.old.heap_start n self.old.entries }
+        ensures none { IfNone result (self.new ≡ self.old) }
+        ensures some { IfSome result (λ start. self.new ≡ record self.old { entries = with_entry (Entry.Heap start n) self.old.entries }) }
+    {
+        let start = free_start(&self.entries, self.heap_start, n)?;
+        add(&mut self.entries, Entry::Heap { start, len: n });
+        Some(start)
+    }
+
+    /// The heap words that start there end; false exactly where none do.
+    pub fn free(&mut self, address: u32) -> bool
+        ensures held { result ≡ list_any (is_heap_at address) self.old.entries }
+        ensures ended { self.new ≡ record self.old { entries = without_heap address self.old.entries } }
+    {
+        let wanted = Wanted::Heap { start: address };
+        let held = has(&self.entries, wanted);
+        end_all(&mut self.entries, wanted);
+        held
+    }
+
+    /// Whether heap words start there.
+    pub fn is_heap_start(&self, address: u32) -> bool
+        ensures { result ≡ list_any (is_heap_at address) self.now.entries }
+    {
+        has(&self.entries, Wanted::Heap { start: address })
+    }
+
+    /// Gives 64 heap words to the copy of a kernel object up to 12, as `alloc` does.
+    pub fn borrow(&mut self, object: u32) -> Option<Word>
+        requires { object ≤ 12 }
+        ensures within { IfSome result (λ start. start + 64 ≤ 4096) }
+        ensures start { result ≡ free_start self.old.heap_start 64 self.old.entries }
+        ensures none { IfNone result (self.new ≡ self.old) }
+        ensures some { IfSome result (λ start. self.new ≡ record self.old { entries = with_entry (Entry.Borrow object start) self.old.entries }) }
+    {
+        let start = free_start(&self.entries, self.heap_start, OBJECT_WORDS)?;
+        add(&mut self.entries, Entry::Borrow { object, start });
+        Some(start)
+    }
+
+    /// The copy of the object ends: its start, `None`, with nothing changed, exactly where the
+    /// object is not borrowed.
+    pub fn give_back(&mut self, object: u32) -> Option<Word>
+        ensures start { result ≡ borrow_start object self.old.entries }
+        ensures within { IfSome result (λ start. start + 64 ≤ 4096) }
+        ensures none { IfNone result (self.new ≡ self.old) }
+        ensures some { IfSome result (λ _. self.new ≡ record self.old { entries = without_borrow object self.old.entries }) }
+    {
+        let start = borrow_start(&self.entries, object)?;
+        end_all(&mut self.entries, Wanted::Borrow { object });
+        Some(start)
+    }
+
+    /// Whether the object is borrowed.
+    pub fn is_borrowed(&self, object: u32) -> bool
+        ensures borrowed { result ≡ list_any (is_borrow_of object) self.now.entries }
+        ensures known { IsTrue result → object ≤ 12 }
+    {
+        has(&self.entries, Wanted::Borrow { object })
+    }
+
+    /// The context's buffer is lent, for writing or for reading. The context is at most 16 and has none.
+    pub fn begin_buffer(&mut self, context: u8, writable: bool)
+        requires context { context < 17 }
+        requires none { list_any (is_buffer_of context) self.old.entries ≡ false }
+        ensures { self.new ≡ record self.old { entries = with_entry (Entry.Buffer context writable) self.old.entries } }
+    {
+        add(&mut self.entries, Entry::Buffer { context, writable });
+    }
+
+    /// Whether the context's buffer is lent.
+    pub fn has_buffer(&self, context: u8) -> bool
+        ensures { result ≡ list_any (is_buffer_of context) self.now.entries }
+    {
+        has(&self.entries, Wanted::Buffer { context })
+    }
+
+    /// The context's buffer is lent no more.
+    pub fn end_buffer(&mut self, context: u8)
+        ensures { self.new ≡ record self.old { entries = without_buffer context self.old.entries } }
+    {
+        end_all(&mut self.entries, Wanted::Buffer { context });
+    }
+
+    /// The registration is live from now on; false exactly where it was so already.
+    pub fn register(&mut self) -> bool
+        ensures first { result ≡ not (is_registered self.old.entries) }
+        ensures live { self.new ≡ record self.old { entries = registered true self.old.entries } }
+    {
+        let was_live = has(&self.entries, Wanted::Live);
+        set_live(&mut self.entries, true);
+        !was_live
+    }
+
+    /// The registration is not live from now on.
+    pub fn unregister(&mut self)
+        ensures { self.new ≡ record self.old { entries = registered false self.old.entries } }
+    {
+        set_live(&mut self.entries, false);
+    }
+
+    /// Whether the registration is live.
+    pub fn is_registered(&self) -> bool
+        ensures { result ≡ is_registered self.now.entries }
+    {
+        has(&self.entries, Wanted::Live)
+    }
+
+    /// Everything but the registration ends; what ended, in order.
+    pub fn collect(&mut self) -> Result<Released, NoMemory>
+        ensures released { IfOk result (λ ended. ended ≡ released self.old.entries) }
+        ensures ok { OnOk result (self.new ≡ record self.old { entries = collected self.old.entries }) }
+        ensures err { OnErr result (self.new ≡ self.old) }
+    {
+        let ended = held(self.alloc, &self.entries)?;
+        end_all(&mut self.entries, Wanted::Held);
+        Ok(ended)
+    }
+}

@@ -1,0 +1,25 @@
+use Rattle.std.specs.Prelude.{ℕ, ◌+◌, ◌&&◌, nat_le, if◌then◌else◌, Bool, true, Option, Some, None, List, slice_set}
+use Rattle.nook_defs.specs.declared.machine.Service.{Service}
+use Rattle.nook_defs.specs.declared.machine.Service.TheVariants as service
+use Rattle.nook_defs.specs.Domain.{Arguments, Lent}
+use Rattle.param_wrappers.specs.declared.copy.Args.{Args}
+
+-- the values of registers r1 to r3
+abbrev pub arguments : Args → Arguments
+arguments a = record { first = a.r1; second = a.r2; third = a.r3 }
+
+-- the contexts whose buffers are lent for writing, after a buffer is lent
+abbrev pub with_loan : ℕ → Option Lent → List Bool → List Bool
+with_loan context None loans = loans
+with_loan context (Some l) loans = if l.writable then slice_set loans context true else loans
+
+-- the numbers of a service are such that it can be done
+abbrev pub can_serve : Service → Bool
+can_serve (service.Alloc n) = nat_le n 2048
+can_serve (service.Free address) = true
+can_serve service.Register = true
+can_serve (service.Borrow object) = nat_le object 12
+can_serve (service.GiveBack object) = nat_le object 12
+can_serve (service.NetRx start len) = nat_le len 64 && nat_le (start + len) 8192
+can_serve service.Log = true
+can_serve service.Yield = true

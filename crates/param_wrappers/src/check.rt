@@ -1,0 +1,136 @@
+//! The check of a kernel call's arguments.
+
+ghost use Rattle.std.specs.Prelude.{◌≡◌, ◌+◌, ◌<◌, ◌≤◌, true, IfOk, IsTrue, nat_le};
+ghost use Rattle.nook_defs.specs.Classes.{class_code};
+ghost use Rattle.nook_defs.specs.Services.{needs, is_frame_length, tested_length, checked_frame, checked};
+ghost use Rattle.param_wrappers.specs.Crossing.{can_serve};
+
+use nook_defs::data::Class;
+use nook_defs::machine::{BadParam, Service};
+use object_tracker::Tracker;
+
+/// The most words that the heap can hold.
+const MOST_HEAP_WORDS: u32 = 2048;
+
+/// The kernel objects that can be borrowed are 1 to this one.
+const LAST_OBJECT: u32 = 12;
+
+/// The most words of a frame.
+const MOST_FRAME_WORDS: u32 = 64;
+
+/// The first address of the driver's data, and the end of its buffers.
+const DATA_START: u32 = 2048;
+
+const BUFFERS_END: u64 = 7360;
+
+/// The service of a kernel call by its number and its two arguments, for a driver of a class. The error names the
+/// smallest argument that fails; 0 is the service itself.
+pub fn check_service(
+    number: u32,
+    first: u32,
+    second: u32,
+    class: Class,
+    tracker: &Tracker,
+) -> Result<Service, BadParam>
+    ensures checked { result ≡ checked number first second class tracker.now.entries }
+    ensures can { IfOk result (λ service. can_serve service ≡ true) }
+{
+    match number {
+        1 => needs(
+            1 <= first && first <= MOST_HEAP_WORDS,
+            1,
+            1,
+            Service::Alloc { n: first },
+        ),
+        2 => needs(
+            tracker.is_heap_start(first),
+            2,
+            1,
+            Service::Free { address: first },
+        ),
+        3 => needs(
+            first == class_code(class) && !tracker.is_registered(),
+            3,
+            1,
+            Service::Register,
+        ),
+        4 => check_borrow(first, tracker),
+        5 => check_give_back(first, tracker),
+        6 => check_frame(first, second, class),
+        7 => Ok(Service::Log),
+        8 => Ok(Service::Yield),
+        _ => Err(BadParam {
+            service: number,
+            argument: 0,
+        }),
+    }
+}
+
+/// The service where its argument passes, else the argument that fails.
+fn needs(passes: bool, number: u32, argument: u32, service: Service) -> Result<Service, BadParam>
+    ensures { result ≡ needs passes number argument service }
+{
+    if passes {
+        Ok(service)
+    } else {
+        Err(BadParam {
+            service: number,
+            argument,
+        })
+    }
+}
+
+/// The code by which a driver of the class registers.
+fn class_code(class: Class) -> u32
+    ensures { result ≡ class_code class }
+{
+    match class {
+        Class::Block => 0,
+        Class::Net => 1,
+        Class::Sound => 2,
+    }
+}
+
+/// The object is one of the twelve and not borrowed.
+fn check_borrow(object: u32, tracker: &Tracker) -> Result<Service, BadParam>
+    ensures checked { result ≡ checked 4 object 0 Class.Block tracker.now.entries }
+    ensures can { IfOk result (λ service. can_serve service ≡ true) }
+{
+    let passes = 1 <= object && object <= LAST_OBJECT && !tracker.is_borrowed(object);
+    needs(passes, 4, 1, Service::Borrow { object })
+}
+
+/// The object is borrowed.
+fn check_give_back(object: u32, tracker: &Tracker) -> Result<Service, BadParam>
+    ensures checked { result ≡ checked 5 object 0 Class.Block tracker.now.entries }
+    ensures can { IfOk result (λ service. can_serve service ≡ true) }
+{
+    needs(
+        tracker.is_borrowed(object),
+        5,
+        1,
+        Service::GiveBack { object },
+    )
+}
+
+/// The class is net; then the frame lies in the driver's data, stacks or buffers; then its length is 1 to 64.
+fn check_frame(start: u32, len: u32, class: Class) -> Result<Service, BadParam>
+    ensures checked { result ≡ checked_frame start len class }
+    ensures can { IfOk result (λ service. can_serve service ≡ true) }
+{
+    if class != Class::Net {
+        return Err(BadParam {
+            service: 6,
+            argument: 0,
+        });
+    }
+    let fits = 1 <= len && len <= MOST_FRAME_WORDS;
+    let end = u64::from(start) + if fits { u64::from(len) } else { 1 };
+    if start < DATA_START || BUFFERS_END < end {
+        return Err(BadParam {
+            service: 6,
+            argument: 1,
+        });
+    }
+    needs(fits, 6, 2, Service::NetRx { start, len })
+}

@@ -1,0 +1,11 @@
+//! What crosses between the kernel and a driver: the words of an operation go in, the words of an answer come out,
+//! and the arguments of a kernel call are checked.
+#![tactic(auto)]
+
+mod check;
+mod copy;
+#[cfg(test)]
+mod tests;
+
+pub use check::check_service;
+pub use copy::{Args, copy_in, copy_out};

@@ -1,0 +1,9 @@
+use Rattle.std.specs.Prelude.{ℕ, List, filter}
+use Rattle.std.specs.List.Sorted.{IsNonDecreasingBy}
+use Rattle.nook_defs.specs.declared.data.Fault.{Fault}
+use Rattle.nook_defs.specs.Steps.{is_of_burst}
+
+-- bursts do not fall along the list, and among the faults of one burst places do not
+pub record IsOrdered (faults : List Fault) : Type 0 where
+  pub bursts : IsNonDecreasingBy (λ f. f.burst) faults
+  pub places : (burst : ℕ) → IsNonDecreasingBy (λ f. f.after) (filter (is_of_burst burst) faults)

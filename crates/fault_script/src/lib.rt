@@ -1,0 +1,8 @@
+//! The injected faults of a part, found by the burst in which they strike.
+#![tactic(auto)]
+
+mod script;
+#[cfg(test)]
+mod tests;
+
+pub use script::FaultScript;

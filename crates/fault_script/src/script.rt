@@ -1,0 +1,51 @@
+//! A list of faults in the order in which they strike.
+
+ghost use Rattle.std.specs.Prelude.{◌≡◌, ℕ, IfOk};
+ghost use Rattle.nook_defs.specs.Steps.{faults_of_burst};
+
+use nook_defs::data::{Fault, Faults};
+use nook_defs::memory::NoMemory;
+use std::marker::Model;
+
+/// The faults of a part by burst and then by place, those of one place as they were given.
+#[derive(Drop)]
+pub struct FaultScript {
+    faults: Vec<Fault>,
+}
+
+impl Model for FaultScript {
+    ghost use Rattle.std.specs.Prelude.{List};
+    ghost use Rattle.nook_defs.specs.declared.data.Fault.{Fault};
+    ghost use Rattle.fault_script.specs.Order.{IsOrdered};
+
+    ghost Value = { List Fault };
+
+    ghost view = { λ s. s.faults.items };
+
+    ghost invariant = { λ s. IsOrdered s.faults.items };
+}
+
+impl FaultScript {
+    /// Puts the faults in order. The sort wants memory beside theirs.
+    pub fn new(faults: Faults) -> Result<FaultScript, NoMemory>
+        ensures { IfOk result (λ script. (burst : ℕ) → faults_of_burst burst script ≡ faults_of_burst burst faults) }
+    {
+        let mut faults = faults.into_vec();
+        // The second sort keeps the first one's order where the bursts are the same.
+        faults.sort_by_key(|fault| fault.after)?;
+        faults.sort_by_key(|fault| fault.burst)?;
+        Ok(FaultScript { faults })
+    }
+
+    /// The faults of a burst, in the order in which they strike. It looks at few of the others: the faults of
+    /// one burst stand together.
+    pub fn faults_at(&self, burst: u32) -> &[Fault]
+        ensures { result.now ≡ faults_of_burst burst self.now }
+    {
+        let start = self.faults.partition_point(|fault| fault.burst < burst);
+        let (_, rest) = self.faults.split_at(start);
+        let count = rest.partition_point(|fault| fault.burst <= burst);
+        let (found, _) = rest.split_at(count);
+        found
+    }
+}

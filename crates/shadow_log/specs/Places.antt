@@ -1,0 +1,10 @@
+use Rattle.std.specs.Prelude.{ℕ, ◌≡◌, ◌<◌, List, length, slice_get}
+use Rattle.std.specs.List.{position_or_len}
+use Rattle.nook_defs.specs.declared.data.CallEntry.{CallEntry}
+use Rattle.nook_defs.specs.Log.{is_call, open_call}
+
+-- the open call with a number stands at a place
+pub record IsPlace (call place : ℕ) (pending : List CallEntry) : Type 0 where
+  pub first : place ≡ position_or_len (is_call call) pending
+  pub within : place < length pending
+  pub there : open_call call pending ≡ slice_get pending place

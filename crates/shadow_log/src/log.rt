@@ -1,0 +1,270 @@
+//! The shadow's log.
+
+ghost use Rattle.std.specs.Prelude.{◌≡◌, ◌+◌, ◌-◌, ◌<◌, ◌≤◌, true, None, Some, MatchOption, length, map, option_map, slice_get, slice_index, slice_set, IfSome, IfOk, OnOk, OnErr};
+ghost use Rattle.nook_defs.specs.Log.{IsNumbered, acknowledged_call, answered, call_of_thread, entered, held, held_by_shadow, held_call, is_kept, is_touched, next_replay, no_call_open, numbered, open_call, opening_log, replay_after, with_call};
+ghost use Rattle.shadow_log.specs.Places.{IsPlace};
+
+use nook_defs::data::{CallEntry, Op, Stage};
+use nook_defs::lists::Word;
+use nook_defs::memory::NoMemory;
+use std::alloc::Global;
+use std::marker::Model;
+
+/// The record, its holder and the open calls by rising number.
+#[derive(Drop)]
+pub struct ShadowLog {
+    pending: Vec<CallEntry>,
+    count: u32,
+    config: [Word; 4],
+    defaults: [Word; 4],
+    holder: Option<u8>,
+}
+
+impl Model for ShadowLog {
+    ghost use Rattle.nook_defs.specs.Log.{IsNumbered};
+    ghost use Rattle.nook_defs.specs.State.{CallLog};
+
+    ghost Value = { CallLog };
+
+    ghost view = { λ s. record {
+      pending = s.pending.items;
+      count = s.count;
+      config = s.config;
+      defaults = s.defaults;
+      holder = s.holder;
+    } };
+
+    ghost invariant = { λ s. IsNumbered 0 s.count s.pending.items };
+}
+
+impl ShadowLog {
+    /// A log without calls. The record begins as the class's defaults, which are kept for the replays.
+    #[tactic(auto, unfolding(nook_defs::specs::Log::opening_log))]
+    pub fn new(alloc: Global, defaults: [Word; 4]) -> ShadowLog
+        ensures { result ≡ opening_log defaults }
+    {
+        ShadowLog {
+            pending: Vec::new(alloc),
+            count: 0,
+            config: defaults,
+            defaults,
+            holder: None,
+        }
+    }
+
+    /// A call that stays open: it is Held and was never Inside. Its number, one more than the last one given.
+    #[tactic(auto, unfolding(nook_defs::specs::Log::with_call))]
+    pub fn invoke(&mut self, thread: u8, op: Op) -> Result<u32, NoMemory>
+        requires { self.old.count < 100000 }
+        ensures ok { OnOk result (self.new ≡ with_call thread op self.old) }
+        ensures number { IfOk result (λ call. call ≡ self.old.count + 1) }
+        ensures err { OnErr result (self.new ≡ self.old) }
+    {
+        let call = self.count + 1;
+        self.pending.push(CallEntry {
+            call,
+            thread,
+            op,
+            inside: false,
+            attempts: 0,
+        })?;
+        self.count = call;
+        Ok(call)
+    }
+
+    /// A call that is answered at once: only its number is given.
+    #[tactic(auto, unfolding(nook_defs::specs::Log::numbered))]
+    pub fn number(&mut self) -> u32
+        requires { self.old.count < 100000 }
+        ensures log { self.new ≡ numbered self.old }
+        ensures number { result ≡ self.old.count + 1 }
+    {
+        self.count += 1;
+        self.count
+    }
+
+    /// The call goes Inside, as one attempt more.
+    #[tactic(auto, unfolding(nook_defs::specs::Log::entered))]
+    pub fn entered(&mut self, call: u32)
+        requires { IfSome (open_call call self.old.pending) (λ c. c.attempts < 4294967295) }
+        ensures { self.new ≡ entered call self.old }
+    {
+        if let Some(place) = place_of(&self.pending, call) {
+            let entry = &mut self.pending[place];
+            entry.inside = true;
+            entry.attempts += 1;
+        }
+    }
+
+    /// The call is Held. It keeps its number and its attempts.
+    #[tactic(auto, unfolding(nook_defs::specs::Log::held))]
+    pub fn held(&mut self, call: u32)
+        ensures { self.new ≡ held call self.old }
+    {
+        if let Some(place) = place_of(&self.pending, call) {
+            self.pending[place].inside = false;
+        }
+    }
+
+    /// The driver's reply to the call was accepted. A Set goes into the record, an Open makes the call's thread
+    /// the holder, a Close leaves none. The call stays open.
+    #[tactic(auto, unfolding(nook_defs::specs::Log::acknowledged_call, nook_defs::specs::Log::acknowledged))]
+    pub fn acknowledge(&mut self, call: u32)
+        ensures { self.new ≡ acknowledged_call call self.old }
+    {
+        if let Some(place) = place_of(&self.pending, call) {
+            let entry = &self.pending[place];
+            match entry.op {
+                Op::Set { key, value } => set_word(&mut self.config, key, value),
+                Op::Open => self.holder = Some(entry.thread),
+                Op::Close => self.holder = None,
+                _ => {}
+            }
+        }
+    }
+
+    /// The call is open no more.
+    #[tactic(auto, unfolding(nook_defs::specs::Log::answered))]
+    pub fn answered(&mut self, call: u32)
+        ensures { self.new ≡ answered call self.old }
+    {
+        self.pending.retain(|entry| entry.call != call);
+    }
+
+    /// The driver was stopped: the calls that the shadow's table holds stay open, all Held; the others are
+    /// open no more.
+    #[tactic(auto, unfolding(nook_defs::specs::Log::held_by_shadow))]
+    pub fn stopped(&mut self)
+        ensures { self.new ≡ held_by_shadow self.old }
+    {
+        self.pending.retain(|entry| is_kept(&entry.op));
+        hold_all(&mut self.pending);
+    }
+
+    /// The part is given up: no call is open any more.
+    #[tactic(auto, unfolding(nook_defs::specs::Log::no_call_open))]
+    pub fn given_up(&mut self)
+        ensures { self.new ≡ no_call_open self.old }
+    {
+        self.pending.clear();
+    }
+
+    /// A word of the record, by its key 0 to 3; 0 for any other key.
+    pub fn config(&self, key: u32) -> Word
+        ensures { result ≡ slice_index self.now.config key }
+    {
+        self.config.get(key as usize).copied().unwrap_or(0)
+    }
+
+    /// The thread that has the stream.
+    pub fn holder(&self) -> Option<u8>
+        ensures { result ≡ self.now.holder }
+    {
+        self.holder
+    }
+
+    /// How many numbers were given.
+    pub fn count(&self) -> u32
+        ensures { result ≡ self.now.count }
+    {
+        self.count
+    }
+
+    /// The number of open calls.
+    pub fn open_count(&self) -> usize
+        ensures { result ≡ length self.now.pending }
+    {
+        self.pending.len()
+    }
+
+    /// The open call at place `i` by rising number, counted from 0.
+    pub fn open_call(&self, i: usize) -> &CallEntry
+        requires { i < length self.now.pending }
+        ensures call { slice_get self.now.pending i ≡ Some result.now }
+        ensures rising { IsNumbered 0 self.now.count self.now.pending }
+    {
+        &self.pending[i]
+    }
+
+    /// The open call of a thread, where it has one.
+    pub fn call_of_thread(&self, thread: u8) -> Option<&CallEntry>
+        ensures call { option_map (λ c. c.now) result ≡ call_of_thread thread self.now.pending }
+        ensures number { IfSome result (λ c. open_call c.now.call self.now.pending ≡ Some c.now) }
+    {
+        self.pending.iter().find(|entry| entry.thread == thread)
+    }
+
+    /// Whether the call has been Inside.
+    pub fn touched(&self, call: u32) -> bool
+        ensures { result ≡ is_touched (open_call call self.now.pending) }
+    {
+        match place_of(&self.pending, call) {
+            Some(place) => self.pending[place].attempts > 0,
+            None => false,
+        }
+    }
+
+    /// The replay, or Resume, that follows Init or a replay: the keys whose word is no default by rising key,
+    /// then the stream where it has a holder.
+    #[tactic(auto, unfolding(nook_defs::specs::Log::replay_after))]
+    pub fn replay_next(&self, after: &Stage) -> Stage
+        ensures { result ≡ replay_after after.now self.now }
+    {
+        match after {
+            Stage::Init => self.replay_from(0),
+            Stage::ReplaySet { key, .. } => self.replay_from(key.saturating_add(1)),
+            _ => Stage::Resume,
+        }
+    }
+
+    /// The first replay of the keys from `first` on.
+    fn replay_from(&self, first: u32) -> Stage
+        ensures { result ≡ next_replay first (4 - first) self.now.config self.now.defaults self.now.holder }
+    {
+        for key in first..4 {
+            let value = self.config[key as usize];
+            if value != self.defaults[key as usize] {
+                return Stage::ReplaySet { key, value };
+            }
+        }
+        match self.holder {
+            Some(_) => Stage::ReplayOpen,
+            None => Stage::Resume,
+        }
+    }
+}
+
+/// The place of an open call.
+fn place_of(pending: &[CallEntry], call: u32) -> Option<usize>
+    ensures { MatchOption result (open_call call pending.now ≡ None) (λ place. IsPlace call place pending.now) }
+{
+    pending.iter().position(|entry| entry.call == call)
+}
+
+/// The record's word gets a value; a key past the last one changes nothing.
+fn set_word(config: &mut [Word; 4], key: u32, value: Word)
+    ensures { config.new ≡ slice_set config.old key value }
+{
+    if key < 4 {
+        config[key as usize] = value;
+    }
+}
+
+/// Whether the shadow's table holds the operation.
+fn is_kept(op: &Op) -> bool
+    ensures { result ≡ is_kept op.now }
+{
+    matches!(
+        op,
+        Op::Read { .. } | Op::Write { .. } | Op::Close | Op::Set { .. }
+    )
+}
+
+/// Every call is Held.
+fn hold_all(pending: &mut [CallEntry])
+    ensures { pending.new ≡ map held_call pending.old }
+{
+    for entry in pending {
+        entry.inside = false;
+    }
+}

@@ -1,0 +1,12 @@
+//! The shadow's decision on an operation.
+
+use nook_defs::data::Answer;
+
+/// What the shadow does with an operation in the driver's place.
+#[derive(Drop)]
+pub enum Proxy {
+    /// It is answered.
+    Answer(Answer),
+    /// It waits for the driver, neither answered nor dropped.
+    Hold,
+}

@@ -1,0 +1,10 @@
+//! The shadow's table: what an operation is answered while the driver is away, or that it is held.
+#![tactic(auto)]
+
+mod decision;
+mod table;
+#[cfg(test)]
+mod tests;
+
+pub use decision::Proxy;
+pub use table::proxy;

@@ -1,0 +1,37 @@
+//! The table, a case for each operation.
+
+ghost use Rattle.std.specs.Prelude.{◌≡◌};
+ghost use Rattle.nook_defs.specs.Log.{shadow_answer};
+ghost use Rattle.shadow_proxy.specs.Table.{answer_of, queue_of};
+
+use crate::decision::Proxy;
+use nook_defs::data::{Answer, Op, Stage};
+use nook_defs::lists::Words;
+use shadow_log::ShadowLog;
+
+/// The shadow's table. `front` is the frame that the caller took from the kernel's queue for a Recv. It takes
+/// no memory.
+#[tactic(auto, unfolding(nook_defs::specs::Log::shadow_answer))]
+pub fn proxy(op: &Op, thread: u8, log: &ShadowLog, stage: &Stage, front: Option<Words>) -> Proxy
+    ensures { answer_of result ≡ shadow_answer op.now thread log.now.config log.now.holder stage.now (queue_of front) }
+{
+    match op {
+        Op::Read { .. } | Op::Write { .. } | Op::Close | Op::Set { .. } => Proxy::Hold,
+        Op::Send { .. } => Proxy::Answer(Answer::Done),
+        Op::Recv => {
+            match front {
+                Some(frame) => Proxy::Answer(Answer::Frame(frame)),
+                None => Proxy::Answer(Answer::Empty),
+            }
+        }
+        Op::Open => Proxy::Answer(Answer::Busy { stage: *stage }),
+        Op::Play { .. } => {
+            if log.holder() == Some(thread) {
+                Proxy::Answer(Answer::Done)
+            } else {
+                Proxy::Answer(Answer::NotOpen)
+            }
+        }
+        Op::Get { key } => Proxy::Answer(Answer::Value(log.config(*key))),
+    }
+}

@@ -1,0 +1,48 @@
+-- How a step changes the view of the seat that makes it. What is not named stays.
+use Rattle.std.specs.Prelude.{List, [], ◌∷◌, ◌++◌, length, true, false, cond, nat_lt, Some, None}
+use Rattle.turn_lock.specs.declared.view.View.{View}
+
+-- the longer of two lists; the first where they are as long
+abbrev pub longer : {E : Type 0} → List E → List E → List E
+longer xs ys = cond (nat_lt (length xs) (length ys)) ys xs
+
+-- the other one
+abbrev pub shorter : {E : Type 0} → List E → List E → List E
+shorter xs ys = cond (nat_lt (length xs) (length ys)) xs ys
+
+module _ {E O : Type 0} where
+  -- the first seat of a turn whose value has these entries and this origin
+  abbrev pub opener : List E → O → View E O
+  opener all home = record { origin = Some home; seen = all; told = []; made = []; alone = true; has = false; taken = [] }
+
+  -- it took a value with these entries
+  abbrev pub took : View E O → List E → View E O
+  took v all = record v { has = true; taken = all }
+
+  -- it committed one entry, with which these are all
+  abbrev pub committed : View E O → List E → View E O
+  committed v all = record v { seen = all; made = v.made ++ length all ∷ []; taken = all }
+
+  -- it gave the turn back, and has seen what it had taken or committed
+  abbrev pub gave : View E O → View E O
+  gave v = record v { seen = v.taken; has = false; taken = [] }
+
+  -- it is not the only seat any more
+  abbrev pub marked : View E O → View E O
+  marked v = record v { alone = false }
+
+  -- a new seat, split from one with the view v: it has seen the same, and made nothing
+  abbrev pub newcomer : View E O → View E O
+  newcomer v = record { origin = v.origin; seen = v.seen; told = []; made = []; alone = false; has = false; taken = [] }
+
+  -- a seat that was joined into another
+  abbrev pub spent : View E O
+  spent = record { origin = None; seen = []; told = []; made = []; alone = false; has = false; taken = [] }
+
+  -- it took in a seat with the view w: the longer list is seen, and the places are those of both
+  abbrev pub joined : View E O → View E O → View E O
+  joined v w = record v { seen = longer v.seen w.seen; told = shorter v.seen w.seen; made = v.made ++ w.made }
+
+  -- it knows that what it was told begins what it has seen
+  abbrev pub learnt : View E O → View E O
+  learnt v = record v { told = [] }

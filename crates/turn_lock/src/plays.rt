@@ -1,0 +1,67 @@
+//! What each step on the word tells the seat that makes it.
+ghost use Rattle.turn_lock.specs.Turns.{Takes, Commits, Gives, Looks, Marks, Learns};
+ghost use Rattle.turn_lock.specs.Views.{newcomer, joined, spent};
+
+use crate::kept::Kept;
+use crate::view::View;
+use atomic_table::{Join, Play, Split};
+
+// The word goes from even to the next odd number, or stays.
+pub(crate) struct Take;
+
+impl<T: Kept> Play<Option<T>, View<T::Entry, T::Origin>> for Take {
+    ghost then = { Takes T.list T.origin };
+}
+
+// The word is raised by 2.
+pub(crate) struct Commit;
+
+impl<T: Kept> Play<Option<T>, View<T::Entry, T::Origin>> for Commit {
+    ghost then = { Commits T.list };
+}
+
+// The word is lowered by 1.
+pub(crate) struct Give;
+
+impl<T, E, O> Play<Option<T>, View<E, O>> for Give {
+    ghost then = { Gives };
+}
+
+// A load that shows the number of entries.
+pub(crate) struct Look;
+
+impl<T, E, O> Play<Option<T>, View<E, O>> for Look {
+    ghost then = { Looks };
+}
+
+// A load, after which the seat does not count as alone.
+pub(crate) struct Mark;
+
+impl<T, E, O> Play<Option<T>, View<E, O>> for Mark {
+    ghost then = { Marks };
+}
+
+// A load, at which the seat learns that what it was told begins what it has seen.
+pub(crate) struct Learn;
+
+impl<T, E, O> Play<Option<T>, View<E, O>> for Learn {
+    ghost then = { Learns };
+}
+
+// A new seat that has seen the same.
+pub(crate) struct Cut;
+
+impl<E, O> Split<View<E, O>> for Cut {
+    ghost left = { λ v. v };
+
+    ghost right = { newcomer };
+}
+
+// Two seats made one.
+pub(crate) struct Merge;
+
+impl<E, O> Join<View<E, O>> for Merge {
+    ghost both = { joined };
+
+    ghost spent = { spent };
+}

@@ -1,0 +1,3 @@
+pub mod LineFeed
+pub mod PlainData
+pub mod ImageJson

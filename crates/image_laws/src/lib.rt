@@ -1,0 +1,16 @@
+//! The text of an image reads back as the image: a theorem over the definitions alone, for every valid image.
+//!
+//! The law is the contract of a public function with an empty body: what it promises holds of all its arguments,
+//! whoever made them.
+#![tactic(auto)]
+
+ghost use Rattle.nook_defs.specs.ImageReading.{image_from};
+ghost use Rattle.nook_defs.specs.ImageText.{image_text};
+ghost use Rattle.nook_defs.specs.Valid.{IsValidImage};
+ghost use Rattle.nook_defs.specs.declared.data.Image.{Image};
+ghost use Rattle.std.specs.Prelude.{Ok, ◌≡◌};
+
+/// The JSON text that is written for a valid image, with its line feed, is read as that image.
+pub fn image_text_comes_back()
+    ensures { (image : Image) → IsValidImage image → image_from (image_text image) ≡ Ok image }
+{}

@@ -1,0 +1,3 @@
+pub mod LentEntries
+pub mod InsideCalls
+pub mod StepLoans

@@ -1,0 +1,23 @@
+//! Laws of the definitions of reading. Each function has an empty body, and its contract is the law.
+
+ghost use Rattle.std.specs.Prelude.{List, ℕ, IfOk};
+ghost use Rattle.serde_json.specs.Data.{Data};
+ghost use Rattle.nook_defs.specs.Valid.{IsValidImage, IsValidScenario};
+ghost use Rattle.nook_defs.specs.Assembler.{assembled};
+ghost use Rattle.nook_defs.specs.ImageReading.{image_of};
+ghost use Rattle.nook_defs.specs.ScenarioReading.{scenario_from};
+
+/// The image that a JSON value is read as keeps the limits of images.
+pub fn images_are_valid()
+    ensures { (d : Data) → IfOk (image_of d) IsValidImage }
+{}
+
+/// The image that a text assembles to keeps the limits of images.
+pub fn assembled_images_are_valid()
+    ensures { (text : List ℕ) → IfOk (assembled text) IsValidImage }
+{}
+
+/// The scenario that some bytes are read as keeps every limit.
+pub fn scenarios_are_valid()
+    ensures { (bytes : List ℕ) → IfOk (scenario_from bytes) IsValidScenario }
+{}

@@ -1,0 +1,20 @@
+-- The contexts of a domain, and the service that a context asks for.
+use Rattle.std.proofs.Common.{◌≡◌, ◌∙◌, ℕ, zero, suc, List, [], ◌∷◌, Option, None, Some, Result, refl, slice_index_or}
+use Rattle.nook_defs.specs.declared.data.Class.{Class}
+use Rattle.nook_defs.specs.declared.data.Entry.{Entry}
+use Rattle.nook_defs.specs.declared.machine.BadParam.{BadParam}
+use Rattle.nook_defs.specs.declared.machine.Context.{Context}
+use Rattle.nook_defs.specs.declared.machine.Service.{Service}
+use Rattle.nook_defs.specs.Domain.{context_of}
+use Rattle.nook_defs.specs.Services.{checked}
+
+-- what stands at a context's place
+pub context_at : (contexts : List (Option Context)) (context : ℕ) → slice_index_or contexts context None ≡ context_of context contexts
+context_at [] zero = refl
+context_at [] (suc context) = refl
+context_at (x ∷ contexts) zero = refl
+context_at (x ∷ contexts) (suc context) = context_at contexts context
+
+-- equal arguments, equal service
+pub checked_same : (told : Result Service BadParam) (number a b x y : ℕ) (c k : Class) (es fs : List Entry) → told ≡ checked number a b c es → a ≡ x → b ≡ y → c ≡ k → es ≡ fs → told ≡ checked number x y k fs
+checked_same told number a b x y c k es fs is first second class entries = rw (← first, ← second, ← class, ← entries) is

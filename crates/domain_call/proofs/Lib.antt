@@ -1,0 +1,4 @@
+pub mod Classes
+pub mod Contexts
+pub mod Loans
+pub mod Opening

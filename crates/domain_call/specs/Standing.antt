@@ -1,0 +1,43 @@
+use Rattle.std.specs.Prelude.{◌≡◌, ℕ, ◌+◌, Bool, List, Option, length}
+use Rattle.nook_defs.specs.declared.data.Class.{Class}
+use Rattle.nook_defs.specs.declared.data.DeviceState.{DeviceState}
+use Rattle.nook_defs.specs.declared.data.Entry.{Entry}
+use Rattle.nook_defs.specs.declared.data.PartSpec.{PartSpec}
+use Rattle.nook_defs.specs.declared.machine.Service.{Service}
+use Rattle.nook_defs.specs.Domain.{opening_domain}
+use Rattle.nook_defs.specs.PageMap.{lent_contexts}
+use Rattle.nook_defs.specs.Ports.{class_of}
+use Rattle.nook_defs.specs.Services.{Served, served}
+use Rattle.nook_defs.specs.State.{DomainState}
+
+-- what a domain is to contracts: its part of the state, and what stays as the part began: where the heap begins, and
+-- the class
+pub record Standing : Type 0 where
+  pub state : DomainState
+  pub heap_start : ℕ
+  pub class : Class
+
+-- a domain at first: the heap begins behind the image's initial words
+abbrev pub opening_standing : PartSpec → Standing
+opening_standing spec = record {
+  state = opening_domain spec;
+  heap_start = 2048 + length spec.image.initial;
+  class = spec.class;
+}
+
+-- the page map lends for writing the buffers that the entries lend for writing, and the device is the class's
+pub record IsAgreed (loaned : List Bool) (entries : List Entry) (made : DeviceState) (class : Class) : Type 0 where
+  pub loans : loaned ≡ lent_contexts entries
+  pub kind : class_of made ≡ class
+
+-- what a service leaves of a domain and of the kernel's queue, with what it tells
+abbrev pub served_in : Standing → Service → List (List ℕ) → Served
+served_in s service queue = served s.heap_start service s.state.memory s.state.entries queue
+
+-- a domain's state with the memory and the entries that a service leaves
+abbrev pub with_served : Served → DomainState → DomainState
+with_served s d = record d { memory = s.memory; entries = s.entries }
+
+-- an arrival at the device
+abbrev pub with_device : DeviceState → DomainState → DomainState
+with_device device d = record d { device = device }

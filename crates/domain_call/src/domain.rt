@@ -1,0 +1,223 @@
+//! The domain, and what can be asked of it.
+
+ghost use Rattle.std.specs.Prelude.{◌≡◌, ◌+◌, ◌<◌, ◌≤◌, is_some, length, slice_index, IfOk};
+ghost use Rattle.std.specs.List.{list_any};
+ghost use Rattle.nook_defs.specs.Classes.{defaults_of};
+ghost use Rattle.nook_defs.specs.Devices.{opening_device};
+ghost use Rattle.nook_defs.specs.PageMap.{none_lent};
+ghost use Rattle.nook_defs.specs.Domain.{attempt_bursts, buffer_words, context_of, first_argument, second_argument};
+ghost use Rattle.nook_defs.specs.Entries.{is_buffer_of, is_registered};
+ghost use Rattle.nook_defs.specs.Pages.{buffer_start, opening_memory};
+ghost use Rattle.domain_call.specs.Standing.{opening_standing};
+
+mod bursts;
+mod contexts;
+mod recovery;
+mod serving;
+
+use class_table::defaults_of;
+use device_models::Device;
+use domain_pages::PageMap;
+use nook_defs::data::{Class, PartSpec};
+use nook_defs::lists::{TryCopy, Word, Words};
+use nook_defs::machine::Context;
+use nook_defs::memory::{NoMemory, Room};
+use object_tracker::Tracker;
+use std::alloc::Global;
+use std::marker::Model;
+
+/// The words of text, and so the first address behind them.
+const TEXT_WORDS: u32 = 2048;
+
+/// The first address of kernel object 0.
+const FIRST_OBJECT: u32 = 7360;
+
+/// The words of a kernel object.
+const OBJECT_WORDS: u32 = 64;
+
+/// A driver's domain. Contracts see its part of the state, where the heap begins, and the class. The pages always
+/// lend for writing just the buffers that the tracker's entries lend for writing.
+#[derive(Drop)]
+pub struct Domain {
+    class: Class,
+    starts: Words,
+    pages: PageMap,
+    tracker: Tracker,
+    device: Device,
+    contexts: [Option<Context>; 17],
+}
+
+impl Model for Domain {
+    ghost use Rattle.domain_call.specs.Standing.{Standing, IsAgreed};
+
+    ghost Value = { Standing };
+
+    ghost view = { λ s. record {
+      state = record {
+        starts = s.starts;
+        memory = s.pages.words;
+        entries = s.tracker.entries;
+        device = s.device;
+        contexts = s.contexts;
+      };
+      heap_start = s.tracker.heap_start;
+      class = s.class;
+    } };
+
+    ghost invariant = { λ s. IsAgreed s.pages.lent s.tracker.entries s.device s.class };
+}
+
+impl Domain {
+    /// The domain of a part before its driver is loaded. The image has at most 2,048 initial words.
+    #[tactic(auto, unfolding(nook_defs::specs::Domain::opening_domain), using(crate::proofs::Opening::lent_opening, crate::proofs::Opening::opening_class))]
+    pub fn new(alloc: Global, spec: &PartSpec) -> Result<Domain, NoMemory>
+        requires { length spec.now.image.initial ≤ 2048 }
+        ensures { IfOk result (λ made. made ≡ opening_standing spec.now) }
+    {
+        let starts = spec.image.entries.copy(alloc)?;
+        let device = device_of(alloc, spec)?;
+        let pages = opening_pages(alloc, spec.class)?;
+        let heap_start = TEXT_WORDS + spec.image.initial.len() as u32;
+        Ok(Domain {
+            class: spec.class,
+            starts,
+            pages,
+            tracker: Tracker::new(alloc, heap_start)?,
+            device,
+            contexts: [None; 17],
+        })
+    }
+
+    /// Registers r1 and r2 of a context that is Inside, 0 of a free one. The context is at most 16.
+    pub fn arguments(&self, context: u8) -> (Word, Word)
+        requires { context < 17 }
+        ensures first { result.0 ≡ first_argument context self.now.state }
+        ensures second { result.1 ≡ second_argument context self.now.state }
+    {
+        match self.inside(context) {
+            Some(inside) => (inside.cpu.registers[1], inside.cpu.registers[2]),
+            None => (0, 0),
+        }
+    }
+
+    /// The bursts of a context's attempt so far, 0 of a free context. The context is at most 16.
+    pub fn bursts(&self, context: u8) -> u32
+        requires { context < 17 }
+        ensures { result ≡ attempt_bursts context self.now.state }
+    {
+        match self.inside(context) {
+            Some(inside) => inside.bursts,
+            None => 0,
+        }
+    }
+
+    /// Whether a context is Inside. The context is at most 16.
+    pub fn is_inside(&self, context: u8) -> bool
+        requires { context < 17 }
+        ensures { result ≡ is_some (context_of context self.now.state.contexts) }
+    {
+        self.inside(context).is_some()
+    }
+
+    /// The context, where it is Inside.
+    #[tactic(auto, using(crate::proofs::Contexts::context_at))]
+    fn inside(&self, context: u8) -> Option<Context>
+        requires { context < 17 }
+        ensures { result ≡ context_of context self.now.state.contexts }
+    {
+        self.contexts[context as usize]
+    }
+
+    /// Whether a context's buffer is lent.
+    pub fn has_buffer(&self, context: u8) -> bool
+        ensures { result ≡ list_any (is_buffer_of context) self.now.state.entries }
+    {
+        self.tracker.has_buffer(context)
+    }
+
+    /// Whether the driver is registered.
+    pub fn is_registered(&self) -> bool
+        ensures { result ≡ is_registered self.now.state.entries }
+    {
+        self.tracker.is_registered()
+    }
+
+    /// The first word of a context's buffer. The context is at most 16.
+    pub fn first_word(&self, context: u8) -> Word
+        requires { context < 17 }
+        ensures { result ≡ slice_index self.now.state.memory (buffer_start context) }
+    {
+        self.pages.read(buffer_start(context)).unwrap_or(0)
+    }
+
+    /// The first `count` words of a context's buffer, at most 128, in the memory of `room`, which has room for them.
+    /// The context is at most 16. It takes no memory.
+    pub fn buffer_words(&self, context: u8, count: u32, room: Room<Word>) -> Words
+        requires context { context < 17 }
+        requires few { count ≤ 128 }
+        requires room { count ≤ room }
+        ensures { result ≡ buffer_words context count self.now.state }
+    {
+        self.pages.words(buffer_start(context), count, room)
+    }
+
+    /// The class of the driver and its device.
+    pub fn class(&self) -> Class
+        ensures { result ≡ self.now.class }
+    {
+        self.class
+    }
+
+    /// The pages.
+    pub fn pages(&self) -> &PageMap
+        ensures { result.now.words ≡ self.now.state.memory }
+    {
+        &self.pages
+    }
+
+    /// What the driver holds.
+    pub fn tracker(&self) -> &Tracker
+        ensures entries { result.now.entries ≡ self.now.state.entries }
+        ensures heap { result.now.heap_start ≡ self.now.heap_start }
+    {
+        &self.tracker
+    }
+
+    /// The device.
+    pub fn device(&self) -> &Device
+        ensures { result.now ≡ self.now.state.device }
+    {
+        &self.device
+    }
+}
+
+/// Where a context's buffer begins.
+fn buffer_start(context: u8) -> u32
+    requires { context < 17 }
+    ensures { result ≡ buffer_start context }
+{
+    (81 + 2 * u32::from(context)) * 64
+}
+
+/// The device of a part as it begins.
+fn device_of(alloc: Global, spec: &PartSpec) -> Result<Device, NoMemory>
+    ensures { IfOk result (λ made. made ≡ opening_device spec.now.class spec.now.blocks spec.now.bad (defaults_of spec.now.class)) }
+{
+    match spec.class {
+        Class::Block => Device::disk(alloc, spec.blocks, &spec.bad),
+        Class::Net => Device::net(alloc),
+        Class::Sound => Ok(Device::sound()),
+    }
+}
+
+/// The pages of a domain as it begins: all words 0 but kernel object 0, which has the class's defaults, and the
+/// first word of objects 1 to 12, which is the object's number.
+#[tactic(auto, using(crate::proofs::Opening::opening_words))]
+fn opening_pages(alloc: Global, class: Class) -> Result<PageMap, NoMemory>
+    ensures words { IfOk result (λ made. made.words ≡ opening_memory (defaults_of class)) }
+    ensures lent { IfOk result (λ made. made.lent ≡ none_lent) }
+{
+    let mut pages = PageMap::new(alloc)?;
+    pages.put_words(FIRST_OBJECT, &defaults_of(class), OBJECT_WORDS);
+    Ok(pages)
+}

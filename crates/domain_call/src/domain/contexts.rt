@@ -1,0 +1,105 @@
+//! Contexts that are entered and left.
+
+ghost use Rattle.std.specs.Prelude.{◌≡◌, ◌<◌, ◌≤◌, false, length, slice_index, IfSome};
+ghost use Rattle.std.specs.List.{list_any};
+ghost use Rattle.nook_defs.specs.Domain.{arguments_of, buffer_of, buffer_words, entered_domain, entry_context, left_domain, plainly_entered, result_set, three};
+ghost use Rattle.nook_defs.specs.Entries.{is_buffer_of};
+ghost use Rattle.param_wrappers.specs.Crossing.{arguments};
+
+use super::Domain;
+use nook_defs::data::Op;
+use nook_defs::lists::{Word, Words};
+use nook_defs::machine::{Context, Cpu};
+use nook_defs::memory::Room;
+use param_wrappers::{Args, copy_in, copy_out};
+
+impl Domain {
+    /// A context goes Inside at the entry with this place in the class's order, for an operation: its words go into
+    /// the context's buffer, which is lent. The context is at most 16 and has no buffer, and the operation has at
+    /// most 128 words. It takes no memory.
+    #[tactic(auto, unfolding(nook_defs::specs::Domain::entered_domain), using(crate::proofs::Loans::lent_entered))]
+    pub fn enter(&mut self, context: u8, place: u32, op: &Op)
+        requires context { context < 17 }
+        requires free { list_any (is_buffer_of context) self.old.state.entries ≡ false }
+        requires few { IfSome (buffer_of op.now) (λ l. length l.words ≤ 128) }
+        ensures { self.new ≡ record self.old { state = entered_domain context place op.now self.old.state } }
+    {
+        let arguments = copy_in(&mut self.pages, &mut self.tracker, context, op);
+        let inside = self.at_entry(context, place, arguments);
+        self.contexts[context as usize] = Some(inside);
+    }
+
+    /// A context goes Inside at the entry with this place in the class's order, with no arguments and no buffer,
+    /// for Init and for ReplayOpen. The context is at most 16. It takes no memory.
+    #[tactic(auto, unfolding(nook_defs::specs::Domain::plainly_entered))]
+    pub fn enter_plain(&mut self, context: u8, place: u32)
+        requires { context < 17 }
+        ensures { self.new ≡ record self.old { state = plainly_entered context place self.old.state } }
+    {
+        let none = Args {
+            r1: 0,
+            r2: 0,
+            r3: 0,
+        };
+        let inside = self.at_entry(context, place, none);
+        self.contexts[context as usize] = Some(inside);
+    }
+
+    /// A context that stands at an entry: r1 to r3 have its arguments, r14 the end of the context's stack.
+    fn at_entry(&self, context: u8, place: u32, args: Args) -> Context
+        requires { context < 17 }
+        ensures { result ≡ entry_context (slice_index self.now.state.starts place) context (arguments args) }
+    {
+        let mut registers = [0; 16];
+        registers[1] = args.r1;
+        registers[2] = args.r2;
+        registers[3] = args.r3;
+        registers[14] = (65 + u32::from(context)) * 64;
+        let counter = self
+            .starts
+            .as_slice()
+            .get(place as usize)
+            .copied()
+            .unwrap_or(0);
+        Context {
+            cpu: Cpu { counter, registers },
+            bursts: 0,
+        }
+    }
+
+    /// Puts a word into r1 of a context that is Inside; of a free one it does nothing. The context is at most 16.
+    #[tactic(auto, unfolding(nook_defs::specs::Domain::result_set))]
+    pub fn set_result(&mut self, context: u8, word: Word)
+        requires { context < 17 }
+        ensures { self.new ≡ record self.old { state = result_set context word self.old.state } }
+    {
+        if let Some(inside) = &mut self.contexts[context as usize] {
+            inside.cpu.registers[1] = word;
+        }
+    }
+
+    /// One context is free from now on, and its buffer is lent no more. The context is at most 16.
+    #[tactic(auto, unfolding(nook_defs::specs::Domain::left_domain), using(crate::proofs::Loans::lent_left))]
+    pub fn leave(&mut self, context: u8)
+        requires { context < 17 }
+        ensures { self.new ≡ record self.old { state = left_domain context self.old.state } }
+    {
+        self.pages.revoke(context);
+        self.tracker.end_buffer(context);
+        self.contexts[context as usize] = None;
+    }
+
+    /// Leaves a context as `leave` does, and brings out the first `count` words of its buffer, at most 128, in the
+    /// memory of `room`, which has room for them. The context is at most 16. It takes no memory.
+    #[tactic(auto, unfolding(nook_defs::specs::Domain::left_domain), using(crate::proofs::Loans::lent_left))]
+    pub fn copy_out(&mut self, context: u8, count: u32, room: Room<Word>) -> Words
+        requires context { context < 17 }
+        requires few { count ≤ 128 }
+        requires room { count ≤ room }
+        ensures words { result ≡ buffer_words context count self.old.state }
+        ensures left { self.new ≡ record self.old { state = left_domain context self.old.state } }
+    {
+        self.contexts[context as usize] = None;
+        copy_out(&mut self.pages, &mut self.tracker, context, count, room)
+    }
+}

@@ -1,0 +1,81 @@
+//! The stages that touch a domain, and arrivals.
+
+ghost use Rattle.std.specs.Prelude.{◌≡◌, ◌≤◌, length, IfOk, OnErr, OnOk};
+ghost use Rattle.nook_defs.specs.Classes.{defaults_of};
+ghost use Rattle.nook_defs.specs.Devices.{has_room, with_arrival};
+ghost use Rattle.nook_defs.specs.Domain.{collected_domain, loaded_domain, stopped_domain};
+ghost use Rattle.nook_defs.specs.Entries.{released};
+ghost use Rattle.nook_defs.specs.PageMap.{none_lent};
+ghost use Rattle.nook_defs.specs.Stages.{with_reset};
+ghost use Rattle.domain_call.specs.Standing.{with_device};
+
+use super::Domain;
+use domain_pages::PageMap;
+use nook_defs::data::{Class, Image, Released};
+use nook_defs::lists::Words;
+use nook_defs::memory::NoMemory;
+
+impl Domain {
+    /// Every context is free from now on, and the driver is not registered.
+    #[tactic(auto, unfolding(nook_defs::specs::Domain::stopped_domain), using(crate::proofs::Loans::lent_registered))]
+    pub fn unwind(&mut self)
+        ensures { self.new ≡ record self.old { state = stopped_domain self.old.state } }
+    {
+        self.tracker.unregister();
+        self.contexts = [None; 17];
+    }
+
+    /// Everything that the driver holds but its registration ends; what ended, in order. Where memory is wanting the
+    /// domain is as before.
+    #[tactic(auto, unfolding(nook_defs::specs::Domain::collected_domain), using(crate::proofs::Loans::lent_collected))]
+    pub fn collect(&mut self) -> Result<Released, NoMemory>
+        ensures released { IfOk result (λ ended. ended ≡ released self.old.state.entries) }
+        ensures ok { OnOk result (self.new ≡ record self.old { state = collected_domain self.old.state }) }
+        ensures err { OnErr result (self.new ≡ self.old) }
+    {
+        let ended = self.tracker.collect()?;
+        revoke_all(&mut self.pages);
+        Ok(ended)
+    }
+
+    /// The device is reset: its registers take the class's defaults; a disk's medium stays.
+    pub fn reset(&mut self)
+        ensures { self.new ≡ record self.old { state = with_reset (defaults_of self.old.class) self.old.state } }
+    {
+        self.device.reset();
+    }
+
+    /// The image is put in place: its text, its initial words, and zeros up to the kernel's objects. It has at most
+    /// 2,048 words of each. Where memory is wanting the domain is as before.
+    #[tactic(auto, unfolding(nook_defs::specs::Domain::loaded_domain))]
+    pub fn load(&mut self, image: &Image) -> Result<(), NoMemory>
+        requires text { length image.now.text ≤ 2048 }
+        requires initial { length image.now.initial ≤ 2048 }
+        ensures ok { OnOk result (self.new ≡ record self.old { state = loaded_domain image.now self.old.state }) }
+        ensures err { OnErr result (self.new ≡ self.old) }
+    {
+        self.pages.load(image)
+    }
+
+    /// A frame of 1 to 64 words arrives at a net device; false, with the frame dropped, exactly where the ring
+    /// holds 16. It takes no memory.
+    pub fn arrive(&mut self, frame: Words) -> bool
+        requires net { self.old.class ≡ Class.Net }
+        requires some { 1 ≤ length frame }
+        requires most { length frame ≤ 64 }
+        ensures kept { result ≡ has_room self.old.state.device }
+        ensures device { self.new ≡ record self.old { state = with_device (with_arrival frame self.old.state.device) self.old.state } }
+    {
+        self.device.arrive(frame)
+    }
+}
+
+/// No context's buffer may be written from now on.
+fn revoke_all(pages: &mut PageMap)
+    requires { length pages.old.lent ≡ 17 }
+    ensures { pages.new ≡ record pages.old { lent = none_lent } }
+{
+    for context in 0..17_u8 {
+        pages.revoke(context);
+    }
+}

@@ -1,0 +1,100 @@
+//! Kernel calls, and what the kernel writes.
+
+ghost use Rattle.std.specs.Prelude.{◌≡◌, ◌<◌, ◌≤◌, true, IfOk};
+ghost use Rattle.nook_defs.specs.Crossing.{without_shadow};
+ghost use Rattle.nook_defs.specs.Domain.{first_argument, noted, result_set, second_argument};
+ghost use Rattle.nook_defs.specs.Services.{checked};
+ghost use Rattle.param_wrappers.specs.Crossing.{can_serve};
+ghost use Rattle.domain_call.specs.Standing.{served_in, with_served};
+
+use super::{Domain, FIRST_OBJECT};
+use kernel_services::{RxQueue, Served, serve};
+use nook_defs::lists::Word;
+use nook_defs::machine::{BadParam, Service};
+use nook_defs::memory::Room;
+use param_wrappers::check_service;
+
+/// The context of the shadow.
+const SHADOW: usize = 16;
+
+impl Domain {
+    /// The service of a context's kernel call by its number, its arguments being r1 and r2 of the context. The error
+    /// names the smallest argument that fails; 0 is the service itself. The context is at most 16.
+    pub fn check(&self, context: u8, number: u32) -> Result<Service, BadParam>
+        requires { context < 17 }
+        ensures checked { result ≡ checked number (first_argument context self.now.state) (second_argument context self.now.state) self.now.class self.now.state.entries }
+        ensures can { IfOk result (λ service. can_serve service ≡ true) }
+    {
+        let (first, second) = self.arguments(context);
+        check_service(number, first, second, self.class, &self.tracker)
+    }
+
+    /// Serves a context's kernel call that passed its check, and puts the result into r1. The words that it moves go
+    /// into `moved`, the queue's own copy of a frame into `frame`; both have room for 64 words. The context is at
+    /// most 16. It takes no memory.
+    pub fn serve(
+        &mut self,
+        context: u8,
+        service: Service,
+        queue: &mut RxQueue,
+        moved: Room<Word>,
+        frame: Room<Word>,
+    ) -> Served
+        requires context { context < 17 }
+        requires passed { can_serve service ≡ true }
+        requires moved { 64 ≤ moved }
+        requires frame { 64 ≤ frame }
+        ensures domain { self.new ≡ record self.old { state = result_set context result.answer (with_served (served_in self.old service queue.old) self.old.state) } }
+        ensures queue { queue.new ≡ (served_in self.old service queue.old).queue }
+        ensures answer { result.answer ≡ (served_in self.old service queue.old).answer }
+        ensures moved { result.moved ≡ (served_in self.old service queue.old).moved }
+    {
+        let told = self.done(service, queue, moved, frame);
+        self.set_result(context, told.answer);
+        told
+    }
+
+    /// Does a service.
+    #[tactic(auto, using(crate::proofs::Loans::lent_served))]
+    fn done(
+        &mut self,
+        service: Service,
+        queue: &mut RxQueue,
+        moved: Room<Word>,
+        frame: Room<Word>,
+    ) -> Served
+        requires passed { can_serve service ≡ true }
+        requires moved { 64 ≤ moved }
+        requires frame { 64 ≤ frame }
+        ensures domain { self.new ≡ record self.old { state = with_served (served_in self.old service queue.old) self.old.state } }
+        ensures queue { queue.new ≡ (served_in self.old service queue.old).queue }
+        ensures answer { result.answer ≡ (served_in self.old service queue.old).answer }
+        ensures moved { result.moved ≡ (served_in self.old service queue.old).moved }
+    {
+        serve(
+            service,
+            &mut self.pages,
+            &mut self.tracker,
+            queue,
+            moved,
+            frame,
+        )
+    }
+
+    /// The kernel writes a word of object 0, whose places are 0 to 63.
+    #[tactic(auto, unfolding(nook_defs::specs::Domain::noted))]
+    pub fn note(&mut self, place: u32, word: Word)
+        requires { place < 64 }
+        ensures { self.new ≡ record self.old { state = noted place word self.old.state } }
+    {
+        self.pages.kernel_write(FIRST_OBJECT + place, word);
+    }
+
+    /// The driver failed: the number of failures stands in object 0, and the shadow's context is free.
+    pub fn fail(&mut self, failures: u32)
+        ensures { self.new ≡ record self.old { state = noted 4 failures (without_shadow self.old.state) } }
+    {
+        self.contexts[SHADOW] = None;
+        self.note(4, failures);
+    }
+}

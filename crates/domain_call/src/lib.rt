@@ -1,0 +1,15 @@
+//! A driver's domain: its pages, what the tracker records, its device, and its 17 contexts; and the calls by which a
+//! part enters, runs and leaves it, serves it, stops it and starts it anew.
+//!
+//! Memory is taken when a domain is made, by `load` for the image and by `collect` for the list of what ended; no
+//! other call takes any.
+#![tactic(auto)]
+
+mod domain;
+mod reach;
+#[cfg(test)]
+mod tests;
+
+pub use domain::Domain;
+pub use driver_isa::BurstDone;
+pub use kernel_services::{RxQueue, Served};

@@ -1,0 +1,5 @@
+pub mod Kept
+pub mod Ready
+pub mod Replies
+pub mod ShadowAnswers
+pub mod Tested

@@ -1,1 +1,7 @@
-pub mod Held
+pub mod Answering
+pub mod Crossings
+pub mod Entering
+pub mod Kept
+pub mod Staging
+pub mod Tested
+pub mod Turning

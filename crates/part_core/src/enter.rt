@@ -1,81 +1,84 @@
-//! The step Enter: a Held call goes Inside the driver.
+//! The step Enter: a Held call is answered by its class, or goes Inside.
 
-ghost use Rattle.std.specs.Prelude.{◌≡◌, ◌<◌, OnErr};
+ghost use Rattle.std.specs.Prelude.{◌≡◌, true};
+ghost use Rattle.nook_defs.specs.Calls.{entered_part};
+ghost use Rattle.nook_defs.specs.Classes.{admit, is_of_class};
+ghost use Rattle.nook_defs.specs.Devices.{head_of, tail_of};
+ghost use Rattle.part_core.specs.Entering.{IsEnterable};
+ghost use Rattle.part_core.specs.Turning.{turned_to};
 
-use crate::domain::{Domain, buffer_start};
-use crate::part::StepRefused;
-use crate::state::{SHADOW, State};
-use nook_defs::data::{Event, Image, Op};
-use nook_defs::lists::Word;
-use nook_defs::machine::{Context, Cpu};
-use nook_defs::memory::NoMemory;
+use crate::state::State;
+use nook_defs::classes::{Admit, ClassState};
+use nook_defs::data::{Answer, Class, Event, Op};
+use nook_defs::lists::Words;
+use nook_defs::outside::RxFront;
 
 impl State {
-    /// A thread's Held call is entered: its words go into its buffer, and its context stands at the entry.
-    pub fn enter(&mut self, thread: u8) -> Result<Event, StepRefused>
-        ensures { OnErr result (self.new ≡ self.old) }
+    /// A thread's Held call is answered by its class, or goes Inside with its parameters copied from the log. It takes
+    /// no memory.
+    #[tactic(auto, unfolding(nook_defs::specs::Calls::entered_part))]
+    pub fn enter(&mut self, thread: u8) -> Event
+        requires { IsEnterable thread self.old }
+        ensures { entered_part thread self.old ≡ turned_to self.new result }
     {
-        let Some(place) = self.calls.place_of(thread) else {
-            return Err(StepRefused::NotEnabled);
+        let Some(entry) = self.log.call_of_thread(thread) else {
+            unreachable!()
         };
-        if thread >= SHADOW {
-            return Err(StepRefused::NotEnabled);
+        let (call, caller, attempt) = (entry.call, entry.thread, entry.attempts + 1);
+        let state = ClassState {
+            holder: self.log.holder(),
+            queued: self.queue.len(),
+        };
+        match admit(self.spec.class, thread, &entry.op, &state) {
+            Admit::Reply(answer) => {
+                self.log.answered(call);
+                entered(call, caller, attempt, Some(answer))
+            }
+            Admit::TakeFrame => {
+                self.log.answered(call);
+                let frame = self.front();
+                entered(call, caller, attempt, Some(Answer::Frame(frame)))
+            }
+            Admit::Enter { entry: place } => {
+                self.domain.enter(caller, place, &entry.op);
+                self.log.entered(call);
+                entered(call, caller, attempt, None)
+            }
         }
-        let cpu = prepare(
-            &mut self.domain,
-            &self.spec.image,
-            thread,
-            &self.calls.get(place).op,
-        )?;
-        let (call, attempt) = self.calls.enter(place);
-        self.contexts[thread as usize] = Some(Context { cpu, bursts: 0 });
-        Ok(Event::Enter {
-            call,
-            thread,
-            attempt,
-            answer: None,
-        })
+    }
+
+    /// The oldest frame of the queue, which leaves it. None waits in an empty queue.
+    fn front(&mut self) -> Words
+        ensures frame { result ≡ head_of self.old.queue }
+        ensures state { self.new ≡ record self.old { queue = tail_of self.old.queue } }
+    {
+        match self.queue.take_front() {
+            Some(frame) => frame,
+            None => Words::new(self.alloc),
+        }
     }
 }
 
-/// Lends a context's buffer as the operation asks, and gives the processor at its entry.
-fn prepare(domain: &mut Domain, image: &Image, context: u8, op: &Op) -> Result<Cpu, NoMemory>
-    requires { context < 16 }
-    ensures { OnErr result (domain.new ≡ domain.old) }
+/// The event of an Enter.
+fn entered(call: u32, thread: u8, attempt: u32, answer: Option<Answer>) -> Event
+    ensures { result ≡ Event.Enter call thread attempt answer }
 {
-    let buffer = buffer_start(context) as u32;
-    match op {
-        Op::Read { first, count } => {
-            domain.lend(context, &[], true)?;
-            Ok(at_entry(image, context, 1, [*first, *count, buffer]))
-        }
-        Op::Write { first, words } => {
-            domain.lend(context, words.as_slice(), false)?;
-            Ok(at_entry(
-                image,
-                context,
-                2,
-                [*first, (words.len().min(128) / 16) as u32, buffer],
-            ))
-        }
-        Op::Get { key } => {
-            domain.lend(context, &[], true)?;
-            Ok(at_entry(image, context, 3, [*key, 0, buffer]))
-        }
-        Op::Set { key, value } => Ok(at_entry(image, context, 4, [*key, *value, 0])),
-        _ => Ok(at_entry(image, context, 0, [0; 3])),
+    Event::Enter {
+        call,
+        thread,
+        attempt,
+        answer,
     }
 }
 
-/// The processor of a context at an entry, counted in the class's order, with its arguments.
-pub fn at_entry(image: &Image, context: u8, entry: usize, arguments: [Word; 3]) -> Cpu
-    requires { context < 17 }
+/// What the class does with an operation of it.
+fn admit(class: Class, thread: u8, op: &Op, state: &ClassState) -> Admit
+    requires { is_of_class class op.now ≡ true }
+    ensures { result ≡ admit class thread op.now state.now.holder state.now.queued }
 {
-    let mut registers = [0; 16];
-    registers[1] = arguments[0];
-    registers[2] = arguments[1];
-    registers[3] = arguments[2];
-    registers[14] = (65 + u32::from(context)) * 64;
-    let counter = image.entries.as_slice().get(entry).copied().unwrap_or(0);
-    Cpu { counter, registers }
+    match class {
+        Class::Block => class_block::admit(thread, op, state),
+        Class::Net => class_net::admit(thread, op, state),
+        Class::Sound => class_sound::admit(thread, op, state),
+    }
 }

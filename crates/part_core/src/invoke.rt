@@ -1,99 +1,100 @@
-//! The step Invoke: a call is answered at once or is Held.
+//! The step Invoke: a thread asks for an operation, which is answered at once or stays open.
 
-ghost use Rattle.std.specs.Prelude.{◌≡◌, OnErr};
+ghost use Rattle.std.specs.Prelude.{◌≡◌, true, IfNone};
+ghost use Rattle.nook_defs.specs.Calls.{answer_in, invoked, queue_in};
+ghost use Rattle.nook_defs.specs.Log.{queue_after, shadow_answer};
+ghost use Rattle.nook_defs.specs.Steps.{enabled};
+ghost use Rattle.part_core.specs.Answering.{answer_at_once, queue_at_once};
+ghost use Rattle.recovery_manager.specs.Front.{front_for};
+ghost use Rattle.part_core.specs.Turning.{IsTurned};
 
-use crate::part::StepRefused;
 use crate::state::State;
-use nook_defs::data::{Answer, CallEntry, Event, Mode, Op};
-use nook_defs::lists::{TryCopy, Word};
+use class_table::static_check;
+use kernel_services::RxQueue;
+use nook_defs::data::{Answer, Event, Mode, Op, Stage, Step};
+use nook_defs::lists::{TryCopy, Words};
+use nook_defs::memory::NoMemory;
+use nook_defs::outside::RxFront;
+use shadow_proxy::{Proxy, proxy};
 
 impl State {
-    /// A thread invokes an operation.
-    pub fn invoke(&mut self, thread: u8, op: Op) -> Result<Event, StepRefused>
-        ensures { OnErr result (self.new ≡ self.old) }
+    /// The static check answers the operation, or the mode answers or holds it. A call that is held keeps a copy of
+    /// the operation in the log.
+    #[tactic(auto, unfolding(nook_defs::specs::Calls::invoked, nook_defs::specs::Steps::enabled))]
+    pub fn invoke(&mut self, thread: u8, op: Op) -> Result<Event, NoMemory>
+        requires { enabled self.old (Step.Invoke thread op) ≡ true }
+        ensures { IsTurned (invoked thread op self.old) self.old result self.new }
     {
-        let call = self.count.saturating_add(1);
-        let answer = self.answer_at_once(&op);
-        if answer.is_none() {
-            let kept = op.copy(self.alloc)?;
-            let entry = CallEntry {
-                call,
-                thread,
-                op: kept,
-                inside: false,
-                attempts: 0,
-            };
-            self.calls.hold(entry)?;
+        match self.answer_at_once(thread, &op) {
+            Some(answer) => {
+                let call = self.log.number();
+                Ok(Event::Invoke {
+                    call,
+                    thread,
+                    op,
+                    answer: Some(answer),
+                })
+            }
+            None => {
+                let kept = op.copy(self.alloc)?;
+                let call = self.log.invoke(thread, kept)?;
+                Ok(Event::Invoke {
+                    call,
+                    thread,
+                    op,
+                    answer: None,
+                })
+            }
         }
-        self.count = call;
-        Ok(Event::Invoke {
-            call,
-            thread,
-            op,
-            answer,
-        })
     }
 
-    /// The answer of the static check, of a part that was given up, or of the shadow; none where the call is Held.
-    fn answer_at_once(&self, op: &Op) -> Option<Answer> {
-        if let Some(answer) = static_check(self.spec.blocks, op) {
-            return Some(answer);
+    /// What the operation is answered at once. Where it is answered with a frame, that leaves the queue.
+    fn answer_at_once(&mut self, thread: u8, op: &Op) -> Option<Answer>
+        ensures answer { result ≡ answer_at_once thread op.now self.old }
+        ensures state { self.new ≡ record self.old { queue = queue_at_once op.now self.old } }
+        ensures held { IfNone result (self.new ≡ self.old) }
+    {
+        match static_check(self.spec.class, self.spec.blocks, op) {
+            Some(answer) => Some(answer),
+            None => self.answer_in_mode(thread, op),
         }
-        match (self.mode, op) {
-            (Mode::Dead { .. }, _) => Some(Answer::Gone {
+    }
+
+    fn answer_in_mode(&mut self, thread: u8, op: &Op) -> Option<Answer>
+        ensures answer { result ≡ answer_in self.old.mode thread op.now self.old }
+        ensures state { self.new ≡ record self.old { queue = queue_in self.old.mode op.now self.old.queue } }
+        ensures held { IfNone result (self.new ≡ self.old) }
+    {
+        match self.mode {
+            Mode::Boot { .. } | Mode::Running => None,
+            Mode::Recovering { stage } => self.shadow_answer(thread, op, stage),
+            Mode::Dead { .. } => Some(Answer::Gone {
                 failures: self.failures,
             }),
-            (Mode::Recovering { .. }, Op::Get { key }) => {
-                self.config.get(*key as usize).copied().map(Answer::Value)
-            }
-            _ => None,
+        }
+    }
+
+    #[tactic(auto, using(recovery_manager::proofs::OpenCalls::answered_by_front, crate::proofs::ShadowAnswers::held_leaves_queue))]
+    fn shadow_answer(&mut self, thread: u8, op: &Op, stage: Stage) -> Option<Answer>
+        ensures answer { result ≡ shadow_answer op.now thread self.old.log.config self.old.log.holder stage self.old.queue }
+        ensures state { self.new ≡ record self.old { queue = queue_after op.now self.old.queue } }
+        ensures held { IfNone result (self.new ≡ self.old) }
+    {
+        let front = front_for(op, &mut self.queue);
+        match proxy(op, thread, &self.log, &stage, front) {
+            Proxy::Answer(answer) => Some(answer),
+            Proxy::Hold => None,
         }
     }
 }
 
-/// The answer to an operation that a disk of so many blocks can't do.
-fn static_check(blocks: u32, op: &Op) -> Option<Answer> {
+/// The frame that the shadow may answer the operation with: the queue's front for a Recv, none for any other.
+fn front_for(op: &Op, queue: &mut RxQueue) -> Option<Words>
+    ensures front { result ≡ front_for op.now queue.old }
+    ensures left { queue.new ≡ queue_after op.now queue.old }
+{
     match op {
-        Op::Read { first, count } => check_range(blocks, *first, *count as usize),
-        Op::Write { first, words } => {
-            if words.len() % 16 == 0 {
-                check_range(blocks, *first, words.len() / 16)
-            } else {
-                Some(Answer::BadLength)
-            }
-        }
-        Op::Get { key } => check_key(*key),
-        Op::Set { key, value } => check_key(*key).or_else(|| check_value(*key, *value)),
-        _ => Some(Answer::BadClass),
-    }
-}
-
-/// 1 to 8 blocks, of those that there are.
-fn check_range(blocks: u32, first: u32, count: usize) -> Option<Answer> {
-    if count < 1 || 8 < count {
-        Some(Answer::BadLength)
-    } else if u64::from(first) + count as u64 > u64::from(blocks) {
-        Some(Answer::BadRange)
-    } else {
-        None
-    }
-}
-
-/// Keys are 0 to 3.
-fn check_key(key: u32) -> Option<Answer> {
-    if key > 3 { Some(Answer::BadKey) } else { None }
-}
-
-/// Values are at most the key's maximum.
-fn check_value(key: u32, value: Word) -> Option<Answer> {
-    let most = match key {
-        0 => 1,
-        1 => 8,
-        _ => Word::MAX,
-    };
-    if value > most {
-        Some(Answer::BadValue)
-    } else {
-        None
+        Op::Recv => queue.take_front(),
+        _ => None,
     }
 }

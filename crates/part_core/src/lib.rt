@@ -1,19 +1,22 @@
 //! One part: a driver's domain with its kernel side, its device and its journal, one atomic step at a time.
 //!
-//! Parts of class block at limit 0 are served so far. Whatever image or step is given, each call returns and is
-//! safe; a step that is not served is not enabled.
+//! A part of any class takes any step that the definition of parts allows, recovers at every limit, and adds one
+//! event to its journal for each step. Whatever its driver's image holds, each call returns.
 #![tactic(auto)]
 
+mod arrive;
 mod burst;
-mod calls;
-mod device;
-mod disk;
-mod domain;
+mod crossing;
+mod enabled;
 mod enter;
 mod invoke;
-mod loans;
+mod kernel;
+mod next;
 mod part;
+mod reply;
 mod stage;
 mod state;
+#[cfg(test)]
+mod tests;
 
 pub use part::{Part, StepDone, StepRefused};

@@ -1,15 +1,32 @@
 //! A part with its journal: one atomic step adds one event.
 
-ghost use Rattle.std.specs.Prelude.{◌≡◌, ◌+◌, length, OnErr, OnOk, IfOk};
+ghost use Rattle.std.specs.Prelude.{◌≡◌, ◌≤◌, is_some, true, [], IsSome, IfNone, IfSome, IfOk};
+ghost use Rattle.nook_defs.specs.Devices.{medium_of};
+ghost use Rattle.nook_defs.specs.Pages.{object_words};
+ghost use Rattle.nook_defs.specs.Log.{blocked_by, call_of_thread, open_call};
+ghost use Rattle.nook_defs.specs.Runs.{IsRun, answer_among, answer_at, answered_at, next_any, next_for, next_recovery, opening_run};
+ghost use Rattle.nook_defs.specs.Steps.{can_arrive, can_invoke, enabled};
+ghost use Rattle.nook_defs.specs.Valid.{IsValidPart};
+ghost use Rattle.part_core.specs.Answering.{call_number};
+ghost use Rattle.part_core.specs.Turning.{IsStepped};
+ghost use Rattle.part_laws.specs.Recovery.{HasFacts, IsKeptRun};
 
 use crate::state::State;
-use nook_defs::data::{Event, Mode, PartSpec, Step};
+use fault_script::FaultScript;
+use nook_defs::data::{Answer, Event, Mode, PartSpec, Step};
 use nook_defs::journal::Journal;
-use nook_defs::memory::NoMemory;
+use nook_defs::lists::{TryCopy, Word, Words};
+use nook_defs::memory::{NoMemory, Room};
 use std::alloc::Global;
 use std::marker::Model;
 
-/// The number of the event that a step made.
+/// The page of kernel object 0; the others follow, a page each.
+const FIRST_OBJECT_PAGE: u32 = 115;
+
+/// The words of a kernel object.
+const OBJECT_WORDS: u32 = 64;
+
+/// The number of the event that a step made, from 1.
 #[derive(Clone, Copy, Debug, PartialEq, Eq)]
 pub struct StepDone {
     pub place: u64,
@@ -18,93 +35,136 @@ pub struct StepDone {
 /// Why a step was not taken. The part is as before.
 #[derive(Clone, Copy, Debug, PartialEq, Eq)]
 pub enum StepRefused {
-    /// The step is not enabled now.
+    /// The step may not be taken now.
     NotEnabled,
     /// Memory was wanting.
     NoMemory,
 }
 
-impl From<NoMemory> for StepRefused {
-    fn from(_wanting: NoMemory) -> StepRefused {
-        StepRefused::NoMemory
-    }
-}
-
-/// One part. Contracts see its state and the list of its events.
+/// One part. Contracts see its state and the list of its events. Whatever steps it took, its journal is a run of its
+/// part.
 #[derive(Drop)]
 pub struct Part {
     state: State,
+    script: FaultScript,
     journal: Journal,
 }
 
 impl Model for Part {
-    ghost use Rattle.part_core.specs.Held.{Held};
+    ghost use Rattle.nook_defs.specs.Runs.{PartRun};
+    ghost use Rattle.part_core.specs.Kept.{AreSameFaults, IsKept};
 
-    ghost Value = { Held };
+    ghost Value = { PartRun };
 
-    ghost view = { λ s. record { state = s.state; events = s.journal.list } };
+    ghost view = { λ s. record { state = s.state; journal = s.journal.list } };
+
+    ghost invariant = { λ s. IsKept (record { state = s.state; journal = s.journal.list }) × AreSameFaults s.script s.state.spec.faults };
 }
 
 impl Part {
-    /// A part at the start of its boot, with an empty journal.
+    /// A part at the start of its boot, with an empty journal. The spec is valid.
     pub fn new(alloc: Global, spec: PartSpec) -> Result<Part, NoMemory>
-        ensures { IfOk result (λ part. length part.events ≡ 0) }
+        requires { IsValidPart spec }
+        ensures { IfOk result (λ part. part ≡ opening_run spec) }
     {
+        let script = FaultScript::new(spec.faults.copy(alloc)?)?;
+        let state = State::new(alloc, spec)?;
         Ok(Part {
-            state: State::new(alloc, spec)?,
+            state,
+            script,
             journal: Journal::new(alloc),
         })
     }
 
     /// Whether the step may be taken now.
-    pub fn enabled(&self, step: &Step) -> bool {
+    pub fn enabled(&self, step: &Step) -> bool
+        ensures { result ≡ enabled self.now.state step.now }
+    {
         self.state.enabled(step)
     }
 
-    /// Takes one step, which adds one event to the journal. A refusal leaves the part as it was.
+    /// Whether the thread may invoke an operation now: it is below 16 and has no open call, and numbers are left.
+    pub fn can_invoke(&self, thread: u8) -> bool
+        ensures { result ≡ can_invoke self.now.state thread }
+    {
+        self.state.can_invoke(thread)
+    }
+
+    /// Whether the frame may arrive now.
+    pub fn can_arrive(&self, frame: &Words) -> bool
+        ensures { result ≡ can_arrive self.now.state frame.now }
+    {
+        self.state.can_arrive(frame)
+    }
+
+    /// Takes one step, which adds one event to the journal. It answers `NotEnabled` exactly where the step may not be
+    /// taken; a refusal leaves the part as it was.
     pub fn step(&mut self, step: Step) -> Result<StepDone, StepRefused>
-        ensures refused { OnErr result (self.new ≡ self.old) }
-        ensures grew { OnOk result (length self.new.events ≡ length self.old.events + 1) }
-        ensures place { IfOk result (λ done. done.place ≡ length self.new.events) }
+        ensures { IsStepped self.old step result self.new }
     {
         if !self.state.enabled(&step) {
             return Err(StepRefused::NotEnabled);
         }
-        self.journal.reserve()?;
-        let event = self.state.turn(step)?;
-        self.journal.push_reserved(event);
-        Ok(StepDone {
-            place: self.journal.len() as u64,
-        })
+        if self.journal.reserve().is_err() {
+            return Err(StepRefused::NoMemory);
+        }
+        match self.state.turn(step, &self.script) {
+            Ok(event) => {
+                self.journal.push_reserved(event);
+                Ok(StepDone {
+                    place: self.journal.len() as u64,
+                })
+            }
+            Err(_) => Err(StepRefused::NoMemory),
+        }
     }
 
-    /// The Enter or the Burst of the thread's open call, where it is enabled.
-    pub fn next_for(&self, thread: u8) -> Option<Step> {
+    /// The Enter or the Burst of the thread's open call, where it may be taken.
+    pub fn next_for(&self, thread: u8) -> Option<Step>
+        ensures { result ≡ next_for self.now.state thread }
+    {
         self.state.next_for(thread)
     }
 
-    /// The next step of the boot or of a recovery, where it is enabled.
-    pub fn next_recovery(&self) -> Option<Step> {
+    /// The stage, or the burst of the shadow's own call, where it may be taken.
+    pub fn next_recovery(&self) -> Option<Step>
+        ensures { result ≡ next_recovery self.now.state }
+    {
         self.state.next_recovery()
     }
 
-    /// `next_recovery`, else `next_for` of the open call with the smallest number that has one.
-    pub fn next_any(&self) -> Option<Step> {
+    /// `next_recovery`, else `next_for` of the open call with the smallest number that has one. Some wherever a call is
+    /// open.
+    pub fn next_any(&self) -> Option<Step>
+        ensures next { result ≡ next_any self.now.state }
+        ensures enabled { IfSome result (λ step. enabled self.now.state step ≡ true) }
+        ensures none { IfNone result (self.now.state.log.pending ≡ []) }
+    {
         self.state.next_any()
     }
 
-    /// The journal. The rest of the part is dropped. It takes no memory.
+    /// The journal, which is a run of the part. The rest of the part is dropped. It takes no memory.
     pub fn into_journal(self) -> Journal
-        ensures { result.list ≡ self.events }
+        ensures journal { result.list ≡ self.journal }
+        ensures run { IsRun self.state.spec result.list }
+        ensures facts { IsKeptRun self.state.spec result.list → HasFacts self.state.spec result.list }
     {
         self.journal
     }
 
     /// The events so far.
     pub fn journal(&self) -> &Journal
-        ensures { result.now.list ≡ self.now.events }
+        ensures journal { result.now.list ≡ self.now.journal }
+        ensures run { IsRun self.now.state.spec result.now.list }
     {
         &self.journal
+    }
+
+    /// What the part is made from.
+    pub fn spec(&self) -> &PartSpec
+        ensures { result.now ≡ self.now.state.spec }
+    {
+        &self.state.spec
     }
 
     /// What the part is doing.
@@ -114,6 +174,30 @@ impl Part {
         self.state.mode
     }
 
+    /// The words of kernel object 0 to 12.
+    pub fn object(&self, alloc: Global, object: u32) -> Result<Words, NoMemory>
+        requires { object ≤ 12 }
+        ensures { IfOk result (λ words. words ≡ object_words object self.now.state.domain.memory) }
+    {
+        let room = Room::new(alloc, OBJECT_WORDS as usize)?;
+        let start = (FIRST_OBJECT_PAGE + object) * OBJECT_WORDS;
+        Ok(self.state.domain.pages().words(start, OBJECT_WORDS, room))
+    }
+
+    /// The blocks of the disk; none where the part has another device.
+    pub fn medium(&self) -> &[[Word; 16]]
+        ensures { result.now ≡ medium_of self.now.state.domain.device }
+    {
+        self.state.domain.device().medium()
+    }
+
+    /// The configuration last acknowledged, by key.
+    pub fn config(&self) -> [Word; 4]
+        ensures { result ≡ self.now.state.log.config }
+    {
+        self.state.log.configuration()
+    }
+
     /// The failures so far.
     pub fn failures(&self) -> u32
         ensures { result ≡ self.now.state.failures }
@@ -121,32 +205,58 @@ impl Part {
         self.state.failures
     }
 
-    /// The number of the thread's open call.
-    pub fn open_of(&self, thread: u8) -> Option<u32> {
-        let place = self.state.calls.place_of(thread)?;
-        Some(self.state.calls.get(place).call)
-    }
-
-    /// The calls so far.
-    pub fn calls(&self) -> u32
-        ensures { result ≡ self.now.state.count }
+    /// The number of the thread's open call, which `blocked_by` may be asked about.
+    pub fn open_of(&self, thread: u8) -> Option<u32>
+        ensures number { result ≡ call_number (call_of_thread thread self.now.state.log.pending) }
+        ensures open { IfSome result (λ call. IsSome (open_call call self.now.state.log.pending)) }
     {
-        self.state.count
+        match self.state.log.call_of_thread(thread) {
+            Some(entry) => Some(entry.call),
+            None => None,
+        }
     }
 
-    /// The number of the event that answered the call; `None` where it is open or there is no such call.
-    pub fn answered_at(&self, call: u32) -> Option<u64> {
-        let place = self
-            .journal
-            .as_slice()
-            .iter()
-            .position(|event| answers(event, call))?;
-        Some(place as u64 + 1)
+    /// The open call with the smallest number that the open call `call` has to wait for; None exactly where there is
+    /// none.
+    pub fn blocked_by(&self, call: u32) -> Option<u32>
+        requires { IsSome (open_call call self.now.state.log.pending) }
+        ensures { IfSome (open_call call self.now.state.log.pending) (λ c.
+            result ≡ call_number (blocked_by self.now.state.spec.class c self.now.state.log.pending)) }
+    {
+        self.state.blocked_by(call)
+    }
+
+    /// How many calls were invoked so far.
+    pub fn calls(&self) -> u32
+        ensures { result ≡ self.now.state.log.count }
+    {
+        self.state.log.count()
+    }
+
+    /// The number of the event that answered the call, from 1; None exactly where it is open or there is no such call.
+    pub fn answered_at(&self, call: u32) -> Option<u64>
+        ensures { result ≡ answered_at self.now.journal call }
+    {
+        place_of_answer(self.journal.as_slice(), call)
     }
 }
 
+/// The number, from 1, of the first event that answers the call.
+fn place_of_answer(events: &[Event], call: u32) -> Option<u64>
+    ensures { result ≡ answered_at events.now call }
+{
+    for place in 0..events.len() {
+        if answers(&events[place], call) {
+            return Some(place as u64 + 1);
+        }
+    }
+    None
+}
+
 /// Whether the event answers the call.
-fn answers(event: &Event, call: u32) -> bool {
+fn answers(event: &Event, call: u32) -> bool
+    ensures { result ≡ is_some (answer_at call event.now) }
+{
     match event {
         Event::Invoke {
             call: this,
@@ -163,7 +273,19 @@ fn answers(event: &Event, call: u32) -> bool {
             answer,
             ..
         } => *this == call && answer.is_some(),
-        Event::Stage { answers, .. } => answers.as_slice().iter().any(|pair| pair.0 == call),
+        Event::Stage { answers, .. } => is_among(call, answers.as_slice()),
         Event::Arrive { .. } => false,
     }
+}
+
+/// Whether a call is answered among others.
+fn is_among(call: u32, answers: &[(u32, Answer)]) -> bool
+    ensures { result ≡ is_some (answer_among call answers.now) }
+{
+    for pair in answers {
+        if pair.0 == call {
+            return true;
+        }
+    }
+    false
 }

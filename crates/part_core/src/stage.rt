@@ -1,90 +1,191 @@
-//! The step Stage: the boot, and the end of a driver that failed.
+//! The step Stage: the stage of a boot or of a recovery that is due is done.
 
-ghost use Rattle.std.specs.Prelude.{◌≡◌, OnErr};
+ghost use Rattle.std.specs.Prelude.{◌≡◌, ◌≤◌, false, [], length, IfSome};
+ghost use Rattle.std.specs.List.{list_any};
+ghost use Rattle.nook_defs.specs.Classes.{defaults_of};
+ghost use Rattle.nook_defs.specs.Entries.{is_buffer_of};
+ghost use Rattle.nook_defs.specs.Stages.{after_collect, collects, inits, loads_image, replays_open, replays_set, resets, resumes, stage_done, stage_due, stage_turned, with_stage};
+ghost use Rattle.part_core.specs.Turning.{IsTurned, turned_to};
+ghost use Rattle.part_core.specs.Staging.{IsReady};
 
-use crate::enter::at_entry;
-use crate::part::StepRefused;
 use crate::state::{SHADOW, State};
-use nook_defs::data::{Answer, CallAnswers, Event, Mode, Released, Stage};
-use nook_defs::machine::Context;
+use class_table::{init_place, open_place, set_place};
+use nook_defs::data::{Event, Mode, Op, Stage};
+use nook_defs::lists::Items;
 use nook_defs::memory::NoMemory;
+use recovery_manager::stop;
 
 impl State {
-    /// The current stage is done.
-    pub fn stage(&mut self) -> Result<Event, StepRefused>
-        ensures { OnErr result (self.new ≡ self.old) }
+    /// The stage to be done next, if there is one.
+    pub fn stage_due(&self) -> Option<Stage>
+        ensures { result ≡ stage_due self.now.mode }
     {
         match self.mode {
-            Mode::Boot { stage: Stage::Load } => {
-                self.domain.load(&self.spec.image);
-                Ok(self.passed_stage(Stage::Load, Mode::Boot { stage: Stage::Init }))
-            }
-            Mode::Boot { stage: Stage::Init } => {
-                let cpu = at_entry(&self.spec.image, SHADOW, 0, [0; 3]);
-                self.contexts[SHADOW as usize] = Some(Context { cpu, bursts: 0 });
-                Ok(self.passed_stage(Stage::Init, self.mode))
-            }
-            Mode::Boot {
-                stage: Stage::Resume,
-            } => { Ok(self.passed_stage(Stage::Resume, Mode::Running)) }
-            Mode::Recovering { stage: Stage::Stop } => self.stop(),
-            Mode::Dead { .. } => self.collect(),
-            _ => Err(StepRefused::NotEnabled),
+            Mode::Boot { stage } | Mode::Recovering { stage } => Some(stage),
+            Mode::Running | Mode::Dead { collected: true } => None,
+            Mode::Dead { collected: false } => Some(Stage::Collect),
         }
     }
 
-    /// The mode behind a stage, and the stage's event where it answers and releases nothing.
-    fn passed_stage(&mut self, stage: Stage, mode: Mode) -> Event {
-        self.mode = mode;
-        Event::Stage {
-            stage,
-            answers: CallAnswers::new(self.alloc),
-            released: Released::new(self.alloc),
-        }
-    }
-
-    /// Every context and the registration end, each open call is answered Gone, and the part is given up.
-    fn stop(&mut self) -> Result<Event, StepRefused>
-        ensures { OnErr result (self.new ≡ self.old) }
+    /// The stage that is due is done.
+    #[tactic(auto, unfolding(nook_defs::specs::Stages::stage_turned))]
+    pub fn stage(&mut self) -> Result<Event, NoMemory>
+        requires { IfSome (stage_due self.old.mode) (λ stage. IsReady stage self.old) }
+        ensures { IsTurned (stage_turned self.old) self.old result self.new }
     {
-        let answers = self.gone_answers()?;
-        let released = Released::new(self.alloc);
-        self.calls.clear();
-        self.contexts = [None; 17];
-        self.domain.registered = false;
-        self.mode = Mode::Dead { collected: false };
+        match self.stage_due() {
+            Some(stage) => self.do_stage(stage),
+            None => Ok(self.staged(Stage::Resume)),
+        }
+    }
+
+    fn do_stage(&mut self, stage: Stage) -> Result<Event, NoMemory>
+        requires { IsReady stage self.old }
+        ensures { IsTurned (stage_done stage self.old) self.old result self.new }
+    {
+        match stage {
+            Stage::Stop => self.stop(),
+            Stage::Collect => self.collect(),
+            Stage::Reset => Ok(self.reset()),
+            Stage::Load => self.load(),
+            Stage::Init => Ok(self.init()),
+            Stage::ReplaySet { key, value } => Ok(self.replay_set(key, value)),
+            Stage::ReplayOpen => Ok(self.replay_open()),
+            Stage::Resume => Ok(self.resume()),
+        }
+    }
+
+    /// Every context ends. Within the limit each open call is answered by the shadow or held; past it each is answered
+    /// Gone, and the part is dead.
+    #[tactic(auto, unfolding(nook_defs::specs::Stages::stopped, nook_defs::specs::Stages::given_up, nook_defs::specs::Log::held_by_shadow, nook_defs::specs::Log::no_call_open))]
+    fn stop(&mut self) -> Result<Event, NoMemory>
+        ensures { IsTurned (stage_done Stage.Stop self.old) self.old result self.new }
+    {
+        let limit = self.spec.limit;
+        let answers = stop(
+            self.alloc,
+            &mut self.log,
+            &mut self.queue,
+            self.failures,
+            limit,
+        )?;
+        self.domain.unwind();
+        self.mode = if self.failures > limit {
+            Mode::Dead { collected: false }
+        } else {
+            Mode::Recovering {
+                stage: Stage::Collect,
+            }
+        };
         Ok(Event::Stage {
             stage: Stage::Stop,
             answers,
-            released,
+            released: Items::new(self.alloc),
         })
     }
 
-    /// Gone for each open call, in the order of their numbers.
-    fn gone_answers(&self) -> Result<CallAnswers, NoMemory> {
-        let mut answers = CallAnswers::new(self.alloc);
-        for entry in self.calls.as_slice() {
-            answers.push((
-                entry.call,
-                Answer::Gone {
-                    failures: self.failures,
-                },
-            ))?;
-        }
-        Ok(answers)
-    }
-
-    /// All loans are taken back.
-    fn collect(&mut self) -> Result<Event, StepRefused>
-        ensures { OnErr result (self.new ≡ self.old) }
+    /// All that the driver held is released, and its loans end.
+    #[tactic(auto, unfolding(nook_defs::specs::Stages::collects))]
+    fn collect(&mut self) -> Result<Event, NoMemory>
+        ensures { IsTurned (collects self.old) self.old result self.new }
     {
-        let released = self.domain.loans.by_context(self.alloc)?;
-        self.domain.loans.clear();
-        self.mode = Mode::Dead { collected: true };
+        let released = self.domain.collect()?;
+        self.mode = after_collect(self.mode);
         Ok(Event::Stage {
             stage: Stage::Collect,
-            answers: CallAnswers::new(self.alloc),
+            answers: Items::new(self.alloc),
             released,
         })
+    }
+
+    /// The device is as it was at first, but for a disk's blocks.
+    #[tactic(auto, unfolding(nook_defs::specs::Stages::resets))]
+    fn reset(&mut self) -> Event
+        requires { self.old.log.defaults ≡ defaults_of self.old.spec.class }
+        ensures { resets self.old ≡ turned_to self.new result }
+    {
+        self.domain.reset();
+        self.mode = with_stage(Stage::Load, self.mode);
+        self.staged(Stage::Reset)
+    }
+
+    #[tactic(auto, unfolding(nook_defs::specs::Stages::loads_image))]
+    fn load(&mut self) -> Result<Event, NoMemory>
+        requires text { length self.old.spec.image.text ≤ 2048 }
+        requires initial { length self.old.spec.image.initial ≤ 2048 }
+        ensures { IsTurned (loads_image self.old) self.old result self.new }
+    {
+        self.domain.load(&self.spec.image)?;
+        self.mode = with_stage(Stage::Init, self.mode);
+        Ok(self.staged(Stage::Load))
+    }
+
+    /// The shadow's context enters init.
+    #[tactic(auto, unfolding(nook_defs::specs::Stages::inits))]
+    fn init(&mut self) -> Event
+        ensures { inits self.old ≡ turned_to self.new result }
+    {
+        self.domain.enter_plain(SHADOW, init_place());
+        self.staged(Stage::Init)
+    }
+
+    /// The shadow's context enters set, with a word of the record.
+    #[tactic(auto, unfolding(nook_defs::specs::Stages::replays_set))]
+    fn replay_set(&mut self, key: u32, value: u32) -> Event
+        requires { list_any (is_buffer_of 16) self.old.domain.entries ≡ false }
+        ensures { replays_set key value self.old ≡ turned_to self.new result }
+    {
+        let place = set_place(self.spec.class);
+        self.domain.enter(SHADOW, place, &Op::Set { key, value });
+        self.staged(Stage::ReplaySet { key, value })
+    }
+
+    /// The shadow's context enters open.
+    #[tactic(auto, unfolding(nook_defs::specs::Stages::replays_open))]
+    fn replay_open(&mut self) -> Event
+        ensures { replays_open self.old ≡ turned_to self.new result }
+    {
+        self.domain.enter_plain(SHADOW, open_place());
+        self.staged(Stage::ReplayOpen)
+    }
+
+    #[tactic(auto, unfolding(nook_defs::specs::Stages::resumes))]
+    fn resume(&mut self) -> Event
+        ensures { resumes self.old ≡ turned_to self.new result }
+    {
+        self.mode = Mode::Running;
+        self.staged(Stage::Resume)
+    }
+
+    /// The event of a stage that answers no call and releases nothing.
+    fn staged(&self, stage: Stage) -> Event
+        ensures { result ≡ Event.Stage stage [] [] }
+    {
+        Event::Stage {
+            stage,
+            answers: Items::new(self.alloc),
+            released: Items::new(self.alloc),
+        }
+    }
+}
+
+/// The same way with another stage due.
+fn with_stage(stage: Stage, mode: Mode) -> Mode
+    ensures { result ≡ with_stage stage mode }
+{
+    match mode {
+        Mode::Boot { .. } => Mode::Boot { stage },
+        Mode::Recovering { .. } => Mode::Recovering { stage },
+        other => other,
+    }
+}
+
+/// Behind Collect a recovery goes on with Reset, and a part that was given up is done.
+fn after_collect(mode: Mode) -> Mode
+    ensures { result ≡ after_collect mode }
+{
+    match mode {
+        Mode::Dead { .. } => Mode::Dead { collected: true },
+        other => with_stage(Stage::Reset, other),
     }
 }

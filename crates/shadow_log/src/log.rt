@@ -156,6 +156,13 @@ impl ShadowLog {
         self.config.get(key as usize).copied().unwrap_or(0)
     }
 
+    /// The words of the record, by key.
+    pub fn configuration(&self) -> [Word; 4]
+        ensures { result ≡ self.now.config }
+    {
+        self.config
+    }
+
     /// The thread that has the stream.
     pub fn holder(&self) -> Option<u8>
         ensures { result ≡ self.now.holder }
@@ -175,6 +182,13 @@ impl ShadowLog {
         ensures { result ≡ length self.now.pending }
     {
         self.pending.len()
+    }
+
+    /// The open calls by rising number.
+    pub fn pending(&self) -> &[CallEntry]
+        ensures { result.now ≡ self.now.pending }
+    {
+        self.pending.as_slice()
     }
 
     /// The open call at place `i` by rising number, counted from 0.

@@ -1,0 +1,6 @@
+use Rattle.std.proofs.Common.{◌≡◌, ◌+◌, drop}
+use Rattle.nook_defs.specs.Runs.{answered_from}
+use Rattle.part_core.proofs.part.place_of_answer.Given as goal
+
+abbrev pub invariant-loop-place : goal.invariant-loop-place
+invariant-loop-place l = answered_from (1 + l.place) l.call (drop l.place l.events) ≡ answered_from 1 l.call l.events

@@ -1,0 +1,41 @@
+use Rattle.std.specs.Prelude.{◌≡◌, ℕ, ◌+◌, ◌^◌, ◌<◌, ◌≤◌, true, IfSome}
+use Rattle.nook_defs.specs.declared.data.CallEntry.{CallEntry}
+use Rattle.nook_defs.specs.declared.data.Class.{Class}
+use Rattle.nook_defs.specs.declared.data.Op.{Op}
+use Rattle.nook_defs.specs.declared.data.Op.TheVariants as op
+use Rattle.nook_defs.specs.Classes.{blocks_of_op, first_of_op, is_of_class}
+use Rattle.nook_defs.specs.Crossing.{Crossed}
+use Rattle.nook_defs.specs.Log.{call_of_thread}
+use Rattle.nook_defs.specs.State.{PartState}
+use Rattle.part_core.specs.declared.crossing.Outcome.{Outcome}
+use Rattle.part_core.specs.declared.crossing.Rooms.{Rooms}
+
+-- How a method's result stands to the definition of its crossing.
+
+abbrev pub crossed_to : PartState → Outcome → Crossed
+crossed_to p o = record { state = p; end = o.end; answer = o.answer; failure = o.failure }
+
+-- a Read is of at most 8 blocks, a Set of one of four keys
+abbrev pub IsWithin : Op → Type 0
+IsWithin (op.Read first count) = count ≤ 8
+IsWithin (op.Set key value) = key ≤ 3
+IsWithin _ = Unit {0}
+
+-- a call of one of 16 threads, its operation the class's, with blocks and numbers in their ranges
+pub record IsAnswerable (class : Class) (c : CallEntry) : Type 0 where
+  pub low : c.thread < 17
+  pub of_class : is_of_class class c.op ≡ true
+  pub range : first_of_op c.op + blocks_of_op c.op ≤ 2 ^ 32
+  pub within : IsWithin c.op
+
+-- what a crossing of a context may rest on
+pub record IsCrossable (context : ℕ) (p : PartState) : Type 0 where
+  pub low : context < 17
+  pub failures : p.failures < 2 ^ 31
+  pub call : IfSome (call_of_thread context p.log.pending) (IsAnswerable p.spec.class)
+
+-- an answer's words have room for 128, those that a kernel call moves and a frame for 64 each
+pub record HasRooms (rooms : Rooms) : Type 0 where
+  pub answer : 128 ≤ rooms.answer
+  pub moved : 64 ≤ rooms.moved
+  pub frame : 64 ≤ rooms.frame

@@ -1,0 +1,30 @@
+use Rattle.std.specs.Prelude.{◌≡◌, ◌+◌, true, false, Result, Ok, Err, List, length}
+use Rattle.nook_defs.specs.declared.data.Event.{Event}
+use Rattle.nook_defs.specs.declared.data.Step.{Step}
+use Rattle.nook_defs.specs.declared.memory.NoMemory.{NoMemory}
+use Rattle.nook_defs.specs.Calls.{Turned}
+use Rattle.nook_defs.specs.Runs.{PartRun, run_after}
+use Rattle.nook_defs.specs.State.{PartState}
+use Rattle.nook_defs.specs.Steps.{enabled}
+use Rattle.part_core.specs.declared.part.StepDone.{StepDone}
+use Rattle.part_core.specs.declared.part.StepRefused.{StepRefused}
+use Rattle.part_core.specs.declared.part.StepRefused.TheVariants as refused
+
+-- How a method's result stands to the definition of its step.
+
+-- a part and an event as one value
+abbrev pub turned_to : PartState → Event → Turned
+turned_to p e = record { state = p; event = e }
+
+-- the step was made as defined, or nothing was changed
+abbrev pub IsTurned : Turned → PartState → Result Event NoMemory → PartState → Type 0
+IsTurned t p (Ok e) q = t ≡ turned_to q e
+IsTurned t p (Err x) q = q ≡ p
+
+-- a step of a part: it is refused exactly where it may not be taken; else the part is as the definition says, and the
+-- journal has one event more, whose number is told; want of memory changes nothing
+abbrev pub IsStepped : PartRun → Step → Result StepDone StepRefused → PartRun → Type 0
+IsStepped r s (Ok done) q =
+    (enabled r.state s ≡ true) × (q ≡ run_after r s) × (done.place ≡ length q.journal)
+IsStepped r s (Err refused.NotEnabled) q = (enabled r.state s ≡ false) × (q ≡ r)
+IsStepped r s (Err refused.NoMemory) q = (enabled r.state s ≡ true) × (q ≡ r)

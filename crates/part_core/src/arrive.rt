@@ -1,0 +1,24 @@
+//! The step Arrive: a frame comes to the device.
+
+ghost use Rattle.std.specs.Prelude.{◌≡◌, true};
+ghost use Rattle.nook_defs.specs.Steps.{arrived, enabled};
+ghost use Rattle.part_core.specs.Turning.{IsTurned};
+
+use crate::state::State;
+use nook_defs::data::{Event, Step};
+use nook_defs::lists::{TryCopy, Words};
+use nook_defs::memory::NoMemory;
+
+impl State {
+    /// The frame goes to the ring, or is lost where that is full. The event has a copy.
+    #[tactic(auto, unfolding(nook_defs::specs::Steps::arrived, nook_defs::specs::Steps::enabled))]
+    pub fn arrive(&mut self, frame: Words) -> Result<Event, NoMemory>
+        requires { enabled self.old (Step.Arrive frame) ≡ true }
+        ensures { IsTurned (arrived frame self.old) self.old result self.new }
+    {
+        let shown = frame.copy(self.alloc)?;
+        self.arrived += 1;
+        let kept = self.domain.arrive(frame);
+        Ok(Event::Arrive { frame: shown, kept })
+    }
+}

@@ -1,0 +1,113 @@
+//! What the crossing at the end of a burst asks is done in the same step.
+
+ghost use Rattle.std.specs.Prelude.{◌≡◌, ◌<◌, ◌^◌, None, IfOk};
+ghost use Rattle.nook_defs.specs.Crossing.{crossed, failed, is_last};
+ghost use Rattle.part_core.specs.Crossings.{crossed_to, HasRooms, IsCrossable};
+
+use crate::state::State;
+use nook_defs::data::{Answer, End, FailCause, Mode, Stage};
+use nook_defs::lists::Word;
+use nook_defs::machine::BurstEnd;
+use nook_defs::memory::{NoMemory, Room};
+use std::alloc::Global;
+
+/// The burst of an attempt that has to be a reply.
+const LAST_BURST: u32 = 32;
+
+/// What became of a crossing, as the burst's event shows it.
+#[derive(Drop)]
+pub struct Outcome {
+    pub end: End,
+    pub answer: Option<Answer>,
+    pub failure: Option<FailCause>,
+}
+
+/// Room for what a crossing may copy: the words of an answer, those that a kernel call moves, and a frame.
+#[derive(Drop)]
+pub struct Rooms {
+    pub answer: Room<Word>,
+    pub moved: Room<Word>,
+    pub frame: Room<Word>,
+}
+
+impl Rooms {
+    /// Room for 128 words of an answer, and for 64 of each other.
+    pub fn new(alloc: Global) -> Result<Rooms, NoMemory>
+        ensures { IfOk result (λ rooms. HasRooms rooms) }
+    {
+        let answer = Room::new(alloc, 128)?;
+        let moved = Room::new(alloc, 64)?;
+        let frame = Room::new(alloc, 64)?;
+        Ok(Rooms {
+            answer,
+            moved,
+            frame,
+        })
+    }
+}
+
+impl State {
+    /// A trap; a 32nd burst that is no reply; a kernel call; a pause; or a reply. It takes no memory.
+    #[tactic(auto, unfolding(nook_defs::specs::Crossing::crossed))]
+    pub fn cross(&mut self, context: u8, end: BurstEnd, rooms: Rooms) -> Outcome
+        requires crossable { IsCrossable context self.old }
+        requires rooms { HasRooms rooms }
+        ensures { crossed context end self.old ≡ crossed_to self.new result }
+    {
+        match end {
+            BurstEnd::Trap(cause) => self.fail(End::Trap, FailCause::Trap(cause)),
+            BurstEnd::Kcall { service } => self.call_kernel(context, service, rooms),
+            BurstEnd::Pause => self.pause(context),
+            BurstEnd::Reply { status } => self.reply(context, status, rooms.answer),
+        }
+    }
+
+    #[tactic(auto, unfolding(nook_defs::specs::Crossing::crossed))]
+    fn pause(&mut self, context: u8) -> Outcome
+        requires crossable { IsCrossable context self.old }
+        ensures { crossed context BurstEnd.Pause self.old ≡ crossed_to self.new result }
+    {
+        if self.is_last(context) {
+            self.fail(End::Pause, FailCause::TooManyCrossings)
+        } else {
+            goes_on(End::Pause)
+        }
+    }
+
+    /// Whether the burst was the 32nd of its attempt.
+    pub fn is_last(&self, context: u8) -> bool
+        requires { context < 17 }
+        ensures { result ≡ is_last context self.now }
+    {
+        self.domain.bursts(context) == LAST_BURST
+    }
+
+    /// The driver failed: it is counted, also in object 0, the shadow's call ends, and the part recovers from Stop on.
+    #[tactic(auto, unfolding(nook_defs::specs::Crossing::fails))]
+    pub fn fail(&mut self, end: End, cause: FailCause) -> Outcome
+        requires { self.old.failures < 2 ^ 31 }
+        ensures { failed self.old end cause ≡ crossed_to self.new result }
+    {
+        self.failures += 1;
+        self.mode = Mode::Recovering { stage: Stage::Stop };
+        self.domain.fail(self.failures);
+        Outcome {
+            end,
+            answer: None,
+            failure: Some(cause),
+        }
+    }
+}
+
+/// A crossing that neither answers nor fails.
+pub fn goes_on(end: End) -> Outcome
+    ensures end { result.end ≡ end }
+    ensures answer { result.answer ≡ None }
+    ensures failure { result.failure ≡ None }
+{
+    Outcome {
+        end,
+        answer: None,
+        failure: None,
+    }
+}

@@ -1,0 +1,151 @@
+//! Which steps may be taken.
+
+ghost use Rattle.std.specs.Prelude.{◌≡◌, option_map, IfSome, IsSome};
+ghost use Rattle.nook_defs.specs.Log.{blocked_by, call_of_thread, is_blocked, open_call};
+ghost use Rattle.part_core.specs.Answering.{call_number};
+ghost use Rattle.nook_defs.specs.Steps.{can_arrive, can_burst, can_enter, can_invoke, can_stage, enabled, is_driven, is_inside, is_ready};
+
+use crate::state::{SHADOW, State};
+use class_table::conflicts;
+use nook_defs::data::{CallEntry, Class, Mode, Step};
+use nook_defs::lists::Words;
+
+/// The calls, and the arrivals, that a part takes.
+const MOST_CALLS: u32 = 100_000;
+
+/// The words of a frame at most.
+const MOST_FRAME_WORDS: usize = 64;
+
+impl State {
+    /// Whether the step may be taken now.
+    #[tactic(auto, unfolding(nook_defs::specs::Steps::enabled))]
+    pub fn enabled(&self, step: &Step) -> bool
+        ensures { result ≡ enabled self.now step.now }
+    {
+        match step {
+            Step::Invoke { thread, .. } => self.can_invoke(*thread),
+            Step::Enter { thread } => self.can_enter(*thread),
+            Step::Burst { context } => self.can_burst(*context),
+            Step::Stage => self.can_stage(),
+            Step::Arrive { frame } => self.can_arrive(frame),
+        }
+    }
+
+    /// One of 16 threads that has no open call, while numbers are left.
+    pub fn can_invoke(&self, thread: u8) -> bool
+        ensures { result ≡ can_invoke self.now thread }
+    {
+        thread < SHADOW
+            && self.log.call_of_thread(thread).is_none()
+            && self.log.count() < MOST_CALLS
+    }
+
+    /// The thread's call is Held, and nothing blocks it, while the driver runs.
+    pub fn can_enter(&self, thread: u8) -> bool
+        ensures { result ≡ can_enter self.now thread }
+    {
+        self.mode == Mode::Running && self.is_ready(thread)
+    }
+
+    /// Whether the thread's call is Held, and nothing blocks it.
+    fn is_ready(&self, thread: u8) -> bool
+        ensures { result ≡ is_ready self.now (call_of_thread thread self.now.log.pending) }
+    {
+        match self.log.call_of_thread(thread) {
+            Some(call) => !call.inside && !self.is_blocked(call),
+            None => false,
+        }
+    }
+
+    /// Whether an open call with a smaller number conflicts with the call. At most 16 calls are open, one a thread.
+    fn is_blocked(&self, call: &CallEntry) -> bool
+        ensures { result ≡ is_blocked self.now.spec.class call.now self.now.log.pending }
+    {
+        let class = self.spec.class;
+        self.log.pending().iter().any(|earlier| earlier.call < call.call
+            && conflicts(class, &call.op, &earlier.op))
+    }
+
+    /// The open call with the smallest number that the call has to wait for.
+    pub fn blocking(&self, call: &CallEntry) -> Option<&CallEntry>
+        ensures { option_map (λ c. c.now) result ≡ blocked_by self.now.spec.class call.now self.now.log.pending }
+    {
+        let class = self.spec.class;
+        self.log.pending().iter().find(|earlier| earlier.call < call.call
+            && conflicts(class, &call.op, &earlier.op))
+    }
+
+    /// The context is Inside: the shadow's own, or while the driver runs that of a thread's call.
+    pub fn can_burst(&self, context: u8) -> bool
+        ensures { result ≡ can_burst self.now context }
+    {
+        if context == SHADOW {
+            self.is_driven()
+        } else {
+            self.mode == Mode::Running && self.is_inside(context)
+        }
+    }
+
+    /// Whether the thread's call is Inside.
+    fn is_inside(&self, thread: u8) -> bool
+        ensures { result ≡ is_inside (call_of_thread thread self.now.log.pending) }
+    {
+        match self.log.call_of_thread(thread) {
+            Some(call) => call.inside,
+            None => false,
+        }
+    }
+
+    /// Whether the shadow's own call is Inside.
+    pub fn is_driven(&self) -> bool
+        ensures { result ≡ is_driven self.now }
+    {
+        self.domain.is_inside(SHADOW)
+    }
+
+    /// A stage is due, and does not wait for the shadow's call.
+    pub fn can_stage(&self) -> bool
+        ensures { result ≡ can_stage self.now }
+    {
+        self.stage_due().is_some() && !self.is_driven()
+    }
+
+    /// A frame of 1 to 64 words for a part of class net, while arrivals are left.
+    pub fn can_arrive(&self, frame: &Words) -> bool
+        ensures { result ≡ can_arrive self.now frame.now }
+    {
+        self.spec.class == Class::Net
+            && 1 <= frame.len()
+            && frame.len() <= MOST_FRAME_WORDS
+            && self.arrived < MOST_CALLS
+    }
+}
+
+impl State {
+    /// An open call by its number.
+    fn open_call(&self, call: u32) -> Option<&CallEntry>
+        ensures { option_map (λ c. c.now) result ≡ open_call call self.now.log.pending }
+    {
+        self.log.pending().iter().find(|entry| entry.call == call)
+    }
+
+    /// The number of the open call with the smallest number that the open call `call` has to wait for.
+    pub fn blocked_by(&self, call: u32) -> Option<u32>
+        requires { IsSome (open_call call self.now.log.pending) }
+        ensures { IfSome (open_call call self.now.log.pending) (λ c. result ≡ call_number (blocked_by self.now.spec.class c self.now.log.pending)) }
+    {
+        match self.open_call(call) {
+            Some(entry) => self.number_blocking(entry),
+            None => None,
+        }
+    }
+
+    fn number_blocking(&self, call: &CallEntry) -> Option<u32>
+        ensures { result ≡ call_number (blocked_by self.now.spec.class call.now self.now.log.pending) }
+    {
+        match self.blocking(call) {
+            Some(earlier) => Some(earlier.call),
+            None => None,
+        }
+    }
+}

@@ -1,0 +1,4 @@
+pub mod Lexing
+pub mod Places
+pub mod Answers
+pub mod Names

@@ -1,0 +1,136 @@
+//! Images as JSON.
+
+ghost use Rattle.std.specs.Prelude.{◌≡◌, ◌<◌, ◌∷◌, ◌++◌, [], IfOk, OnOk, map, codes, string_bytes, false};
+ghost use Rattle.std.specs.Fmt.{digit_glyph};
+ghost use Rattle.serde_json.specs.Data.{array, member, no_members, object, string};
+ghost use Rattle.serde_json.specs.View.{members_view, view};
+ghost use Rattle.nook_defs.specs.ImageText.{entry_members, hex_text, image_data, image_text, word_items};
+ghost use Rattle.nook_defs.specs.Keys.{entry_keys};
+ghost use Rattle.driver_asm.specs.Names.{hex_data, named_members};
+
+use crate::class_names::{class_text, entry_names};
+use nook_defs::data::{Class, Image};
+use nook_defs::lists::{Word, Words8};
+use nook_defs::memory::NoMemory;
+use serde_json::{Map, Value, json, put};
+use std::alloc::{AllocError, Global};
+use std::fmt::Write;
+
+/// The JSON text of an image: the compact form with keys in byte order, words as eight lower-case digits, and a line
+/// feed.
+///
+/// # Errors
+///
+/// Want of memory.
+#[tactic(auto, unfolding(nook_defs::specs::ImageText::image_text), using(crate::proofs::Floats::image_has_none))]
+pub fn write_image(alloc: Global, image: &Image) -> Result<Words8, NoMemory>
+    ensures { IfOk result (λ text. text ≡ image_text image.now) }
+{
+    let value = image_value(alloc, image)?;
+    let mut text = value.to_vec(alloc)?;
+    text.push(b'\n')?;
+    Ok(Words8::from_vec(text))
+}
+
+/// An image as a JSON value.
+#[tactic(auto, unfolding(nook_defs::specs::ImageText::image_data))]
+fn image_value(alloc: Global, image: &Image) -> Result<Value, NoMemory>
+    ensures { IfOk result (λ value. view value ≡ image_data image.now) }
+{
+    let initial = words_value(alloc, image.initial.as_slice())?;
+    let entries = entries_value(alloc, image.class, image.entries.as_slice())?;
+    let text = words_value(alloc, image.text.as_slice())?;
+    Ok(members(alloc, class_text(image.class), initial, entries, text)?)
+}
+
+/// The members of an image.
+fn members(
+    alloc: Global,
+    class: &str,
+    initial: Value,
+    entries: Value,
+    text: Value,
+) -> Result<Value, AllocError>
+    ensures { IfOk result (λ value. view value ≡ object (member (codes "class") (string class.now)
+        (member (codes "data") (view initial) (member (codes "entries") (view entries) (member (codes "text") (view text) no_members))))) }
+{
+    json!(in alloc; {"class": class, "data": initial, "entries": entries, "text": text})
+}
+
+/// Words as texts of eight digits.
+fn words_value(alloc: Global, words: &[Word]) -> Result<Value, NoMemory>
+    ensures { IfOk result (λ value. view value ≡ array (word_items words.now)) }
+{
+    Ok(Value::Array(hex_values(alloc, words)?))
+}
+
+/// A text for each word.
+fn hex_values(alloc: Global, words: &[Word]) -> Result<Vec<Value>, NoMemory>
+    ensures { IfOk result (λ values. map view values.items ≡ map hex_data words.now) }
+{
+    let mut values = Vec::new(alloc);
+    for word in words {
+        values.push(hex_value(alloc, *word)?)?;
+    }
+    Ok(values)
+}
+
+/// The text of a word.
+fn hex_value(alloc: Global, word: Word) -> Result<Value, NoMemory>
+    ensures { IfOk result (λ value. view value ≡ hex_data word) }
+{
+    let mut text = String::new(alloc);
+    push_digits(&mut text, 8, word)?;
+    Ok(Value::String(text))
+}
+
+/// Adds the last digits of a word.
+fn push_digits(text: &mut String, count: u32, word: Word) -> Result<(), NoMemory>
+    ensures { OnOk result (string_bytes text.new ≡ string_bytes text.old ++ hex_text count word) }
+{
+    if count == 0 {
+        return Ok(());
+    }
+    push_digits(text, count - 1, word / 16)?;
+    push_digit(text, word % 16)
+}
+
+/// Adds a hexadecimal digit.
+#[tactic(auto, using(std::proofs::lemmas::Fmt::hex_one_digit))]
+fn push_digit(text: &mut String, digit: Word) -> Result<(), NoMemory>
+    requires { digit < 16 }
+    ensures { OnOk result (string_bytes text.new ≡ string_bytes text.old ++ digit_glyph false digit ∷ []) }
+{
+    write!(text, "{digit:x}")?;
+    Ok(())
+}
+
+/// The entries and their places.
+#[tactic(auto, using(crate::proofs::NamedLines::members_of_keys))]
+fn entries_value(alloc: Global, class: Class, places: &[Word]) -> Result<Value, NoMemory>
+    ensures { IfOk result (λ value. view value ≡ object (entry_members (entry_keys class) places.now no_members)) }
+{
+    Ok(Value::Object(named_places(alloc, entry_names(class), places)?))
+}
+
+/// The names and their places.
+fn named_places(
+    alloc: Global,
+    names: &[&str],
+    places: &[Word],
+) -> Result<Map<String, Value>, NoMemory>
+    ensures { IfOk result (λ made. members_view made.entries ≡ named_members (map (λ name. name.now) names.now) places.now no_members) }
+{
+    let mut made = Map::new(alloc);
+    let mut rest = places;
+    for name in names {
+        match rest.split_first() {
+            Some((place, more)) => {
+                put(&mut made, alloc, name, Value::from(*place))?;
+                rest = more;
+            }
+            None => return Ok(made),
+        }
+    }
+    Ok(made)
+}

@@ -1,0 +1,91 @@
+//! The labels of a text, each with its first definition.
+
+ghost use Rattle.std.specs.Prelude.{◌≡◌, ◌<◌, ◌^◌, ℕ, IfOk, Some, List, [], OnOk};
+ghost use Rattle.nook_defs.specs.AsmLines.{first_of, label_value, no_labels};
+ghost use Rattle.nook_defs.specs.Assembler.{is_other_line, label_of};
+ghost use Rattle.driver_asm.specs.Places.{or_else};
+
+use crate::line::NextPlaces;
+use crate::tokens::register_of;
+use nook_defs::assembler::{Label, Value};
+use nook_defs::lists::{Items, Words8};
+use nook_defs::memory::NoMemory;
+use std::alloc::Global;
+use std::marker::Model;
+
+/// The labels, in the order of their definitions. The first definition of a name counts.
+#[derive(Drop)]
+pub struct LabelTable {
+    labels: Items<Label>,
+}
+
+impl Model for LabelTable {
+    ghost use Rattle.std.specs.Prelude.{List};
+    ghost use Rattle.nook_defs.specs.declared.assembler.Label.{Label};
+
+    ghost Value = { List Label };
+
+    ghost view = { λ s. s.labels };
+}
+
+impl LabelTable {
+    /// No label. It takes no memory.
+    pub fn new(alloc: Global) -> LabelTable
+        ensures { result ≡ [] }
+    {
+        LabelTable {
+            labels: Items::new(alloc),
+        }
+    }
+
+    /// Defines a name where the next word goes. A name that is defined keeps its definition, and a register's name
+    /// is never defined.
+    #[tactic(auto, using(crate::proofs::Defined::first_of_more))]
+    pub fn define(&mut self, alloc: Global, name: &[u8], at: &NextPlaces) -> Result<(), NoMemory>
+        requires { at.now.initial < 2 ^ 63 }
+        ensures { OnOk result ((other : List ℕ) → first_of self.new other ≡ or_else (first_of self.old other) (first_of (label_of (Some name.now) at.now) other)) }
+    {
+        if register_of(name).is_some() {
+            return Ok(());
+        }
+        let label = Label {
+            name: owned(alloc, name)?,
+            place: at.place(),
+            line: at.line(),
+        };
+        self.labels.push(label)
+    }
+
+    /// The place of a label, where it is defined.
+    pub fn value(&self, name: &[u8]) -> Value
+        ensures { result ≡ label_value (first_of self.now name.now) }
+    {
+        for label in self.labels.as_slice() {
+            if name == label.name.as_slice() {
+                return Value::Known {
+                    number: label.place,
+                };
+            }
+        }
+        Value::Missing
+    }
+
+    /// Whether a name is first defined on another line.
+    pub fn is_other_line(&self, name: &[u8], line: u64) -> bool
+        ensures { result ≡ is_other_line (first_of self.now name.now) line }
+    {
+        for label in self.labels.as_slice() {
+            if name == label.name.as_slice() {
+                return label.line != line;
+            }
+        }
+        false
+    }
+}
+
+/// A copy of a name.
+fn owned(alloc: Global, name: &[u8]) -> Result<Words8, NoMemory>
+    ensures { IfOk result (λ made. made ≡ name.now) }
+{
+    Ok(Words8::from_vec(name.to_vec(alloc)?))
+}

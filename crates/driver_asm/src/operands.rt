@@ -1,0 +1,143 @@
+//! Operands: registers and values.
+
+ghost use Rattle.std.specs.Prelude.{◌≡◌, ◌≤◌, ℕ, IfSome, true};
+ghost use Rattle.nook_defs.specs.AsmLines.{first_of, no_register, no_value, operands_of, operands_with, value_by, value_of};
+ghost use Rattle.nook_defs.specs.declared.assembler.Form.TheVariants as form;
+ghost use Rattle.driver_asm.specs.Lexing.{names_registers, only_value};
+
+use crate::labels::LabelTable;
+use crate::tokens::{Token, register_of};
+use nook_defs::assembler::{Form, Operands, TokenKind, Value};
+
+/// The value of a token: a number, or the place of a label. A register's name is no label.
+#[tactic(auto, unfolding(nook_defs::specs::AsmLines::value_of))]
+pub fn value_of(labels: &LabelTable, token: &Token) -> Option<Value>
+    ensures { result ≡ value_of (first_of labels.now) token.now }
+{
+    match token.kind() {
+        TokenKind::Number { value } => Some(Value::Known { number: value }),
+        TokenKind::Name if register_of(token.bytes()).is_none() => {
+            Some(labels.value(token.bytes()))
+        }
+        _ => None,
+    }
+}
+
+/// Registers and a value, where each is right.
+fn operands_with(a: Option<u8>, b: Option<u8>, imm: Option<Value>) -> Option<Operands>
+    requires first { IfSome a (λ register. register ≤ 15) }
+    requires second { IfSome b (λ register. register ≤ 15) }
+    ensures operands { result ≡ operands_with a b imm }
+    ensures registers { IfSome result (λ operands. names_registers operands ≡ true) }
+{
+    Some(Operands {
+        a: a?,
+        b: b?,
+        imm: imm?,
+    })
+}
+
+/// The immediate of a form that has none.
+fn no_value() -> Option<Value>
+    ensures { result ≡ no_value }
+{
+    Some(Value::Known { number: 0 })
+}
+
+/// The operands of a form without any.
+#[tactic(auto, unfolding(nook_defs::specs::AsmLines::operands_of))]
+fn no_operands(labels: &LabelTable, tokens: &[Token]) -> Option<Operands>
+    ensures operands { result ≡ operands_of (first_of labels.now) form.Bare tokens.now }
+    ensures registers { IfSome result (λ operands. names_registers operands ≡ true) }
+{
+    match tokens {
+        [] => operands_with(Some(0), Some(0), no_value()),
+        _ => None,
+    }
+}
+
+/// One register.
+#[tactic(auto, unfolding(nook_defs::specs::AsmLines::operands_of))]
+fn one_register(labels: &LabelTable, tokens: &[Token]) -> Option<Operands>
+    ensures operands { result ≡ operands_of (first_of labels.now) form.A tokens.now }
+    ensures registers { IfSome result (λ operands. names_registers operands ≡ true) }
+{
+    match tokens {
+        [a] => operands_with(register_of(a.bytes()), Some(0), no_value()),
+        _ => None,
+    }
+}
+
+/// The value of the one token that there is.
+pub fn only_value(labels: &LabelTable, tokens: &[Token]) -> Option<Value>
+    ensures { result ≡ only_value (first_of labels.now) tokens.now }
+{
+    match tokens {
+        [token] => value_of(labels, token),
+        _ => None,
+    }
+}
+
+/// One value.
+#[tactic(auto, using(crate::proofs::OneValue::only_operand))]
+fn one_value(labels: &LabelTable, tokens: &[Token]) -> Option<Operands>
+    ensures operands { result ≡ operands_of (first_of labels.now) form.Imm tokens.now }
+    ensures registers { IfSome result (λ operands. names_registers operands ≡ true) }
+{
+    operands_with(Some(0), Some(0), only_value(labels, tokens))
+}
+
+/// Two registers.
+#[tactic(auto, unfolding(nook_defs::specs::AsmLines::operands_of))]
+fn two_registers(labels: &LabelTable, tokens: &[Token]) -> Option<Operands>
+    ensures operands { result ≡ operands_of (first_of labels.now) form.AB tokens.now }
+    ensures registers { IfSome result (λ operands. names_registers operands ≡ true) }
+{
+    match tokens {
+        [a, b] => operands_with(register_of(a.bytes()), register_of(b.bytes()), no_value()),
+        _ => None,
+    }
+}
+
+/// A register and a value.
+#[tactic(auto, unfolding(nook_defs::specs::AsmLines::operands_of))]
+fn register_and_value(labels: &LabelTable, tokens: &[Token]) -> Option<Operands>
+    ensures operands { result ≡ operands_of (first_of labels.now) form.AImm tokens.now }
+    ensures registers { IfSome result (λ operands. names_registers operands ≡ true) }
+{
+    match tokens {
+        [a, imm] => operands_with(register_of(a.bytes()), Some(0), value_of(labels, imm)),
+        _ => None,
+    }
+}
+
+/// Two registers and a value.
+#[tactic(auto, unfolding(nook_defs::specs::AsmLines::operands_of))]
+fn registers_and_value(labels: &LabelTable, tokens: &[Token]) -> Option<Operands>
+    ensures operands { result ≡ operands_of (first_of labels.now) form.ABImm tokens.now }
+    ensures registers { IfSome result (λ operands. names_registers operands ≡ true) }
+{
+    match tokens {
+        [a, b, imm] => operands_with(
+            register_of(a.bytes()),
+            register_of(b.bytes()),
+            value_of(labels, imm),
+        ),
+        _ => None,
+    }
+}
+
+/// The operands of a form; `None` where there are more or fewer, or one is of another sort.
+pub fn operands_of(labels: &LabelTable, which: Form, tokens: &[Token]) -> Option<Operands>
+    ensures operands { result ≡ operands_of (first_of labels.now) which tokens.now }
+    ensures registers { IfSome result (λ operands. names_registers operands ≡ true) }
+{
+    match which {
+        Form::Bare => no_operands(labels, tokens),
+        Form::A => one_register(labels, tokens),
+        Form::Imm => one_value(labels, tokens),
+        Form::AB => two_registers(labels, tokens),
+        Form::AImm => register_and_value(labels, tokens),
+        Form::ABImm => registers_and_value(labels, tokens),
+    }
+}

@@ -1,0 +1,130 @@
+//! The two passes.
+
+ghost use Rattle.std.specs.Prelude.{◌≡◌, ◌+◌, ◌<◌, ◌^◌, ℕ, List, IfOk, OnOk, None, Result, map, length};
+ghost use Rattle.nook_defs.specs.AsmLines.{definition_of, first_of, line_says, no_labels};
+ghost use Rattle.nook_defs.specs.AsmTokens.{tokens_of};
+ghost use Rattle.nook_defs.specs.Assembler.{all_given, label_of, next_line, places_after, assembled, at_line, draft_after, draft_from, first_draft, first_places, image_with, labels_from};
+ghost use Rattle.nook_defs.specs.declared.assembler.AsmKind.{AsmKind};
+ghost use Rattle.driver_asm.specs.Places.{or_else};
+ghost use Rattle.driver_asm.specs.Answers.{Gives, Takes};
+
+use crate::draft::Draft;
+use crate::error::{AsmError, LineStop};
+use crate::labels::LabelTable;
+use crate::line::NextPlaces;
+use crate::pieces::{lines_of, tokens_of};
+use crate::statements::{definition_of, line_says};
+use crate::tokens::Token;
+use nook_defs::data::Image;
+use nook_defs::memory::NoMemory;
+use std::alloc::Global;
+
+/// Assembles a text of bytes.
+///
+/// # Errors
+///
+/// `Bad` with the first line that has a fault, counted from 1, and the smallest kind of fault that it has. A class or
+/// an entry that is missing stands at the line behind the last. `NoMemory` where an allocation is refused.
+#[tactic(auto, unfolding(nook_defs::specs::Assembler::assembled))]
+pub fn assemble(alloc: Global, text: &[u8]) -> Result<Image, AsmError>
+    ensures { Gives result (assembled text.now) }
+{
+    let lines = lines_of(alloc, text)?;
+    let labels = labels_of(alloc, &lines)?;
+    let draft = draft_of(alloc, &labels, &lines)?;
+    at_line(line_behind(&lines), draft.into_image(alloc))
+}
+
+/// The number of the line behind the last.
+fn line_behind(lines: &[&[u8]]) -> u64
+    ensures { result ≡ length (map (λ line. line.now) lines.now) + 1 }
+{
+    lines.len() as u64 + 1
+}
+
+/// The first pass: the labels that the lines define.
+fn labels_of(alloc: Global, lines: &[&[u8]]) -> Result<LabelTable, NoMemory>
+    ensures { IfOk result (λ labels. (name : List ℕ) → first_of labels name ≡ first_of (labels_from first_places (map (λ line. line.now) lines.now)) name) }
+{
+    let mut labels = LabelTable::new(alloc);
+    let mut at = NextPlaces::new();
+    for line in lines {
+        at = behind_line(alloc, &mut labels, at, line)?;
+    }
+    Ok(labels)
+}
+
+/// Defines the label of a line, and gives where the words behind the line go. No place hangs on a label's value or on
+/// the class.
+fn behind_line(
+    alloc: Global,
+    labels: &mut LabelTable,
+    at: NextPlaces,
+    line: &[u8],
+) -> Result<NextPlaces, NoMemory>
+    requires line { at.line < 2 ^ 63 }
+    requires text { at.text < 2 ^ 63 }
+    requires initial { at.initial < 2 ^ 63 }
+    ensures labels { OnOk result ((name : List ℕ) → first_of labels.new name ≡ or_else (first_of labels.old name) (first_of (label_of (definition_of (tokens_of line.now)) at) name)) }
+    ensures places { IfOk result (λ next. next ≡ next_line (places_after (line_says no_labels None at.in_section (tokens_of line.now)) at)) }
+{
+    let tokens = tokens_of(alloc, line)?;
+    define_label(alloc, labels, &at, &tokens)?;
+    let says = line_says(&LabelTable::new(alloc), None, at.section(), &tokens);
+    Ok(at.after(says))
+}
+
+/// Defines the label of a line's tokens, where there is one.
+fn define_label(
+    alloc: Global,
+    labels: &mut LabelTable,
+    at: &NextPlaces,
+    tokens: &[Token],
+) -> Result<(), NoMemory>
+    requires { at.now.initial < 2 ^ 63 }
+    ensures { OnOk result ((name : List ℕ) → first_of labels.new name ≡ or_else (first_of labels.old name) (first_of (label_of (definition_of tokens.now) at.now) name)) }
+{
+    match definition_of(tokens) {
+        Some(name) => labels.define(alloc, name, at),
+        None => Ok(()),
+    }
+}
+
+/// The second pass: the draft after all lines.
+#[tactic(auto, unfolding(nook_defs::specs::Assembler::draft_from))]
+fn draft_of(alloc: Global, labels: &LabelTable, lines: &[&[u8]]) -> Result<Draft, AsmError>
+    ensures { Gives result (draft_from (first_of labels.now) 1 (map (λ line. line.now) lines.now) first_draft) }
+{
+    let mut draft = Draft::new(alloc);
+    let mut number = 1u64;
+    for line in lines {
+        draft = after_line(alloc, labels, number, line, draft)?;
+        number += 1;
+    }
+    Ok(draft)
+}
+
+/// The draft after a line, or its fault at the line.
+fn after_line(
+    alloc: Global,
+    labels: &LabelTable,
+    number: u64,
+    line: &[u8],
+    draft: Draft,
+) -> Result<Draft, AsmError>
+    ensures { Gives result (at_line number (draft_after (first_of labels.now) number (tokens_of line.now) draft)) }
+{
+    let tokens = tokens_of(alloc, line)?;
+    at_line(number, draft.after(alloc, labels, number, &tokens))
+}
+
+/// A fault at a line.
+fn at_line<T: Drop>(line: u64, made: Result<T, LineStop>) -> Result<T, AsmError>
+    ensures { (given : Result T AsmKind) → Takes made given → Gives result (at_line line given) }
+{
+    match made {
+        Ok(value) => Ok(value),
+        Err(LineStop::Bad(kind)) => Err(AsmError::Bad { kind, line }),
+        Err(LineStop::NoMemory) => Err(AsmError::NoMemory),
+    }
+}

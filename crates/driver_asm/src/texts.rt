@@ -1,0 +1,209 @@
+//! The assembler text of an image.
+
+ghost use Rattle.std.specs.Prelude.{◌≡◌, ◌∷◌, ◌++◌, [], codes, decimal, flat_map, map, IfOk, OnOk, Ok, string_bytes};
+ghost use Rattle.nook_defs.specs.Disassembler.{class_tokens, disassembled, entry_lines, image_lines, initial_lines, instr_tokens, later_token, line_text, operand_tokens, register_text, text_tokens, word_tokens};
+ghost use Rattle.nook_defs.specs.Assembler.{assembled};
+ghost use Rattle.nook_defs.specs.Valid.{IsValidImage};
+ghost use Rattle.nook_defs.specs.Keys.{entry_keys};
+ghost use Rattle.nook_defs.specs.Mnemonics.{fields_of};
+ghost use Rattle.driver_asm.specs.Names.{named_lines};
+
+use crate::class_names::{class_text, entry_names};
+use crate::mnemonics::{Fields, fields_of, form_of, mnemonic_text};
+use driver_isa::decode;
+use nook_defs::assembler::Form;
+use nook_defs::data::{Class, Image};
+use nook_defs::lists::{Word, Words8};
+use nook_defs::machine::Instr;
+use nook_defs::memory::NoMemory;
+use std::alloc::Global;
+use std::fmt::Write;
+
+/// The assembler text of an image: its class, its entries in the class's order, a line for each text word, and, where
+/// there are initial words, `.data` and a line for each. The text of a valid image assembles to that image.
+///
+/// # Errors
+///
+/// Want of memory.
+pub fn disassemble(alloc: Global, image: &Image) -> Result<Words8, NoMemory>
+    ensures text { IfOk result (λ text. text ≡ disassembled image.now) }
+    ensures back { IsValidImage image.now → IfOk result (λ text. assembled text ≡ Ok image.now) }
+{
+    let text = text_of(alloc, image)?;
+    Ok(Words8::from_vec(text.into_bytes()))
+}
+
+/// The text of an image.
+#[tactic(auto, unfolding(nook_defs::specs::Disassembler::disassembled, nook_defs::specs::Disassembler::image_lines))]
+fn text_of(alloc: Global, image: &Image) -> Result<String, NoMemory>
+    ensures { IfOk result (λ text. string_bytes text ≡ disassembled image.now) }
+{
+    let mut text = String::new(alloc);
+    push_class(&mut text, image.class)?;
+    push_entries(&mut text, image.class, image.entries.as_slice())?;
+    push_text_words(&mut text, image.text.as_slice())?;
+    push_initial_words(&mut text, image.initial.as_slice())?;
+    Ok(text)
+}
+
+/// Adds the line of the class.
+fn push_class(text: &mut String, class: Class) -> Result<(), NoMemory>
+    ensures { OnOk result (string_bytes text.new ≡ string_bytes text.old ++ line_text (class_tokens class)) }
+{
+    text.push_str(".class")?;
+    push_token(text, class_text(class))?;
+    text.push_str("\n")?;
+    Ok(())
+}
+
+/// Adds a token behind another.
+fn push_token(text: &mut String, token: &str) -> Result<(), NoMemory>
+    ensures { OnOk result (string_bytes text.new ≡ string_bytes text.old ++ later_token token.now) }
+{
+    text.push_str(" ")?;
+    text.push_str(token)?;
+    Ok(())
+}
+
+/// Adds a number behind a token.
+fn push_number(text: &mut String, number: u32) -> Result<(), NoMemory>
+    ensures { OnOk result (string_bytes text.new ≡ string_bytes text.old ++ later_token (decimal number)) }
+{
+    write!(text, " {number}")?;
+    Ok(())
+}
+
+/// Adds a register behind a token.
+fn push_register(text: &mut String, register: u8) -> Result<(), NoMemory>
+    ensures { OnOk result (string_bytes text.new ≡ string_bytes text.old ++ later_token (register_text register)) }
+{
+    write!(text, " r{register}")?;
+    Ok(())
+}
+
+/// Adds the lines of the entries.
+#[tactic(auto, using(crate::proofs::NamedLines::names_of_keys))]
+fn push_entries(text: &mut String, class: Class, places: &[Word]) -> Result<(), NoMemory>
+    ensures { OnOk result (string_bytes text.new ≡ string_bytes text.old ++ flat_map line_text (entry_lines (entry_keys class) places.now)) }
+{
+    push_named(text, entry_names(class), places)
+}
+
+/// Adds a line for each name and its place.
+#[tactic(auto, using(crate::proofs::NamedLines::no_places))]
+fn push_named(text: &mut String, names: &[&str], places: &[Word]) -> Result<(), NoMemory>
+    ensures { OnOk result (string_bytes text.new ≡ string_bytes text.old ++ flat_map line_text (named_lines (map (λ name. name.now) names.now) places.now)) }
+{
+    let mut rest = places;
+    for name in names {
+        match rest.split_first() {
+            Some((place, more)) => {
+                push_entry(text, name, *place)?;
+                rest = more;
+            }
+            None => return Ok(()),
+        }
+    }
+    Ok(())
+}
+
+/// Adds the line of an entry.
+fn push_entry(text: &mut String, name: &str, place: Word) -> Result<(), NoMemory>
+    ensures { OnOk result (string_bytes text.new ≡ string_bytes text.old ++ line_text (codes ".entry" ∷ name.now ∷ decimal place ∷ [])) }
+{
+    text.push_str(".entry")?;
+    push_token(text, name)?;
+    push_number(text, place)?;
+    text.push_str("\n")?;
+    Ok(())
+}
+
+/// Adds a line for each text word.
+fn push_text_words(text: &mut String, words: &[Word]) -> Result<(), NoMemory>
+    ensures { OnOk result (string_bytes text.new ≡ string_bytes text.old ++ flat_map line_text (map text_tokens words.now)) }
+{
+    for word in words {
+        push_text_word(text, *word)?;
+    }
+    Ok(())
+}
+
+/// Adds the line of a text word: its instruction, or the number where it is none.
+fn push_text_word(text: &mut String, word: Word) -> Result<(), NoMemory>
+    ensures { OnOk result (string_bytes text.new ≡ string_bytes text.old ++ line_text (text_tokens word)) }
+{
+    match decode(word) {
+        Some(instr) => push_instr(text, instr),
+        None => push_word(text, word),
+    }
+}
+
+/// Adds the line of an instruction.
+fn push_instr(text: &mut String, instr: Instr) -> Result<(), NoMemory>
+    ensures { OnOk result (string_bytes text.new ≡ string_bytes text.old ++ line_text (instr_tokens (fields_of instr))) }
+{
+    let fields = fields_of(instr);
+    text.push_str(mnemonic_text(fields.mnemonic))?;
+    push_operands(text, form_of(fields.mnemonic), &fields)?;
+    text.push_str("\n")?;
+    Ok(())
+}
+
+/// Adds the operands of a form, each behind a token.
+fn push_operands(text: &mut String, which: Form, fields: &Fields) -> Result<(), NoMemory>
+    ensures { OnOk result (string_bytes text.new ≡ string_bytes text.old ++ flat_map later_token (operand_tokens which fields.now)) }
+{
+    match which {
+        Form::Bare => Ok(()),
+        Form::A => push_register(text, fields.a),
+        Form::Imm => push_number(text, u32::from(fields.imm)),
+        Form::AB => push_registers(text, fields),
+        Form::AImm => {
+            push_register(text, fields.a)?;
+            push_number(text, u32::from(fields.imm))
+        }
+        Form::ABImm => {
+            push_registers(text, fields)?;
+            push_number(text, u32::from(fields.imm))
+        }
+    }
+}
+
+/// Adds both registers.
+fn push_registers(text: &mut String, fields: &Fields) -> Result<(), NoMemory>
+    ensures { OnOk result (string_bytes text.new ≡ string_bytes text.old ++ flat_map later_token (register_text fields.now.a ∷ register_text fields.now.b ∷ [])) }
+{
+    push_register(text, fields.a)?;
+    push_register(text, fields.b)
+}
+
+/// Adds the line of a word that is a number.
+fn push_word(text: &mut String, word: Word) -> Result<(), NoMemory>
+    ensures { OnOk result (string_bytes text.new ≡ string_bytes text.old ++ line_text (word_tokens word)) }
+{
+    text.push_str(".word")?;
+    push_number(text, word)?;
+    text.push_str("\n")?;
+    Ok(())
+}
+
+/// Adds the lines of the initial words, where there are any.
+fn push_initial_words(text: &mut String, words: &[Word]) -> Result<(), NoMemory>
+    ensures { OnOk result (string_bytes text.new ≡ string_bytes text.old ++ flat_map line_text (initial_lines words.now)) }
+{
+    if words.is_empty() {
+        return Ok(());
+    }
+    text.push_str(".data\n")?;
+    push_words(text, words)
+}
+
+/// Adds a line for each word.
+fn push_words(text: &mut String, words: &[Word]) -> Result<(), NoMemory>
+    ensures { OnOk result (string_bytes text.new ≡ string_bytes text.old ++ flat_map line_text (map word_tokens words.now)) }
+{
+    for word in words {
+        push_word(text, *word)?;
+    }
+    Ok(())
+}

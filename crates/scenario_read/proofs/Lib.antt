@@ -2,3 +2,4 @@ pub mod Counts
 pub mod HexWords
 pub mod JsonText
 pub mod Members
+pub mod ValidRead

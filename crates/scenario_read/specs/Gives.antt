@@ -9,10 +9,9 @@ use Rattle.scenario_read.specs.declared.stop.ScenarioFault.TheVariants as stop
 
 -- What a reader's answer has to do with the reading that the definitions give.
 
--- a refusal is the one of the reading; memory may be wanting at any time, and a text of a driver is not read yet
+-- a refusal is the one of the reading; memory may be wanting at any time
 abbrev pub Fails : {T : Type 0} → ScenarioFault → Result T Refusal → Type 0
 Fails stop.NoMemory reading = ⊤
-Fails stop.NoAssembler reading = ⊤
 Fails (stop.Bad refusal) reading = reading ≡ Err refusal
 
 -- the value is the one of the reading, and a refusal is the one of the reading
@@ -23,5 +22,4 @@ Gives (Err why) reading = Fails why reading
 -- a key that must be there is not
 abbrev pub IsMissing : Key → ScenarioFault → Type 0
 IsMissing key stop.NoMemory = ⊤
-IsMissing key stop.NoAssembler = ⊥
 IsMissing key (stop.Bad refusal) = refusal ≡ record { fault = fault.MissingKey; path = step.At key ∷ [] }

@@ -14,6 +14,8 @@ use crate::fields::{check_keys, field, text_in};
 use crate::image::image_of;
 use crate::keys::key_text;
 use crate::stop::{ScenarioFault, at, bad_here};
+use driver_asm::{AsmError, assemble};
+use nook_defs::assembler::AsmFault;
 use nook_defs::data::{Class, Image};
 use nook_defs::input::{InputFault, Key};
 use serde_json::Value;
@@ -56,11 +58,17 @@ fn asm_of(alloc: Global, value: &Value) -> Result<Image, ScenarioFault>
     read_asm(alloc, text)
 }
 
-/// The image that a text assembles to. No text is assembled yet.
-fn read_asm(_alloc: Global, text: &str) -> Result<Image, ScenarioFault>
+/// The image that a text assembles to.
+fn read_asm(alloc: Global, text: &str) -> Result<Image, ScenarioFault>
     ensures { Gives result (or_bad_asm (assembled text.now)) }
 {
-    Err(ScenarioFault::NoAssembler)
+    match assemble(alloc, text.as_bytes()) {
+        Ok(image) => Ok(image),
+        Err(AsmError::NoMemory) => Err(ScenarioFault::NoMemory),
+        Err(AsmError::Bad { kind, line }) => {
+            bad_here(alloc, InputFault::BadAsm(AsmFault { kind, line }))
+        }
+    }
 }
 
 /// Whether two classes are the same.

@@ -1,10 +1,11 @@
 //! Images: driver programs as JSON.
 
-ghost use Rattle.std.specs.Prelude.{◌≡◌, [], length, true};
+ghost use Rattle.std.specs.Prelude.{◌≡◌, [], IfOk, length, true};
 ghost use Rattle.std.specs.List.{list_all};
 ghost use Rattle.std.specs.Str.Parse.{digits_value};
 ghost use Rattle.serde_json.specs.View.{view};
 ghost use Rattle.nook_defs.specs.ImageReading.{class_of, entries_of, hex_word, image_from, image_of, is_hex_digit, places_from, word_of, words_of};
+ghost use Rattle.nook_defs.specs.Valid.{IsValidImage};
 ghost use Rattle.scenario_read.specs.Gives.{Gives};
 
 use crate::fields::{check_keys, field, number_at, text_in};
@@ -18,14 +19,15 @@ use nook_defs::lists::{Items, Words};
 use serde_json::Value;
 use std::alloc::Global;
 
-/// The image of a JSON text, as `nooks asm` writes it.
+/// The image of a JSON text, as `nooks asm` writes it. It keeps the limits of images.
 ///
 /// # Errors
 ///
 /// The first fault of the text with its path, or want of memory.
-#[tactic(auto, unfolding(nook_defs::specs::ImageReading::image_from))]
+#[tactic(auto, unfolding(nook_defs::specs::ImageReading::image_from), using(crate::proofs::ValidRead::valid_image))]
 pub fn read_image(alloc: Global, bytes: &[u8]) -> Result<Image, ScenarioFault>
-    ensures { Gives result (image_from bytes.now) }
+    ensures gives { Gives result (image_from bytes.now) }
+    ensures valid { IfOk result IsValidImage }
 {
     let value = json_of(alloc, bytes)?;
     image_of(alloc, &value)

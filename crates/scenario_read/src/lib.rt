@@ -4,7 +4,6 @@
 //! value, or the same first fault at the same place.
 #![tactic(auto)]
 
-pub mod built;
 pub mod driver;
 pub mod faults;
 pub mod fields;
@@ -18,11 +17,8 @@ pub mod parts;
 pub mod scenario;
 pub mod schedule;
 pub mod stop;
-#[cfg(test)]
-mod tests;
 pub mod threads;
 
-pub use built::check_built;
 pub use image::read_image;
 pub use line::fault_line;
 pub use scenario::read_scenario;

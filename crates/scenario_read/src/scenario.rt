@@ -4,6 +4,7 @@ ghost use Rattle.std.specs.Prelude.{◌≡◌, IfOk, IfErr, Ok, length};
 ghost use Rattle.serde_json.specs.View.{view};
 ghost use Rattle.nook_defs.specs.Reading.{json_of, optional};
 ghost use Rattle.nook_defs.specs.ScenarioReading.{scenario_from, scenario_of, schedule_of};
+ghost use Rattle.nook_defs.specs.Valid.{IsValidScenario};
 ghost use Rattle.nook_defs.specs.declared.data.ScheduleSpec.TheVariants as schedule;
 ghost use Rattle.nook_defs.specs.declared.input.Key.TheVariants as key;
 ghost use Rattle.scenario_read.specs.Gives.{Fails, Gives};
@@ -19,14 +20,15 @@ use nook_defs::input::{InputFault, Key};
 use serde_json::Value;
 use std::alloc::Global;
 
-/// The scenario of a JSON text, of version 1 or 2.
+/// The scenario of a JSON text, of version 1 or 2. It keeps every limit.
 ///
 /// # Errors
 ///
 /// The first fault of the text with its path, or want of memory.
-#[tactic(auto, unfolding(nook_defs::specs::ScenarioReading::scenario_from))]
+#[tactic(auto, unfolding(nook_defs::specs::ScenarioReading::scenario_from), using(crate::proofs::ValidRead::valid_scenario))]
 pub fn read_scenario(alloc: Global, bytes: &[u8]) -> Result<Scenario, ScenarioFault>
-    ensures { Gives result (scenario_from bytes.now) }
+    ensures gives { Gives result (scenario_from bytes.now) }
+    ensures valid { IfOk result IsValidScenario }
 {
     let value = json_of(alloc, bytes)?;
     scenario_of(alloc, &value)

@@ -18,8 +18,6 @@ pub enum ScenarioFault {
     Bad(Refusal),
     /// Memory was wanting.
     NoMemory,
-    /// A driver is given as an assembler text, and nothing before it has a fault. Such drivers are not read yet.
-    NoAssembler,
 }
 
 impl From<NoMemory> for ScenarioFault {
@@ -56,7 +54,6 @@ pub fn behind<T: Drop>(step: PathStep, inside: Result<T, ScenarioFault>) -> Resu
     match inside {
         Ok(read) => Ok(read),
         Err(ScenarioFault::NoMemory) => Err(ScenarioFault::NoMemory),
-        Err(ScenarioFault::NoAssembler) => Err(ScenarioFault::NoAssembler),
         Err(ScenarioFault::Bad(refusal)) => {
             let path = with_front(step, refusal.path)?;
             Err(ScenarioFault::Bad(Refusal {

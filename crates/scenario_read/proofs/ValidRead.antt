@@ -1,0 +1,21 @@
+-- What a reader gives keeps its limits, since what the definition gives does.
+use Rattle.std.proofs.Common.{subst}
+use Rattle.std.specs.Prelude.{Result, Ok, Err, IfOk}
+use Rattle.serde_json.specs.Data.{Data}
+use Rattle.nook_defs.specs.ImageReading.{image_of}
+use Rattle.nook_defs.specs.ScenarioReading.{scenario_of}
+use Rattle.nook_defs.specs.Valid.{IsValidImage, IsValidScenario}
+use Rattle.nook_defs.specs.declared.data.Image.{Image}
+use Rattle.nook_defs.specs.declared.data.Scenario.{Scenario}
+use Rattle.scenario_laws.proofs.ImagesRead.{image_is_valid}
+use Rattle.scenario_laws.proofs.ScenariosRead.{scenario_holds}
+use Rattle.scenario_read.specs.Gives.{Gives}
+use Rattle.scenario_read.specs.declared.stop.ScenarioFault.{ScenarioFault}
+
+pub valid_image : (d : Data) (r : Result Image ScenarioFault) → Gives r (image_of d) → IfOk r IsValidImage
+valid_image d (Ok image) h = subst (λ read. IfOk read IsValidImage) h (image_is_valid d)
+valid_image d (Err why) h = tt
+
+pub valid_scenario : (d : Data) (r : Result Scenario ScenarioFault) → Gives r (scenario_of d) → IfOk r IsValidScenario
+valid_scenario d (Ok scenario) h = subst (λ read. IfOk read IsValidScenario) h (scenario_holds d)
+valid_scenario d (Err why) h = tt

@@ -9,10 +9,8 @@ use Rattle.nook_defs.specs.declared.data.Event.{Event}
 use Rattle.nook_defs.specs.ReportLines.{answer_text, event_line, event_lines, line_feed, with_number}
 use Rattle.nook_defs.specs.declared.data.PartSpec.{PartSpec}
 use Rattle.nook_defs.specs.declared.data.ThreadSpec.{ThreadSpec}
-use Rattle.nook_defs.specs.Room.{Kept}
-use Rattle.report_text.specs.declared.report.PartReport.{PartReport}
 use Rattle.nook_defs.specs.ReportText.{answer_lines, thread_line, threads_text}
-use Rattle.report_text.specs.Built.{answer_line, part_lines, parts_lines}
+use Rattle.report_text.specs.Answers.{answer_line}
 use Rattle.report_text.specs.declared.write.WriteStop.{WriteStop}
 use Rattle.report_text.specs.Writing.{Wrote, each_text}
 
@@ -148,13 +146,6 @@ answer_lines_each place (a ∷ answers) =
 -- nothing was written, and nothing was to be
 pub wrote_nothing : {T : Type 0} (held : Option (List ℕ)) (count : ℕ) (v : T) (text : List ℕ) → text ≡ [] → Wrote held held count count (Ok v) text
 wrote_nothing held count v text e = rw e record { ok = appends_nothing held; err = tt; later = le_refl count; fault = λ e. cc }
-
--- the first part's lines and the others'
-pub parts_first : (place : ℕ) (specs : List PartSpec) (journals : List (Kept Event)) (summed : List PartReport)
-    (s : PartSpec) (journal : Kept Event) (one : PartReport) (more_specs : List PartSpec) (more_journals : List (Kept Event)) (more_summed : List PartReport) →
-    specs ≡ s ∷ more_specs → journals ≡ journal ∷ more_journals → summed ≡ one ∷ more_summed →
-    parts_lines place specs journals summed ≡ part_lines place s journal.list one ++ parts_lines (place + 1) more_specs more_journals more_summed
-parts_first place specs journals summed s journal one more_specs more_journals more_summed e f h = rw (e, f, h, add-one place) refl
 
 -- the first thread's lines and the others'
 pub threads_first : (place : ℕ) (threads : List ThreadSpec) (answers : List (List (ℕ × Answer))) (t : ThreadSpec) (own : List (ℕ × Answer))

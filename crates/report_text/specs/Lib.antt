@@ -1,2 +1,3 @@
-pub mod Built
+pub mod Answers
+pub mod Whole
 pub mod Writing

@@ -4,4 +4,8 @@
 pub mod line;
 pub mod pieces;
 pub mod report;
+#[cfg(test)]
+mod tests;
+pub mod whole_report;
+pub mod whole_text;
 pub mod write;

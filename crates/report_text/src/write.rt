@@ -2,15 +2,13 @@
 
 ghost use Rattle.std.specs.Prelude.{◌≡◌, ◌+◌, ◌^◌, ◌<◌, ◌++◌, ℕ, List, OnOk, length};
 ghost use Rattle.nook_defs.specs.ReportLines.{event_line, event_lines};
-ghost use Rattle.nook_defs.specs.ReportText.{answer_lines, failures_line, part_line, status_line, thread_line, threads_text};
-ghost use Rattle.report_text.specs.Built.{answer_line, part_lines, parts_lines, report_lines};
+ghost use Rattle.nook_defs.specs.ReportText.{answer_lines, part_line, status_line, thread_line, threads_text};
+ghost use Rattle.report_text.specs.Answers.{answer_line};
 ghost use Rattle.report_text.specs.Writing.{Wrote, each_text};
 
 use crate::line::Line;
 use crate::pieces::{push_answer, push_class, push_event, push_number};
-use crate::report::{PartReport, Report};
-use nook_defs::data::{Answer, Event, PartAnswers, PartSpec, Scenario, ThreadSpec};
-use nook_defs::journal::Journal;
+use nook_defs::data::{Answer, Event, PartAnswers, PartSpec, ThreadSpec};
 use nook_defs::memory::NoMemory;
 use nook_defs::outside::{Failed, Sink};
 use nook_defs::whole::write_all;
@@ -113,7 +111,7 @@ fn write_each<K: Sink, T: Lined>(
 }
 
 /// Writes a line.
-fn write_text<K: Sink>(sink: &mut K, line: &Line) -> Result<(), WriteStop>
+pub fn write_text<K: Sink>(sink: &mut K, line: &Line) -> Result<(), WriteStop>
     ensures { Wrote (K.held sink.old) (K.held sink.new) (K.count sink.old) (K.count sink.new) result line.now }
 {
     write_all(sink, line.as_bytes())?;
@@ -121,7 +119,7 @@ fn write_text<K: Sink>(sink: &mut K, line: &Line) -> Result<(), WriteStop>
 }
 
 /// Writes a part's first line.
-fn write_part_line<K: Sink>(
+pub fn write_part_line<K: Sink>(
     alloc: Global,
     sink: &mut K,
     place: u64,
@@ -147,68 +145,10 @@ fn push_part_line(line: &mut Line, place: u64, spec: &PartSpec) -> Result<(), No
 }
 
 /// Writes the lines of a journal's events.
-fn write_events<K: Sink>(alloc: Global, sink: &mut K, events: &[Event]) -> Result<(), WriteStop>
+pub fn write_events<K: Sink>(alloc: Global, sink: &mut K, events: &[Event]) -> Result<(), WriteStop>
     ensures { Wrote (K.held sink.old) (K.held sink.new) (K.count sink.old) (K.count sink.new) result (event_lines 1 events.now) }
 {
     write_each(alloc, sink, 1, events)
-}
-
-/// Writes the line of a number of failures.
-fn write_failures_line<K: Sink>(alloc: Global, sink: &mut K, failures: u32) -> Result<(), WriteStop>
-    ensures { Wrote (K.held sink.old) (K.held sink.new) (K.count sink.old) (K.count sink.new) result (failures_line failures) }
-{
-    let mut line = Line::new(alloc);
-    push_number(&mut line, "failures ", u64::from(failures))?;
-    line.push("\n")?;
-    write_text(sink, &line)
-}
-
-/// Writes a part's lines.
-fn write_part<K: Sink>(
-    alloc: Global,
-    sink: &mut K,
-    place: u64,
-    spec: &PartSpec,
-    journal: &Journal,
-    summed: &PartReport,
-) -> Result<(), WriteStop>
-    ensures { Wrote (K.held sink.old) (K.held sink.new) (K.count sink.old) (K.count sink.new) result (part_lines place spec.now journal.now.list summed.now) }
-{
-    write_part_line(alloc, sink, place, spec)?;
-    write_events(alloc, sink, journal.as_slice())?;
-    write_failures_line(alloc, sink, summed.failures)
-}
-
-/// Writes the lines of the parts, the first of them number `place`.
-fn write_parts<K: Sink>(
-    alloc: Global,
-    sink: &mut K,
-    place: u64,
-    specs: &[PartSpec],
-    journals: &[Journal],
-    summed: &[PartReport],
-) -> Result<(), WriteStop>
-    requires { place + length specs.now < 2 ^ 64 }
-    ensures { Wrote (K.held sink.old) (K.held sink.new) (K.count sink.old) (K.count sink.new) result (parts_lines place specs.now journals.now summed.now) }
-{
-    let Some((spec, more_specs)) = specs.split_first() else {
-        return Ok(());
-    };
-    let Some((journal, more_journals)) = journals.split_first() else {
-        return Ok(());
-    };
-    let Some((one, more_summed)) = summed.split_first() else {
-        return Ok(());
-    };
-    write_part(alloc, sink, place, spec, journal, one)?;
-    write_parts(
-        alloc,
-        sink,
-        place + 1,
-        more_specs,
-        more_journals,
-        more_summed,
-    )
 }
 
 /// Writes a thread's first line.
@@ -247,7 +187,7 @@ fn write_answers<K: Sink>(
 
 /// Writes the lines of the threads, the first of them number `place`.
 #[tactic(auto, unfolding(nook_defs::specs::ReportText::threads_text))]
-fn write_threads<K: Sink>(
+pub fn write_threads<K: Sink>(
     alloc: Global,
     sink: &mut K,
     place: u64,
@@ -269,39 +209,11 @@ fn write_threads<K: Sink>(
 }
 
 /// Writes the last line.
-fn write_status_line<K: Sink>(alloc: Global, sink: &mut K, status: u32) -> Result<(), WriteStop>
+pub fn write_status_line<K: Sink>(alloc: Global, sink: &mut K, status: u32) -> Result<(), WriteStop>
     ensures { Wrote (K.held sink.old) (K.held sink.new) (K.count sink.old) (K.count sink.new) result (status_line status) }
 {
     let mut line = Line::new(alloc);
     push_number(&mut line, "status ", u64::from(status))?;
     line.push("\n")?;
     write_text(sink, &line)
-}
-
-/// Writes a report. After a failure the sink has gained a front of it; a fault comes only from the sink's own.
-pub fn write_report<K: Sink>(
-    alloc: Global,
-    scenario: &Scenario,
-    report: &Report,
-    sink: &mut K,
-) -> Result<(), WriteStop>
-    ensures { Wrote (K.held sink.old) (K.held sink.new) (K.count sink.old) (K.count sink.new) result (report_lines scenario.now report.now) }
-{
-    let journals = report.run.journals.as_slice();
-    write_parts(
-        alloc,
-        sink,
-        0,
-        scenario.parts.as_slice(),
-        journals,
-        report.parts.as_slice(),
-    )?;
-    write_threads(
-        alloc,
-        sink,
-        0,
-        scenario.threads.as_slice(),
-        report.run.answers.as_slice(),
-    )?;
-    write_status_line(alloc, sink, report.status)
 }

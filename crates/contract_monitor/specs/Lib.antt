@@ -1,0 +1,4 @@
+pub mod Calls
+pub mod Knowing
+pub mod Monitors
+pub mod Questions

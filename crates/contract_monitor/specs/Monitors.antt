@@ -1,0 +1,41 @@
+use Rattle.std.specs.Prelude.{◌≡◌, ℕ, ◌+◌, Bool, false, List, length, fold, Option, Some, None}
+use Rattle.nook_defs.specs.declared.data.Break.{Break}
+use Rattle.nook_defs.specs.declared.data.Class.{Class}
+use Rattle.nook_defs.specs.declared.data.Event.{Event}
+use Rattle.nook_defs.specs.Contract.{first_break, first_watch, sees}
+use Rattle.nook_defs.specs.Losses.{no_counts, count_event}
+use Rattle.contract_monitor.specs.Knowing.{Knows, saw_event}
+
+-- a monitor: what it knows, how many events it has seen, the first break, and whether an event was refused for want
+-- of memory
+pub record Monitored : Type 0 where
+  pub knows : Knows
+  pub seen : ℕ
+  pub broken : Option Break
+  pub failing : Bool
+
+abbrev pub break_of : ℕ → Option ℕ → Option Break
+break_of event None = None
+break_of event (Some clause) = Some (record { event = event; clause = clause })
+
+-- the first break, where an event may be it
+abbrev pub or_break : Option Break → Option Break → Option Break
+or_break (Some b) later = Some b
+or_break None later = later
+
+-- the monitor after one more event
+abbrev pub after_event : Event → Monitored → Monitored
+after_event e m = record {
+  knows = saw_event e m.knows;
+  seen = m.seen + 1;
+  broken = or_break m.broken (break_of (m.seen + 1) (sees m.knows.watch e).clause);
+  failing = m.failing;
+}
+
+-- the monitor has seen these events of a part of this class with a disk of so many blocks
+pub record StandsFor (class : Class) (size : ℕ) (events : List Event) (m : Monitored) : Type 0 where
+  pub watch : m.knows.watch ≡ fold sees (first_watch class size) events
+  pub counts : m.knows.counts ≡ fold count_event no_counts events
+  pub seen : m.seen ≡ length events
+  pub broken : m.broken ≡ first_break class size events
+  pub working : m.failing ≡ false

@@ -1,0 +1,171 @@
+//! The blocks of a disk, and frames, as the contract compares them.
+
+ghost use Rattle.std.specs.Prelude.{◌≡◌, ◌++◌, ◌*◌, [], length, take, drop, replicate, slice_get, slice_set, unwrap_or, IfOk, OnOk};
+ghost use Rattle.nook_defs.specs.Blocks.{blank_blocks, get_blocks, has_block, holds_from, words_for};
+ghost use Rattle.nook_defs.specs.Classes.{covers};
+ghost use Rattle.nook_defs.specs.Contract.{is_prefix};
+ghost use Rattle.contract_monitor.specs.Questions.{holds_block};
+
+use class_table::{blocks_of_op, first_of_op};
+use nook_defs::data::{Class, Op};
+use nook_defs::lists::Words;
+use nook_defs::memory::NoMemory;
+use std::alloc::Global;
+use std::collections::VecDeque;
+
+/// The words of a block.
+const BLOCK_WORDS: usize = 16;
+
+/// Whether a Read or Write covers the block.
+pub fn covers(op: &Op, block: u64) -> bool
+    ensures { result ≡ covers op.now block }
+{
+    let first = u64::from(first_of_op(op));
+    first <= block && block < first + blocks_of_op(op)
+}
+
+/// The words of a block among those of several; what the last ones lack is left out.
+fn block_at(words: &[u32], place: u64) -> &[u32]
+    ensures { result.now ≡ take 16 (drop (16 * place) words.now) }
+{
+    let at = place.saturating_mul(BLOCK_WORDS as u64);
+    if words.len() as u64 <= at {
+        return &[];
+    }
+    let (_, rest) = words.split_at(at as usize);
+    if rest.len() <= BLOCK_WORDS {
+        return rest;
+    }
+    rest.split_at(BLOCK_WORDS).0
+}
+
+/// What a Write has for a block that it covers.
+pub fn words_for(op: &Op, block: u64) -> &[u32]
+    ensures { result.now ≡ words_for op.now block }
+{
+    match op {
+        Op::Write { first, words } => {
+            let place = block.saturating_sub(u64::from(*first));
+            block_at(words.as_slice(), place)
+        }
+        _ => &[],
+    }
+}
+
+/// A disk of `count` blocks of zeros; the other classes have no blocks.
+pub fn blank_blocks(alloc: Global, class: Class, count: u32) -> Result<Vec<Words>, NoMemory>
+    ensures { IfOk result (λ made. made.items ≡ blank_blocks class count) }
+{
+    match class {
+        Class::Block => blank(alloc, count),
+        Class::Net | Class::Sound => Ok(Vec::new(alloc)),
+    }
+}
+
+/// Some blocks of zeros.
+fn blank(alloc: Global, count: u32) -> Result<Vec<Words>, NoMemory>
+    ensures { IfOk result (λ made. made.items ≡ replicate count (replicate 16 0)) }
+{
+    let mut made = Vec::new(alloc);
+    for _block in 0..count {
+        made.push(Words::from_vec(vec![in alloc; 0; BLOCK_WORDS]?))?;
+    }
+    Ok(made)
+}
+
+/// A block gets words; a number past the last block changes nothing.
+pub fn set_block(medium: &mut [Words], block: u32, words: Words)
+    ensures { medium.new ≡ slice_set medium.old block words }
+{
+    if (block as usize) < medium.len() {
+        medium[block as usize] = words;
+    }
+}
+
+/// Whether a block that the operation covers has its words.
+fn holds_block(op: &Op, block: u64, words: &[u32]) -> bool
+    ensures { result ≡ holds_block op.now block words.now }
+{
+    !covers(op, block) || words == words_for(op, block)
+}
+
+/// Whether each block that a Write covers has its words.
+pub fn holds(op: &Op, medium: &[Words]) -> bool
+    ensures { result ≡ holds_from 0 op.now medium.now }
+{
+    let mut block = 0_u64;
+    for words in medium {
+        if !holds_block(op, block, words.as_slice()) {
+            return false;
+        }
+        block += 1;
+    }
+    true
+}
+
+/// A block's words, where there is one.
+fn block_words(medium: &[Words], block: u64) -> &[u32]
+    ensures { result.now ≡ unwrap_or (slice_get medium.now block) [] }
+{
+    if block < medium.len() as u64 {
+        medium[block as usize].as_slice()
+    } else {
+        &[]
+    }
+}
+
+/// The words of so many blocks from a first one on, one block after the other.
+pub fn get_blocks(
+    alloc: Global,
+    medium: &[Words],
+    first: u32,
+    count: u32,
+) -> Result<Words, NoMemory>
+    ensures { IfOk result (λ made. made ≡ get_blocks medium.now first count) }
+{
+    let mut made = Words::new(alloc);
+    for i in 0..count {
+        push_all(
+            &mut made,
+            block_words(medium, u64::from(first) + u64::from(i)),
+        )?;
+    }
+    Ok(made)
+}
+
+/// Adds words at the back.
+fn push_all(made: &mut Words, words: &[u32]) -> Result<(), NoMemory>
+    ensures { OnOk result (made.new ≡ made.old ++ words.now) }
+{
+    for word in words {
+        made.push(*word)?;
+    }
+    Ok(())
+}
+
+/// Whether a block is among these.
+pub fn has_block(block: u32, blocks: &VecDeque<u32>) -> bool
+    ensures { result ≡ has_block block blocks.now.items }
+{
+    for i in 0..blocks.len() {
+        if blocks[i] == block {
+            return true;
+        }
+    }
+    false
+}
+
+/// Whether the first frames of `frames` are these.
+pub fn is_prefix(first: &[Words], frames: &[Words]) -> bool
+    ensures { result ≡ is_prefix first.now frames.now }
+{
+    for i in 0..first.len() {
+        if frames.len() <= i {
+            return false;
+        }
+        if first[i].as_slice() != frames[i].as_slice() {
+            return false;
+        }
+    }
+    true
+}

@@ -1,0 +1,132 @@
+//! Every call at the place of its number, with what the contract's monitor knows of it and what is counted of it.
+
+ghost use Rattle.std.specs.Prelude.{◌≡◌, ◌+◌, ◌++◌, ◌∷◌, [], ℕ, None, Some, MatchOption, length, map, OnOk, IfOk};
+ghost use Rattle.nook_defs.specs.Contract.{enters, leaves, failed_at, handed_one, played_one, sent_once, watched};
+ghost use Rattle.nook_defs.specs.Losses.{count_answered, count_played, count_sent, counted};
+ghost use Rattle.nook_defs.specs.Places.{at_number};
+ghost use Rattle.contract_monitor.specs.Calls.{IsPlaceOf, counted_calls, counted_change, counted_of, watched_calls, watched_change, watched_of};
+
+use nook_defs::data::Op;
+use nook_defs::lists::TryCopy;
+use nook_defs::memory::NoMemory;
+use std::alloc::Global;
+use std::collections::VecDeque;
+
+/// A call. `counted` are the samples that were played in its bursts, and `played` those that were its next ones.
+#[derive(Drop)]
+pub struct Call {
+    pub op: Op,
+    pub inside: bool,
+    pub sent: u64,
+    pub played: u64,
+    pub handed: bool,
+    pub failed: VecDeque<u32>,
+    pub counted: u64,
+    pub answered: bool,
+}
+
+/// What becomes of a call.
+#[derive(Clone, Copy)]
+pub enum Change {
+    /// It is entered; `inside` tells that it got no answer.
+    Enter { inside: bool },
+    Leave,
+    /// A frame was sent in one of its bursts.
+    Sent,
+    /// Its next sample was played.
+    Played,
+    /// A frame was handed up.
+    Handed,
+    /// A command on the block failed.
+    Failed { block: u32 },
+    /// A sample was played in one of its bursts.
+    Counted,
+    Answered,
+}
+
+/// A count and `by` more. A count that has no room in 64 bits is refused as memory is.
+pub fn more(count: u64, by: u64) -> Result<u64, NoMemory>
+    ensures { IfOk result (λ n. n ≡ count + by) }
+{
+    count.checked_add(by).ok_or(NoMemory)
+}
+
+/// The place in a list of `count` calls that a number stands for.
+fn place_of(number: u64, count: usize) -> Option<usize>
+    ensures { IsPlaceOf number count result }
+{
+    if number == 0 || (count as u64) < number {
+        return None;
+    }
+    Some(number as usize - 1)
+}
+
+/// The call with a number.
+pub fn find_call(calls: &[Call], number: u64) -> Option<&Call>
+    ensures watched { MatchOption result (at_number number (map watched_of calls.now) ≡ None) (λ c. at_number number (map watched_of calls.now) ≡ Some (watched_of c.now)) }
+    ensures counted { MatchOption result (at_number number (map counted_of calls.now) ≡ None) (λ c. at_number number (map counted_of calls.now) ≡ Some (counted_of c.now)) }
+{
+    let place = place_of(number, calls.len())?;
+    Some(&calls[place])
+}
+
+/// Adds an invoked call.
+pub fn add_call(alloc: Global, calls: &mut Vec<Call>, op: &Op) -> Result<(), NoMemory>
+    ensures watched { OnOk result (map watched_of calls.new.items ≡ map watched_of calls.old.items ++ watched op.now ∷ []) }
+    ensures counted { OnOk result (map counted_of calls.new.items ≡ map counted_of calls.old.items ++ counted op.now ∷ []) }
+{
+    calls.push(Call {
+        op: op.copy(alloc)?,
+        inside: false,
+        sent: 0,
+        played: 0,
+        handed: false,
+        failed: VecDeque::new(alloc),
+        counted: 0,
+        answered: false,
+    })?;
+    Ok(())
+}
+
+/// Changes the call with a number, where there is one.
+pub fn change_call(calls: &mut [Call], number: u64, change: Change) -> Result<(), NoMemory>
+    ensures watched { OnOk result (map watched_of calls.new ≡ watched_calls change number (map watched_of calls.old)) }
+    ensures counted { OnOk result (map counted_of calls.new ≡ counted_calls change number (map counted_of calls.old)) }
+{
+    let Some(place) = place_of(number, calls.len()) else {
+        return Ok(());
+    };
+    change_one(&mut calls[place], change)
+}
+
+/// Changes a call.
+fn change_one(call: &mut Call, change: Change) -> Result<(), NoMemory>
+    ensures watched { OnOk result (watched_of call.new ≡ watched_change change (watched_of call.old)) }
+    ensures counted { OnOk result (counted_of call.new ≡ counted_change change (counted_of call.old)) }
+{
+    match change {
+        Change::Enter { inside } => {
+            call.inside = inside;
+            call.handed = false;
+            call.failed.clear();
+        }
+        Change::Leave => call.inside = false,
+        Change::Sent => call.sent = more(call.sent, 1)?,
+        Change::Played => call.played = more(call.played, 1)?,
+        Change::Handed => call.handed = true,
+        Change::Failed { block } => call.failed.push_front(block)?,
+        Change::Counted => call.counted = more(call.counted, 1)?,
+        Change::Answered => call.answered = true,
+    }
+    Ok(())
+}
+
+/// No call is Inside any more.
+pub fn leave_all(calls: &mut [Call])
+    ensures watched { map watched_of calls.new ≡ map leaves (map watched_of calls.old) }
+    ensures counted { map counted_of calls.new ≡ map counted_of calls.old }
+{
+    for call in calls {
+        call.inside = false;
+    }
+}

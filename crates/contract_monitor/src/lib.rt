@@ -1,0 +1,17 @@
+//! The monitor of a part: in one pass over the part's events it judges its driver by the class's contract and counts
+//! what was lost.
+#![tactic(auto)]
+
+mod acts;
+mod blocks;
+mod calls;
+mod clauses;
+mod counting;
+mod crossings;
+mod known;
+mod monitor;
+#[cfg(test)]
+mod tests;
+mod watching;
+
+pub use monitor::Monitor;

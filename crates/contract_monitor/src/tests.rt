@@ -1,0 +1,225 @@
+//! Some short lists of events, with the verdict and the numbers that the class's contract gives them.
+
+use crate::Monitor;
+use nook_defs::data::{Act, Acts, Answer, CallAnswers, Class, End, Event, Op, Released, Stage};
+use nook_defs::lists::Words;
+use nook_defs::memory::NoMemory;
+use std::alloc::Global;
+use std::fmt::Write;
+use std::test::Fail;
+
+/// Some words.
+fn words(alloc: Global, count: usize, word: u32) -> Result<Words, NoMemory> {
+    let mut made = Words::new(alloc);
+    for _ in 0..count {
+        made.push(word)?;
+    }
+    Ok(made)
+}
+
+/// A call is invoked and stays open.
+fn invoke(call: u32, op: Op) -> Event {
+    Event::Invoke {
+        call,
+        thread: 0,
+        op,
+        answer: None,
+    }
+}
+
+/// A call goes Inside.
+fn enter(call: u32) -> Event {
+    Event::Enter {
+        call,
+        thread: 0,
+        attempt: 1,
+        answer: None,
+    }
+}
+
+/// A burst of a call with at most one act.
+fn burst(
+    alloc: Global,
+    call: u32,
+    act: Option<Act>,
+    end: End,
+    answer: Option<Answer>,
+) -> Result<Event, NoMemory> {
+    let mut acts = Acts::new(alloc);
+    if let Some(act) = act {
+        acts.push(act)?;
+    }
+    Ok(Event::Burst {
+        context: 1,
+        call,
+        burst: 1,
+        count: 5,
+        end,
+        acts,
+        answer,
+        failure: None,
+    })
+}
+
+/// The last burst of a call, with its answer.
+fn reply(alloc: Global, call: u32, act: Option<Act>, answer: Answer) -> Result<Event, NoMemory> {
+    burst(alloc, call, act, End::Reply { status: 0 }, Some(answer))
+}
+
+/// A stage that answers no call.
+fn stage(alloc: Global, stage: Stage) -> Event {
+    Event::Stage {
+        stage,
+        answers: CallAnswers::new(alloc),
+        released: Released::new(alloc),
+    }
+}
+
+/// A Write of one block that stores some word, and its answer Done.
+fn one_write(alloc: Global, stored: u32, block: u32) -> Result<Vec<Event>, Fail> {
+    let op = Op::Write {
+        first: 1,
+        words: words(alloc, 16, 7)?,
+    };
+    let store = Act::Store {
+        block,
+        words: words(alloc, 16, stored)?,
+    };
+    Ok(vec![in alloc;
+        invoke(1, op),
+        enter(1),
+        reply(alloc, 1, Some(store), Answer::Done)?,
+    ]?)
+}
+
+/// A Send in which `sent` frames were sent, and its answer Done.
+fn one_send(alloc: Global, sent: u32) -> Result<Vec<Event>, Fail> {
+    let op = Op::Send {
+        frame: words(alloc, 2, 9)?,
+    };
+    let mut events = vec![in alloc; invoke(1, op), enter(1)]?;
+    for _ in 0..sent {
+        let act = Act::Sent {
+            frame: words(alloc, 2, 9)?,
+        };
+        events.push(burst(alloc, 1, Some(act), End::Pause, None)?)?;
+    }
+    events.push(reply(alloc, 1, None, Answer::Done)?)?;
+    Ok(events)
+}
+
+/// Three frames arrive, of which two are kept and one is popped; then the device is reset.
+fn frames_and_a_reset(alloc: Global) -> Result<Vec<Event>, Fail> {
+    let mut events = Vec::new(alloc);
+    for kept in [true, true, false] {
+        events.push(Event::Arrive {
+            frame: words(alloc, 1, 4)?,
+            kept,
+        })?;
+    }
+    events.push(invoke(1, Op::Recv))?;
+    events.push(enter(1))?;
+    let act = Act::Popped {
+        frame: words(alloc, 1, 4)?,
+    };
+    events.push(burst(alloc, 1, Some(act), End::Pause, None)?)?;
+    events.push(stage(alloc, Stage::Stop))?;
+    events.push(stage(alloc, Stage::Reset))?;
+    Ok(events)
+}
+
+/// A Play of three samples of which one was played, and two answers.
+fn one_play(alloc: Global) -> Result<Vec<Event>, Fail> {
+    let op = Op::Play {
+        samples: words(alloc, 3, 6)?,
+    };
+    let act = Act::Played {
+        sample: 6,
+        rate: 8000,
+        volume: 5,
+    };
+    let busy = Event::Invoke {
+        call: 2,
+        thread: 1,
+        op: Op::Open,
+        answer: Some(Answer::Busy { stage: Stage::Init }),
+    };
+    Ok(vec![in alloc;
+        invoke(1, op),
+        enter(1),
+        burst(alloc, 1, Some(act), End::Pause, None)?,
+        busy,
+        reply(alloc, 1, None, Answer::Done)?,
+        reply(alloc, 1, None, Answer::Done)?,
+    ]?)
+}
+
+/// What a monitor tells of some events: the first break, then sends, samples and busy answers, then the frames.
+fn told(alloc: Global, class: Class, events: &[Event]) -> Result<String, Fail> {
+    let mut monitor = Monitor::new(alloc, class, 2)?;
+    for event in events {
+        monitor.see(event)?;
+    }
+    let mut text = String::new(alloc);
+    match monitor.first_break() {
+        Some(found) => write!(text, "{}.{}", found.event, found.clause)?,
+        None => write!(text, "kept")?,
+    }
+    let n = monitor.losses();
+    write!(text, " {} {} {}", n.sends, n.samples, n.busy)?;
+    write!(text, " / {} {} {}", n.arrived, n.received, n.queued)?;
+    write!(text, " {} {} {}", n.ring, n.driver, n.reset)?;
+    write!(text, " {} {}", n.full_ring, n.full_queue)?;
+    Ok(text)
+}
+
+#[test]
+fn judges_and_counts(rt: HostRuntime) -> Result<(), Fail> {
+    let alloc = rt.alloc();
+    for (class, events, want) in [
+        (
+            Class::Block,
+            one_write(alloc, 7, 1)?,
+            "kept 0 0 0 / 0 0 0 0 0 0 0 0",
+        ),
+        (
+            Class::Block,
+            one_write(alloc, 8, 1)?,
+            "3.2 0 0 0 / 0 0 0 0 0 0 0 0",
+        ),
+        (
+            Class::Block,
+            one_write(alloc, 7, 0)?,
+            "3.1 0 0 0 / 0 0 0 0 0 0 0 0",
+        ),
+        (
+            Class::Net,
+            one_send(alloc, 1)?,
+            "kept 0 0 0 / 0 0 0 0 0 0 0 0",
+        ),
+        (
+            Class::Net,
+            one_send(alloc, 2)?,
+            "4.6 0 0 0 / 0 0 0 0 0 0 0 0",
+        ),
+        (
+            Class::Net,
+            one_send(alloc, 0)?,
+            "3.7 1 0 0 / 0 0 0 0 0 0 0 0",
+        ),
+        (
+            Class::Net,
+            frames_and_a_reset(alloc)?,
+            "kept 0 0 0 / 3 0 0 0 0 2 1 0",
+        ),
+        (
+            Class::Sound,
+            one_play(alloc)?,
+            "5.11 0 2 1 / 0 0 0 0 0 0 0 0",
+        ),
+    ] {
+        let text = told(alloc, class, &events)?;
+        assert_eq!(rt; text.as_str(), want);
+    }
+    Ok(())
+}

@@ -1,0 +1,9 @@
+use Rattle.std.proofs.Common.{◌≡◌, ◌++◌, drop}
+use Rattle.nook_defs.specs.ReportText.{taps_text}
+use Rattle.report_text.proofs.whole_text.push_taps.Given as goal
+
+abbrev pub invariant-loop-tap : goal.invariant-loop-tap
+invariant-loop-tap l = record {
+  counted : l.place ≡ l.tap-index;
+  text : l.line ++ taps_text l.place (drop l.tap-index l.taps) ≡ l.initial.line ++ taps_text 0 l.taps;
+}

@@ -1,0 +1,8 @@
+-- The line of one answer.
+use Rattle.std.specs.Prelude.{ℕ, List, ◌++◌, codes, decimal}
+use Rattle.nook_defs.specs.declared.data.Answer.{Answer}
+use Rattle.nook_defs.specs.ReportLines.{answer_text, line_feed, with_number}
+
+-- a thread's answer: K pP ANSWER
+abbrev pub answer_line : ℕ → ℕ × Answer → List ℕ
+answer_line place a = decimal place ++ (with_number (codes " p") a.0 ++ (codes " " ++ (answer_text a.1 ++ line_feed)))

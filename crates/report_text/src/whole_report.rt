@@ -1,0 +1,174 @@
+//! What a run left with what its parts end in, and what the report sums up of it.
+
+ghost use Rattle.std.specs.Prelude.{◌≡◌, ◌++◌, IfOk, OnOk};
+ghost use Rattle.nook_defs.specs.Contract.{first_break};
+ghost use Rattle.nook_defs.specs.Losses.{losses};
+ghost use Rattle.report_text.specs.Whole.{HaveEnds, IsReport, is_broken, is_gone, status_in, summaries, summary};
+
+use crate::report::Run;
+use contract_monitor::Monitor;
+use nook_defs::data::{Break, Event, Losses, PartSpec, Scenario};
+use nook_defs::journal::Journal;
+use nook_defs::lists::{Frames, Items};
+use nook_defs::memory::NoMemory;
+use std::alloc::Global;
+
+/// What a part ends in: the kernel objects 1 to 12, the medium, the configuration last acknowledged, the failures.
+#[derive(Drop)]
+pub struct PartEnd {
+    pub objects: Frames,
+    pub medium: Frames,
+    pub config: [u32; 4],
+    pub failures: u32,
+}
+
+/// What is summed up of a part.
+#[derive(Clone, Copy)]
+pub struct PartReport {
+    pub losses: Losses,
+    pub first_break: Option<Break>,
+    pub failures: u32,
+}
+
+/// What each part ends in.
+pub type PartEnds = Items<PartEnd>;
+/// What is summed up of each part.
+pub type PartReports = Items<PartReport>;
+
+/// A run, what its parts end in, what is summed up of it, and the status.
+#[derive(Drop)]
+pub struct Report {
+    pub run: Run,
+    pub ends: PartEnds,
+    pub parts: PartReports,
+    pub status: u32,
+}
+
+/// Sums a run up: of each part what was lost, its first break and its failures; and the status, 7 where a part broke
+/// its contract, else 1 where a part was given up, else 0. It is the report of the run where each part ends in the
+/// state that its journal leads to.
+pub fn report_of(
+    alloc: Global,
+    scenario: &Scenario,
+    run: Run,
+    ends: PartEnds,
+) -> Result<Report, NoMemory>
+    ensures run { IfOk result (λ report. report.run ≡ run) }
+    ensures ends { IfOk result (λ report. report.ends ≡ ends) }
+    ensures parts { IfOk result (λ report. report.parts ≡ summaries scenario.now.parts run.journals ends) }
+    ensures status { IfOk result (λ report. report.status ≡ status_in scenario.now.parts report.parts) }
+    ensures whole { HaveEnds scenario.now.parts run.journals ends → IfOk result (λ report. IsReport scenario.now report) }
+{
+    let specs = scenario.parts.as_slice();
+    let mut parts = Items::new(alloc);
+    sum_up(
+        alloc,
+        specs,
+        run.journals.as_slice(),
+        ends.as_slice(),
+        &mut parts,
+    )?;
+    let status = status_in(specs, parts.as_slice());
+    Ok(Report {
+        run,
+        ends,
+        parts,
+        status,
+    })
+}
+
+/// Adds what is summed up of each part.
+
+fn sum_up(
+    alloc: Global,
+    specs: &[PartSpec],
+    journals: &[Journal],
+    ends: &[PartEnd],
+    parts: &mut PartReports,
+) -> Result<(), NoMemory>
+    ensures { OnOk result (parts.new ≡ parts.old ++ summaries specs.now journals.now ends.now) }
+{
+    let Some((spec, more_specs)) = specs.split_first() else {
+        return Ok(());
+    };
+    let Some((journal, more_journals)) = journals.split_first() else {
+        return Ok(());
+    };
+    let Some((end, more_ends)) = ends.split_first() else {
+        return Ok(());
+    };
+    parts.push(sum_part(alloc, spec, journal.as_slice(), end)?)?;
+    sum_up(alloc, more_specs, more_journals, more_ends, parts)
+}
+
+/// What is summed up of a part.
+fn sum_part(
+    alloc: Global,
+    spec: &PartSpec,
+    events: &[Event],
+    end: &PartEnd,
+) -> Result<PartReport, NoMemory>
+    ensures { IfOk result (λ part. part ≡ summary spec.now events.now end.now) }
+{
+    let judged = judge(alloc, spec, events)?;
+    Ok(PartReport {
+        losses: judged.0,
+        first_break: judged.1,
+        failures: end.failures,
+    })
+}
+
+/// What was lost in some events of a part, and the first break.
+fn judge(
+    alloc: Global,
+    spec: &PartSpec,
+    events: &[Event],
+) -> Result<(Losses, Option<Break>), NoMemory>
+    ensures { IfOk result (λ judged. judged ≡ (losses events.now, first_break spec.now.class spec.now.blocks events.now)) }
+{
+    let mut monitor = Monitor::new(alloc, spec.class, spec.blocks)?;
+    for event in events {
+        monitor.see(event)?;
+    }
+    Ok((monitor.losses(), monitor.first_break()))
+}
+
+/// The status of a run.
+fn status_in(specs: &[PartSpec], parts: &[PartReport]) -> u32
+    ensures { result ≡ status_in specs.now parts.now }
+{
+    if is_broken(parts) {
+        7
+    } else if is_gone(specs, parts) {
+        1
+    } else {
+        0
+    }
+}
+
+/// Whether some part broke its contract.
+fn is_broken(parts: &[PartReport]) -> bool
+    ensures { result ≡ is_broken parts.now }
+{
+    for part in parts {
+        if part.first_break.is_some() {
+            return true;
+        }
+    }
+    false
+}
+
+/// Whether some part was given up.
+fn is_gone(specs: &[PartSpec], parts: &[PartReport]) -> bool
+    ensures { result ≡ is_gone specs.now parts.now }
+{
+    for i in 0..specs.len() {
+        if parts.len() <= i {
+            return false;
+        }
+        if specs[i].limit < parts[i].failures {
+            return true;
+        }
+    }
+    false
+}

@@ -1,0 +1,501 @@
+//! The writing of a whole report into a sink, line by line.
+
+ghost use Rattle.std.specs.Prelude.{◌≡◌, ◌+◌, ◌^◌, ◌<◌, ◌++◌, ℕ, List, OnOk, bytes_eq, length, replicate};
+ghost use Rattle.nook_defs.specs.Pages.{opening_object};
+ghost use Rattle.nook_defs.specs.ReportText.{block_line, block_lines, config_line, contract_line, failures_line, losses_lines, object_line, played_lines, report_text, spaced_each, status_line, tap_line, tap_text, taps_text, threads_text, wire_lines};
+ghost use Rattle.report_text.specs.Whole.{IsReport, device_rows, ending_rows, event_rows, event_text, frame_counts, kept_counts, lists_of, lost_counts, part_rows, parts_rows, played_row, report_rows, sample_counts, wire_row};
+ghost use Rattle.report_text.specs.Writing.{Wrote, each_text};
+
+use crate::line::Line;
+use crate::pieces::{push_list, push_number};
+use crate::whole_report::{PartEnd, PartReport, Report};
+use crate::write::{
+    WriteStop, write_events, write_part_line, write_status_line, write_text, write_threads,
+};
+use nook_defs::data::{Act, Break, Class, Event, Losses, PartSpec, Scenario};
+use nook_defs::journal::Journal;
+use nook_defs::lists::Words;
+use nook_defs::memory::NoMemory;
+use nook_defs::outside::Sink;
+use std::alloc::Global;
+
+/// Which acts of a device are told line by line.
+#[derive(Clone, Copy)]
+pub enum Kind {
+    /// Frames that were sent.
+    Frames,
+    /// Samples that were played.
+    Samples,
+}
+
+/// Whether a kernel object is as it was at first: its number and zeros.
+fn is_opening(object: u64, words: &[u32]) -> bool
+    ensures { result ≡ bytes_eq words.now (opening_object object) }
+{
+    match words.split_first() {
+        Some((first, rest)) => u64::from(*first) == object && rest.len() == 63 && all_zeros(rest),
+        None => false,
+    }
+}
+
+/// Whether words are all 0.
+fn all_zeros(words: &[u32]) -> bool
+    ensures { result ≡ bytes_eq words.now (replicate (length words.now) 0) }
+{
+    for word in words {
+        if *word != 0 {
+            return false;
+        }
+    }
+    true
+}
+
+/// Whether a block has 16 words, all 0.
+fn is_blank(words: &[u32]) -> bool
+    ensures { result ≡ bytes_eq words.now (replicate 16 0) }
+{
+    words.len() == 16 && all_zeros(words)
+}
+
+/// A kernel object, where it differs from what it held at first.
+fn push_object(line: &mut Line, object: u64, words: &Words) -> Result<(), NoMemory>
+    ensures { OnOk result (line.new ≡ line.old ++ object_line object words.now) }
+{
+    if is_opening(object, words.as_slice()) {
+        return Ok(());
+    }
+    push_number(line, "object ", object)?;
+    push_list(line, " ", words)?;
+    line.push("\n")
+}
+
+/// Kernel objects, the first of them number 1.
+fn push_objects(line: &mut Line, objects: &[Words]) -> Result<(), NoMemory>
+    ensures { OnOk result (line.new ≡ line.old ++ each_text object_line 1 objects.now) }
+{
+    let mut object = 1_u64;
+    for words in objects {
+        push_object(line, object, words)?;
+        object += 1;
+    }
+    Ok(())
+}
+
+/// A block, where it has another word than 0.
+fn push_block(line: &mut Line, block: u64, words: &Words) -> Result<(), NoMemory>
+    ensures { OnOk result (line.new ≡ line.old ++ block_line block words.now) }
+{
+    if is_blank(words.as_slice()) {
+        return Ok(());
+    }
+    push_number(line, "disk ", block)?;
+    push_list(line, " ", words)?;
+    line.push("\n")
+}
+
+/// The blocks of a medium.
+fn push_blocks(line: &mut Line, medium: &[Words]) -> Result<(), NoMemory>
+    ensures { OnOk result (line.new ≡ line.old ++ block_lines 0 medium.now) }
+{
+    let mut block = 0_u64;
+    for words in medium {
+        push_block(line, block, words)?;
+        block += 1;
+    }
+    Ok(())
+}
+
+/// The frames that were sent.
+fn push_frames(line: &mut Line, acts: &[Act]) -> Result<(), NoMemory>
+    ensures { OnOk result (line.new ≡ line.old ++ wire_lines acts.now) }
+{
+    for act in acts {
+        push_frame(line, act)?;
+    }
+    Ok(())
+}
+
+/// An act, where it sent a frame.
+fn push_frame(line: &mut Line, act: &Act) -> Result<(), NoMemory>
+    ensures { OnOk result (line.new ≡ line.old ++ wire_row act.now) }
+{
+    match act {
+        Act::Sent { frame } => {
+            push_list(line, "wire ", frame)?;
+            line.push("\n")
+        }
+        _ => Ok(()),
+    }
+}
+
+/// The samples that were played.
+fn push_samples(line: &mut Line, acts: &[Act]) -> Result<(), NoMemory>
+    ensures { OnOk result (line.new ≡ line.old ++ played_lines acts.now) }
+{
+    for act in acts {
+        push_sample(line, act)?;
+    }
+    Ok(())
+}
+
+/// An act, where it played a sample.
+fn push_sample(line: &mut Line, act: &Act) -> Result<(), NoMemory>
+    ensures { OnOk result (line.new ≡ line.old ++ played_row act.now) }
+{
+    match act {
+        Act::Played {
+            sample,
+            rate,
+            volume,
+        } => {
+            push_number(line, "played ", u64::from(*sample))?;
+            push_number(line, " ", u64::from(*rate))?;
+            push_number(line, " ", u64::from(*volume))?;
+            line.push("\n")
+        }
+        _ => Ok(()),
+    }
+}
+
+/// The lines of an event's acts.
+fn push_acts(line: &mut Line, kind: Kind, event: &Event) -> Result<(), NoMemory>
+    ensures { OnOk result (line.new ≡ line.old ++ event_rows kind event.now) }
+{
+    match event {
+        Event::Burst { acts, .. } => match kind {
+            Kind::Frames => push_frames(line, acts.as_slice()),
+            Kind::Samples => push_samples(line, acts.as_slice()),
+        },
+        _ => Ok(()),
+    }
+}
+
+/// The configuration.
+fn push_config(line: &mut Line, config: &[u32; 4]) -> Result<(), NoMemory>
+    ensures { OnOk result (line.new ≡ line.old ++ config_line config.now) }
+{
+    line.push("config")?;
+    push_spaced(line, config)?;
+    line.push("\n")
+}
+
+/// Words, each behind a space.
+fn push_spaced(line: &mut Line, words: &[u32]) -> Result<(), NoMemory>
+    ensures { OnOk result (line.new ≡ line.old ++ spaced_each words.now) }
+{
+    for word in words {
+        push_number(line, " ", u64::from(*word))?;
+    }
+    Ok(())
+}
+
+/// The numbers of losses that are told of a class.
+fn push_losses(line: &mut Line, class: Class, losses: &Losses) -> Result<(), NoMemory>
+    ensures { OnOk result (line.new ≡ line.old ++ losses_lines class losses.now) }
+{
+    match class {
+        Class::Block => Ok(()),
+        Class::Net => push_frame_counts(line, losses),
+        Class::Sound => push_sample_counts(line, losses),
+    }
+}
+
+/// What a sound part lost.
+fn push_sample_counts(line: &mut Line, losses: &Losses) -> Result<(), NoMemory>
+    ensures { OnOk result (line.new ≡ line.old ++ sample_counts losses.now) }
+{
+    push_number(line, "losses samples ", losses.samples)?;
+    push_number(line, " busy ", losses.busy)?;
+    line.push("\n")
+}
+
+/// What a net part lost, and where its frames went.
+fn push_frame_counts(line: &mut Line, losses: &Losses) -> Result<(), NoMemory>
+    ensures { OnOk result (line.new ≡ line.old ++ frame_counts losses.now) }
+{
+    push_number(line, "losses sends ", losses.sends)?;
+    line.push("\n")?;
+    push_number(line, "frames arrived ", losses.arrived)?;
+    push_number(line, " received ", losses.received)?;
+    push_kept_counts(line, losses)
+}
+
+/// Where a net part's frames are, and then the others.
+fn push_kept_counts(line: &mut Line, losses: &Losses) -> Result<(), NoMemory>
+    ensures { OnOk result (line.new ≡ line.old ++ kept_counts losses.now) }
+{
+    push_number(line, " queued ", losses.queued)?;
+    push_number(line, " ring ", losses.ring)?;
+    push_number(line, " driver ", losses.driver)?;
+    push_lost_counts(line, losses)
+}
+
+/// How many of a net part's frames were lost.
+fn push_lost_counts(line: &mut Line, losses: &Losses) -> Result<(), NoMemory>
+    ensures { OnOk result (line.new ≡ line.old ++ lost_counts losses.now) }
+{
+    push_number(line, " reset ", losses.reset)?;
+    push_number(line, " full_ring ", losses.full_ring)?;
+    push_number(line, " full_queue ", losses.full_queue)?;
+    line.push("\n")
+}
+
+/// The verdict on the part's driver.
+fn push_verdict(line: &mut Line, first_break: Option<Break>) -> Result<(), NoMemory>
+    ensures { OnOk result (line.new ≡ line.old ++ contract_line first_break) }
+{
+    match first_break {
+        Some(found) => {
+            push_number(line, "contract broken event ", found.event)?;
+            push_number(line, " clause ", u64::from(found.clause))?;
+            line.push("\n")
+        }
+        None => line.push("contract kept\n"),
+    }
+}
+
+/// A part's last lines.
+fn push_ending(
+    line: &mut Line,
+    class: Class,
+    summed: &PartReport,
+    end: &PartEnd,
+) -> Result<(), NoMemory>
+    ensures { OnOk result (line.new ≡ line.old ++ ending_rows class summed.now end.now) }
+{
+    push_config(line, &end.config)?;
+    push_losses(line, class, &summed.losses)?;
+    push_number(line, "failures ", u64::from(summed.failures))?;
+    line.push("\n")?;
+    push_verdict(line, summed.first_break)
+}
+
+/// Listeners, the first of them number 0.
+#[tactic(auto, unfolding(nook_defs::specs::ReportText::taps_text))]
+fn push_taps(line: &mut Line, taps: &[(u64, bool)]) -> Result<(), NoMemory>
+    ensures { OnOk result (line.new ≡ line.old ++ taps_text 0 taps.now) }
+{
+    let mut place = 0_u64;
+    for tap in taps {
+        push_tap(line, place, tap)?;
+        place += 1;
+    }
+    Ok(())
+}
+
+/// A listener's total, and whether it was kept.
+fn push_tap(line: &mut Line, place: u64, tap: &(u64, bool)) -> Result<(), NoMemory>
+    ensures { OnOk result (line.new ≡ line.old ++ tap_line place tap.now) }
+{
+    push_number(line, "tap ", place)?;
+    push_number(line, " total ", tap.0)?;
+    line.push(fate(tap.1))?;
+    line.push("\n")
+}
+
+/// Whether a listener was kept.
+fn fate(kept: bool) -> &'static str
+    ensures { result.now ≡ tap_text kept }
+{
+    if kept { " kept" } else { " dropped" }
+}
+
+/// Writes the lines of kernel objects.
+fn write_objects<K: Sink>(alloc: Global, sink: &mut K, objects: &[Words]) -> Result<(), WriteStop>
+    ensures { Wrote (K.held sink.old) (K.held sink.new) (K.count sink.old) (K.count sink.new) result (each_text object_line 1 objects.now) }
+{
+    let mut line = Line::new(alloc);
+    push_objects(&mut line, objects)?;
+    write_text(sink, &line)
+}
+
+/// Writes the lines of a medium.
+fn write_blocks<K: Sink>(alloc: Global, sink: &mut K, medium: &[Words]) -> Result<(), WriteStop>
+    ensures { Wrote (K.held sink.old) (K.held sink.new) (K.count sink.old) (K.count sink.new) result (block_lines 0 medium.now) }
+{
+    let mut line = Line::new(alloc);
+    push_blocks(&mut line, medium)?;
+    write_text(sink, &line)
+}
+
+/// Writes the lines of an event's acts.
+fn write_event_acts<K: Sink>(
+    alloc: Global,
+    sink: &mut K,
+    kind: Kind,
+    event: &Event,
+) -> Result<(), WriteStop>
+    ensures { Wrote (K.held sink.old) (K.held sink.new) (K.count sink.old) (K.count sink.new) result (event_rows kind event.now) }
+{
+    let mut line = Line::new(alloc);
+    push_acts(&mut line, kind, event)?;
+    write_text(sink, &line)
+}
+
+/// Writes the lines of the acts of events.
+fn write_acts<K: Sink>(
+    alloc: Global,
+    sink: &mut K,
+    kind: Kind,
+    events: &[Event],
+) -> Result<(), WriteStop>
+    ensures { Wrote (K.held sink.old) (K.held sink.new) (K.count sink.old) (K.count sink.new) result (each_text (event_text kind) 0 events.now) }
+{
+    for event in events {
+        write_event_acts(alloc, sink, kind, event)?;
+    }
+    Ok(())
+}
+
+/// Writes what the device was left with or gave.
+fn write_device<K: Sink>(
+    alloc: Global,
+    sink: &mut K,
+    class: Class,
+    events: &[Event],
+    medium: &[Words],
+) -> Result<(), WriteStop>
+    ensures { Wrote (K.held sink.old) (K.held sink.new) (K.count sink.old) (K.count sink.new) result (device_rows class events.now medium.now) }
+{
+    match class {
+        Class::Block => write_blocks(alloc, sink, medium),
+        Class::Net => write_acts(alloc, sink, Kind::Frames, events),
+        Class::Sound => write_acts(alloc, sink, Kind::Samples, events),
+    }
+}
+
+/// Writes a part's last lines.
+fn write_ending<K: Sink>(
+    alloc: Global,
+    sink: &mut K,
+    class: Class,
+    summed: &PartReport,
+    end: &PartEnd,
+) -> Result<(), WriteStop>
+    ensures { Wrote (K.held sink.old) (K.held sink.new) (K.count sink.old) (K.count sink.new) result (ending_rows class summed.now end.now) }
+{
+    let mut line = Line::new(alloc);
+    push_ending(&mut line, class, summed, end)?;
+    write_text(sink, &line)
+}
+
+/// Writes a part's lines.
+fn write_part<K: Sink>(
+    alloc: Global,
+    sink: &mut K,
+    place: u64,
+    spec: &PartSpec,
+    events: &[Event],
+    summed: &PartReport,
+    end: &PartEnd,
+) -> Result<(), WriteStop>
+    ensures { Wrote (K.held sink.old) (K.held sink.new) (K.count sink.old) (K.count sink.new) result (part_rows place spec.now events.now summed.now end.now) }
+{
+    write_part_line(alloc, sink, place, spec)?;
+    write_events(alloc, sink, events)?;
+    write_objects(alloc, sink, end.objects.as_slice())?;
+    write_device(alloc, sink, spec.class, events, end.medium.as_slice())?;
+    write_ending(alloc, sink, spec.class, summed, end)
+}
+
+/// Writes the lines of the parts, the first of them number `place`.
+fn write_parts<K: Sink>(
+    alloc: Global,
+    sink: &mut K,
+    place: u64,
+    specs: &[PartSpec],
+    journals: &[Journal],
+    summed: &[PartReport],
+    ends: &[PartEnd],
+) -> Result<(), WriteStop>
+    requires { place + length specs.now < 2 ^ 64 }
+    ensures { Wrote (K.held sink.old) (K.held sink.new) (K.count sink.old) (K.count sink.new) result (parts_rows place specs.now journals.now summed.now ends.now) }
+{
+    let Some((spec, more_specs)) = specs.split_first() else {
+        return Ok(());
+    };
+    let Some((journal, more_journals)) = journals.split_first() else {
+        return Ok(());
+    };
+    let Some((one, more_summed)) = summed.split_first() else {
+        return Ok(());
+    };
+    let Some((end, more_ends)) = ends.split_first() else {
+        return Ok(());
+    };
+    write_part(alloc, sink, place, spec, journal.as_slice(), one, end)?;
+    write_parts(
+        alloc,
+        sink,
+        place + 1,
+        more_specs,
+        more_journals,
+        more_summed,
+        more_ends,
+    )
+}
+
+/// Writes the listeners.
+fn write_taps<K: Sink>(alloc: Global, sink: &mut K, taps: &[(u64, bool)]) -> Result<(), WriteStop>
+    ensures { Wrote (K.held sink.old) (K.held sink.new) (K.count sink.old) (K.count sink.new) result (taps_text 0 taps.now) }
+{
+    let mut line = Line::new(alloc);
+    push_taps(&mut line, taps)?;
+    write_text(sink, &line)
+}
+
+/// Writes a report. After a failure the sink has gained a front of it; a fault comes only from the sink's own. The
+/// rows are those of the report; of a report of the scenario's run they are the text that its journals, answers and
+/// listeners have.
+pub fn write_report<K: Sink>(
+    alloc: Global,
+    scenario: &Scenario,
+    report: &Report,
+    sink: &mut K,
+) -> Result<(), WriteStop>
+    ensures rows { Wrote (K.held sink.old) (K.held sink.new) (K.count sink.old) (K.count sink.new) result (report_rows scenario.now report.now) }
+    ensures text { IsReport scenario.now report.now → Wrote (K.held sink.old) (K.held sink.new) (K.count sink.old) (K.count sink.new) result (report_text scenario.now (lists_of report.now.run.journals) report.now.run.answers report.now.run.taps report.now.status) }
+{
+    write_rows(alloc, scenario, report, sink)
+}
+
+/// Writes the rows of a report.
+fn write_rows<K: Sink>(
+    alloc: Global,
+    scenario: &Scenario,
+    report: &Report,
+    sink: &mut K,
+) -> Result<(), WriteStop>
+    ensures { Wrote (K.held sink.old) (K.held sink.new) (K.count sink.old) (K.count sink.new) result (report_rows scenario.now report.now) }
+{
+    write_all_parts(alloc, scenario, report, sink)?;
+    write_threads(
+        alloc,
+        sink,
+        0,
+        scenario.threads.as_slice(),
+        report.run.answers.as_slice(),
+    )?;
+    write_taps(alloc, sink, report.run.taps.as_slice())?;
+    write_status_line(alloc, sink, report.status)
+}
+
+/// Writes the lines of all parts.
+fn write_all_parts<K: Sink>(
+    alloc: Global,
+    scenario: &Scenario,
+    report: &Report,
+    sink: &mut K,
+) -> Result<(), WriteStop>
+    ensures { Wrote (K.held sink.old) (K.held sink.new) (K.count sink.old) (K.count sink.new) result (parts_rows 0 scenario.now.parts report.now.run.journals report.now.parts report.now.ends) }
+{
+    write_parts(
+        alloc,
+        sink,
+        0,
+        scenario.parts.as_slice(),
+        report.run.journals.as_slice(),
+        report.parts.as_slice(),
+        report.ends.as_slice(),
+    )
+}

@@ -1,0 +1,60 @@
+-- What a bus of listeners keeps: for each listener what it hears and has heard, or the total of one that was dropped.
+use Rattle.std.specs.Prelude.{ℕ, Bool, true, false, nat_lt, List, [], ◌∷◌, map, Option, Some, None, if◌then◌else◌, slice_index_or}
+use Rattle.nook_defs.specs.declared.data.Event.{Event}
+use Rattle.nook_defs.specs.Listening.{Listening, heard}
+use Rattle.request_taps.specs.declared.tap.Tap.{Tap}
+use Rattle.request_taps.specs.declared.tap.Tap.TheVariants as tap
+
+-- a tap as its listener's masks, limit and total, where it is there
+abbrev pub seen : {L : Type 0} → (L → Listening) → Tap L → Tap Listening
+seen listening (tap.Present l) = tap.Present (listening l)
+seen listening (tap.Dropped total) = tap.Dropped total
+
+-- a listener at its limit is dropped, and its total is kept
+abbrev pub settled : Listening → Tap Listening
+settled l = if nat_lt l.total l.limit then tap.Present l else tap.Dropped l.total
+
+abbrev pub settled_tap : Tap Listening → Tap Listening
+settled_tap (tap.Present l) = settled l
+settled_tap (tap.Dropped total) = tap.Dropped total
+
+-- a listener at its limit hears nothing more
+abbrev pub heard_below : ℕ → Event → Listening → Listening
+heard_below part event l = if nat_lt l.total l.limit then heard part event l else l
+
+-- a tap after an event: a listener that is there hears it, and is dropped where its total reaches its limit
+abbrev pub told : ℕ → Event → Tap Listening → Tap Listening
+told part event (tap.Present l) = settled (heard_below part event l)
+told part event (tap.Dropped total) = tap.Dropped total
+
+-- a tap's total
+abbrev pub total_of : Tap Listening → ℕ
+total_of (tap.Present l) = l.total
+total_of (tap.Dropped total) = total
+
+-- whether a tap's listener is there
+abbrev pub is_present : {L : Type 0} → Tap L → Bool
+is_present (tap.Present l) = true
+is_present (tap.Dropped total) = false
+
+-- the total, and whether the listener was kept
+abbrev pub result_of : Tap Listening → ℕ × Bool
+result_of t = (total_of t, is_present t)
+
+-- what a detach answers: the total of a listener that is there
+abbrev pub detach_answer : Tap Listening → Option ℕ
+detach_answer (tap.Present l) = Some l.total
+detach_answer (tap.Dropped total) = None
+
+-- a tap without its listener
+abbrev pub detached : Tap Listening → Tap Listening
+detached t = tap.Dropped (total_of t)
+
+-- the tap at a place, counted from 0
+abbrev pub tap_at : ℕ → List (Tap Listening) → Tap Listening
+tap_at i taps = slice_index_or taps i (tap.Dropped 0)
+
+-- taps after events, each of a part
+unfoldable pub told_all : List (ℕ × Event) → List (Tap Listening) → List (Tap Listening)
+told_all [] taps = taps
+told_all (e ∷ published) taps = told_all published (map (told e.0 e.1) taps)

@@ -1,0 +1,14 @@
+//! The bus of listeners that hear a run's events as they are made.
+//!
+//! A listener is dropped when its total reaches its limit, when it is detached, or with the bus. Its total is kept.
+#![tactic(auto)]
+
+mod boxed;
+mod bus;
+pub mod laws;
+mod tap;
+#[cfg(test)]
+mod tests;
+
+pub use boxed::{Boxed, Held};
+pub use bus::{Bus, TapBus};

@@ -1,0 +1,80 @@
+//! One listener's place on the bus.
+
+ghost use Rattle.std.specs.Prelude.{◌≡◌};
+ghost use Rattle.request_taps.specs.Bus.{detach_answer, detached, heard_below, is_present, seen, settled_tap, told, total_of};
+
+use nook_defs::data::Event;
+use nook_defs::outside::Listener;
+
+/// A listener that is there, or the total of one that was dropped.
+#[derive(Drop)]
+pub enum Tap<L> {
+    Present(L),
+    Dropped(u64),
+}
+
+impl<L: Listener> Tap<L> {
+    /// Drops a listener that is at its limit, and keeps its total.
+    pub fn settle(&mut self)
+        ensures { seen L.listening self.new ≡ settled_tap (seen L.listening self.old) }
+    {
+        if let Tap::Present(listener) = self {
+            let total = listener.total();
+            if total >= listener.limit() {
+                *self = Tap::Dropped(total);
+            }
+        }
+    }
+
+    /// The listener hears an event of a part, where it is there and below its limit. It is dropped where its total
+    /// reaches its limit.
+    pub fn hear(&mut self, part: u8, event: &Event)
+        ensures { seen L.listening self.new ≡ told part event.now (seen L.listening self.old) }
+    {
+        if let Tap::Present(listener) = self {
+            hear_below(listener, part, event);
+            self.settle();
+        }
+    }
+
+    /// Drops the listener and gives its total; `None` exactly where it is not there any more.
+    pub fn detach(&mut self) -> Option<u64>
+        ensures answer { result ≡ detach_answer (seen L.listening self.old) }
+        ensures tap { seen L.listening self.new ≡ detached (seen L.listening self.old) }
+    {
+        let Tap::Present(listener) = self else {
+            return None;
+        };
+        let heard = listener.total();
+        *self = Tap::Dropped(heard);
+        Some(heard)
+    }
+
+    /// The total of the listener, or the one that was kept of it.
+    pub fn total(&self) -> u64
+        ensures { result ≡ total_of (seen L.listening self.now) }
+    {
+        match self {
+            Tap::Present(listener) => listener.total(),
+            Tap::Dropped(total) => *total,
+        }
+    }
+}
+
+impl<L> Tap<L> {
+    /// Whether the listener is there.
+    pub fn is_present(&self) -> bool
+        ensures { result ≡ is_present self.now }
+    {
+        matches!(self, Tap::Present(_))
+    }
+}
+
+/// A listener below its limit hears an event of a part.
+fn hear_below<L: Listener>(listener: &mut L, part: u8, event: &Event)
+    ensures { L.listening listener.new ≡ heard_below part event.now (L.listening listener.old) }
+{
+    if listener.total() < listener.limit() {
+        listener.hear(part, event);
+    }
+}

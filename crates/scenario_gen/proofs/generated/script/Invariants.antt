@@ -1,0 +1,6 @@
+use Rattle.std.proofs.Common.{◌≡◌}
+use Rattle.nook_defs.specs.Generated.{ops_to}
+use Rattle.scenario_gen.proofs.generated.script.Given as goal
+
+abbrev pub invariant-loop-place : goal.invariant-loop-place
+invariant-loop-place l = l.made ≡ ops_to l.thread l.place

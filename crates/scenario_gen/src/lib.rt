@@ -1,0 +1,10 @@
+//! The scenario that the program makes for a number: three parts with the reference drivers, four threads, as many
+//! operations a thread as the number says, and eight traps in the disk's driver.
+#![tactic(auto)]
+
+mod generated;
+pub mod references;
+#[cfg(test)]
+mod tests;
+
+pub use generated::generate;

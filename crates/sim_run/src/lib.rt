@@ -1,7 +1,14 @@
-//! Whole runs: the actors of a scenario take their steps in turn until none has a step left.
+//! Whole runs: the actors of a scenario take their steps under its schedule until none has a step left.
 #![tactic(auto)]
 
 mod actors;
+mod chosen;
+mod ends;
+pub mod laws;
+mod script;
+mod seat;
+mod simulating;
 mod whole_run;
 
+pub use simulating::Simulated;
 pub use whole_run::simulate;

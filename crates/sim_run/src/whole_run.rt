@@ -1,45 +1,60 @@
-//! The run of a scenario, round robin.
+//! The run of a scenario.
 
-use crate::actors::Actors;
+ghost use Rattle.std.specs.Prelude.{ℕ, IfOk, OnErr, map};
+ghost use Rattle.nook_defs.specs.Valid.{IsValidScenario};
+ghost use Rattle.request_taps.specs.Bus.{seen};
+ghost use Rattle.report_text.specs.Whole.{HaveEnds};
+ghost use Rattle.sim_run.specs.Reached.{AreRuns};
+ghost use Rattle.sim_run.specs.Whole.{HeardSteps, IsSimulated, IsWhole, events_in};
+
+use crate::simulating::{Simulated, Simulating};
 use nook_defs::data::Scenario;
 use nook_defs::memory::NoMemory;
-use report_text::report::Run;
+use nook_defs::outside::Listener;
+use request_taps::Bus;
 use std::alloc::Global;
 
-/// More steps than the run of any scenario has. With the limits of a scenario the threads have at most 4,096
-/// calls together, and a part takes at most 34 steps for each call, 5 + 22 * 33 for each of at most 18 recoveries
-/// and the boot, and one for each of at most 256 arrivals: in 8 parts fewer than 300,000.
-const MOST_STEPS: u32 = 1_000_000;
+/// More steps than the run of any scenario has: each of at most 8 parts makes fewer than 2^23 events.
+const MOST_STEPS: u32 = 67_108_864;
 
-/// Runs a scenario: actor after actor takes its next step, until none has one.
-pub fn simulate(alloc: Global, scenario: &Scenario) -> Result<Run, NoMemory> {
-    let mut actors = Actors::new(alloc, scenario)?;
-    let mut cursor = 0;
+/// Runs a valid scenario: its actors take their steps under its schedule until none has one. The journals, one a part,
+/// and the answers are those of the scheduled run, and each journal is a run of its part, which ends in what is told. The taps hear each event as
+/// it is made, and their totals are told. After `NoMemory` they have heard the events up to there.
+pub fn simulate<L: Listener>(
+    alloc: Global,
+    scenario: &Scenario,
+    taps: &mut Bus<L>,
+) -> Result<Simulated, NoMemory>
+    requires { IsValidScenario scenario.now }
+    ensures simulated { IfOk result (λ whole. IsSimulated scenario.now whole.run.journals whole.run.answers whole.run.taps
+        (map (seen L.listening) taps.old) (map (seen L.listening) taps.new)) }
+    ensures runs { IfOk result (λ whole. AreRuns scenario.now.parts (map events_in whole.run.journals)) }
+    ensures ends { IfOk result (λ whole. HaveEnds scenario.now.parts whole.run.journals whole.ends) }
+    ensures heard { OnErr result ((steps : ℕ) × HeardSteps scenario.now steps
+        (map (seen L.listening) taps.old) (map (seen L.listening) taps.new)) }
+{
+    let simulation = run_whole(alloc, scenario, taps)?;
+    let totals = taps.totals(alloc)?;
+    simulation.into_run(totals)
+}
+
+/// The whole run of a valid scenario.
+fn run_whole<'a, L: Listener>(
+    alloc: Global,
+    scenario: &'a Scenario,
+    taps: &mut Bus<L>,
+) -> Result<Simulating<'a>, NoMemory>
+    requires { IsValidScenario scenario.now }
+    ensures whole { IfOk result (λ simulation. IsWhole scenario.now simulation
+        (map (seen L.listening) taps.old) (map (seen L.listening) taps.new)) }
+    ensures heard { OnErr result ((steps : ℕ) × HeardSteps scenario.now steps
+        (map (seen L.listening) taps.old) (map (seen L.listening) taps.new)) }
+{
+    let mut simulation = Simulating::new(alloc, scenario)?;
     for _step in 0..MOST_STEPS {
-        match next_turn(&mut actors, cursor)? {
-            Some(actor) => cursor = actor.saturating_add(1),
-            None => break,
+        if !simulation.advance(taps)? {
+            return Ok(simulation);
         }
     }
-    actors.into_run()
-}
-
-/// The first actor at or behind the cursor that has a step takes it, else the first one that has a step at all.
-fn next_turn(actors: &mut Actors, cursor: usize) -> Result<Option<usize>, NoMemory> {
-    let count = actors.count();
-    let start = cursor.min(count);
-    match first_to_act(actors, start, count)? {
-        Some(actor) => Ok(Some(actor)),
-        None => first_to_act(actors, 0, start),
-    }
-}
-
-/// The first actor from `low` on and below `high` that has a step takes it.
-fn first_to_act(actors: &mut Actors, low: usize, high: usize) -> Result<Option<usize>, NoMemory> {
-    for actor in low..high {
-        if actors.act(actor)? {
-            return Ok(Some(actor));
-        }
-    }
-    Ok(None)
+    unreachable!()
 }

@@ -1,0 +1,129 @@
+use Rattle.std.proofs.Common.{◌≡◌, ℕ, zero, suc, ◌+◌, ◌<◌, ◌≤◌, Option, Some, None, List, [], ◌∷◌, ◌++◌, drop, get_or, map, length, slice_get, slice_index, slice_set, take, refl, sym, ap, ◌∙◌, subst, arith, append_assoc, length-take-le, IfOk, Result, Ok, Err}
+use Rattle.std.proofs.lemmas.Option.{get_or_from_slice_get}
+use Rattle.std.proofs.Math.Seq.{get_or-append_seam, set-append_seam}
+use Rattle.std.proofs.lemmas.List.{drop_more, get_or_default, take_more}
+use Rattle.nook_defs.specs.declared.data.Event.{Event}
+use Rattle.nook_defs.specs.declared.memory.NoMemory.{NoMemory}
+use Rattle.nook_defs.specs.Schedules.{Order, picked}
+use Rattle.nook_defs.specs.Simulation.{Choice, PartSeat, Simulation, ThreadState, actor_of, choices_of, started, stepped_by, threads_after, told}
+use Rattle.part_laws.proofs.Places.{length_map}
+use Rattle.sim_run.proofs.Choosing.{actors_named, choices_found, choices_open}
+use Rattle.sim_run.proofs.Picking.{picked_within}
+use Rattle.sim_run.proofs.Reaching.{IsPicked, at_place, picked_one}
+use Rattle.sim_run.specs.Actors.{actors_in, choice_at}
+use Rattle.sim_run.specs.Advanced.{IsPick, standing}
+use Rattle.sim_run.specs.Published.{made, made_by}
+use Rattle.sim_run.specs.Reached.{MayTake}
+
+-- The pick among the actors is the pick among the choices.
+
+no_items : {X Y : Type 0} (f : X → Y) (xs : List X) → length (map f xs) ≤ 0 → xs ≡ []
+no_items f [] l = refl
+no_items f (x ∷ xs) l = absurd (omega arith)
+
+pub none_picked : (s : Simulation) (actors : List ℕ) → actors ≡ actors_in s.parts s.threads → length actors ≡ 0 → IsPick s None s
+none_picked s actors e l =
+    let n : length actors ≡ length (map actor_of (choices_of s)) = ap length (e ∙ sym (actors_named s)) in
+    (no_items actor_of (choices_of s) (omega arith), refl)
+
+pub place_within : (order : Order) (actors : List ℕ) (place : ℕ) → 0 < length actors → place ≡ (picked order actors).place → place < length actors
+place_within order actors place l e = subst (λ (n : ℕ). n < length actors) (sym e) (picked_within order actors l)
+
+map_at : (xs : List Choice) (i : ℕ) (c : Choice) → slice_get xs i ≡ Some c → slice_get (map actor_of xs) i ≡ Some c.actor
+map_at [] i c h = cc
+map_at (x ∷ xs) zero c h = ap {B = Option ℕ} (λ (y : Choice). Some y.actor) (inner h)
+  where
+    inner : {a b : Choice} → Some a ≡ Some b → a ≡ b
+    inner h = cc
+map_at (x ∷ xs) (suc i) c h = map_at xs i c h
+
+pick_by : (s : Simulation) (actors : List ℕ) (place : ℕ) (order : Order) (o : Option Choice) (c : Choice) (seat : PartSeat)
+    → actors ≡ map actor_of (choices_of s) → 0 < length (choices_of s) → place ≡ (picked s.order actors).place → order ≡ (picked s.order actors).order
+    → o ≡ choice_at s.parts s.threads (slice_index actors place) → IsPicked s (choices_of s) c seat → IsPick s o (record s { order = order })
+unfolding made
+pick_by s actors place order o c seat a l p r h one =
+    let place' : (picked s.order (map actor_of (choices_of s))).place ≡ place = ap (λ xs. (picked s.order xs).place) (sym a) ∙ sym p in
+    let order' : (picked s.order (map actor_of (choices_of s))).order ≡ order = ap (λ xs. (picked s.order xs).order) (sym a) ∙ sym r in
+    let at : slice_get (choices_of s) place ≡ Some c = ap (slice_get (choices_of s)) (sym place') ∙ one.found in
+    let actor : slice_index actors place ≡ c.actor =
+    ap (λ xs. slice_index xs place) a ∙ get_or_from_slice_get (map actor_of (choices_of s)) place c.actor 0 (map_at (choices_of s) place c at) in
+    let found : choice_at s.parts s.threads c.actor ≡ Some c = at_place (λ c. choice_at s.parts s.threads c.actor ≡ Some c) (choices_of s) place c (choices_found s) at in
+    let is : Some c ≡ o = sym found ∙ ap (choice_at s.parts s.threads) (sym actor) ∙ sym h in
+    subst (λ o. IsPick s o (record s { order = order })) is (
+      l,
+      subst (λ q. MayTake q c.step) (sym one.at_part) one.may,
+      ap (stepped_by (record s { order = order }) order c) one.at_part
+          ∙ ap (λ (r : Order). stepped_by s r c (Some seat)) (sym order') ∙ sym one.step,
+      sym (ap (made_by s.parts) one.found),
+    )
+
+pub pick_is : (order order' : Order) (parts : List PartSeat) (threads : List ThreadState) (actors : List ℕ) (place : ℕ) (o : Option Choice)
+    → actors ≡ actors_in parts threads → 0 < length actors → place ≡ (picked order actors).place → order' ≡ (picked order actors).order
+    → o ≡ choice_at parts threads (slice_index actors place) → IsPick (standing order parts threads) o (standing order' parts threads)
+pick_is order order' parts threads actors place o a l p r h =
+    let s : Simulation = standing order parts threads in
+    let a' : actors ≡ map actor_of (choices_of s) = a ∙ sym (actors_named s) in
+    let n : length actors ≡ length (choices_of s) = ap length a' ∙ length_map actor_of (choices_of s) in
+    let some : 0 < length (choices_of s) = omega arith in
+    let one = picked_one s (choices_of s) (choices_open s) some in
+    pick_by s actors place order' o one.0 one.1.0 a' some p r h one.1.1
+
+-- Threads hear an event one after another.
+
+heard_push : (thread part : ℕ) (e : Event) (threads : List ThreadState) (t : ThreadState)
+    → threads_after thread part e (threads ++ t ∷ [])
+    ≡ threads_after thread part e threads ++ told part e (started (thread + length threads) part e t) ∷ []
+heard_push thread part e [] t = ap {B = List ThreadState} (λ (n : ℕ). told part e (started n part e t) ∷ []) (plus thread)
+  where
+    plus : (n : ℕ) → n ≡ n + 0
+    plus n = omega arith
+heard_push thread part e (x ∷ threads) t =
+    ap {B = List ThreadState} (λ xs. told part e (started thread part e x) ∷ xs) (heard_push (thread + 1) part e threads t
+    ∙ ap {B = List ThreadState} (λ (n : ℕ). threads_after (thread + 1) part e threads ++ told part e (started n part e t) ∷ []) (plus thread (length threads)))
+  where
+    plus : (n k : ℕ) → n + 1 + k ≡ n + suc k
+    plus n k = omega arith
+
+heard_length : (thread part : ℕ) (e : Event) (threads : List ThreadState) → length (threads_after thread part e threads) ≡ length threads
+heard_length thread part e [] = refl
+heard_length thread part e (x ∷ threads) = ap suc (heard_length (thread + 1) part e threads)
+
+pub heard_more : (part : ℕ) (e : Event) (threads now : List ThreadState) (i : ℕ) (d new : ThreadState) → i < length threads
+    → now ≡ threads_after 0 part e (take i threads) ++ drop i threads → new ≡ told part e (started i part e (get_or now i d))
+    → slice_set now i new ≡ threads_after 0 part e (take (i + 1) threads) ++ drop (i + 1) threads
+heard_more part e threads now i d new l h n =
+    let count : length (take i threads) ≡ i = length-take-le i threads (omega arith) in
+    let size : length (threads_after 0 part e (take i threads)) ≡ i = heard_length 0 part e (take i threads) ∙ count in
+    let rest : drop i threads ≡ get_or threads i d ∷ drop (i + 1) threads = drop_more threads i d l in
+    let old : now ≡ threads_after 0 part e (take i threads) ++ get_or threads i d ∷ drop (i + 1) threads =
+    h ∙ ap (λ xs. threads_after 0 part e (take i threads) ++ xs) rest in
+    let here : get_or now i d ≡ get_or threads i d =
+    ap (λ xs. get_or xs i d) old
+    ∙ ap (λ (k : ℕ). get_or (threads_after 0 part e (take i threads) ++ get_or threads i d ∷ drop (i + 1) threads) k d) (sym size)
+    ∙ get_or-append_seam (threads_after 0 part e (take i threads)) (get_or threads i d) (drop (i + 1) threads) d in
+    let first : new ≡ told part e (started (0 + length (take i threads)) part e (get_or threads i d)) =
+    n ∙ ap (λ x. told part e (started i part e x)) here
+    ∙ ap (λ (k : ℕ). told part e (started k part e (get_or threads i d))) (plus i (length (take i threads)) count) in
+    ap (λ xs. slice_set xs i new) old
+    ∙ ap (λ (k : ℕ). slice_set (threads_after 0 part e (take i threads) ++ get_or threads i d ∷ drop (i + 1) threads) k new) (sym size)
+    ∙ set-append_seam (threads_after 0 part e (take i threads)) (get_or threads i d) (drop (i + 1) threads) new
+    ∙ ap (λ (x : ThreadState). threads_after 0 part e (take i threads) ++ x ∷ drop (i + 1) threads) first
+    ∙ sym (append_assoc (threads_after 0 part e (take i threads)) (told part e (started (0 + length (take i threads)) part e (get_or threads i d)) ∷ []) (drop (i + 1) threads))
+    ∙ ap (λ xs. xs ++ drop (i + 1) threads) (sym (heard_push 0 part e (take i threads) (get_or threads i d)))
+    ∙ ap (λ xs. threads_after 0 part e xs ++ drop (i + 1) threads) (sym (take_more threads i d l))
+  where
+    plus : (i k : ℕ) → k ≡ i → i ≡ 0 + k
+    plus i k e = omega arith
+
+-- What is said of a choice, said of a result.
+
+pub pick_result : (r : Result (Option Choice) NoMemory) (order order' : Order) (parts : List PartSeat) (threads : List ThreadState)
+    (ready listed : List ℕ) (place actor : ℕ) → ready ≡ actors_in parts threads → listed ≡ ready
+    → place ≡ (picked order listed).place → order' ≡ (picked order listed).order → place < length listed → actor ≡ get_or ready place actor
+    → IfOk r (λ o. o ≡ choice_at parts threads actor) → IfOk r (λ o. IsPick (standing order parts threads) o (standing order' parts threads))
+pick_result (Err x) order order' parts threads ready listed place actor a e p n w at h = h
+pick_result (Ok o) order order' parts threads ready listed place actor a e p n w at h =
+    let size : length listed ≡ length ready = ap length e in
+    let within : place < length ready = omega arith in
+    pick_is order order' parts threads ready place o a (omega arith) (p ∙ ap (λ xs. (picked order xs).place) e) (n ∙ ap (λ xs. (picked order xs).order) e)
+    (h ∙ ap (choice_at parts threads) (at ∙ get_or_default ready place actor 0 within))

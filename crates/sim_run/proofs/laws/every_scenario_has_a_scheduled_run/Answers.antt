@@ -1,0 +1,5 @@
+use Rattle.sim_run.proofs.Ending.{scheduled_ends}
+use Rattle.sim_run.proofs.laws.every_scenario_has_a_scheduled_run.Goals as goal
+
+pub returns : goal.returns
+returns c = scheduled_ends

@@ -1,0 +1,6 @@
+use Rattle.std.proofs.Common.{◌≡◌, ◌++◌, drop, take}
+use Rattle.nook_defs.specs.Simulation.{threads_after}
+use Rattle.sim_run.proofs.simulating.hear_all.Given as goal
+
+abbrev pub invariant-loop-place : goal.invariant-loop-place
+invariant-loop-place l = l.threads ≡ threads_after 0 l.part l.event (take l.place l.initial.threads) ++ drop l.place l.initial.threads

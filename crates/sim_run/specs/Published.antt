@@ -1,0 +1,64 @@
+use Rattle.std.specs.Prelude.{◌≡◌, ℕ, zero, suc, ◌+◌, ◌==◌, if◌then◌else◌, Bool, true, false, Option, Some, None, Result, Ok, Err, List, [], ◌∷◌, ◌++◌, map, slice_get, ◌⊎◌}
+use Rattle.nook_defs.specs.declared.data.Event.{Event}
+use Rattle.nook_defs.specs.declared.memory.NoMemory.{NoMemory}
+use Rattle.nook_defs.specs.Listening.{Listening}
+use Rattle.nook_defs.specs.Runs.{event_of}
+use Rattle.nook_defs.specs.Schedules.{picked}
+use Rattle.nook_defs.specs.Simulation.{Choice, PartSeat, Simulation, actor_of, choices_of, taken}
+use Rattle.nook_defs.specs.Taps.{heard_events}
+use Rattle.request_taps.specs.Bus.{told_all}
+use Rattle.request_taps.specs.declared.tap.Tap.{Tap}
+
+-- The events of a run in the order in which they are made, each with its part.
+
+-- the event of a choice
+abbrev pub made_of : Choice → Option PartSeat → List (ℕ × Event)
+made_of c None = []
+made_of c (Some seat) = (c.part, event_of seat.run.state c.step) ∷ []
+
+abbrev pub made_by : List PartSeat → Option Choice → List (ℕ × Event)
+made_by parts None = []
+made_by parts (Some c) = made_of c (slice_get parts c.part)
+
+-- the event of the choice that the schedule picks; none where there is no choice
+unfoldable pub made : Simulation → List Choice → List (ℕ × Event)
+made s choices = made_by s.parts (slice_get choices (picked s.order (map actor_of choices)).place)
+
+-- a simulation after one step, where an actor has one
+abbrev pub moved : Simulation → List Choice → Simulation
+moved s [] = s
+moved s (c ∷ choices) = taken s (c ∷ choices)
+
+-- the events of at most so many steps
+unfoldable pub published : ℕ → Simulation → List (ℕ × Event)
+published zero s = []
+published (suc more) s = made s (choices_of s) ++ published more (moved s (choices_of s))
+
+-- What that is to each part and each listener.
+
+-- the events of one part
+abbrev pub events_of_part : ℕ → List (ℕ × Event) → List Event
+events_of_part part [] = []
+events_of_part part (e ∷ events) = if e.0 == part then e.1 ∷ events_of_part part events else events_of_part part events
+
+-- the events of a journal, with their part
+abbrev pub with_part : ℕ → List Event → List (ℕ × Event)
+with_part part [] = []
+with_part part (e ∷ events) = (part, e) ∷ with_part part events
+
+-- how many events of the journals a listener hears, of which the first is that of part `part`
+abbrev pub heard_in_journals : Listening → ℕ → List (List Event) → ℕ
+heard_in_journals l part [] = 0
+heard_in_journals l part (journal ∷ journals) =
+    heard_events l (with_part part journal) + heard_in_journals l (part + 1) journals
+
+-- What taps hear of one step. Where memory was wanting the event may have been made or not.
+abbrev pub HearsStep : Simulation → Result Bool NoMemory → List (Tap Listening) → List (Tap Listening) → Type 0
+HearsStep s (Ok true) old new = new ≡ told_all (made s (choices_of s)) old
+HearsStep s (Ok false) old new = new ≡ old
+HearsStep s (Err x) old new = (new ≡ old) ⊎ (new ≡ told_all (made s (choices_of s)) old)
+
+-- What taps hear of a choice that is taken.
+abbrev pub HearsChoice : {T : Type 0} → List (ℕ × Event) → Result T NoMemory → List (Tap Listening) → List (Tap Listening) → Type 0
+HearsChoice events (Ok x) old new = new ≡ told_all events old
+HearsChoice events (Err x) old new = (new ≡ old) ⊎ (new ≡ told_all events old)

@@ -1,0 +1,34 @@
+use Rattle.std.specs.Prelude.{◌≡◌, ℕ, Bool, List, map}
+use Rattle.nook_defs.specs.declared.data.Answer.{Answer}
+use Rattle.nook_defs.specs.declared.data.Event.{Event}
+use Rattle.nook_defs.specs.declared.data.Scenario.{Scenario}
+use Rattle.nook_defs.specs.Listening.{Listening}
+use Rattle.nook_defs.specs.Room.{Kept}
+use Rattle.nook_defs.specs.Simulation.{IsScheduledRun, Simulation, answer_table, begins, journals_of}
+use Rattle.request_taps.specs.Bus.{result_of, told_all}
+use Rattle.request_taps.specs.declared.tap.Tap.{Tap}
+use Rattle.sim_run.specs.Published.{published}
+
+-- What a whole run leaves.
+
+abbrev pub events_in : Kept Event → List Event
+events_in journal = journal.list
+
+-- the taps heard the events of so many steps of the run, in the order in which they were made
+abbrev pub HeardSteps : Scenario → ℕ → List (Tap Listening) → List (Tap Listening) → Type 0
+HeardSteps scenario steps old new = new ≡ told_all (published steps (begins scenario)) old
+
+-- the run is whole, and the taps heard each of its events
+pub record IsWhole (scenario : Scenario) (simulation : Simulation) (old new : List (Tap Listening)) : Type 0 where
+  pub scheduled : IsScheduledRun scenario simulation
+  pub heard : HeardSteps scenario scheduled.steps old new
+
+-- the journals and the answers are those of the scheduled run; the taps heard each event of it, and their totals are told
+pub record IsSimulated (scenario : Scenario) (journals : List (Kept Event)) (answers : List (List (ℕ × Answer)))
+    (totals : List (ℕ × Bool)) (old new : List (Tap Listening)) : Type 0 where
+  pub simulation : Simulation
+  pub scheduled : IsScheduledRun scenario simulation
+  pub same_journals : map events_in journals ≡ journals_of simulation
+  pub same_answers : answers ≡ answer_table simulation
+  pub heard : HeardSteps scenario scheduled.steps old new
+  pub same_totals : totals ≡ map result_of new

@@ -1,0 +1,36 @@
+//! Laws of the scheduled run of a scenario.
+
+ghost use Rattle.std.specs.Prelude.{◌≡◌, ℕ, List, Some, slice_get};
+ghost use Rattle.nook_defs.specs.Listening.{Listening};
+ghost use Rattle.nook_defs.specs.Simulation.{IsScheduledRun, Simulation, begins, journals_of, runs};
+ghost use Rattle.nook_defs.specs.Taps.{heard_events};
+ghost use Rattle.nook_defs.specs.Valid.{IsValidScenario};
+ghost use Rattle.nook_defs.specs.declared.data.Event.{Event};
+ghost use Rattle.nook_defs.specs.declared.data.Scenario.{Scenario};
+ghost use Rattle.sim_run.specs.Published.{events_of_part, heard_in_journals, published};
+ghost use Rattle.sim_run.specs.Reached.{AreRuns};
+
+/// Every valid scenario has a scheduled run: in the end no actor has a step.
+pub fn every_scenario_has_a_scheduled_run()
+    ensures { (scenario : Scenario) → IsValidScenario scenario → (s : Simulation) × IsScheduledRun scenario s }
+{}
+
+/// A scenario has at most one scheduled run.
+pub fn every_scenario_has_one_scheduled_run()
+    ensures { (scenario : Scenario) (s t : Simulation) → IsScheduledRun scenario s → IsScheduledRun scenario t → s ≡ t }
+{}
+
+/// The journals of a scheduled run, one a part, are runs of their parts.
+pub fn every_journal_is_a_run()
+    ensures { (scenario : Scenario) (s : Simulation) → IsScheduledRun scenario s → AreRuns scenario.parts (journals_of s) }
+{}
+
+/// What is published of a run is just its journals' events: those of each part are its journal, in order; and a
+/// listener hears as many as it hears of the journals one after another.
+pub fn every_event_is_published()
+    ensures parts { (scenario : Scenario) (steps part : ℕ) (journal : List Event)
+        → slice_get (journals_of (runs steps (begins scenario))) part ≡ Some journal
+        → events_of_part part (published steps (begins scenario)) ≡ journal }
+    ensures totals { (l : Listening) (scenario : Scenario) (steps : ℕ)
+        → heard_events l (published steps (begins scenario)) ≡ heard_in_journals l 0 (journals_of (runs steps (begins scenario))) }
+{}

@@ -1,0 +1,240 @@
+//! A thread of a run: its script, its open call and its answers.
+
+ghost use Rattle.std.specs.Prelude.{◌≡◌, is_some, slice_get, IfOk, None, OnOk, if◌then◌else◌};
+ghost use Rattle.nook_defs.specs.Runs.{answer_among, answer_at};
+ghost use Rattle.sim_run.specs.Actors.{choice_when};
+ghost use Rattle.nook_defs.specs.Simulation.{going_on, invocation, opening_thread, started, tail_ops, told};
+
+use crate::chosen::Chosen;
+use crate::seat::Seat;
+use nook_defs::data::{Answer, Event, Op, PartAnswers, Step, ThreadSpec};
+use nook_defs::lists::{Items, TryCopy};
+use nook_defs::memory::NoMemory;
+use std::alloc::Global;
+use std::marker::Model;
+
+/// An open call: its part and its number.
+#[derive(Clone, Copy)]
+pub struct Open {
+    pub part: u32,
+    pub call: u32,
+}
+
+/// A thread: the operations that it has not invoked, its open call, and its answers with their parts.
+#[derive(Drop)]
+pub struct Script<'a> {
+    rest: &'a [(u32, Op)],
+    waiting: Option<Open>,
+    answers: PartAnswers,
+}
+
+impl<'a> Model for Script<'a> {
+    ghost use Rattle.nook_defs.specs.Simulation.{ThreadState};
+    ghost use Rattle.sim_run.specs.Opened.{waiting_of};
+
+    ghost Value = { ThreadState };
+
+    ghost view = { λ s. record { rest = s.rest.now; waiting = waiting_of s.waiting; answers = s.answers } };
+}
+
+impl<'a> Script<'a> {
+    /// A thread at the start of its script.
+    pub fn new(alloc: Global, spec: &'a ThreadSpec) -> Script<'a>
+        ensures { result ≡ opening_thread spec.now }
+    {
+        Script {
+            rest: spec.ops.as_slice(),
+            waiting: None,
+            answers: Items::new(alloc),
+        }
+    }
+
+    /// Whether the thread has a step: of its open call, else the invocation of its next operation.
+    pub fn has_step(&self, thread: u8, seats: &[Seat]) -> bool
+        ensures { result ≡ is_some (choice_when thread seats.now self.now self.now.waiting) }
+    {
+        match self.waiting {
+            Some(call) => goes_on(seats, call.part, thread).is_some(),
+            None => match self.rest.first() {
+                Some((part, op)) => may_invoke(seats, *part, thread, op),
+                None => false,
+            },
+        }
+    }
+
+    /// The thread's step, where it has one. An operation that it invokes is copied.
+    pub fn choice(
+        &self,
+        alloc: Global,
+        thread: u8,
+        seats: &[Seat],
+    ) -> Result<Option<Chosen>, NoMemory>
+        ensures { IfOk result (λ choice. choice ≡ choice_when thread seats.now self.now self.now.waiting) }
+    {
+        let actor = thread as u16;
+        match self.waiting {
+            Some(call) => Ok(Chosen::of_step(actor, call.part, goes_on(seats, call.part, thread))),
+            None => match self.rest.first() {
+                Some((part, op)) => {
+                    let step = invoked(alloc, seats, *part, thread, op)?;
+                    Ok(Chosen::of_step(actor, *part, step))
+                }
+                None => Ok(None),
+            },
+        }
+    }
+
+    /// Notes an event of a part: this thread's invocation takes its next operation, and an answer to its open call is
+    /// kept.
+    pub fn hear(
+        &mut self,
+        alloc: Global,
+        thread: u8,
+        part: u32,
+        event: &Event,
+    ) -> Result<(), NoMemory>
+        ensures { OnOk result (self.new ≡ told part event.now (started thread part event.now self.old)) }
+    {
+        self.start(thread, part, event);
+        self.settle(alloc, part, event)
+    }
+
+    /// This thread's invocation takes its next operation.
+    fn start(&mut self, thread: u8, part: u32, event: &Event)
+        ensures { self.new ≡ started thread part event.now self.old }
+    {
+        if let Event::Invoke {
+            call,
+            thread: caller,
+            ..
+        } = event
+            && *caller == thread
+        {
+            self.rest = rest_of(self.rest);
+            self.waiting = Some(Open { part, call: *call });
+        }
+    }
+
+    /// An answer to the open call is kept.
+    fn settle(&mut self, alloc: Global, part: u32, event: &Event) -> Result<(), NoMemory>
+        ensures { OnOk result (self.new ≡ told part event.now self.old) }
+    {
+        let Some(call) = self.waiting else {
+            return Ok(());
+        };
+        if call.part != part {
+            return Ok(());
+        }
+        if let Some(answer) = answer_to(alloc, call.call, event)? {
+            self.answers.push((part, answer))?;
+            self.waiting = None;
+        }
+        Ok(())
+    }
+
+    /// The answers, each with its part.
+    pub fn into_answers(self) -> PartAnswers
+        ensures { result ≡ self.entry.answers }
+    {
+        self.answers
+    }
+}
+
+/// The next step of a thread's open call in a part.
+fn goes_on(seats: &[Seat], part: u32, thread: u8) -> Option<Step>
+    ensures { result ≡ going_on thread (slice_get seats.now part) }
+{
+    match seats.get(part as usize) {
+        Some(seat) => seat.going_on(thread),
+        None => None,
+    }
+}
+
+/// Whether a thread may invoke an operation of a part.
+fn may_invoke(seats: &[Seat], part: u32, thread: u8, op: &Op) -> bool
+    ensures { result ≡ is_some (invocation thread op.now (slice_get seats.now part)) }
+{
+    match seats.get(part as usize) {
+        Some(seat) => seat.can_invoke(thread, op),
+        None => false,
+    }
+}
+
+/// The invocation of an operation of a part, where it may be taken.
+#[tactic(auto, using(crate::proofs::Choosing::some_invocation, crate::proofs::Choosing::no_invocation))]
+fn invoked(
+    alloc: Global,
+    seats: &[Seat],
+    part: u32,
+    thread: u8,
+    op: &Op,
+) -> Result<Option<Step>, NoMemory>
+    ensures { IfOk result (λ step. step ≡ invocation thread op.now (slice_get seats.now part)) }
+{
+    if !may_invoke(seats, part, thread, op) {
+        return Ok(None);
+    }
+    let op = op.copy(alloc)?;
+    Ok(Some(Step::Invoke { thread, op }))
+}
+
+/// The operations behind the first one.
+fn rest_of<'a>(ops: &'a [(u32, Op)]) -> &'a [(u32, Op)]
+    ensures { result.now ≡ tail_ops ops.now }
+{
+    match ops.split_first() {
+        Some((_, rest)) => rest,
+        None => ops,
+    }
+}
+
+/// The answer that an event gives to a call.
+fn answer_to(alloc: Global, call: u32, event: &Event) -> Result<Option<Answer>, NoMemory>
+    ensures { IfOk result (λ answer. answer ≡ answer_at call event.now) }
+{
+    match event {
+        Event::Invoke {
+            call: number,
+            answer,
+            ..
+        }
+        | Event::Enter {
+            call: number,
+            answer,
+            ..
+        }
+        | Event::Burst {
+            call: number,
+            answer,
+            ..
+        } => copy_if(alloc, *number == call, answer),
+        Event::Stage { answers, .. } => answer_in(alloc, call, answers.as_slice()),
+        Event::Arrive { .. } => Ok(None),
+    }
+}
+
+/// The answer where the test holds.
+fn copy_if(alloc: Global, test: bool, answer: &Option<Answer>) -> Result<Option<Answer>, NoMemory>
+    ensures { IfOk result (λ made. made ≡ (if test then answer.now else None)) }
+{
+    match answer {
+        Some(answer) if test => Ok(Some(answer.copy(alloc)?)),
+        _ => Ok(None),
+    }
+}
+
+/// The first answer to a call among the answers of a stage.
+fn answer_in(
+    alloc: Global,
+    call: u32,
+    answers: &[(u32, Answer)],
+) -> Result<Option<Answer>, NoMemory>
+    ensures { IfOk result (λ made. made ≡ answer_among call answers.now) }
+{
+    for (number, answer) in answers {
+        if *number == call {
+            return Ok(Some(answer.copy(alloc)?));
+        }
+    }
+    Ok(None)
+}

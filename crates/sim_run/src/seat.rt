@@ -1,0 +1,143 @@
+//! A part of a run with the frames that have not arrived.
+
+ghost use Rattle.std.specs.Prelude.{◌≡◌, ◌-◌, ◌<◌, true, is_some, Some, length, slice_get, IfOk, OnErr, OnOk};
+ghost use Rattle.nook_defs.specs.Runs.{next_for, next_recovery};
+ghost use Rattle.nook_defs.specs.Simulation.{arrival, coming_after, invocation, opening_seat, seat_after};
+ghost use Rattle.sim_run.specs.Ends.{end_of_seat};
+ghost use Rattle.nook_defs.specs.Steps.{enabled};
+ghost use Rattle.nook_defs.specs.Valid.{IsValidPart};
+
+use crate::ends::end_of;
+use nook_defs::data::{Event, Op, PartSpec, Step};
+use nook_defs::journal::Journal;
+use nook_defs::lists::{TryCopy, Words};
+use nook_defs::memory::NoMemory;
+use part_core::Part;
+use report_text::whole_report::PartEnd;
+use std::alloc::Global;
+use std::marker::Model;
+
+/// A part and the frames that have not arrived.
+#[derive(Drop)]
+pub struct Seat<'a> {
+    part: Part,
+    coming: &'a [Words],
+}
+
+impl<'a> Model for Seat<'a> {
+    ghost use Rattle.nook_defs.specs.Simulation.{PartSeat};
+
+    ghost Value = { PartSeat };
+
+    ghost view = { λ s. record { run = s.part; coming = s.coming.now } };
+}
+
+impl<'a> Seat<'a> {
+    /// A valid part at the start of its boot; none of its frames has arrived.
+    pub fn new(alloc: Global, spec: &'a PartSpec) -> Result<Seat<'a>, NoMemory>
+        requires { IsValidPart spec.now }
+        ensures { IfOk result (λ seat. seat ≡ opening_seat spec.now) }
+    {
+        let part = Part::new(alloc, spec.copy(alloc)?)?;
+        Ok(Seat {
+            part,
+            coming: spec.arrivals.as_slice(),
+        })
+    }
+
+    /// What the part ends in, as it stands now.
+    pub fn end(&self, alloc: Global) -> Result<PartEnd, NoMemory>
+        ensures { IfOk result (λ end. end ≡ end_of_seat self.now) }
+    {
+        end_of(alloc, &self.part)
+    }
+
+    /// Whether the thread may invoke an operation now.
+    #[tactic(auto, unfolding(nook_defs::specs::Steps::enabled))]
+    pub fn can_invoke(&self, thread: u8, op: &Op) -> bool
+        ensures { result ≡ is_some (invocation thread op.now (Some self.now)) }
+    {
+        let _op = op;
+        self.part.can_invoke(thread)
+    }
+
+    /// The next step of the thread's open call, where it may be taken.
+    pub fn going_on(&self, thread: u8) -> Option<Step>
+        ensures { result ≡ next_for self.now.run.state thread }
+    {
+        self.part.next_for(thread)
+    }
+
+    /// The next step of the boot or of a recovery, where it may be taken.
+    pub fn recovery(&self) -> Option<Step>
+        ensures { result ≡ next_recovery self.now.run.state }
+    {
+        self.part.next_recovery()
+    }
+
+    /// Whether a frame is left and may arrive now.
+    #[tactic(auto, unfolding(nook_defs::specs::Steps::enabled))]
+    pub fn has_arrival(&self) -> bool
+        ensures { result ≡ is_some (arrival self.now.run self.now.coming) }
+    {
+        match self.coming.split_first() {
+            Some((frame, _)) => self.part.can_arrive(frame),
+            None => false,
+        }
+    }
+
+    /// The arrival of the next frame, where one is left and may arrive now.
+    #[tactic(auto, unfolding(nook_defs::specs::Steps::enabled))]
+    pub fn arrival(&self, alloc: Global) -> Result<Option<Step>, NoMemory>
+        ensures { IfOk result (λ step. step ≡ arrival self.now.run self.now.coming) }
+    {
+        let Some((frame, _)) = self.coming.split_first() else {
+            return Ok(None);
+        };
+        if !self.part.can_arrive(frame) {
+            return Ok(None);
+        }
+        let frame = frame.copy(alloc)?;
+        Ok(Some(Step::Arrive { frame }))
+    }
+
+    /// Takes a step that may be taken now. An arrival is the next frame's.
+    pub fn take(&mut self, step: Step) -> Result<(), NoMemory>
+        requires { enabled self.old.run.state step ≡ true }
+        ensures ok { OnOk result (self.new ≡ seat_after step self.old) }
+        ensures err { OnErr result (self.new ≡ self.old) }
+    {
+        let coming = frames_after(&step, self.coming);
+        if self.part.step(step).is_err() {
+            return Err(NoMemory);
+        }
+        self.coming = coming;
+        Ok(())
+    }
+
+    /// The newest event.
+    pub fn newest(&self) -> &Event
+        requires { 0 < length self.now.run.journal }
+        ensures { slice_get self.now.run.journal (length self.now.run.journal - 1) ≡ Some result.now }
+    {
+        let journal = self.part.journal();
+        journal.get(journal.len() - 1)
+    }
+
+    /// The journal.
+    pub fn into_journal(self) -> Journal
+        ensures { result.list ≡ self.entry.run.journal }
+    {
+        self.part.into_journal()
+    }
+}
+
+/// The frames that are left after a step.
+fn frames_after<'a>(step: &Step, coming: &'a [Words]) -> &'a [Words]
+    ensures { result.now ≡ coming_after step.now coming.now }
+{
+    match (step, coming.split_first()) {
+        (Step::Arrive { .. }, Some((_, rest))) => rest,
+        _ => coming,
+    }
+}

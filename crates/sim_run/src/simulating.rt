@@ -1,0 +1,256 @@
+//! A run as it stands: its schedule, its parts and its threads.
+
+ghost use Rattle.std.specs.Prelude.{◌≡◌, ◌≤◌, ◌<◌, All, IfOk, OnOk, length, map, slice_get};
+ghost use Rattle.nook_defs.specs.Schedules.{picked};
+ghost use Rattle.nook_defs.specs.Simulation.{answer_table, answers_of, begins, journal_of, journals_of, opening_seat, opening_thread, stepped_by, threads_after};
+ghost use Rattle.nook_defs.specs.Valid.{IsValidPart, IsValidScenario};
+ghost use Rattle.sim_run.specs.Advanced.{IsAdvanced, IsPick, IsSteppedSeat, IsTaken, standing};
+ghost use Rattle.sim_run.specs.Ends.{ends_of};
+ghost use Rattle.sim_run.specs.Published.{HearsChoice, HearsStep, made_of};
+ghost use Rattle.request_taps.specs.Bus.{seen};
+ghost use Rattle.sim_run.specs.Reached.{IsOpenChoice, MayTake};
+ghost use Rattle.sim_run.specs.Whole.{events_in};
+
+use crate::actors::{choice_of, list_ready};
+use crate::chosen::Chosen;
+use crate::script::Script;
+use crate::seat::Seat;
+use nook_defs::data::{AnswerTable, Event, PartSpec, Scenario, Step, TapTotals, ThreadSpec};
+use nook_defs::lists::{Items, TryCopy};
+use nook_defs::memory::NoMemory;
+use nook_defs::outside::Listener;
+use report_text::report::{Journals, Run};
+use report_text::whole_report::PartEnds;
+use request_taps::Bus;
+use schedule::Schedule;
+use std::alloc::Global;
+use std::marker::Model;
+
+/// What a whole run left: its journals, answers and totals, and what each part ends in.
+#[derive(Drop)]
+pub struct Simulated {
+    pub run: Run,
+    pub ends: PartEnds,
+}
+
+/// A run as it stands.
+#[derive(Drop)]
+pub struct Simulating<'a> {
+    alloc: Global,
+    schedule: Schedule,
+    seats: Vec<Seat<'a>>,
+    threads: Vec<Script<'a>>,
+    /// Room for the numbers of the actors that have a step.
+    ready: Vec<u16>,
+}
+
+impl<'a> Model for Simulating<'a> {
+    ghost use Rattle.std.specs.Prelude.{◌≤◌, length};
+    ghost use Rattle.nook_defs.specs.Simulation.{Simulation};
+
+    ghost Value = { Simulation };
+
+    ghost view = { λ s. record { order = s.schedule; parts = s.seats.items; threads = s.threads.items } };
+
+    ghost invariant = { λ s. (length s.seats.items ≤ 8) × (length s.threads.items ≤ 16) };
+}
+
+impl<'a> Simulating<'a> {
+    /// The run of a valid scenario before its first step.
+    #[tactic(auto, unfolding(nook_defs::specs::Simulation::begins))]
+    pub fn new(alloc: Global, scenario: &'a Scenario) -> Result<Simulating<'a>, NoMemory>
+        requires { IsValidScenario scenario.now }
+        ensures { IfOk result (λ simulation. simulation ≡ begins scenario.now) }
+    {
+        let schedule = Schedule::new(scenario.schedule.copy(alloc)?);
+        let seats = make_seats(alloc, scenario.parts.as_slice())?;
+        let threads = make_threads(alloc, scenario.threads.as_slice())?;
+        Ok(Simulating {
+            alloc,
+            schedule,
+            seats,
+            threads,
+            ready: Vec::new(alloc),
+        })
+    }
+
+    /// Takes the step that the schedule picks, and tells whether any actor had one.
+    /// The taps hear the event as soon as it is made.
+    pub fn advance<L: Listener>(&mut self, taps: &mut Bus<L>) -> Result<bool, NoMemory>
+        ensures advanced { IfOk result (λ some. IsAdvanced self.old some self.new) }
+        ensures heard { HearsStep self.old result (map (seen L.listening) taps.old) (map (seen L.listening) taps.new) }
+    {
+        let chosen = pick(
+            self.alloc,
+            &mut self.schedule,
+            &self.threads,
+            &self.seats,
+            &mut self.ready,
+        )?;
+        match chosen {
+            Some(chosen) => {
+                take(self.alloc, &mut self.seats, &mut self.threads, taps, chosen)?;
+                Ok(true)
+            }
+            None => Ok(false),
+        }
+    }
+
+    /// What the run left: one journal a part and what the part ends in, each thread's answers, and the totals of its
+    /// taps, which are given.
+    pub fn into_run(self, taps: TapTotals) -> Result<Simulated, NoMemory>
+        ensures journals { IfOk result (λ whole. map events_in whole.run.journals ≡ journals_of self.entry) }
+        ensures answers { IfOk result (λ whole. whole.run.answers ≡ answer_table self.entry) }
+        ensures taps { IfOk result (λ whole. whole.run.taps ≡ taps) }
+        ensures ends { IfOk result (λ whole. whole.ends ≡ ends_of self.entry.parts) }
+    {
+        let Simulating {
+            alloc,
+            seats,
+            threads,
+            ..
+        } = self;
+        let ends = take_ends(alloc, &seats)?;
+        let journals = take_journals(alloc, seats)?;
+        let answers = take_answers(alloc, threads)?;
+        Ok(Simulated {
+            run: Run {
+                journals,
+                answers,
+                taps,
+            },
+            ends,
+        })
+    }
+}
+
+/// What each part ends in.
+fn take_ends(alloc: Global, seats: &[Seat]) -> Result<PartEnds, NoMemory>
+    ensures { IfOk result (λ made. made ≡ ends_of seats.now) }
+{
+    let mut made = Items::new(alloc);
+    for seat in seats {
+        made.push(seat.end(alloc)?)?;
+    }
+    Ok(made)
+}
+
+/// The choice that the schedule picks, where any actor has a step. `ready` becomes the actors that have one.
+fn pick(
+    alloc: Global,
+    schedule: &mut Schedule,
+    threads: &[Script],
+    seats: &[Seat],
+    ready: &mut Vec<u16>,
+) -> Result<Option<Chosen>, NoMemory>
+    requires threads { length threads.now ≤ 16 }
+    requires seats { length seats.now ≤ 8 }
+    ensures { IfOk result (λ choice. IsPick
+        (standing schedule.old seats.now threads.now) choice (standing schedule.new seats.now threads.now)) }
+{
+    list_ready(threads, seats, ready)?;
+    if ready.is_empty() {
+        return Ok(None);
+    }
+    let place = pick_place(schedule, ready);
+    choice_of(alloc, ready[place], threads, seats)
+}
+
+/// The place in a list that the schedule picks. There is one.
+#[tactic(auto, using(crate::proofs::Advancing::place_within))]
+fn pick_place(schedule: &mut Schedule, actors: &[u16]) -> usize
+    requires { 0 < length actors.now }
+    ensures place { result ≡ (picked schedule.old actors.now).place }
+    ensures order { schedule.new ≡ (picked schedule.old actors.now).order }
+    ensures within { result < length actors.now }
+{
+    schedule.pick(actors)
+}
+
+/// Takes a choice that may be taken: its part makes the event, the taps hear it, and each thread notes it.
+#[tactic(auto, unfolding(request_taps::specs::Bus::told_all))]
+fn take<L: Listener>(
+    alloc: Global,
+    seats: &mut [Seat],
+    threads: &mut [Script],
+    taps: &mut Bus<L>,
+    chosen: Chosen,
+) -> Result<(), NoMemory>
+    requires choice { IsOpenChoice seats.old chosen }
+    requires seats { length seats.old ≤ 8 }
+    requires threads { length threads.old ≤ 16 }
+    ensures heard { HearsChoice (made_of chosen (slice_get seats.old chosen.part)) result
+        (map (seen L.listening) taps.old) (map (seen L.listening) taps.new) }
+    ensures taken { OnOk result (IsTaken (slice_get seats.old chosen.part) chosen seats.old threads.old seats.new threads.new) }
+{
+    let part = chosen.part();
+    let place = part as usize;
+    take_at(seats, place, chosen.into_step())?;
+    let event = seats[place].newest();
+    taps.publish(part as u8, event);
+    hear_all(alloc, threads, part, event)
+}
+
+/// Each part at the start of its boot.
+fn make_seats<'a>(alloc: Global, specs: &'a [PartSpec]) -> Result<Vec<Seat<'a>>, NoMemory>
+    requires { All IsValidPart specs.now }
+    ensures { IfOk result (λ made. made.items ≡ map opening_seat specs.now) }
+{
+    let mut made = Vec::with_capacity(alloc, specs.len())?;
+    for spec in specs {
+        made.push(Seat::new(alloc, spec)?)?;
+    }
+    Ok(made)
+}
+
+/// Each thread at the start of its script.
+fn make_threads<'a>(alloc: Global, specs: &'a [ThreadSpec]) -> Result<Vec<Script<'a>>, NoMemory>
+    ensures { IfOk result (λ made. made.items ≡ map opening_thread specs.now) }
+{
+    let mut made = Vec::with_capacity(alloc, specs.len())?;
+    for spec in specs {
+        made.push(Script::new(alloc, spec))?;
+    }
+    Ok(made)
+}
+
+/// The part at a place takes a step that it may take.
+fn take_at(seats: &mut [Seat], place: usize, step: Step) -> Result<(), NoMemory>
+    requires { MayTake (slice_get seats.old place) step }
+    ensures { OnOk result (IsSteppedSeat (slice_get seats.old place) seats.old place step seats.new) }
+{
+    seats[place].take(step)
+}
+
+/// Each thread notes an event of a part.
+fn hear_all(alloc: Global, threads: &mut [Script], part: u32, event: &Event) -> Result<(), NoMemory>
+    requires { length threads.old ≤ 16 }
+    ensures { OnOk result (threads.new ≡ threads_after 0 part event.now threads.old) }
+{
+    for place in 0..threads.len() {
+        threads[place].hear(alloc, place as u8, part, event)?;
+    }
+    Ok(())
+}
+
+/// Each part's journal.
+fn take_journals(alloc: Global, seats: Vec<Seat>) -> Result<Journals, NoMemory>
+    ensures { IfOk result (λ made. map events_in made ≡ map journal_of seats.entry.items) }
+{
+    let mut made = Items::new(alloc);
+    for seat in seats {
+        made.push(seat.into_journal())?;
+    }
+    Ok(made)
+}
+
+/// Each thread's answers.
+fn take_answers(alloc: Global, threads: Vec<Script>) -> Result<AnswerTable, NoMemory>
+    ensures { IfOk result (λ made. made ≡ map answers_of threads.entry.items) }
+{
+    let mut made = Items::new(alloc);
+    for thread in threads {
+        made.push(thread.into_answers())?;
+    }
+    Ok(made)
+}

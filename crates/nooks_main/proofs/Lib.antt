@@ -1,1 +1,4 @@
 pub mod CutLemmas
+pub mod Numerals
+pub mod Reports
+pub mod Safety

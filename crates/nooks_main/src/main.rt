@@ -2,14 +2,22 @@
 #![tactic(auto)]
 
 mod program;
+mod simulated;
 #[cfg(test)]
 mod tests;
 mod words;
 
-use nook_defs::listeners::FreeGate;
+use nook_defs::listeners::{CountListener, FreeGate};
+use nook_defs::outside::Listener;
 use nook_defs::standard_streams::{InSource, OutSink};
 use std::io;
 use std::process::ExitCode;
+
+/// The kinds of event that the program's own listeners hear: failures, bursts, answers.
+const HEARD_KINDS: [u8; 3] = [32, 4, 64];
+
+/// How many events each of them hears at most.
+const MOST_HEARD: u64 = 1_000_000;
 
 /// Runs the program on the words behind its own name, and ends with the status's code.
 fn main(rt: HostRuntime) -> io::Result<ExitCode> {
@@ -20,7 +28,11 @@ fn main(rt: HostRuntime) -> io::Result<ExitCode> {
     }
     let mut source = InSource::new(rt.reader());
     let mut sink = OutSink::new(io::writer(&rt));
-    let listeners = Vec::new(alloc);
+    let mut listeners: Vec<Box<dyn Listener>> = Vec::new(alloc);
+    for kinds in HEARD_KINDS {
+        let listener = CountListener::new(u8::MAX, kinds, MOST_HEARD);
+        listeners.push(Box::new(alloc, listener)?)?;
+    }
     let status = program::run(
         &rt,
         alloc,

@@ -1,20 +1,25 @@
 //! The whole program as one call over a source and a sink.
 
-ghost use Rattle.std.specs.Prelude.{◌≡◌, ◌≤◌, ◌⊎◌, [], IfOk, map, string_bytes};
+ghost use Rattle.std.specs.Prelude.{◌≡◌, ℕ, ◌≤◌, ◌⊎◌, map, string_bytes};
 ghost use Rattle.std.specs.Io.KnownBytes.{Appends};
 ghost use Rattle.nook_defs.specs.Causes.{Rose};
-ghost use Rattle.nooks_main.specs.Endings.{Cut, IsRefused, ReportEnds, Reported, ScenarioEnds, TextEnds, WasRead, usage_text};
-ghost use Rattle.nooks_main.specs.Forms.{form_of as form_of_texts};
+ghost use Rattle.nook_defs.specs.Disassembler.{disassembled};
+ghost use Rattle.nook_defs.specs.ImageReading.{image_from_asm};
+ghost use Rattle.nook_defs.specs.ImageText.{image_text};
+ghost use Rattle.nooks_main.specs.Endings.{AnswerEnds, Cut, FaultEnds, FormEnds, GivenEnds, IsDone, IsReading, IsRefused, StopEnds, TextEnds, at_root as root_refusal, usage_text};
+ghost use Rattle.nooks_main.specs.Forms.{IsForm, IsNoForm};
+ghost use Rattle.scenario_read.specs.Gives.{Gives};
 
+use crate::simulated::{run_generated, simulate_and_report};
 use crate::words::{Form, form_of};
-use nook_defs::data::Scenario;
+use driver_asm::{AsmError, assemble, disassemble, write_image};
+use nook_defs::assembler::AsmFault;
+use nook_defs::data::Image;
+use nook_defs::input::{InputFault, Path, Refusal};
 use nook_defs::memory::NoMemory;
 use nook_defs::outside::{Gate, Listener, Sink, Source};
 use nook_defs::whole::{ReadStop, read_all, write_all};
-use report_text::report::{Report, report_of};
-use report_text::write::{WriteStop, write_report};
-use scenario_read::{ScenarioFault, check_built, read_scenario};
-use sim_run::simulate;
+use scenario_read::{ScenarioFault, fault_line, read_image, read_scenario};
 use std::alloc::Global;
 use std::sync::Wait;
 use std::thread::Threads;
@@ -23,11 +28,7 @@ use std::thread::Threads;
 pub const LIMIT: u32 = 1_048_576;
 
 /// What is written where the words are of no form.
-const USAGE: &str = "usage: nooks run | run threads | asm | dis | gen N\n";
-/// What is written where an input is too long.
-const TOO_MANY: &str = "fault 6 too_many /\n";
-/// What is written where an input is not run: every other input than a scenario of the small form, so far.
-const NOT_BUILT: &str = "fault 11 not_built /\n";
+const USAGE: &[u8] = b"usage: nooks run | run threads | asm | dis | gen N\n";
 
 /// How the program ended. The exit codes are 0 to 7, in this order.
 #[derive(Clone, Copy, Debug, PartialEq, Eq)]
@@ -59,6 +60,11 @@ impl Status {
 
 /// Does what the words ask for: reads the source, writes the sink, and tells how it ended. Usage is decided
 /// first, and reads nothing; then comes a fault of the source, then one of the input, then one of the sink.
+///
+/// Where it wrote a report, that is the report of the scenario's scheduled run: whatever the drivers executed and in
+/// whatever order the steps fell, each part's journal is a run of the part in which no driver changed a kernel object
+/// that was not lent to it; and in each part whose drivers kept the class's contract and that was not given up, the
+/// applications saw one run of a device that never fails.
 pub fn run<R: Threads + Wait + Sync, S: Source, K: Sink, G: Gate>(
     _rt: &R,
     alloc: Global,
@@ -68,100 +74,213 @@ pub fn run<R: Threads + Wait + Sync, S: Source, K: Sink, G: Gate>(
     listeners: Vec<Box<dyn Listener>>,
     _gate: &G,
 ) -> Status
-    requires { listeners.items ≡ [] }
-    ensures done { result ≡ Status.Done → (form_of_texts (map string_bytes words.now) ≡ Some Form.Run)
-        × WasRead (S.left source.old) (S.left source.new) LIMIT × Reported (K.held sink.old) (K.held sink.new) 0 }
-    ensures given_up { result ≡ Status.GivenUp → (form_of_texts (map string_bytes words.now) ≡ Some Form.Run)
-        × WasRead (S.left source.old) (S.left source.new) LIMIT × Reported (K.held sink.old) (K.held sink.new) 1 }
-    ensures usage { result ≡ Status.Usage → (form_of_texts (map string_bytes words.now) ≡ None)
-        × Appends (K.held sink.old) (K.held sink.new) usage_text }
-    ensures no_form { form_of_texts (map string_bytes words.now) ≡ None →
+    ensures done { result ≡ Status.Done → (asked : Form) × IsForm (map string_bytes words.now) asked
+        × IsDone asked (S.left source.old) (S.left source.new) LIMIT (K.held sink.old) (K.held sink.new) 0 }
+    ensures given_up { result ≡ Status.GivenUp → (asked : Form) × IsForm (map string_bytes words.now) asked
+        × IsDone asked (S.left source.old) (S.left source.new) LIMIT (K.held sink.old) (K.held sink.new) 1 }
+    ensures broken { result ≡ Status.ContractBroken → (asked : Form) × IsForm (map string_bytes words.now) asked
+        × IsDone asked (S.left source.old) (S.left source.new) LIMIT (K.held sink.old) (K.held sink.new) 7 }
+    ensures usage { result ≡ Status.Usage → IsNoForm (map string_bytes words.now) × Appends (K.held sink.old) (K.held sink.new) usage_text }
+    ensures no_form { IsNoForm (map string_bytes words.now) →
         ((result ≡ Status.Usage) ⊎ (result ≡ Status.WriteFault)) × (source.new ≡ source.old) }
-    ensures bad_input { result ≡ Status.BadInput → (form_of_texts (map string_bytes words.now) ≡ Some Form.Run)
-        × IsRefused (S.left source.old) (S.left source.new) LIMIT (K.held sink.old) (K.held sink.new) }
+    ensures generated { (number : ℕ) → IsForm (map string_bytes words.now) (Form.Gen number) → source.new ≡ source.old }
+    ensures bad_input { result ≡ Status.BadInput → (asked : Form) × IsForm (map string_bytes words.now) asked
+        × IsRefused asked (S.left source.old) (S.left source.new) LIMIT (K.held sink.old) (K.held sink.new) }
     ensures read_fault { result ≡ Status.ReadFault → Rose (S.count source.old) (S.count source.new) × (sink.new ≡ sink.old) }
     ensures write_fault { result ≡ Status.WriteFault → Rose (K.count sink.old) (K.count sink.new) × Cut (K.held sink.old) (K.held sink.new) }
     ensures no_memory { result ≡ Status.NoMemory → Cut (K.held sink.old) (K.held sink.new) }
-    ensures kept { result ≡ Status.ContractBroken → ⊥ }
     ensures source_later { S.count source.old ≤ S.count source.new }
     ensures sink_later { K.count sink.old ≤ K.count sink.new }
 {
     match form_of(words) {
         None => finish(sink, USAGE, Status::Usage),
-        Some(Form::Run) => run_scenario(alloc, source, sink),
+        Some(asked) => run_form(alloc, asked, source, sink, listeners),
     }
 }
 
-/// Reads a scenario, simulates it and writes the report.
+/// Does what a form asks for.
+fn run_form<S: Source, K: Sink>(
+    alloc: Global,
+    asked: Form,
+    source: &mut S,
+    sink: &mut K,
+    listeners: Vec<Box<dyn Listener>>,
+) -> Status
+    requires { (number : ℕ) → asked ≡ Form.Gen number → number ≤ 256 }
+    ensures ends { FormEnds asked (S.left source.old) (S.left source.new) LIMIT (S.count source.old) (S.count source.new)
+        (K.held sink.old) (K.held sink.new) (K.count sink.old) (K.count sink.new) result }
+    ensures unwritten { result ≡ Status.ReadFault → sink.new ≡ sink.old }
+    ensures unread { (number : ℕ) → asked ≡ Form.Gen number → source.new ≡ source.old }
+    ensures source_later { S.count source.old ≤ S.count source.new }
+    ensures sink_later { K.count sink.old ≤ K.count sink.new }
+{
+    match asked {
+        Form::Gen { number } => run_generated(alloc, number, sink),
+        Form::Run | Form::Asm | Form::Dis => read_and_answer(alloc, asked, source, sink, listeners),
+    }
+}
+
+/// Reads the source and answers its bytes.
 #[tactic(auto, using(crate::proofs::CutLemmas::nothing_gained))]
-fn run_scenario<S: Source, K: Sink>(alloc: Global, source: &mut S, sink: &mut K) -> Status
-    ensures ends { ScenarioEnds (S.left source.old) (S.left source.new) LIMIT (S.count source.old) (S.count source.new)
+fn read_and_answer<S: Source, K: Sink>(
+    alloc: Global,
+    asked: Form,
+    source: &mut S,
+    sink: &mut K,
+    listeners: Vec<Box<dyn Listener>>,
+) -> Status
+    requires { IsReading asked }
+    ensures ends { FormEnds asked (S.left source.old) (S.left source.new) LIMIT (S.count source.old) (S.count source.new)
         (K.held sink.old) (K.held sink.new) (K.count sink.old) (K.count sink.new) result }
     ensures unwritten { result ≡ Status.ReadFault → sink.new ≡ sink.old }
     ensures source_later { S.count source.old ≤ S.count source.new }
     ensures sink_later { K.count sink.old ≤ K.count sink.new }
 {
-    let bytes = match read_all(alloc, source, LIMIT) {
-        Ok(bytes) => bytes,
-        Err(ReadStop::TooLong) => return finish(sink, TOO_MANY, Status::BadInput),
-        Err(ReadStop::Fault) => return Status::ReadFault,
-        Err(ReadStop::NoMemory) => return Status::NoMemory,
-    };
-    let scenario = match read_scenario(alloc, bytes.as_slice()) {
-        Ok(scenario) => scenario,
-        Err(ScenarioFault::NoMemory) => return Status::NoMemory,
-        Err(_) => return finish(sink, NOT_BUILT, Status::BadInput),
-    };
-    if !check_built(&scenario) {
-        return finish(sink, NOT_BUILT, Status::BadInput);
+    match read_all(alloc, source, LIMIT) {
+        Ok(bytes) => answer(alloc, asked, bytes.as_slice(), sink, listeners),
+        Err(ReadStop::TooLong) => refuse(alloc, sink, &at_root(alloc, InputFault::TooMany)),
+        Err(ReadStop::Fault) => Status::ReadFault,
+        Err(ReadStop::NoMemory) => Status::NoMemory,
     }
-    simulate_and_report(alloc, &scenario, sink)
 }
 
-/// Simulates a scenario and writes the report.
-#[tactic(auto, using(crate::proofs::CutLemmas::nothing_gained))]
-fn simulate_and_report<K: Sink>(alloc: Global, scenario: &Scenario, sink: &mut K) -> Status
-    ensures ends { ReportEnds (K.held sink.old) (K.held sink.new) (K.count sink.old) (K.count sink.new) result }
+/// Answers the bytes of the source, or tells their first fault.
+fn answer<K: Sink>(
+    alloc: Global,
+    asked: Form,
+    bytes: &[u8],
+    sink: &mut K,
+    listeners: Vec<Box<dyn Listener>>,
+) -> Status
+    requires { IsReading asked }
+    ensures ends { AnswerEnds asked bytes.now (K.held sink.old) (K.held sink.new) (K.count sink.old) (K.count sink.new) result }
     ensures later { K.count sink.old ≤ K.count sink.new }
 {
-    let Ok(report) = make_report(alloc, scenario) else {
-        return Status::NoMemory;
-    };
-    match write_report(alloc, scenario, &report, sink) {
-        Ok(()) => status_of(&report),
-        Err(WriteStop::Fault) => Status::WriteFault,
-        Err(WriteStop::NoMemory) => Status::NoMemory,
+    match asked {
+        Form::Run => run_scenario(alloc, bytes, sink, listeners),
+        Form::Asm => run_asm(alloc, bytes, sink),
+        Form::Dis => run_dis(alloc, bytes, sink),
+        Form::Gen { .. } => unreachable!(),
     }
 }
 
-/// Simulates a scenario and sums the run up.
-fn make_report(alloc: Global, scenario: &Scenario) -> Result<Report, NoMemory>
-    ensures { IfOk result (λ report. report.status ≤ 1) }
+/// Simulates the scenario of some bytes and writes the report.
+fn run_scenario<K: Sink>(
+    alloc: Global,
+    bytes: &[u8],
+    sink: &mut K,
+    listeners: Vec<Box<dyn Listener>>,
+) -> Status
+    ensures ends { AnswerEnds Form.Run bytes.now (K.held sink.old) (K.held sink.new) (K.count sink.old) (K.count sink.new) result }
+    ensures later { K.count sink.old ≤ K.count sink.new }
 {
-    let run = simulate(alloc, scenario)?;
-    report_of(alloc, scenario, run)
+    match read_scenario(alloc, bytes) {
+        Ok(scenario) => simulate_and_report(alloc, &scenario, sink, listeners),
+        Err(stop) => refuse_for(alloc, sink, &stop),
+    }
 }
 
-/// The status that a report ends with.
-fn status_of(report: &Report) -> Status
-    requires { report.now.status ≤ 1 }
-    ensures done { result ≡ Status.Done → report.now.status ≡ 0 }
-    ensures given_up { result ≡ Status.GivenUp → report.now.status ≡ 1 }
-    ensures either { (result ≡ Status.Done) ⊎ (result ≡ Status.GivenUp) }
+/// Writes the image of an assembler text.
+fn run_asm<K: Sink>(alloc: Global, bytes: &[u8], sink: &mut K) -> Status
+    ensures ends { AnswerEnds Form.Asm bytes.now (K.held sink.old) (K.held sink.new) (K.count sink.old) (K.count sink.new) result }
+    ensures later { K.count sink.old ≤ K.count sink.new }
 {
-    if report.status == 0 {
-        Status::Done
-    } else {
-        Status::GivenUp
+    match read_asm(alloc, bytes) {
+        Ok(image) => give_image(alloc, sink, &image),
+        Err(stop) => refuse_for(alloc, sink, &stop),
+    }
+}
+
+/// Writes the assembler text of an image.
+fn run_dis<K: Sink>(alloc: Global, bytes: &[u8], sink: &mut K) -> Status
+    ensures ends { AnswerEnds Form.Dis bytes.now (K.held sink.old) (K.held sink.new) (K.count sink.old) (K.count sink.new) result }
+    ensures later { K.count sink.old ≤ K.count sink.new }
+{
+    match read_image(alloc, bytes) {
+        Ok(image) => give_assembler_text(alloc, sink, &image),
+        Err(stop) => refuse_for(alloc, sink, &stop),
+    }
+}
+
+/// Tells why some bytes are not read.
+#[tactic(auto, using(crate::proofs::CutLemmas::nothing_gained))]
+fn refuse_for<K: Sink>(alloc: Global, sink: &mut K, stop: &ScenarioFault) -> Status
+    ensures ends { StopEnds (K.held sink.old) (K.held sink.new) (K.count sink.old) (K.count sink.new) stop.now result }
+    ensures later { K.count sink.old ≤ K.count sink.new }
+{
+    match stop {
+        ScenarioFault::Bad(refusal) => refuse(alloc, sink, refusal),
+        ScenarioFault::NoMemory => Status::NoMemory,
+    }
+}
+
+/// The image of an assembler text.
+#[tactic(auto, unfolding(nook_defs::specs::ImageReading::image_from_asm))]
+fn read_asm(alloc: Global, bytes: &[u8]) -> Result<Image, ScenarioFault>
+    ensures { Gives result (image_from_asm bytes.now) }
+{
+    match assemble(alloc, bytes) {
+        Ok(image) => Ok(image),
+        Err(AsmError::NoMemory) => Err(ScenarioFault::NoMemory),
+        Err(AsmError::Bad { kind, line }) => Err(ScenarioFault::Bad(at_root(
+            alloc,
+            InputFault::BadAsm(AsmFault { kind, line }),
+        ))),
+    }
+}
+
+/// A fault of the whole input.
+fn at_root(alloc: Global, fault: InputFault) -> Refusal
+    ensures { result ≡ root_refusal fault }
+{
+    Refusal {
+        fault,
+        path: Path::new(alloc),
+    }
+}
+
+/// Writes the line that tells why an input is refused.
+#[tactic(auto, using(crate::proofs::CutLemmas::nothing_gained))]
+fn refuse<K: Sink>(alloc: Global, sink: &mut K, refusal: &Refusal) -> Status
+    ensures ends { FaultEnds (K.held sink.old) (K.held sink.new) (K.count sink.old) (K.count sink.new) refusal.now result }
+    ensures later { K.count sink.old ≤ K.count sink.new }
+{
+    match fault_line(alloc, refusal) {
+        Ok(line) => finish(sink, line.as_bytes(), Status::BadInput),
+        Err(NoMemory) => Status::NoMemory,
+    }
+}
+
+/// Writes an image.
+#[tactic(auto, using(crate::proofs::CutLemmas::nothing_gained))]
+fn give_image<K: Sink>(alloc: Global, sink: &mut K, image: &Image) -> Status
+    ensures ends { GivenEnds (K.held sink.old) (K.held sink.new) (K.count sink.old) (K.count sink.new) (image_text image.now) result }
+    ensures later { K.count sink.old ≤ K.count sink.new }
+{
+    match write_image(alloc, image) {
+        Ok(text) => finish(sink, text.as_slice(), Status::Done),
+        Err(NoMemory) => Status::NoMemory,
+    }
+}
+
+/// Writes the assembler text of an image.
+#[tactic(auto, using(crate::proofs::CutLemmas::nothing_gained))]
+fn give_assembler_text<K: Sink>(alloc: Global, sink: &mut K, image: &Image) -> Status
+    ensures ends { GivenEnds (K.held sink.old) (K.held sink.new) (K.count sink.old) (K.count sink.new) (disassembled image.now) result }
+    ensures later { K.count sink.old ≤ K.count sink.new }
+{
+    match disassemble(alloc, image) {
+        Ok(text) => finish(sink, text.as_slice(), Status::Done),
+        Err(NoMemory) => Status::NoMemory,
     }
 }
 
 /// Writes a text and ends with a status, or with a fault of the sink.
-fn finish<K: Sink>(sink: &mut K, text: &str, status: Status) -> Status
+fn finish<K: Sink>(sink: &mut K, text: &[u8], status: Status) -> Status
     ensures ends { TextEnds (K.held sink.old) (K.held sink.new) (K.count sink.old) (K.count sink.new) text.now status result }
     ensures later { K.count sink.old ≤ K.count sink.new }
 {
-    match write_all(sink, text.as_bytes()) {
+    match write_all(sink, text) {
         Ok(()) => status,
         Err(_) => Status::WriteFault,
     }

@@ -38,14 +38,17 @@ part 0 d0 block limit 0\n\
 9 invoke c2 t0 read 1 1\n\
 10 enter c2 x0 try 1\n\
 11 burst x0 c2 b4 n89 reply 0 | load 1 -> data [1,2,3,4,5,6,7,8,9,10,11,12,13,14,15,16]\n\
+disk 1 [1,2,3,4,5,6,7,8,9,10,11,12,13,14,15,16]\n\
+config 0 0 0 0\n\
 failures 0\n\
+contract kept\n\
 thread 0 t0\n\
 1 p0 done\n\
 2 p0 data [1,2,3,4,5,6,7,8,9,10,11,12,13,14,15,16]\n\
 status 0\n\
 ";
 
-const NOT_BUILT: &str = "fault 11 not_built /\n";
+const NOT_JSON: &str = "fault 1 not_json /\n";
 
 const TOO_MANY: &str = "fault 6 too_many /\n";
 
@@ -112,8 +115,10 @@ fn words_of(alloc: Global, words: &[u32]) -> Result<Words, Fail> {
 /// Other words give the usage line and leave the source alone: its first read would fail.
 #[test]
 fn other_words_are_usage(rt: HostRuntime) -> Result<(), Fail> {
-    let cases: [&[&str]; 7] = [
+    let cases: [&[&str]; 9] = [
         &["walk"],
+        &["gen", "257"],
+        &["gen", "+1"],
         &[],
         &["gen", "0"],
         &["run", "threads"],
@@ -137,7 +142,7 @@ fn other_words_are_usage(rt: HostRuntime) -> Result<(), Fail> {
 
 /// Each proper prefix of the example's input is refused.
 #[test]
-fn prefixes_are_not_built(rt: HostRuntime) -> Result<(), Fail> {
+fn prefixes_are_not_json(rt: HostRuntime) -> Result<(), Fail> {
     for length in 0..EXAMPLE.len() {
         let (input, _) = EXAMPLE.as_bytes().split_at(length);
         let case = Case {
@@ -148,7 +153,7 @@ fn prefixes_are_not_built(rt: HostRuntime) -> Result<(), Fail> {
         };
         let (status, written) = outcome(&rt, rt.alloc(), &["run"], case)?;
         assert_eq!(rt; status, Status::BadInput, "at {length}");
-        assert_eq!(rt; written.as_str(), NOT_BUILT, "at {length}");
+        assert_eq!(rt; written.as_str(), NOT_JSON, "at {length}");
     }
     Ok(())
 }
@@ -184,10 +189,96 @@ fn faults_end_the_run(rt: HostRuntime) -> Result<(), Fail> {
     Ok(())
 }
 
+/// An input that is refused is told by the line of its first fault.
+#[test]
+fn faults_are_told_by_their_lines(rt: HostRuntime) -> Result<(), Fail> {
+    let cases = [
+        ("[]", "fault 4 wrong_kind /\n"),
+        ("{\"version\":3}", "fault 5 number_range /version\n"),
+        (
+            "{\"version\":1,\"parts\":[{\"class\":\"disk\"}],\"threads\":[]}",
+            "fault 9 bad_class /parts/0/class\n",
+        ),
+        (
+            "{\"version\":1,\"parts\":[{\"name\":\"a\",\"class\":\"sound\",\"driver\":{\"asm\":\".class sound\\nFOO\"}}],\"threads\":[]}",
+            "fault 8 bad_asm 2 line 2 /parts/0/driver/asm\n",
+        ),
+    ];
+    for (input, line) in cases {
+        let case = Case {
+            input: input.as_bytes(),
+            per_read: 4096,
+            bad_reads: &[],
+            bad_writes: &[],
+        };
+        let (status, written) = outcome(&rt, rt.alloc(), &["run"], case)?;
+        assert_eq!(rt; status, Status::BadInput);
+        assert_eq!(rt; written.as_str(), line);
+    }
+    Ok(())
+}
+
+/// A driver that registers at its init and writes a word for every other call.
+const TEXT: &str = "\
+.class block\n.entry init 0\n.entry read 4\n.entry write 4\n.entry get 4\n.entry set 4\n\
+LI r1 0\nKCALL 3\nLI r1 0\nRET r1\nLI r5 1\nST r5 r3 0\nRET r0\n";
+
+/// Its image.
+const IMAGE: &str =
+    "{\"class\":\"block\",\"data\":[],\"entries\":{\"get\":4,\"init\":0,\"read\":4,\"set\":4,\"write\":4},\"text\":[\"01100000\",\"16000003\",\"01100000\",\"17100000\",\"01500001\",\"0d530000\",\"17000000\"]}\n";
+
+/// The same driver with labels.
+const LABELLED: &str = "\
+.class block\n.entry init a\n.entry read b\n.entry write b\n.entry get b\n.entry set b\n\
+a: LI r1 0\nKCALL 3\nLI r1 0\nRET r1\nb: LI r5 1\nST r5 r3 0\nRET r0\n";
+
+/// Texts are assembled and images taken apart, or told by the line of their first fault; a generated scenario is
+/// summed up.
+#[test]
+fn other_forms_write_their_texts(rt: HostRuntime) -> Result<(), Fail> {
+    let cases: [(&[&str], &str, Status, &str); 8] = [
+        (&["asm"], LABELLED, Status::Done, IMAGE),
+        (&["asm"], TEXT, Status::Done, IMAGE),
+        (&["dis"], IMAGE, Status::Done, TEXT),
+        (
+            &["asm"],
+            ".class block\na: LI r1 0\nFOO r1\n",
+            Status::BadInput,
+            "fault 8 bad_asm 2 line 3 /\n",
+        ),
+        (
+            &["asm"],
+            ".class block\nx: x: RET r0\nLI r1 70000\n",
+            Status::BadInput,
+            "fault 8 bad_asm 3 line 2 /\n",
+        ),
+        (&["dis"], "[]", Status::BadInput, "fault 4 wrong_kind /\n"),
+        (
+            &["gen", "12"],
+            "",
+            Status::Done,
+            "gen 12 events 251 failures 7 status 0\n",
+        ),
+        (&["gen", "012"], "", Status::Usage, USAGE),
+    ];
+    for (words, input, want, text) in cases {
+        let case = Case {
+            input: input.as_bytes(),
+            per_read: 64,
+            bad_reads: &[],
+            bad_writes: &[],
+        };
+        let (status, written) = outcome(&rt, rt.alloc(), words, case)?;
+        assert_eq!(rt; status, want);
+        assert_eq!(rt; written.as_str(), text);
+    }
+    Ok(())
+}
+
 /// The most bytes are read and refused as what they are; one more is too many.
 #[test]
 fn long_inputs_are_too_many(rt: HostRuntime) -> Result<(), Fail> {
-    for (more, want) in [(0, NOT_BUILT), (1, TOO_MANY)] {
+    for (more, want) in [(0, NOT_JSON), (1, TOO_MANY)] {
         let input = vec![in rt.alloc(); b' '; LIMIT as usize + more]?;
         let case = Case {
             input: input.as_slice(),

@@ -1,25 +1,94 @@
 //! The forms of words that the program knows.
 
-ghost use Rattle.std.specs.Prelude.{◌≡◌, map, string_bytes};
-ghost use Rattle.nooks_main.specs.Forms.{form_of as form_of_texts};
+ghost use Rattle.std.specs.Prelude.{◌≡◌, ℕ, ◌≤◌, [], ◌∷◌, codes, decimal, map, string_bytes, IfNone, IfSome};
+ghost use Rattle.nooks_main.specs.Forms.{IsForm, IsNoForm, is_plain, within};
 
 /// What the program is asked to do.
 #[derive(Clone, Copy, Debug, PartialEq, Eq)]
 pub enum Form {
     /// `run`: read a scenario, simulate it, write the report.
     Run,
+    /// `asm`: read an assembler text, write its image.
+    Asm,
+    /// `dis`: read an image, write its assembler text.
+    Dis,
+    /// `gen` N: simulate the generated scenario of a number from 1 to 256, write the line that sums it up.
+    Gen { number: u32 },
 }
 
-/// The form of the words; `None` where they are of no form.
+/// The greatest number of a generated scenario.
+const MOST_GENERATED: u32 = 256;
+
+/// The form of the words; `None` exactly where they are of no form.
 pub fn form_of(words: &[String]) -> Option<Form>
-    ensures { result ≡ form_of_texts (map string_bytes words.now) }
+    ensures found { IfSome result (IsForm (map string_bytes words.now)) }
+    ensures none { IfNone result (IsNoForm (map string_bytes words.now)) }
 {
     match words {
-        [first] => if first.as_str() == "run" {
-            Some(Form::Run)
-        } else {
-            None
-        },
+        [word] => form_of_word(word.as_str()),
+        [word, number] => form_of_two(word.as_str(), number.as_str()),
         _ => None,
+    }
+}
+
+/// The form of one word.
+fn form_of_word(word: &str) -> Option<Form>
+    ensures found { IfSome result (IsForm (word.now ∷ [])) }
+    ensures none { IfNone result (IsNoForm (word.now ∷ [])) }
+{
+    if word == "run" {
+        Some(Form::Run)
+    } else if word == "asm" {
+        Some(Form::Asm)
+    } else if word == "dis" {
+        Some(Form::Dis)
+    } else {
+        None
+    }
+}
+
+/// The form of a word and a number.
+fn form_of_two(word: &str, number: &str) -> Option<Form>
+    ensures found { IfSome result (IsForm (word.now ∷ number.now ∷ [])) }
+    ensures none { IfNone result (IsNoForm (word.now ∷ number.now ∷ [])) }
+{
+    if word != "gen" {
+        return None;
+    }
+    match generated_number(number) {
+        Some(number) => Some(Form::Gen { number }),
+        None => None,
+    }
+}
+
+/// The number of a generated scenario in decimal, with no sign and no leading zero.
+fn generated_number(text: &str) -> Option<u32>
+    ensures found { IfSome result (λ n. (text.now ≡ decimal n) × (1 ≤ n) × (n ≤ 256)) }
+    ensures none { IfNone result ((n : ℕ) → text.now ≡ decimal n → 1 ≤ n → n ≤ 256 → ⊥) }
+{
+    match text.parse::<u32>() {
+        Ok(number) => within(number, is_plain(text)),
+        Err(_) => None,
+    }
+}
+
+/// A number from 1 to 256 whose text is plain.
+fn within(number: u32, plain: bool) -> Option<u32>
+    ensures { result ≡ within number plain }
+{
+    if 1 <= number && number <= MOST_GENERATED && plain {
+        Some(number)
+    } else {
+        None
+    }
+}
+
+/// Whether the text begins with neither a sign nor a zero.
+fn is_plain(text: &str) -> bool
+    ensures { result ≡ is_plain text.now }
+{
+    match text.as_bytes().first() {
+        Some(byte) => *byte != b'+' && *byte != b'0',
+        None => false,
     }
 }

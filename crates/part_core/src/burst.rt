@@ -30,7 +30,8 @@ impl State {
         self.bursts += 1;
         let burst = self.bursts;
         let outcome = self.cross(context, done.end, rooms);
-        Ok(bursted(context, call, burst, &done, acts.into_acts(), outcome))
+        let acts = fitted(acts.into_acts());
+        Ok(bursted(context, call, burst, &done, acts, outcome))
     }
 
     /// The number of the call that a context serves; 0 for the shadow's own.
@@ -45,6 +46,15 @@ impl State {
             None => 0,
         }
     }
+}
+
+/// The acts without the room that the burst did not use, since the journal keeps them.
+fn fitted(acts: Acts) -> Acts
+    ensures { result ≡ acts }
+{
+    let mut items = acts.into_vec();
+    items.shrink_to_fit();
+    Acts::from_vec(items)
 }
 
 /// The event of a burst.

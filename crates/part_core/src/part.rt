@@ -4,7 +4,7 @@ ghost use Rattle.std.specs.Prelude.{◌≡◌, ◌≤◌, is_some, true, [], IsS
 ghost use Rattle.nook_defs.specs.Devices.{medium_of};
 ghost use Rattle.nook_defs.specs.Pages.{object_words};
 ghost use Rattle.nook_defs.specs.Log.{blocked_by, call_of_thread, open_call};
-ghost use Rattle.nook_defs.specs.Runs.{IsRun, answer_among, answer_at, answered_at, next_any, next_for, next_recovery, opening_run};
+ghost use Rattle.nook_defs.specs.Runs.{IsRun, answer_among, answer_at, answered_at, next_any, next_for, next_recovery, opening_run, state_of};
 ghost use Rattle.nook_defs.specs.Steps.{can_arrive, can_invoke, enabled};
 ghost use Rattle.nook_defs.specs.Valid.{IsValidPart};
 ghost use Rattle.part_core.specs.Answering.{call_number};
@@ -152,17 +152,19 @@ impl Part {
         self.journal
     }
 
-    /// The events so far.
+    /// The events so far. They are a run of the part, which is as they leave it.
     pub fn journal(&self) -> &Journal
         ensures journal { result.now.list ≡ self.now.journal }
         ensures run { IsRun self.now.state.spec result.now.list }
+        ensures state { self.now.state ≡ state_of self.now.state.spec result.now.list }
     {
         &self.journal
     }
 
-    /// What the part is made from.
+    /// What the part is made from. It is valid.
     pub fn spec(&self) -> &PartSpec
-        ensures { result.now ≡ self.now.state.spec }
+        ensures spec { result.now ≡ self.now.state.spec }
+        ensures valid { IsValidPart self.now.state.spec }
     {
         &self.state.spec
     }

@@ -654,3 +654,20 @@ fn shows_what_it_does(rt: HostRuntime) -> Result<(), Fail> {
     }
     Ok(())
 }
+
+/// A part takes 100,000 calls, here reads past the end of its disk, and no more.
+#[test]
+fn takes_its_calls_and_no_more(rt: HostRuntime) -> Result<(), Fail> {
+    let alloc = rt.alloc();
+    let spec = spec_of(alloc, Class::Block, NEVER, NEVER)?;
+    let mut part = Part::new(alloc, spec).ok().ok_or("memory")?;
+    for call in 1..100_001u64 {
+        drive_by(alloc, &mut part, Drive::Invoke(0, Ask::Read(9)))?;
+        assert_eq!(rt; part.journal().len() as u64, call);
+    }
+    assert_eq!(rt; part.calls(), 100_000);
+    assert_eq!(rt; part.answered_at(100_000), Some(100_000));
+    assert!(rt; !part.can_invoke(0));
+    let op = op_of(alloc, Ask::Read(9))?;
+    refuse(&mut part, Step::Invoke { thread: 0, op })
+}

@@ -1,0 +1,87 @@
+//! What a desk promises its callers: the trait over which workers run.
+//!
+//! A desk is where threads call a part. Each caller has a seat, and contracts see what the seat knows: a beginning of
+//! the part's journal, and the places of the events that were added through the seat.
+#![tactic(auto)]
+
+ghost use Rattle.desk_like.specs.Desks.{ArriveEnds, CallEnds, DeskView, Joins, new_view, shared_view};
+ghost use Rattle.nook_defs.specs.Classes.{same_class};
+ghost use Rattle.nook_defs.specs.Runs.{IsRun};
+ghost use Rattle.nook_defs.specs.declared.data.Class.TheVariants as class;
+ghost use Rattle.nook_defs.specs.declared.data.PartSpec.{PartSpec};
+ghost use Rattle.std.specs.Prelude.{length, true, ◌<◌, ◌≡◌, ◌≤◌};
+
+use nook_defs::data::{DeskRefused, Op, Receipt};
+use nook_defs::lists::Words;
+use std::alloc::Global;
+use std::sync::Wait;
+
+/// A part behind a desk. Threads share the desk by reference, and each works through a seat of its own.
+///
+/// Each call is handed a seat of this desk. No contract says that a call which waits ever returns, or in which order
+/// callers get their turn.
+pub trait DeskLike: Sync {
+    /// A caller's place at the desk.
+    type Seat: Send + Drop;
+
+    // the part that the desk serves, whose seats are its own, and what a seat knows
+    ghost spec: { Self → PartSpec };
+
+    ghost is_seat: { Self → Self.Seat → Type 0 };
+
+    ghost view: { Self.Seat → DeskView };
+
+    /// Invokes an operation for a thread below 16 and waits until it is answered, by itself or by another caller.
+    ///
+    /// `OpenCall` comes exactly where the thread has an open call when it would invoke, and `TooManyCalls` exactly where
+    /// the part has 100,000 calls then; both add nothing, as does `NoMemory` that names no call. `NoMemory` that names a
+    /// call leaves it invoked and open.
+    fn call<R: Wait>(
+        &self,
+        rt: &R,
+        alloc: Global,
+        seat: &mut Self::Seat,
+        thread: u8,
+        op: &Op,
+    ) -> Result<Receipt, DeskRefused>
+        requires seat { is_seat self.now seat.old }
+        requires thread { thread < 16 }
+        ensures seat { is_seat self.now seat.new }
+        ensures run { IsRun (spec self.now) (view seat.new).seen }
+        ensures ends { CallEnds (spec self.now) (view seat.old) (view seat.new) thread op.now result };
+
+    /// Hands a frame of 1 to 64 words to a network part. Tells whether the device's ring kept it.
+    ///
+    /// `TooManyArrivals` comes exactly where the part has 100,000 arrivals by then. A refusal adds nothing.
+    fn arrive<R: Wait>(
+        &self,
+        rt: &R,
+        alloc: Global,
+        seat: &mut Self::Seat,
+        frame: &Words,
+    ) -> Result<bool, DeskRefused>
+        requires seat { is_seat self.now seat.old }
+        requires net { same_class (spec self.now).class class.Net ≡ true }
+        requires some { 1 ≤ length frame.now }
+        requires fits { length frame.now ≤ 64 }
+        ensures seat { is_seat self.now seat.new }
+        ensures run { IsRun (spec self.now) (view seat.new).seen }
+        ensures ends { ArriveEnds (spec self.now) (view seat.old) (view seat.new) frame.now result };
+
+    /// Makes another seat, which has seen the same. It takes no memory.
+    fn split(&self, seat: &mut Self::Seat) -> Self::Seat
+        requires { is_seat self.now seat.old }
+        ensures seat { is_seat self.now seat.new }
+        ensures other { is_seat self.now result }
+        ensures view { view seat.new ≡ shared_view (view seat.old) }
+        ensures other_view { view result ≡ new_view (view seat.old) }
+        ensures run { IsRun (spec self.now) (view seat.new).seen };
+
+    /// Takes another seat in: the seat has then seen the longer of the two lists, and the places of both are its own.
+    fn join(&self, seat: &mut Self::Seat, other: Self::Seat)
+        requires seat { is_seat self.now seat.old }
+        requires other { is_seat self.now other }
+        ensures seat { is_seat self.now seat.new }
+        ensures joins { Joins (view seat.old) (view other) (view seat.new) }
+        ensures run { IsRun (spec self.now) (view seat.new).seen };
+}

@@ -1,0 +1,8 @@
+pub mod Calls
+pub mod Ends
+pub mod Opens
+pub mod Seats
+pub mod Short
+pub mod Steps
+pub mod Tested
+pub mod Views

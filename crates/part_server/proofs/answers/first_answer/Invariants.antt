@@ -1,0 +1,6 @@
+use Rattle.std.proofs.Common.{◌≡◌, ◌+◌, drop}
+use Rattle.nook_defs.specs.Runs.{answered_from}
+use Rattle.part_server.proofs.answers.first_answer.Given as goal
+
+abbrev pub invariant-loop-place : goal.invariant-loop-place
+invariant-loop-place l = answered_from (l.place + 1) l.call (drop l.place l.events) ≡ answered_from (l.looked + 1) l.call (drop l.looked l.events)

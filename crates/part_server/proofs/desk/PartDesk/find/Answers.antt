@@ -1,0 +1,13 @@
+use Rattle.std.proofs.Common.{ap, ◌∙◌}
+use Rattle.turn_lock.specs.Views.{gave}
+use Rattle.part_server.specs.Desk.{desk_spec}
+use Rattle.part_server.specs.Turns.{SeatValue}
+use Rattle.part_server.proofs.Ends.{Vw}
+use Rattle.part_server.proofs.Seats.{find_returns}
+use Rattle.part_server.proofs.desk.PartDesk.find.Goals as goal
+
+pub returns-clause-ends : goal.returns-clause-ends
+returns-clause-ends g c =
+    find_returns (desk_spec c.args.self.now) c.args.seat.now.me.0 c.seat.inside.seat.me.0 c.give_back.new.seat.me.0 c.take-held.result
+    (record { same = ap (λ (s : SeatValue). s.me.0) c.seat.view_is; begins = c.take-held.ensures.begins; alone = c.take-held.ensures.alone; home = c.take-held.ensures.origin })
+    c.find-found.ensures.kept c.args.thread c.find-found.result (c.give_back.ensures.view ∙ ap (λ (z : Vw). gave z) c.take-held.ensures.view) c.find-found.ensures.gives

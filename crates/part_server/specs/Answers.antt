@@ -1,0 +1,36 @@
+-- How many words an answer has, and which event invokes a call.
+use Rattle.std.specs.Prelude.{◌≡◌, ℕ, ◌≤◌, ◌==◌, ◌&&◌, Bool, false, Some, length}
+use Rattle.nook_defs.specs.declared.data.Answer.{Answer}
+use Rattle.nook_defs.specs.declared.data.Event.{Event}
+use Rattle.nook_defs.specs.declared.data.Event.TheVariants as event
+use Rattle.nook_defs.specs.declared.data.Op.{Op}
+use Rattle.nook_defs.specs.Room.{answer_words}
+use Rattle.nook_defs.specs.Runs.{answer_at}
+use Rattle.desk_like.specs.Desks.{IsInvoke}
+
+-- an answer of at most 128 words
+abbrev pub IsShort : Answer → Type 0
+IsShort a = length (answer_words a) ≤ 128
+
+-- what an event answers is short
+abbrev pub AnswersShortly : Event → Type 0
+AnswersShortly e = (call : ℕ) (a : Answer) → answer_at call e ≡ Some a → IsShort a
+
+-- the event invokes this call of this thread
+abbrev pub is_invocation : ℕ → ℕ → Event → Bool
+is_invocation call thread (event.Invoke c t o a) = c == call && t == thread
+is_invocation call thread _ = false
+
+-- it is the call of some operation
+abbrev pub InvokesCall : ℕ → ℕ → Event → Type 0
+InvokesCall call thread e = (o : Op) × IsInvoke call thread o e
+
+-- the event is an invocation
+abbrev pub Invokes : Event → Type 0
+Invokes (event.Invoke c t o a) = Unit {0}
+Invokes _ = ⊥
+
+-- of the call with this number
+abbrev pub Numbers : ℕ → Event → Type 0
+Numbers call (event.Invoke c t o a) = c ≡ call
+Numbers call _ = ⊥

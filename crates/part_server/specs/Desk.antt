@@ -1,0 +1,18 @@
+-- A desk and its seats, as contracts name them.
+use Rattle.nook_defs.specs.declared.data.PartSpec.{PartSpec}
+use Rattle.desk_like.specs.Desks.{DeskView}
+use Rattle.turn_lock.specs.Seats.{IsSeatOf}
+use Rattle.part_server.specs.declared.desk.PartDesk.{PartDesk}
+use Rattle.part_server.specs.Turns.{SeatValue, seen_view}
+
+-- what the desk's part is made from
+abbrev pub desk_spec : PartDesk → PartSpec
+desk_spec desk = desk.turn.home
+
+-- the seat is one of the desk's
+abbrev pub IsDeskSeat : PartDesk → SeatValue → Type 0
+IsDeskSeat desk seat = IsSeatOf desk.turn seat
+
+-- what the seat knows
+abbrev pub desk_view : SeatValue → DeskView
+desk_view seat = seen_view seat.me.0

@@ -1,0 +1,4 @@
+pub mod Answers
+pub mod Desk
+pub mod Tested
+pub mod Turns

@@ -1,0 +1,176 @@
+-- What one turn does to a part, and to what a seat of its desk knows.
+use Rattle.std.specs.Prelude.{◌≡◌, ℕ, ◌+◌, ◌<◌, ◌≤◌, Bool, true, false, Option, Some, None, Result, Ok, Err, List, [], ◌∷◌, ◌++◌, drop, length}
+use Rattle.atomic_table.specs.declared.shared.Seat.{Seat}
+use Rattle.nook_defs.specs.declared.data.DeskRefused.{DeskRefused}
+use Rattle.nook_defs.specs.declared.data.DeskRefused.TheVariants as refused
+use Rattle.nook_defs.specs.declared.data.Event.{Event}
+use Rattle.nook_defs.specs.declared.data.Op.{Op}
+use Rattle.nook_defs.specs.declared.data.PartSpec.{PartSpec}
+use Rattle.nook_defs.specs.declared.data.Receipt.{Receipt}
+use Rattle.nook_defs.specs.declared.data.Step.{Step}
+use Rattle.nook_defs.specs.declared.data.Step.TheVariants as step
+use Rattle.nook_defs.specs.declared.memory.NoMemory.{NoMemory}
+use Rattle.nook_defs.specs.Runs.{PartRun, IsRun, answer_at, answered_from, next_any}
+use Rattle.desk_like.specs.Desks.{DeskView, IsAt, IsInvoke, IsArrive, IsOther, Answers, Adds, AddsNothing, Waits, HasOpen, HasNoneOpen, CallEnds, ResumeEnds, state_seen}
+use Rattle.turn_lock.specs.declared.view.View.{View}
+use Rattle.part_server.specs.Answers.{InvokesCall, Numbers}
+use Rattle.part_server.specs.declared.waiting.Progress.{Progress}
+use Rattle.part_server.specs.declared.waiting.Progress.TheVariants as progress
+use Rattle.part_server.specs.declared.waiting.Waiting.{Waiting}
+
+-- ---- what a turn does to the part
+
+-- the journal has one event more, which is such
+pub record Grows (old new : PartRun) (Is : Event → Type 0) : Type 0 where
+  pub event : Event
+  pub journal : new.journal ≡ old.journal ++ event ∷ []
+  pub spec : new.state.spec ≡ old.state.spec
+  pub is : Is event
+
+-- the call is open, all events were looked at, and there is room for its answer
+abbrev pub IsWaitingFor : PartRun → Waiting → Type 0
+IsWaitingFor r w = HasOpen r.state w.thread w.call × (w.looked ≡ length r.journal) × (128 ≤ w.room)
+
+-- the call is open, and there is room for its answer
+abbrev pub IsGoingOn : PartRun → Waiting → Type 0
+IsGoingOn r w = HasOpen r.state w.thread w.call × (128 ≤ w.room)
+
+-- they wait for one call
+abbrev pub IsSameCall : Waiting → Waiting → Type 0
+IsSameCall w next = (next.call ≡ w.call) × (next.thread ≡ w.thread) × (next.at_invoke ≡ w.at_invoke)
+
+-- why a thread may not invoke an operation
+abbrev pub RefusalGives : PartRun → ℕ → DeskRefused → Type 0
+RefusalGives r thread (refused.OpenCall call) = HasOpen r.state thread call
+RefusalGives r thread refused.TooManyCalls = HasNoneOpen r.state thread × (r.state.log.count ≡ 100000)
+RefusalGives r thread _ = ⊥
+
+-- neither an invocation nor an arrival
+abbrev pub IsOwn : Step → Type 0
+IsOwn (step.Invoke thread op) = ⊥
+IsOwn (step.Enter thread) = Unit {0}
+IsOwn (step.Burst context) = Unit {0}
+IsOwn step.Stage = Unit {0}
+IsOwn (step.Arrive frame) = ⊥
+
+-- an answer to an open call is looked for among the events that were not looked at
+abbrev pub LookGives : List Event → Waiting → Result Receipt Waiting → Type 0
+LookGives journal w (Ok receipt) =
+    (receipt.call ≡ w.call) × (receipt.at_invoke ≡ w.at_invoke) × (w.looked < receipt.at_reply)
+    × IsAt journal receipt.at_reply (Answers w.call receipt.answer)
+LookGives journal w (Err next) = (next ≡ w) × (answered_from (w.looked + 1) w.call (drop w.looked journal) ≡ None)
+
+-- how far a call got in the last event of a journal
+abbrev pub ReachedGives : List Event → Waiting → Progress → Type 0
+ReachedGives journal w (progress.Answered receipt) =
+    (receipt.call ≡ w.call) × (receipt.at_invoke ≡ w.at_invoke) × (receipt.at_reply ≡ length journal)
+    × IsAt journal (length journal) (Answers w.call receipt.answer)
+ReachedGives journal w (progress.Open next) = (next ≡ w) × IsAt journal (length journal) (λ e. answer_at w.call e ≡ None)
+
+-- how far a call got in its invocation, the last event of a journal
+abbrev pub InvokedGives : List Event → ℕ → Progress → Type 0
+InvokedGives journal thread (progress.Answered receipt) =
+    (receipt.at_invoke ≡ length journal) × (receipt.at_reply ≡ length journal)
+    × IsAt journal (length journal) (λ e. Numbers receipt.call e × Answers receipt.call receipt.answer e)
+InvokedGives journal thread (progress.Open w) =
+    (w.at_invoke ≡ length journal) × (w.thread ≡ thread) × (w.looked ≡ length journal) × (128 ≤ w.room)
+    × IsAt journal (length journal) (λ e. Numbers w.call e × (answer_at w.call e ≡ None))
+
+-- an operation of a thread is invoked
+abbrev pub InvokeGives : PartRun → PartRun → ℕ → Op → Result Progress DeskRefused → Type 0
+InvokeGives old new thread op (Ok (progress.Answered receipt)) =
+    Grows old new (λ e. IsInvoke receipt.call thread op e × Answers receipt.call receipt.answer e)
+    × (receipt.at_invoke ≡ length new.journal) × (receipt.at_reply ≡ length new.journal)
+InvokeGives old new thread op (Ok (progress.Open w)) =
+    Grows old new (IsInvoke w.call thread op) × (w.at_invoke ≡ length new.journal) × (w.thread ≡ thread) × IsWaitingFor new w
+InvokeGives old new thread op (Err (refused.OpenCall call)) = (new ≡ old) × HasOpen old.state thread call
+InvokeGives old new thread op (Err refused.TooManyCalls) =
+    (new ≡ old) × HasNoneOpen old.state thread × (old.state.log.count ≡ 100000)
+InvokeGives old new thread op (Err (refused.NoMemory None)) = new ≡ old
+InvokeGives old new thread op (Err _) = ⊥
+
+-- a step is taken for an open call
+abbrev pub GoOnGives : PartRun → PartRun → Waiting → Result Progress DeskRefused → Type 0
+GoOnGives old new w (Ok (progress.Answered receipt)) =
+    Grows old new (λ e. IsOther e × Answers w.call receipt.answer e)
+    × (receipt.call ≡ w.call) × (receipt.at_invoke ≡ w.at_invoke) × (receipt.at_reply ≡ length new.journal)
+GoOnGives old new w (Ok (progress.Open next)) = Grows old new IsOther × IsSameCall w next × IsWaitingFor new next
+GoOnGives old new w (Err (refused.NoMemory (Some call))) = (new ≡ old) × (call ≡ w.call)
+GoOnGives old new w (Err _) = ⊥
+
+-- a thread's open call is looked for
+abbrev pub FindGives : PartRun → ℕ → Result Waiting DeskRefused → Type 0
+FindGives r thread (Ok w) = (w.thread ≡ thread) × IsWaitingFor r w × IsAt r.journal w.at_invoke (InvokesCall w.call thread)
+FindGives r thread (Err refused.NoOpenCall) = HasNoneOpen r.state thread
+FindGives r thread (Err _) = ⊥
+
+-- a frame arrives
+abbrev pub ArriveGives : PartRun → PartRun → List ℕ → Result Bool DeskRefused → Type 0
+ArriveGives old new frame (Ok kept) = Grows old new (IsArrive frame kept)
+ArriveGives old new frame (Err refused.TooManyArrivals) = (new ≡ old) × (old.state.arrived ≡ 100000)
+ArriveGives old new frame (Err (refused.NoMemory None)) = new ≡ old
+ArriveGives old new frame (Err _) = ⊥
+
+-- the next step is taken, where there is one
+abbrev pub SettleGives : PartRun → PartRun → Result Bool NoMemory → Type 0
+SettleGives old new (Ok true) = Grows old new IsOther
+SettleGives old new (Ok false) = (new ≡ old) × (next_any old.state ≡ None)
+SettleGives old new (Err e) = new ≡ old
+
+-- ---- what a seat knows
+
+-- a seat of the turn that keeps the part
+abbrev pub SeatValue : Type 0
+SeatValue = Seat (Option PartRun) (View Event PartSpec)
+
+-- of what a seat of a turn knows, what callers of a desk see
+abbrev pub seen_view : View Event PartSpec → DeskView
+seen_view v = record { seen = v.seen; made = v.made; alone = v.alone }
+
+-- what was seen is a run of the part that the seat knows of
+abbrev pub IsSeen : Option PartSpec → List Event → Type 0
+IsSeen home seen = (spec : PartSpec) → home ≡ Some spec → IsRun spec seen
+
+-- the call is open where the seat has seen all, all was looked at, and there is room for its answer
+abbrev pub IsWaitingIn : PartSpec → DeskView → Waiting → Type 0
+IsWaitingIn spec v w = HasOpen (state_seen spec v) w.thread w.call × (w.looked ≡ length v.seen) × (128 ≤ w.room)
+
+-- ---- what a turn does to what a seat knows
+
+-- an operation of a thread is invoked
+abbrev pub InvokeEnds : PartSpec → DeskView → DeskView → ℕ → Op → Result Progress DeskRefused → Type 0
+InvokeEnds spec old new thread op (Ok (progress.Answered receipt)) = CallEnds spec old new thread op (Ok receipt)
+InvokeEnds spec old new thread op (Ok (progress.Open w)) =
+    Adds old new (w.at_invoke ∷ []) × IsAt new.seen w.at_invoke (IsInvoke w.call thread op) × (w.thread ≡ thread) × IsWaitingIn spec new w
+InvokeEnds spec old new thread op (Err e) = CallEnds spec old new thread op (Err e)
+
+-- an open call is waited for until it is answered
+abbrev pub FinishEnds : PartSpec → DeskView → DeskView → Waiting → Result Receipt DeskRefused → Type 0
+FinishEnds spec old new w (Ok receipt) =
+    Waits old new × (receipt.call ≡ w.call) × (receipt.at_invoke ≡ w.at_invoke)
+    × IsAt new.seen receipt.at_reply (Answers w.call receipt.answer) × (length old.seen < receipt.at_reply)
+FinishEnds spec old new w (Err (refused.NoMemory (Some call))) =
+    Waits old new × HasOpen (state_seen spec new) w.thread w.call × (call ≡ w.call)
+FinishEnds spec old new w (Err _) = ⊥
+
+-- one turn of that
+abbrev pub AdvanceEnds : PartSpec → DeskView → DeskView → Waiting → Result Progress DeskRefused → Type 0
+AdvanceEnds spec old new w (Ok (progress.Answered receipt)) = FinishEnds spec old new w (Ok receipt)
+AdvanceEnds spec old new w (Ok (progress.Open next)) = Waits old new × IsSameCall w next × IsWaitingIn spec new next
+AdvanceEnds spec old new w (Err e) = FinishEnds spec old new w (Err e)
+
+-- a thread's open call is looked for
+abbrev pub FindEnds : PartSpec → DeskView → DeskView → ℕ → Result Waiting DeskRefused → Type 0
+FindEnds spec old new thread (Ok w) =
+    AddsNothing old new × (w.thread ≡ thread) × IsWaitingIn spec new w × IsAt new.seen w.at_invoke (InvokesCall w.call thread)
+FindEnds spec old new thread (Err e) = ResumeEnds spec old new thread (Err e)
+
+-- the next step is taken, where there is one
+abbrev pub SettlesOnce : PartSpec → DeskView → DeskView → Result Bool NoMemory → Type 0
+SettlesOnce spec old new (Ok true) = Waits old new
+SettlesOnce spec old new (Ok false) = AddsNothing old new × (next_any (state_seen spec new) ≡ None)
+SettlesOnce spec old new (Err e) = AddsNothing old new
+
+-- the seat of a new desk is the only one, and has seen and made nothing
+abbrev pub opening_view : DeskView
+opening_view = record { seen = []; made = []; alone = true }

@@ -1,0 +1,317 @@
+//! A part behind a desk.
+
+ghost use Rattle.std.specs.Prelude.{◌≡◌, ◌<◌, ◌≤◌, None, [], length, true, IfOk, OnOk};
+ghost use mathlib.Core.List.{IsPrefix};
+ghost use Rattle.desk_like.specs.Desks.{ArriveEnds, CallEnds, Joins, ResumeEnds, Waits, new_view, shared_view, state_seen};
+ghost use Rattle.nook_defs.specs.Classes.{same_class};
+ghost use Rattle.nook_defs.specs.Runs.{IsRun, next_any};
+ghost use Rattle.nook_defs.specs.declared.data.Class.TheVariants as class;
+ghost use Rattle.part_core.specs.Kept.{IsKept};
+ghost use Rattle.part_server.specs.Desk.{IsDeskSeat, desk_spec, desk_view};
+ghost use Rattle.part_server.specs.Turns.{AdvanceEnds, FindEnds, FinishEnds, InvokeEnds, IsWaitingIn, SettlesOnce, opening_view};
+
+use crate::held::Held;
+use crate::seat::DeskSeat;
+use crate::waiting::{Progress, Waiting};
+use desk_like::DeskLike;
+use nook_defs::data::{DeskRefused, Op, Receipt};
+use nook_defs::lists::{TryCopy, Words};
+use nook_defs::memory::{NoMemory, Room};
+use part_core::Part;
+use std::alloc::Global;
+use std::sync::Wait;
+use turn_lock::Turn;
+
+/// The words for which a call takes room, as many as an answer may have.
+const ANSWER_WORDS: usize = 128;
+
+/// A part behind a desk. Threads share it by reference, and each works through a seat of its own.
+///
+/// No contract says that a call which waits ever returns, or in which order callers get their turn.
+#[derive(Drop)]
+pub struct PartDesk {
+    turn: Turn<Held>,
+}
+
+impl PartDesk {
+    /// Makes a desk for a part that has taken no step, and its first seat, which is alone until it is split.
+    ///
+    /// At `NoMemory` the part is dropped.
+    pub fn new(alloc: Global, part: Part) -> Result<(PartDesk, DeskSeat), NoMemory>
+        requires { part.journal ≡ [] }
+        ensures spec { IfOk result (λ made. desk_spec made.0 ≡ part.state.spec) }
+        ensures seat { IfOk result (λ made. IsDeskSeat made.0 made.1) }
+        ensures view { IfOk result (λ made. desk_view made.1 ≡ opening_view) }
+    {
+        let (turn, seat) = Turn::new(alloc, Held::new(part))?;
+        Ok((PartDesk { turn }, DeskSeat { seat }))
+    }
+
+    /// Goes on with the open call of a thread until it is answered, by this call or by another caller.
+    ///
+    /// `NoOpenCall` comes exactly where the thread has none, and adds nothing, as does `NoMemory` that names no call: the
+    /// room for the answer was refused. `NoMemory` that names a call leaves it open.
+    pub fn resume<R: Wait>(
+        &self,
+        rt: &R,
+        alloc: Global,
+        seat: &mut DeskSeat,
+        thread: u8,
+    ) -> Result<Receipt, DeskRefused>
+        requires { IsDeskSeat self.now seat.old }
+        ensures seat { IsDeskSeat self.now seat.new }
+        ensures run { IsRun (desk_spec self.now) (desk_view seat.new).seen }
+        ensures ends { ResumeEnds (desk_spec self.now) (desk_view seat.old) (desk_view seat.new) thread result }
+    {
+        // What the seat has seen is a run, also where nothing is done.
+        let _ = &seat.seat;
+        let Ok(room) = Room::new(alloc, ANSWER_WORDS) else {
+            return Err(DeskRefused::NoMemory { call: None });
+        };
+        let waiting = self.find(rt, seat, thread, room)?;
+        self.finish(rt, seat, waiting)
+    }
+
+    /// Takes the part's next step until there is none. A `NoMemory` leaves the steps that were taken.
+    pub fn settle<R: Wait>(&self, rt: &R, seat: &mut DeskSeat) -> Result<(), NoMemory>
+        requires { IsDeskSeat self.now seat.old }
+        ensures seat { IsDeskSeat self.now seat.new }
+        ensures run { IsRun (desk_spec self.now) (desk_view seat.new).seen }
+        ensures waits { Waits (desk_view seat.old) (desk_view seat.new) }
+        ensures settled { OnOk result (next_any (state_seen (desk_spec self.now) (desk_view seat.new)) ≡ None) }
+    {
+        for _ in rt.forever() {
+            if !self.settle_once(rt, seat)? {
+                return Ok(());
+            }
+        }
+        unreachable!()
+    }
+
+    /// Ends the desk and gives its part. Its journal begins with all that the seat has seen, and is just that where the
+    /// seat is alone.
+    ///
+    /// It waits while another seat has the turn.
+    pub fn close<R: Wait>(self, rt: &R, seat: DeskSeat) -> Part
+        requires { IsDeskSeat self seat }
+        ensures spec { result.state.spec ≡ desk_spec self }
+        ensures begins { IsPrefix (desk_view seat).seen result.journal }
+        ensures alone { (desk_view seat).alone ≡ true → result.journal ≡ (desk_view seat).seen }
+        ensures kept { IsKept result }
+    {
+        self.turn.close(rt, seat.seat).into_part()
+    }
+
+    /// One turn in which an operation is invoked.
+    fn invoke<R: Wait>(
+        &self,
+        rt: &R,
+        seat: &mut DeskSeat,
+        thread: u8,
+        op: Op,
+        room: Room<u32>,
+    ) -> Result<Progress, DeskRefused>
+        requires seat { IsDeskSeat self.now seat.old }
+        requires thread { thread < 16 }
+        requires room { 128 ≤ room }
+        ensures seat { IsDeskSeat self.now seat.new }
+        ensures run { IsRun (desk_spec self.now) (desk_view seat.new).seen }
+        ensures ends { InvokeEnds (desk_spec self.now) (desk_view seat.old) (desk_view seat.new) thread op result }
+    {
+        let mut held = self.turn.take(rt, &mut seat.seat);
+        match held.invoke(thread, op, room) {
+            Ok(progress) => {
+                self.turn.commit_and_give(&mut seat.seat, held);
+                Ok(progress)
+            }
+            Err(refused) => {
+                self.turn.give_back(&mut seat.seat, held);
+                Err(refused)
+            }
+        }
+    }
+
+    /// One turn for an open call: its answer, where it has one by now, else a step.
+    fn advance<R: Wait>(
+        &self,
+        rt: &R,
+        seat: &mut DeskSeat,
+        waiting: Waiting,
+    ) -> Result<Progress, DeskRefused>
+        requires seat { IsDeskSeat self.now seat.old }
+        requires waiting { IsWaitingIn (desk_spec self.now) (desk_view seat.old) waiting }
+        ensures seat { IsDeskSeat self.now seat.new }
+        ensures run { IsRun (desk_spec self.now) (desk_view seat.new).seen }
+        ensures ends { AdvanceEnds (desk_spec self.now) (desk_view seat.old) (desk_view seat.new) waiting result }
+    {
+        let mut held = self.turn.take(rt, &mut seat.seat);
+        let waiting = match held.look(waiting) {
+            Ok(receipt) => {
+                self.turn.give_back(&mut seat.seat, held);
+                return Ok(Progress::Answered(receipt));
+            }
+            Err(waiting) => waiting,
+        };
+        match held.go_on(waiting) {
+            Ok(progress) => {
+                self.turn.commit_and_give(&mut seat.seat, held);
+                Ok(progress)
+            }
+            Err(refused) => {
+                self.turn.give_back(&mut seat.seat, held);
+                Err(refused)
+            }
+        }
+    }
+
+    /// Takes turn after turn until an open call is answered.
+    fn finish<R: Wait>(
+        &self,
+        rt: &R,
+        seat: &mut DeskSeat,
+        mut waiting: Waiting,
+    ) -> Result<Receipt, DeskRefused>
+        requires seat { IsDeskSeat self.now seat.old }
+        requires waiting { IsWaitingIn (desk_spec self.now) (desk_view seat.old) waiting }
+        ensures seat { IsDeskSeat self.now seat.new }
+        ensures run { IsRun (desk_spec self.now) (desk_view seat.new).seen }
+        ensures ends { FinishEnds (desk_spec self.now) (desk_view seat.old) (desk_view seat.new) waiting result }
+    {
+        for _ in rt.forever() {
+            match self.advance(rt, seat, waiting) {
+                Ok(Progress::Answered(receipt)) => return Ok(receipt),
+                Ok(Progress::Open(next)) => waiting = next,
+                Err(refused) => return Err(refused),
+            }
+        }
+        unreachable!()
+    }
+
+    /// One turn in which a thread's open call is looked for.
+    fn find<R: Wait>(
+        &self,
+        rt: &R,
+        seat: &mut DeskSeat,
+        thread: u8,
+        room: Room<u32>,
+    ) -> Result<Waiting, DeskRefused>
+        requires seat { IsDeskSeat self.now seat.old }
+        requires room { 128 ≤ room }
+        ensures seat { IsDeskSeat self.now seat.new }
+        ensures run { IsRun (desk_spec self.now) (desk_view seat.new).seen }
+        ensures ends { FindEnds (desk_spec self.now) (desk_view seat.old) (desk_view seat.new) thread result }
+    {
+        let held = self.turn.take(rt, &mut seat.seat);
+        let found = held.find(thread, room);
+        self.turn.give_back(&mut seat.seat, held);
+        found
+    }
+
+    /// One turn in which the part's next step is taken. Tells whether there was one.
+    fn settle_once<R: Wait>(&self, rt: &R, seat: &mut DeskSeat) -> Result<bool, NoMemory>
+        requires { IsDeskSeat self.now seat.old }
+        ensures seat { IsDeskSeat self.now seat.new }
+        ensures run { IsRun (desk_spec self.now) (desk_view seat.new).seen }
+        ensures ends { SettlesOnce (desk_spec self.now) (desk_view seat.old) (desk_view seat.new) result }
+    {
+        let mut held = self.turn.take(rt, &mut seat.seat);
+        match held.settle() {
+            Ok(true) => {
+                self.turn.commit_and_give(&mut seat.seat, held);
+                Ok(true)
+            }
+            Ok(false) => {
+                self.turn.give_back(&mut seat.seat, held);
+                Ok(false)
+            }
+            Err(refused) => {
+                self.turn.give_back(&mut seat.seat, held);
+                Err(refused)
+            }
+        }
+    }
+
+    /// One turn in which a frame arrives. Tells whether the device's ring kept it.
+    fn let_arrive<R: Wait>(
+        &self,
+        rt: &R,
+        seat: &mut DeskSeat,
+        frame: Words,
+    ) -> Result<bool, DeskRefused>
+        requires seat { IsDeskSeat self.now seat.old }
+        requires net { same_class (desk_spec self.now).class class.Net ≡ true }
+        requires some { 1 ≤ length frame }
+        requires fits { length frame ≤ 64 }
+        ensures seat { IsDeskSeat self.now seat.new }
+        ensures run { IsRun (desk_spec self.now) (desk_view seat.new).seen }
+        ensures ends { ArriveEnds (desk_spec self.now) (desk_view seat.old) (desk_view seat.new) frame result }
+    {
+        let mut held = self.turn.take(rt, &mut seat.seat);
+        match held.arrive(frame) {
+            Ok(kept) => {
+                self.turn.commit_and_give(&mut seat.seat, held);
+                Ok(kept)
+            }
+            Err(refused) => {
+                self.turn.give_back(&mut seat.seat, held);
+                Err(refused)
+            }
+        }
+    }
+}
+
+impl DeskLike for PartDesk {
+    type Seat = DeskSeat;
+
+    ghost spec = { desk_spec };
+
+    ghost is_seat = { IsDeskSeat };
+
+    ghost view = { desk_view };
+
+    fn call<R: Wait>(
+        &self,
+        rt: &R,
+        alloc: Global,
+        seat: &mut DeskSeat,
+        thread: u8,
+        op: &Op,
+    ) -> Result<Receipt, DeskRefused> {
+        // What the seat has seen is a run, also where nothing is done.
+        let _ = &seat.seat;
+        let Ok(room) = Room::new(alloc, ANSWER_WORDS) else {
+            return Err(DeskRefused::NoMemory { call: None });
+        };
+        let Ok(op) = op.copy(alloc) else {
+            return Err(DeskRefused::NoMemory { call: None });
+        };
+        match self.invoke(rt, seat, thread, op, room)? {
+            Progress::Answered(receipt) => Ok(receipt),
+            Progress::Open(waiting) => self.finish(rt, seat, waiting),
+        }
+    }
+
+    fn arrive<R: Wait>(
+        &self,
+        rt: &R,
+        alloc: Global,
+        seat: &mut DeskSeat,
+        frame: &Words,
+    ) -> Result<bool, DeskRefused> {
+        // What the seat has seen is a run, also where nothing is done.
+        let _ = &seat.seat;
+        let Ok(frame) = frame.copy(alloc) else {
+            return Err(DeskRefused::NoMemory { call: None });
+        };
+        self.let_arrive(rt, seat, frame)
+    }
+
+    fn split(&self, seat: &mut DeskSeat) -> DeskSeat {
+        let other = self.turn.split(&mut seat.seat);
+        DeskSeat { seat: other }
+    }
+
+    fn join(&self, seat: &mut DeskSeat, other: DeskSeat) {
+        self.turn.join(&mut seat.seat, other.seat);
+    }
+}

@@ -1,0 +1,50 @@
+//! A call that waits for its answer.
+
+ghost use Rattle.std.specs.Prelude.{◌≡◌, ◌≤◌, Some, is_some, true};
+ghost use Rattle.nook_defs.specs.Runs.{answer_at};
+ghost use Rattle.part_server.specs.Answers.{AnswersShortly};
+
+use crate::answers::answer_to;
+use nook_defs::data::{Event, Receipt};
+use nook_defs::memory::Room;
+
+/// An open call of a thread, the place of its invocation, and room for its answer. None of the first `looked` events
+/// answers it.
+#[derive(Drop)]
+pub struct Waiting {
+    pub call: u32,
+    pub thread: u8,
+    pub at_invoke: u64,
+    pub looked: usize,
+    pub room: Room<u32>,
+}
+
+/// How far a call got in a turn.
+#[derive(Drop)]
+pub enum Progress {
+    Answered(Receipt),
+    Open(Waiting),
+}
+
+impl Waiting {
+    /// The receipt for the answer that the event at a place gives. It takes no memory.
+    pub fn receipt(self, place: u64, event: &Event) -> Receipt
+        requires answers { is_some (answer_at self.call event.now) ≡ true }
+        requires short { AnswersShortly event.now }
+        requires room { 128 ≤ self.room }
+        ensures call { result.call ≡ self.call }
+        ensures at_invoke { result.at_invoke ≡ self.at_invoke }
+        ensures at_reply { result.at_reply ≡ place }
+        ensures answer { answer_at self.call event.now ≡ Some result.answer }
+    {
+        match answer_to(event, self.call) {
+            Some(answer) => Receipt {
+                call: self.call,
+                at_invoke: self.at_invoke,
+                at_reply: place,
+                answer: answer.copy_in_room(self.room),
+            },
+            None => unreachable!(),
+        }
+    }
+}

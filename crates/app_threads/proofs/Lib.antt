@@ -1,0 +1,10 @@
+pub mod CallNumbers
+pub mod Ending
+pub mod Grown
+pub mod Listed
+pub mod OpenCalls
+pub mod Scripts
+pub mod SeatLists
+pub mod Splitting
+pub mod WorkPlaces
+pub mod Working

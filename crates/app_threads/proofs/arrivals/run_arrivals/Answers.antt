@@ -1,0 +1,41 @@
+use Rattle.std.proofs.Common.{◌≤◌, length, map, take, arith}
+use Rattle.std.proofs.lemmas.Result.{err_from_is_err_and}
+use Rattle.std.proofs.lemmas.List.{take_all}
+use Rattle.app_threads.proofs.Listed.{all_at, take_next}
+use Rattle.app_threads.proofs.Scripts.{frames_ended, frames_more, frames_none, frames_stopped}
+use Rattle.app_threads.proofs.arrivals.run_arrivals.Goals as goal
+
+pub loop-place-init : goal.loop-place-init
+loop-place-init g c = record { seats = c.requires.seats; does = frames_none (map g.D.DeskLike.view c.args.seats.now) c.args.part }
+
+pub arrive_next-requires-clause-some : goal.arrive_next-requires-clause-some
+arrive_next-requires-clause-some g c κs within =
+    (all_at (λ f. (1 ≤ length f) × (length f ≤ 64)) c.args.frames.now c.requires.frames c.loop-place.place c.get-frame.result.now c.get-frame.ensures).0
+
+pub arrive_next-requires-clause-fits : goal.arrive_next-requires-clause-fits
+arrive_next-requires-clause-fits g c κs within =
+    (all_at (λ f. (1 ≤ length f) × (length f ≤ 64)) c.args.frames.now c.requires.frames c.loop-place.place c.get-frame.result.now c.get-frame.ensures).1
+
+pub returns-in_err-arrive_next-clause-ends : goal.returns-in_err-arrive_next-clause-ends
+returns-in_err-arrive_next-clause-ends g c =
+    let q = err_from_is_err_and c.from_residual.result c.from_residual.ensures.1 in
+    rw (q.1, q.2)
+    (frames_stopped (map g.D.DeskLike.spec c.args.desks.now) (map g.D.DeskLike.view c.args.seats.now) (map g.D.DeskLike.view c.loop-place.seats) (map g.D.DeskLike.view c.arrive_next.new.seats)
+    c.loop-place.place c.args.part c.get-frame.result.now c.args.frames.now (take c.loop-place.place c.args.frames.now) c.in_err-arrive_next.field-0.0
+    c.loop-place.invariant.does c.get-frame.ensures c.in_err-arrive_next.ensures.ends)
+
+pub loop-place-preserved : goal.loop-place-preserved
+loop-place-preserved g c = record {
+  seats = c.in_ok-arrive_next.ensures.seats;
+  does =
+      rw (take_next c.args.frames.now c.loop-place.place c.get-frame.result.now c.get-frame.ensures)
+      (frames_more (map g.D.DeskLike.spec c.args.desks.now) (map g.D.DeskLike.view c.args.seats.now) (map g.D.DeskLike.view c.loop-place.seats) (map g.D.DeskLike.view c.arrive_next.new.seats)
+      c.loop-place.place c.args.part c.get-frame.result.now c.in_ok-arrive_next.field-0 (take c.loop-place.place c.args.frames.now)
+      c.loop-place.invariant.does c.in_ok-arrive_next.ensures.ends);
+}
+
+pub returns-clause-ends : goal.returns-clause-ends
+returns-clause-ends g c =
+    let e = take_all c.loop-place.place c.args.frames.now (omega arith) in
+    frames_ended (map g.D.DeskLike.spec c.args.desks.now) (map g.D.DeskLike.view c.args.seats.now) (map g.D.DeskLike.view c.loop-place.seats) c.args.part c.args.frames.now c.new.result c.new.ensures
+    (rw e at c.loop-place.invariant.does)

@@ -1,0 +1,10 @@
+use Rattle.std.proofs.Common.{map, take}
+use Rattle.app_threads.specs.Workers.{AreSeats, DoesOps}
+use Rattle.app_threads.proofs.script.run_script.Given as goal
+
+abbrev pub invariant-loop-place : goal.invariant-loop-place
+invariant-loop-place g l =
+    record {
+      seats : AreSeats g.D.DeskLike.is_seat l.desks l.seats;
+      does : DoesOps (map g.D.DeskLike.view l.fn.seats) (map g.D.DeskLike.view l.seats) l.thread (take l.place l.ops) l.receipts;
+    }

@@ -1,0 +1,8 @@
+use Rattle.desk_like.specs.Desks.{CallEnds}
+use Rattle.app_threads.proofs.SeatLists.{step_at}
+use Rattle.app_threads.proofs.seats.call_at.Goals as goal
+
+pub returns-clause-ends : goal.returns-clause-ends
+returns-clause-ends g c =
+    step_at g.D.DeskLike.spec g.D.DeskLike.view c.args.desks.now c.args.seats.now c.args.part c.index-desks-at.result c.index-seats-at.result c.call.new.seat
+    (λ spec old new. CallEnds spec old new c.args.thread c.args.op.now c.call.result) c.requires.part c.requires.seats.0 c.index-desks-at.is c.index-seats-at.is c.call.ensures.ends

@@ -1,0 +1,63 @@
+-- How all workers end.
+use Rattle.std.specs.Prelude.{◌≡◌, ℕ, ◌<◌, ◌⊎◌, List, [], length, slice_get, slice_index_or, Some, Result, Ok, Err}
+use Rattle.nook_defs.specs.declared.data.DeskRefused.{DeskRefused}
+use Rattle.nook_defs.specs.declared.data.DeskRefused.TheVariants as refused
+use Rattle.nook_defs.specs.declared.data.Op.{Op}
+use Rattle.nook_defs.specs.declared.data.PartSpec.{PartSpec}
+use Rattle.nook_defs.specs.declared.data.Receipt.{Receipt}
+use Rattle.nook_defs.specs.declared.data.ThreadSpec.{ThreadSpec}
+use Rattle.desk_like.specs.Desks.{DeskView, IsRisingFrom}
+use Rattle.app_threads.specs.declared.stop.WorkerStop.{WorkerStop}
+use Rattle.app_threads.specs.declared.stop.WorkerStop.TheVariants as stop
+use Rattle.app_threads.specs.Workers.{AreReceipts, AreRising, AreRows, AreRuns, AtDesks, Gains, Grew, IsArrivalRefused, IsCallRefused, IsNotOwn, frames_at, invokes_of_all}
+use Rattle.app_threads.specs.Works.{all_works}
+
+-- there is a receipt for each operation of the thread
+pub record HasRow (olds news : List DeskView) (thread : ℕ) (ops : List (ℕ × Op)) : Type 0 where
+  pub row : List Receipt
+  pub receipts : AreReceipts news thread ops row
+  pub rising : AreRising olds ops row
+
+-- these frames arrived in order, behind all that was seen before
+pub record HasArrived (old new : DeskView) (frames : List (List ℕ)) : Type 0 where
+  pub places : List ℕ
+  pub rising : IsRisingFrom (length old.seen) places
+  pub arrived : frames_at new.seen places ≡ frames
+
+module _ (specs : List PartSpec) (scripts : List ThreadSpec) (arrivals : List (List (List ℕ))) (olds news : List DeskView) where
+  -- Each thread has its row of receipts. Of what was added through a desk's seat, the invocations are exactly those of the
+  -- receipts, thread by thread, and the frames that arrived are exactly the desk's arrivals, in order, at places that rise
+  pub record AreFinished (table : List (List Receipt)) : Type 0 where
+    pub rows : AreRows news scripts table
+    pub rising : (thread : ℕ) (script : ThreadSpec) (row : List Receipt) → slice_get scripts thread ≡ Some script → slice_get table thread ≡ Some row → AreRising olds script.ops row
+    pub gains : AtDesks (λ d v w. Gains v w (invokes_of_all d scripts table) (slice_index_or arrivals d [])) olds news
+    pub arrived : AtDesks (λ d v w. HasArrived v w (slice_index_or arrivals d [])) olds news
+
+  -- a thread was refused, and each with a smaller number finished its script; an open call was not invoked by any worker
+  pub record IsThreadRefused (thread place part : ℕ) (refusal : DeskRefused) : Type 0 where
+    pub script : ThreadSpec
+    pub there : slice_get scripts thread ≡ Some script
+    pub refusal_is : IsCallRefused specs olds news script.ops thread place part refusal
+    pub foreign : (call : ℕ) (v w : DeskView) → refusal ≡ refused.OpenCall call → slice_get olds part ≡ Some v → slice_get news part ≡ Some w → IsNotOwn call v w
+    pub sooner : (t : ℕ) (s : ThreadSpec) → t < thread → slice_get scripts t ≡ Some s → HasRow olds news t s.ops
+
+  -- a desk's arrivals were refused; each thread finished its script, and the arrivals of each desk before it came in
+  pub record IsPartRefused (thread place part : ℕ) (refusal : DeskRefused) : Type 0 where
+    pub number : thread ≡ 255
+    pub frames : List (List ℕ)
+    pub there : slice_get arrivals part ≡ Some frames
+    pub refusal_is : IsArrivalRefused specs olds news frames place part refusal
+    pub threads : (t : ℕ) (s : ThreadSpec) → slice_get scripts t ≡ Some s → HasRow olds news t s.ops
+    pub sooner : (d : ℕ) (fs : List (List ℕ)) (v w : DeskView) → d < part → slice_get arrivals d ≡ Some fs → slice_get olds d ≡ Some v → slice_get news d ≡ Some w → HasArrived v w fs
+
+  -- where there is a worker, what each seat has seen is a run
+  abbrev pub AreSeenRuns : Type 0
+  AreSeenRuns = 0 < length (all_works scripts arrivals) → AreRuns specs news
+
+  abbrev pub WorkersEnd : Result (List (List Receipt)) WorkerStop → Type 0
+  WorkersEnd (Ok table) = AreFinished table × AreSeenRuns
+  WorkersEnd (Err (stop.Refused thread place part refusal)) =
+      AtDesks (λ d v w. Grew v w) olds news
+      × (IsThreadRefused thread place part refusal ⊎ IsPartRefused thread place part refusal)
+      × AreSeenRuns
+  WorkersEnd (Err stop.NoMemory) = Unit {0}

@@ -1,0 +1,46 @@
+-- Workers from their hiring to the joining of their seats.
+use Rattle.std.specs.Prelude.{◌≡◌, ℕ, List, ◌∷◌, ◌++◌, map, length, slice_get, Some, Result, Ok, Err}
+use Rattle.nook_defs.specs.declared.data.PartSpec.{PartSpec}
+use Rattle.nook_defs.specs.declared.data.Receipt.{Receipt}
+use Rattle.nook_defs.specs.declared.data.ThreadSpec.{ThreadSpec}
+use Rattle.desk_like.specs.Desks.{DeskView, new_view}
+use Rattle.app_threads.specs.declared.stop.WorkerStop.{WorkerStop}
+use Rattle.app_threads.specs.declared.stop.WorkerStop.TheVariants as stop
+use Rattle.app_threads.specs.declared.work.Work.{Work}
+use Rattle.app_threads.specs.declared.work.Worker.{Worker}
+use Rattle.app_threads.specs.declared.work.Done.{Done}
+use Rattle.app_threads.specs.Workers.{AreSeats}
+use Rattle.app_threads.specs.Works.{IsWork, WorkEnds}
+
+-- two lists are as long, and so it is with the items at each place
+abbrev pub Each : {X Y : Type 0} → (X → Y → Type 0) → List X → List Y → Type 0
+Each {X} {Y} R xs ys =
+    (length ys ≡ length xs) × ((i : ℕ) (x : X) (y : Y) → slice_get xs i ≡ Some x → slice_get ys i ≡ Some y → R x y)
+
+module _ {D S : Type 0} (is_seat : D → S → Type 0) (spec : D → PartSpec) (view : S → DeskView) (desks : List D) where
+  -- a worker for a work, with new seats beside those that knew this
+  pub record IsHired (olds : List DeskView) (k : Work) (worker : Worker S) : Type 0 where
+    pub is : worker.work ≡ k
+    pub seats : AreSeats is_seat desks worker.seats.items
+    pub views : map view worker.seats.items ≡ map new_view olds
+
+  -- it can do its work
+  pub record IsReady (scripts : List ThreadSpec) (arrivals : List (List (List ℕ))) (worker : Worker S) : Type 0 where
+    pub seats : AreSeats is_seat desks worker.seats.items
+    pub work : IsWork scripts arrivals worker.work
+
+  -- it has done its work
+  pub record IsDone (scripts : List ThreadSpec) (arrivals : List (List (List ℕ))) (worker : Worker S) (done : Done S) : Type 0 where
+    pub seats : AreSeats is_seat desks done.seats.items
+    pub ends : WorkEnds (map spec desks) scripts arrivals (map view worker.seats.items) worker.work (map view done.seats.items) done.end
+
+-- the first of the ends that is a stop
+abbrev pub StopsAt : List (Result (List Receipt) WorkerStop) → WorkerStop → Type 0
+StopsAt ends why =
+    (rows : List (List Receipt)) × (later : List (Result (List Receipt) WorkerStop)) × (ends ≡ map (λ row. Ok row) rows ++ Err why ∷ later)
+
+-- all rows, or the first stop; want of memory may come anywhere
+abbrev pub RowsEnd : List (Result (List Receipt) WorkerStop) → Result (List (List Receipt)) WorkerStop → Type 0
+RowsEnd ends (Ok rows) = ends ≡ map (λ row. Ok row) rows
+RowsEnd ends (Err (stop.Refused thread place part refusal)) = StopsAt ends (stop.Refused thread place part refusal)
+RowsEnd ends (Err stop.NoMemory) = Unit {0}

@@ -1,0 +1,5 @@
+pub mod Ends
+pub mod Hired
+pub mod Steps
+pub mod Workers
+pub mod Works

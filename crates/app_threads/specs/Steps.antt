@@ -1,0 +1,60 @@
+-- One step of a worker, as its seats' views show it.
+use Rattle.std.specs.Prelude.{◌≡◌, ℕ, Bool, List, [], ◌∷◌, length, slice_get, slice_set, Some, Result, Ok, Err}
+use Rattle.nook_defs.specs.declared.data.Op.{Op}
+use Rattle.nook_defs.specs.declared.data.PartSpec.{PartSpec}
+use Rattle.nook_defs.specs.declared.data.Receipt.{Receipt}
+use Rattle.nook_defs.specs.Runs.{IsRun}
+use Rattle.desk_like.specs.Desks.{ArriveEnds, CallEnds, DeskView, Joins, new_view, shared_view}
+use Rattle.app_threads.specs.declared.stop.WorkerStop.{WorkerStop}
+use Rattle.app_threads.specs.declared.stop.WorkerStop.TheVariants as stop
+
+-- one seat changed so, and no other changed
+pub record IsStepAt (specs : List PartSpec) (olds news : List DeskView) (part : ℕ) (Ends : PartSpec → DeskView → DeskView → Type 0) : Type 0 where
+  pub spec : PartSpec
+  pub old : DeskView
+  pub new : DeskView
+  pub spec_there : slice_get specs part ≡ Some spec
+  pub old_there : slice_get olds part ≡ Some old
+  pub news_are : news ≡ slice_set olds part new
+  pub ends : Ends spec old new
+
+-- how a thread's next call ends: a refusal is told with the operation's place
+abbrev pub NextCallEnds : PartSpec → DeskView → DeskView → ℕ → ℕ → ℕ → Op → Result Receipt WorkerStop → Type 0
+NextCallEnds spec old new thread place part op (Ok receipt) = CallEnds spec old new thread op (Ok receipt)
+NextCallEnds spec old new thread place part op (Err (stop.Refused t k p refusal)) =
+    (t ≡ thread) × (k ≡ place) × (p ≡ part) × CallEnds spec old new thread op (Err refusal)
+NextCallEnds spec old new thread place part op (Err stop.NoMemory) = ⊥
+
+-- how the next arrival ends
+abbrev pub NextArrivalEnds : PartSpec → DeskView → DeskView → ℕ → ℕ → List ℕ → Result Bool WorkerStop → Type 0
+NextArrivalEnds spec old new place part frame (Ok kept) = ArriveEnds spec old new frame (Ok kept)
+NextArrivalEnds spec old new place part frame (Err (stop.Refused t k p refusal)) =
+    (t ≡ 255) × (k ≡ place) × (p ≡ part) × ArriveEnds spec old new frame (Err refusal)
+NextArrivalEnds spec old new place part frame (Err stop.NoMemory) = ⊥
+
+-- ---- seats that are made and taken in
+
+-- a seat knows the same as before
+abbrev pub Same : ℕ → DeskView → DeskView → Type 0
+Same d old new = (new.seen ≡ old.seen) × (new.made ≡ old.made)
+
+-- a seat was made beside another
+abbrev pub Splits : DeskView → DeskView → DeskView → Type 0
+Splits old new made = (new ≡ shared_view old) × (made ≡ new_view old)
+
+-- a seat took another in
+abbrev pub TakesInOne : PartSpec → DeskView → DeskView → DeskView → Type 0
+TakesInOne spec old other new = Joins old other new × IsRun spec new.seen
+
+-- each seat took another in
+abbrev pub TakesIn : List PartSpec → List DeskView → List DeskView → List DeskView → Type 0
+TakesIn specs olds others news =
+    (length others ≡ length olds)
+    × (length specs ≡ length olds)
+    × (length news ≡ length olds)
+    × ((d : ℕ) (spec : PartSpec) (v o w : DeskView) → slice_get specs d ≡ Some spec → slice_get olds d ≡ Some v → slice_get others d ≡ Some o → slice_get news d ≡ Some w → TakesInOne spec v o w)
+
+-- the seats took the seats of several workers in, one worker after another
+abbrev pub TakeAllIn : List PartSpec → List DeskView → List (List DeskView) → List DeskView → Type 0
+TakeAllIn specs olds [] news = news ≡ olds
+TakeAllIn specs olds (others ∷ workers) news = (mids : List DeskView) × TakesIn specs olds others mids × TakeAllIn specs mids workers news

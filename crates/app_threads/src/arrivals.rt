@@ -1,0 +1,69 @@
+//! The worker of a network part's arrivals.
+
+ghost use Rattle.std.specs.Prelude.{◌≡◌, ◌<◌, ◌≤◌, length, map};
+ghost use Rattle.app_threads.specs.Steps.{IsStepAt, NextArrivalEnds};
+ghost use Rattle.app_threads.specs.Workers.{AreFrames, AreSeats, ArrivalsEnd, IsNetAt};
+
+use crate::seats::arrive_at;
+use crate::stop::WorkerStop;
+use desk_like::DeskLike;
+use nook_defs::data::Receipts;
+use nook_defs::lists::{Frames, Words};
+use std::alloc::Global;
+use std::sync::Wait;
+
+// The thread number of a worker of arrivals.
+const NO_THREAD: u8 = 255;
+
+// Hands in the frame at this place of a list.
+fn arrive_next<R: Wait, D: DeskLike>(
+    rt: &R,
+    alloc: Global,
+    desks: &[D],
+    seats: &mut [D::Seat],
+    place: u32,
+    part: u32,
+    frame: &Words,
+) -> Result<bool, WorkerStop>
+    requires seats { AreSeats D.is_seat desks.now seats.old }
+    requires part { part < length desks.now }
+    requires net { IsNetAt (map D.spec desks.now) part }
+    requires some { 1 ≤ length frame.now }
+    requires fits { length frame.now ≤ 64 }
+    ensures seats { AreSeats D.is_seat desks.now seats.new }
+    ensures ends { IsStepAt (map D.spec desks.now) (map D.view seats.old) (map D.view seats.new) part (λ spec old new. NextArrivalEnds spec old new place part frame.now result) }
+{
+    match arrive_at(rt, alloc, desks, seats, part, frame) {
+        Ok(kept) => Ok(kept),
+        Err(refusal) => Err(WorkerStop::Refused {
+            thread: NO_THREAD,
+            place,
+            part,
+            refusal,
+        }),
+    }
+}
+
+/// Hands a part's frames in from first to last, up to the first refusal. There are no receipts for frames.
+pub fn run_arrivals<R: Wait, D: DeskLike>(
+    rt: &R,
+    alloc: Global,
+    desks: &[D],
+    seats: &mut [D::Seat],
+    part: u32,
+    frames: &Frames,
+) -> Result<Receipts, WorkerStop>
+    requires seats { AreSeats D.is_seat desks.now seats.old }
+    requires part { part < length desks.now }
+    requires short { length frames.now ≤ 256 }
+    requires frames { AreFrames frames.now }
+    requires net { 0 < length frames.now → IsNetAt (map D.spec desks.now) part }
+    ensures seats { AreSeats D.is_seat desks.now seats.new }
+    ensures ends { ArrivalsEnd (map D.spec desks.now) (map D.view seats.old) (map D.view seats.new) part frames.now result }
+{
+    for place in 0..frames.len() {
+        let frame = frames.get(place);
+        arrive_next(rt, alloc, desks, seats, place as u32, part, frame)?;
+    }
+    Ok(Receipts::new(alloc))
+}

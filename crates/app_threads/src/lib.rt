@@ -1,0 +1,14 @@
+//! Application threads: each script, and each network part's arrivals, worked off by a worker of its own.
+#![tactic(auto)]
+
+mod arrivals;
+mod script;
+mod seats;
+mod stop;
+#[cfg(test)]
+mod tests;
+mod work;
+mod workers;
+
+pub use stop::WorkerStop;
+pub use workers::run_workers;

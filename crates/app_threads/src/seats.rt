@@ -1,0 +1,108 @@
+//! What a worker does at its seats: one for each desk, in order.
+
+ghost use Rattle.std.specs.Prelude.{◌≡◌, ◌<◌, ◌≤◌, length, map, true, ℕ, slice_get, Some, slice_index_or, IfOk};
+ghost use Rattle.desk_like.specs.Desks.{ArriveEnds, CallEnds, new_view};
+ghost use Rattle.app_threads.specs.Workers.{AreSeats, AtDesks, IsNetAt, IsSeatAt};
+ghost use Rattle.app_threads.specs.Steps.{IsStepAt, Same, Splits, TakesIn, TakesInOne};
+
+use desk_like::DeskLike;
+use nook_defs::data::{DeskRefused, Op, Receipt};
+use nook_defs::lists::{Frames, Words};
+use nook_defs::memory::NoMemory;
+use std::alloc::Global;
+use std::sync::Wait;
+
+/// Calls the desk at this place.
+pub fn call_at<R: Wait, D: DeskLike>(
+    rt: &R,
+    alloc: Global,
+    desks: &[D],
+    seats: &mut [D::Seat],
+    thread: u8,
+    part: u32,
+    op: &Op,
+) -> Result<Receipt, DeskRefused>
+    requires seats { AreSeats D.is_seat desks.now seats.old }
+    requires thread { thread < 16 }
+    requires part { part < length desks.now }
+    ensures seats { AreSeats D.is_seat desks.now seats.new }
+    ensures ends { IsStepAt (map D.spec desks.now) (map D.view seats.old) (map D.view seats.new) part (λ spec old new. CallEnds spec old new thread op.now result) }
+{
+    let at = part as usize;
+    desks[at].call(rt, alloc, &mut seats[at], thread, op)
+}
+
+/// Hands a frame to the network part at this place.
+pub fn arrive_at<R: Wait, D: DeskLike>(
+    rt: &R,
+    alloc: Global,
+    desks: &[D],
+    seats: &mut [D::Seat],
+    part: u32,
+    frame: &Words,
+) -> Result<bool, DeskRefused>
+    requires seats { AreSeats D.is_seat desks.now seats.old }
+    requires part { part < length desks.now }
+    requires net { IsNetAt (map D.spec desks.now) part }
+    requires some { 1 ≤ length frame.now }
+    requires fits { length frame.now ≤ 64 }
+    ensures seats { AreSeats D.is_seat desks.now seats.new }
+    ensures ends { IsStepAt (map D.spec desks.now) (map D.view seats.old) (map D.view seats.new) part (λ spec old new. ArriveEnds spec old new frame.now result) }
+{
+    let at = part as usize;
+    desks[at].arrive(rt, alloc, &mut seats[at], frame)
+}
+
+// Makes a seat beside the one at this place.
+fn split_at<D: DeskLike>(desks: &[D], seats: &mut [D::Seat], at: usize) -> D::Seat
+    requires seats { AreSeats D.is_seat desks.now seats.old }
+    requires at { at < length desks.now }
+    ensures seats { AreSeats D.is_seat desks.now seats.new }
+    ensures made { IsSeatAt D.is_seat desks.now at result }
+    ensures splits { IsStepAt (map D.spec desks.now) (map D.view seats.old) (map D.view seats.new) at (λ spec old new. Splits old new (D.view result)) }
+{
+    desks[at].split(&mut seats[at])
+}
+
+/// Makes a seat beside each seat.
+pub fn split_all<D: DeskLike>(
+    alloc: Global,
+    desks: &[D],
+    seats: &mut [D::Seat],
+) -> Result<Vec<D::Seat>, NoMemory>
+    requires seats { AreSeats D.is_seat desks.now seats.old }
+    ensures seats { AreSeats D.is_seat desks.now seats.new }
+    ensures same { AtDesks Same (map D.view seats.old) (map D.view seats.new) }
+    ensures made { IfOk result (λ made. AreSeats D.is_seat desks.now made.items) }
+    ensures views { IfOk result (λ made. map D.view made.items ≡ map new_view (map D.view seats.old)) }
+{
+    let mut made = Vec::new(alloc);
+    for at in 0..desks.len() {
+        made.push(split_at(desks, seats, at))?;
+    }
+    Ok(made)
+}
+
+// Takes a seat in at this place.
+fn join_at<D: DeskLike>(desks: &[D], seats: &mut [D::Seat], at: usize, other: D::Seat)
+    requires seats { AreSeats D.is_seat desks.now seats.old }
+    requires at { at < length desks.now }
+    requires other { IsSeatAt D.is_seat desks.now at other }
+    ensures seats { AreSeats D.is_seat desks.now seats.new }
+    ensures joins { IsStepAt (map D.spec desks.now) (map D.view seats.old) (map D.view seats.new) at (λ spec old new. TakesInOne spec old (D.view other) new) }
+{
+    desks[at].join(&mut seats[at], other);
+}
+
+/// Takes a worker's seats in, desk by desk.
+pub fn join_all<D: DeskLike>(desks: &[D], seats: &mut [D::Seat], mut others: Vec<D::Seat>)
+    requires seats { AreSeats D.is_seat desks.now seats.old }
+    requires others { AreSeats D.is_seat desks.now others.items }
+    ensures seats { AreSeats D.is_seat desks.now seats.new }
+    ensures joins { TakesIn (map D.spec desks.now) (map D.view seats.old) (map D.view others.items) (map D.view seats.new) }
+{
+    while let Some(other) = others.pop() {
+        let at = others.len();
+        join_at(desks, seats, at, other);
+    }
+}

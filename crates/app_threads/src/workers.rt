@@ -1,0 +1,190 @@
+//! All workers, each in a thread of its own.
+
+ghost use Rattle.std.specs.Prelude.{◌≡◌, ◌<◌, ◌≤◌, length, map, All, IfOk, OnOk};
+ghost use Rattle.app_threads.specs.Ends.{WorkersEnd};
+ghost use Rattle.app_threads.specs.Hired.{Each, IsDone, IsHired, IsReady, RowsEnd};
+ghost use Rattle.app_threads.specs.Steps.{Same, TakeAllIn};
+ghost use Rattle.app_threads.specs.Workers.{AreArrivals, AreScripts, AreSeats, AtDesks};
+ghost use Rattle.app_threads.specs.Works.{IsWork, WorkEnds};
+
+use crate::arrivals::run_arrivals;
+use crate::script::run_script;
+use crate::seats::{join_all, split_all};
+use crate::stop::WorkerStop;
+use crate::work::{Done, Work, Worker, works_of};
+use desk_like::DeskLike;
+use nook_defs::data::{Receipts, ThreadSpecs, WorkerTable};
+use nook_defs::lists::Frames;
+use nook_defs::memory::NoMemory;
+use nook_defs::outside::Gate;
+use std::alloc::Global;
+use std::sync::Wait;
+use std::thread;
+use std::thread::Threads;
+
+// A worker for each work, with seats of its own.
+fn hire<D: DeskLike>(
+    alloc: Global,
+    desks: &[D],
+    seats: &mut [D::Seat],
+    works: &[Work],
+) -> Result<Vec<Worker<D::Seat>>, NoMemory>
+    requires { AreSeats D.is_seat desks.now seats.old }
+    ensures seats { AreSeats D.is_seat desks.now seats.new }
+    ensures same { AtDesks Same (map D.view seats.old) (map D.view seats.new) }
+    ensures hired { IfOk result (λ workers. Each (IsHired D.is_seat D.spec D.view desks.now (map D.view seats.old)) works.now workers.items) }
+{
+    let mut workers = Vec::new(alloc);
+    for at in 0..works.len() {
+        let new_seats = split_all(alloc, desks, seats)?;
+        workers.push(Worker {
+            work: works[at],
+            seats: new_seats,
+        })?;
+    }
+    Ok(workers)
+}
+
+// Does a work at seats of one worker.
+fn work_at<R: Wait, D: DeskLike, G: Gate>(
+    rt: &R,
+    alloc: Global,
+    desks: &[D],
+    seats: &mut [D::Seat],
+    scripts: &ThreadSpecs,
+    arrivals: &[Frames],
+    gate: &G,
+    work: Work,
+) -> Result<Receipts, WorkerStop>
+    requires seats { AreSeats D.is_seat desks.now seats.old }
+    requires scripts { AreScripts (length desks.now) scripts.now }
+    requires arrivals { AreArrivals (map D.spec desks.now) arrivals.now }
+    requires work { IsWork scripts.now arrivals.now work }
+    ensures seats { AreSeats D.is_seat desks.now seats.new }
+    ensures ends { WorkEnds (map D.spec desks.now) scripts.now arrivals.now (map D.view seats.old) work (map D.view seats.new) result }
+{
+    match work {
+        Work::Script { thread } => {
+            let script = scripts.get(thread as usize);
+            run_script(rt, alloc, desks, seats, thread, &script.ops, gate)
+        }
+        Work::Arrivals { part } => {
+            run_arrivals(rt, alloc, desks, seats, part, &arrivals[part as usize])
+        }
+    }
+}
+
+// A worker's whole life.
+fn work_off<R: Wait, D: DeskLike, G: Gate>(
+    rt: &R,
+    alloc: Global,
+    desks: &[D],
+    scripts: &ThreadSpecs,
+    arrivals: &[Frames],
+    gate: &G,
+    worker: Worker<D::Seat>,
+) -> Done<D::Seat>
+    requires scripts { AreScripts (length desks.now) scripts.now }
+    requires arrivals { AreArrivals (map D.spec desks.now) arrivals.now }
+    requires ready { IsReady D.is_seat D.spec D.view desks.now scripts.now arrivals.now worker }
+    ensures { IsDone D.is_seat D.spec D.view desks.now scripts.now arrivals.now worker result }
+{
+    let work = worker.work;
+    let mut seats = worker.seats;
+    let end = work_at(rt, alloc, desks, &mut seats, scripts, arrivals, gate, work);
+    Done { seats, end }
+}
+
+// Lets each worker work in a thread of its own, and waits for all. The caller runs those that get no thread.
+fn run_all<R: Threads + Wait + Sync, D: DeskLike, G: Gate>(
+    rt: &R,
+    alloc: Global,
+    desks: &[D],
+    scripts: &ThreadSpecs,
+    arrivals: &[Frames],
+    gate: &G,
+    workers: Vec<Worker<D::Seat>>,
+) -> Result<Vec<Done<D::Seat>>, NoMemory>
+    requires scripts { AreScripts (length desks.now) scripts.now }
+    requires arrivals { AreArrivals (map D.spec desks.now) arrivals.now }
+    requires ready { All (λ worker. IsReady D.is_seat D.spec D.view desks.now scripts.now arrivals.now worker) workers.items }
+    ensures { IfOk result (λ done. Each (IsDone D.is_seat D.spec D.view desks.now scripts.now arrivals.now) workers.items done.items) }
+{
+    let done = thread::map_vec(
+        rt,
+        workers,
+        &|worker: Worker<D::Seat>| -> Done<D::Seat>
+            requires { AreScripts (length desks.now) scripts.now × AreArrivals (map D.spec desks.now) arrivals.now × IsReady D.is_seat D.spec D.view desks.now scripts.now arrivals.now worker }
+            ensures { IsDone D.is_seat D.spec D.view desks.entry.now scripts.entry.now arrivals.entry.now worker result }
+        { work_off(rt, alloc, desks, scripts, arrivals, gate, worker) },
+    )?;
+    Ok(done)
+}
+
+// Takes the workers' seats in, one worker after another.
+fn take_in<D: DeskLike>(
+    alloc: Global,
+    desks: &[D],
+    seats: &mut [D::Seat],
+    workers: Vec<Done<D::Seat>>,
+) -> Result<Vec<Result<Receipts, WorkerStop>>, NoMemory>
+    requires seats { AreSeats D.is_seat desks.now seats.old }
+    requires workers { All (λ done. AreSeats D.is_seat desks.now done.seats.items) workers.items }
+    ensures seats { AreSeats D.is_seat desks.now seats.new }
+    ensures joins { OnOk result (TakeAllIn (map D.spec desks.now) (map D.view seats.old) (map (λ done. map D.view done.seats.items) workers.items) (map D.view seats.new)) }
+    ensures ends { IfOk result (λ ends. ends.items ≡ map (λ done. done.end) workers.items) }
+{
+    let mut ends = Vec::new(alloc);
+    for done in workers {
+        join_all(desks, seats, done.seats);
+        ends.push(done.end)?;
+    }
+    Ok(ends)
+}
+
+// All rows of receipts, or the first stop.
+fn rows_of(
+    alloc: Global,
+    ends: Vec<Result<Receipts, WorkerStop>>,
+) -> Result<WorkerTable, WorkerStop>
+    ensures { RowsEnd ends.items result }
+{
+    let mut rows = WorkerTable::new(alloc);
+    for end in ends {
+        rows.push(end?)?;
+    }
+    Ok(rows)
+}
+
+/// Works off each script in a thread of its own, and each list of arrivals that is not empty in one more; waits for all
+/// of them, and gives each thread's receipts in the order of its script.
+///
+/// There are at most 8 desks, as many seats and lists of arrivals, and at most 16 scripts. The gate is passed before
+/// each operation of a script. A worker that is refused stops there, and the others finish; the one with the smallest
+/// thread number is told, and workers of arrivals come after all threads, in the order of their desks. After a table or
+/// a refusal the seats know all that was seen and added through the workers' seats. After `NoMemory` some workers may
+/// not have run, and what was added through the seats of those that did may not be known.
+pub fn run_workers<R: Threads + Wait + Sync, D: DeskLike, G: Gate>(
+    rt: &R,
+    alloc: Global,
+    desks: &[D],
+    seats: &mut [D::Seat],
+    scripts: &ThreadSpecs,
+    arrivals: &[Frames],
+    gate: &G,
+) -> Result<WorkerTable, WorkerStop>
+    requires desks { length desks.now ≤ 8 }
+    requires seats { AreSeats D.is_seat desks.now seats.old }
+    requires scripts { AreScripts (length desks.now) scripts.now }
+    requires arrivals { AreArrivals (map D.spec desks.now) arrivals.now }
+    ensures seats { AreSeats D.is_seat desks.now seats.new }
+    ensures ends { WorkersEnd (map D.spec desks.now) scripts.now arrivals.now (map D.view seats.old) (map D.view seats.new) result }
+{
+    let works = works_of(alloc, scripts, arrivals)?;
+    let workers = hire(alloc, desks, seats, works.as_slice())?;
+    let done = run_all(rt, alloc, desks, scripts, arrivals, gate, workers)?;
+    let ends = take_in(alloc, desks, seats, done)?;
+    let mut rows = rows_of(alloc, ends)?.into_vec();
+    rows.truncate(scripts.len());
+    Ok(WorkerTable::from_vec(rows))
+}

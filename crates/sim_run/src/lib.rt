@@ -10,5 +10,6 @@ mod seat;
 mod simulating;
 mod whole_run;
 
+pub use ends::end_of;
 pub use simulating::Simulated;
 pub use whole_run::simulate;

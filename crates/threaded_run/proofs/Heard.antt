@@ -1,0 +1,49 @@
+-- Journals that are published one after another.
+use Rattle.std.proofs.Common.{◌≡◌, ℕ, suc, ◌+◌, ◌<◌, List, [], ◌∷◌, length, map, drop, get_or, refl, sym, ap, ◌∙◌, add-one, drop-cons}
+use Rattle.nook_defs.specs.declared.data.Event.{Event}
+use Rattle.nook_defs.specs.Listening.{Listening}
+use Rattle.nook_defs.specs.Room.{Kept}
+use Rattle.request_taps.specs.Bus.{told, told_all}
+use Rattle.request_taps.specs.declared.tap.Tap.{Tap}
+use Rattle.sim_run.proofs.Publishing.{told_all_append}
+use Rattle.sim_run.specs.Published.{with_part}
+use Rattle.sim_run.specs.Whole.{events_in}
+use Rattle.threaded_run.specs.Threaded.{in_parts}
+
+front : {X : Type 0} (xs : List X) (i : ℕ) (x : X) → i < length xs → x ≡ get_or xs i x → drop i xs ≡ x ∷ drop (i + 1) xs
+front xs i x within is =
+    drop-cons xs i x within ∙ ap (λ y. y ∷ drop (suc i) xs) (sym is) ∙ ap (λ (n : ℕ). x ∷ drop n xs) (sym (add-one i))
+
+pub event_heard : (part i : ℕ) (events : List Event) (event : Event) (now new start : List (Tap Listening)) → i < length events
+    → event ≡ get_or events i event → new ≡ map (told part event) now
+    → told_all (with_part part (drop i events)) now ≡ told_all (with_part part events) start
+    → told_all (with_part part (drop (i + 1) events)) new ≡ told_all (with_part part events) start
+unfolding told_all
+event_heard part i events event now new start within is step before =
+    ap (told_all (with_part part (drop (i + 1) events))) step
+    ∙ ap (λ xs. told_all (with_part part xs) now) (sym (front events i event within is))
+    ∙ before
+
+pub journal_heard : (i : ℕ) (journals : List (Kept Event)) (journal : Kept Event) (now new start : List (Tap Listening)) → i < length journals
+    → journal ≡ get_or journals i journal → new ≡ told_all (with_part i journal.list) now
+    → told_all (in_parts i (map events_in (drop i journals))) now ≡ told_all (in_parts 0 (map events_in journals)) start
+    → told_all (in_parts (i + 1) (map events_in (drop (i + 1) journals))) new ≡ told_all (in_parts 0 (map events_in journals)) start
+journal_heard i journals journal now new start within is step before =
+    ap (λ (n : ℕ). told_all (in_parts n (map events_in (drop (i + 1) journals))) new) (add-one i)
+    ∙ ap (told_all (in_parts (suc i) (map events_in (drop (i + 1) journals)))) step
+    ∙ sym (told_all_append (with_part i journal.list) (in_parts (suc i) (map events_in (drop (i + 1) journals))) now)
+    ∙ ap (λ xs. told_all (in_parts i (map events_in xs)) now) (sym (front journals i journal within is))
+    ∙ before
+
+-- nothing is left behind the last
+pub all_heard : {X : Type 0} (xs : List X) (n : ℕ) (say : List X → List (ℕ × Event)) (now : List (Tap Listening)) → n ≡ length xs → say [] ≡ []
+    → told_all (say (drop n xs)) now ≡ now
+unfolding told_all
+all_heard xs n say now e none =
+    ap (λ (k : ℕ). told_all (say (drop k xs)) now) e
+    ∙ ap (λ ys. told_all (say ys) now) (drop_all xs)
+    ∙ ap (λ es. told_all es now) none
+  where
+    drop_all : {X : Type 0} (xs : List X) → drop (length xs) xs ≡ []
+    drop_all [] = refl
+    drop_all (x ∷ xs) = drop_all xs

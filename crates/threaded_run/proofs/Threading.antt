@@ -1,0 +1,56 @@
+-- Threads that worked off their scripts have left a run by threads.
+use Rattle.std.proofs.Common.{◌≡◌, ℕ, suc, List, [], ◌∷◌, map, refl, sym, subst}
+use mathlib.Core.List.{IsPrefix}
+use Rattle.nook_defs.specs.declared.data.Event.{Event}
+use Rattle.nook_defs.specs.declared.data.PartSpec.{PartSpec}
+use Rattle.nook_defs.specs.declared.data.Receipt.{Receipt}
+use Rattle.nook_defs.specs.declared.data.Scenario.{Scenario}
+use Rattle.nook_defs.specs.declared.data.ThreadSpec.{ThreadSpec}
+use Rattle.nook_defs.specs.Room.{Kept}
+use Rattle.report_text.specs.declared.whole_report.PartEnd.{PartEnd}
+use Rattle.sim_run.specs.Whole.{events_in}
+use Rattle.threaded_run.proofs.Growing.{receipts_grown}
+use Rattle.threaded_run.proofs.Leaving.{arrivals_left, begin_left, ends_left, runs_left, settled_left}
+use Rattle.threaded_run.specs.declared.running.Unheard.{Unheard}
+use Rattle.threaded_run.specs.Leaving.{AreLeft, HaveRows, HaveWorked, answers_in}
+use Rattle.threaded_run.specs.Threaded.{AreServed, IsThreaded, journal_at}
+use Rattle.threaded_run.specs.Unheard.{IsMadeByThreads}
+
+served_all : (seens journals : List (List Event)) (thread : ℕ) (threads : List ThreadSpec) (rows : List (List Receipt))
+    → ((part : ℕ) → IsPrefix (journal_at seens part) (journal_at journals part))
+    → HaveRows seens thread threads rows → AreServed journals thread threads (answers_in threads rows)
+served_all seens journals thread [] [] begin h = tt
+served_all seens journals thread [] (row ∷ rows) begin h = absurd h
+served_all seens journals thread (t ∷ threads) [] begin h = absurd h
+served_all seens journals thread (t ∷ threads) (row ∷ rows) begin h = (
+  record {
+    receipts = row;
+    have = receipts_grown seens journals thread t.ops row begin h.0.0;
+    rising = h.0.1;
+    same = refl;
+  },
+  served_all seens journals (suc thread) threads rows begin h.1,
+)
+
+threaded : (scenario : Scenario) (seens : List (List Event)) (rows : List (List Receipt)) (journals : List (Kept Event)) (ends : List PartEnd)
+    → HaveWorked scenario.parts scenario.threads seens rows → AreLeft scenario.parts seens journals ends
+    → IsThreaded scenario (map events_in journals) (answers_in scenario.threads rows)
+threaded scenario seens rows journals ends w l = record {
+  settled = settled_left scenario.parts seens journals ends l;
+  served = served_all seens (map events_in journals) 0 scenario.threads rows (begin_left scenario.parts seens journals ends l) w.served;
+  arrived = arrivals_left scenario.parts seens journals ends l w.arrived;
+}
+
+pub made_by_threads : (scenario : Scenario) (specs : List PartSpec) (seens : List (List Event)) (rows : List (List Receipt)) (left : Unheard)
+    → specs ≡ scenario.parts
+    → HaveWorked scenario.parts scenario.threads seens rows → AreLeft specs seens left.journals left.ends
+    → left.answers ≡ answers_in scenario.threads rows
+    → IsMadeByThreads scenario left
+made_by_threads scenario specs seens rows left e w l a =
+    let own : AreLeft scenario.parts seens left.journals left.ends = subst (λ x. AreLeft x seens left.journals left.ends) e l in
+    record {
+      runs = runs_left scenario.parts seens left.journals left.ends own;
+      ends = ends_left scenario.parts seens left.journals left.ends own;
+      threaded = subst (IsThreaded scenario (map events_in left.journals)) (sym a)
+          (threaded scenario seens rows left.journals left.ends w own);
+    }

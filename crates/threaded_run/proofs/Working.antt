@@ -1,0 +1,229 @@
+-- What workers leave, in the words of a run by threads.
+use Rattle.std.proofs.Common.{◌≡◌, ℕ, zero, suc, ◌+◌, ◌<◌, ◌≤◌, ◌==◌, ◌⊎◌, inl, inr, Bool, true, false, Option, Some, None, is_some, List, [], ◌∷◌, length, map, get_or, slice_get, slice_index_or, refl, sym, ap, ◌∙◌, subst, arith}
+use Rattle.std.specs.Prelude.{All}
+use Rattle.std.specs.List.{filter}
+use Rattle.std.proofs.lemmas.Bool.{cases_lt, ne_eqb}
+use Rattle.std.proofs.lemmas.List.{length-map}
+use Rattle.std.proofs.lemmas.Option.{get_or_from_slice_get, slice_get_within}
+use Rattle.app_threads.proofs.Grown.{rising_filter}
+use Rattle.app_threads.specs.Ends.{AreFinished, HasArrived}
+use Rattle.app_threads.specs.Workers.{AreArrivals, AreFrames, AreReceipts, AreRising, AreScripts, IsNetAt, frame_of, frames_at, invokes_of}
+use Rattle.desk_like.specs.Desks.{DeskView, IsReceipt, IsRisingFrom}
+use Rattle.nook_defs.specs.Classes.{same_class}
+use Rattle.nook_defs.specs.declared.data.Class.{Class}
+use Rattle.nook_defs.specs.declared.data.Class.TheVariants as class
+use Rattle.nook_defs.specs.declared.data.Event.{Event}
+use Rattle.nook_defs.specs.declared.data.Event.TheVariants as event
+use Rattle.nook_defs.specs.declared.data.Op.{Op}
+use Rattle.nook_defs.specs.declared.data.PartSpec.{PartSpec}
+use Rattle.nook_defs.specs.declared.data.Receipt.{Receipt}
+use Rattle.nook_defs.specs.declared.data.Scenario.{Scenario}
+use Rattle.nook_defs.specs.declared.data.ThreadSpec.{ThreadSpec}
+use Rattle.nook_defs.specs.Places.{at_number}
+use Rattle.nook_defs.specs.Valid.{FitsClass, IsValidPart, IsValidScenario, IsValidThread}
+use Rattle.threaded_run.specs.Leaving.{HaveRows, HaveWorked}
+use Rattle.threaded_run.specs.Threaded.{ArriveAt, HasArrivals, HaveArrivals, HaveReceipts, invoked_on, journal_at}
+
+abbrev pub seens_of : List DeskView → List (List Event)
+seens_of views = map (λ v. v.seen) views
+
+-- ---- receipts
+
+seen_at : (views : List DeskView) (part : ℕ) (view : DeskView) → slice_get views part ≡ Some view → journal_at (seens_of views) part ≡ view.seen
+seen_at [] part view e = cc
+seen_at (v ∷ views) zero view e = ap (λ (x : DeskView). x.seen) (inner e)
+  where
+    inner : {a b : DeskView} → Some a ≡ Some b → a ≡ b
+    inner h = cc
+seen_at (v ∷ views) (suc part) view e = seen_at views part view e
+
+receipts_of : (views : List DeskView) (thread : ℕ) (ops : List (ℕ × Op)) (receipts : List Receipt) → AreReceipts views thread ops receipts
+    → HaveReceipts (seens_of views) thread ops receipts
+receipts_of views thread [] [] h = tt
+receipts_of views thread [] (receipt ∷ receipts) h = absurd h
+receipts_of views thread (o ∷ ops) [] h = absurd h
+receipts_of views thread ((part, op) ∷ ops) (receipt ∷ receipts) h = (
+  subst (λ seen. IsReceipt seen thread op receipt) (sym (seen_at views part h.0.view h.0.there)) h.0.is,
+  receipts_of views thread ops receipts h.1,
+)
+
+-- ---- places that rise
+
+rise_from_start : (n : ℕ) (places : List ℕ) → IsRisingFrom n places → IsRisingFrom 0 places
+rise_from_start n [] h = tt
+rise_from_start n (place ∷ places) h = (let low : n < place = h.0 in omega arith, h.1)
+
+invoked_same : (part : ℕ) (ops : List (ℕ × Op)) (receipts : List Receipt) → invokes_of part ops receipts ≡ invoked_on part ops receipts
+invoked_same part [] receipts = refl
+invoked_same part (o ∷ ops) [] = refl
+invoked_same part ((p, op) ∷ ops) (receipt ∷ receipts) = rw (invoked_same part ops receipts) refl
+
+-- no operation is on a part that has no desk
+invoked_nowhere : (views : List DeskView) (thread part : ℕ) (ops : List (ℕ × Op)) (receipts : List Receipt) → AreReceipts views thread ops receipts
+    → length views ≤ part → invoked_on part ops receipts ≡ []
+invoked_nowhere views thread part [] receipts h far = refl
+invoked_nowhere views thread part (o ∷ ops) [] h far = refl
+invoked_nowhere views thread part ((p, op) ∷ ops) (receipt ∷ receipts) h far =
+    let near : p < length views = slice_get_within views p h.0.view h.0.there in
+    let other : (p == part) ≡ false = ne_eqb p part (λ e. absurd (omega arith)) in
+    rw other (invoked_nowhere views thread part ops receipts h.1 far)
+
+some_view : (views : List DeskView) (part : ℕ) → part < length views → (view : DeskView) × (slice_get views part ≡ Some view)
+some_view [] part near = absurd (omega arith)
+some_view (v ∷ views) zero near = (v, refl)
+some_view (v ∷ views) (suc part) near = some_view views part (omega arith)
+
+rising_near : (olds views : List DeskView) (thread part : ℕ) (ops : List (ℕ × Op)) (receipts : List Receipt) → length views ≡ length olds
+    → AreReceipts views thread ops receipts → AreRising olds ops receipts
+    → (part < length olds) ⊎ (length olds ≤ part) → IsRisingFrom 0 (invoked_on part ops receipts)
+rising_near olds views thread part ops receipts same h r (inl near) =
+    let old = some_view olds part near in
+    subst (IsRisingFrom 0) (invoked_same part ops receipts)
+    (rise_from_start (length old.0.seen) (invokes_of part ops receipts) (r part old.0 old.1))
+rising_near olds views thread part ops receipts same h r (inr far) =
+    subst (IsRisingFrom 0) (sym (invoked_nowhere views thread part ops receipts h (omega arith))) tt
+
+rows_from : (olds views : List DeskView) (thread : ℕ) (threads : List ThreadSpec) (rows : List (List Receipt)) → length views ≡ length olds
+    → length rows ≡ length threads
+    → ((t : ℕ) (script : ThreadSpec) (row : List Receipt) → slice_get threads t ≡ Some script → slice_get rows t ≡ Some row
+    → AreReceipts views (thread + t) script.ops row × AreRising olds script.ops row)
+    → HaveRows (seens_of views) thread threads rows
+rows_from olds views thread [] [] same l h = tt
+rows_from olds views thread [] (row ∷ rows) same l h = absurd (omega arith)
+rows_from olds views thread (t ∷ threads) [] same l h = absurd (omega arith)
+rows_from olds views thread (t ∷ threads) (row ∷ rows) same l h =
+    let own = h 0 t row refl refl in
+    let first : AreReceipts views thread t.ops row = subst (λ n. AreReceipts views n t.ops row) (omega arith) own.0 in (
+      (
+        receipts_of views thread t.ops row first,
+        λ part. rising_near olds views thread part t.ops row same first own.1 (cases_lt part (length olds)),
+      ),
+      rows_from olds views (suc thread) threads rows same (omega arith)
+          (λ k script r a b.
+          let more = h (suc k) script r a b in
+          (subst (λ n. AreReceipts views n script.ops r) (omega arith) more.0, more.1)),
+    )
+
+-- ---- arrivals
+
+is_arrival : List Event → ℕ → Bool
+is_arrival seen place = is_some (frame_of (at_number place seen))
+
+arrive_at_one : (seen : List Event) (place : ℕ) (places : List ℕ) (o : Option Event) → at_number place seen ≡ o
+    → ArriveAt seen (frames_at seen places) (filter (is_arrival seen) places)
+    → ArriveAt seen (frames_at seen (place ∷ places)) (filter (is_arrival seen) (place ∷ places))
+unfolding is_arrival
+arrive_at_one seen place places None e h = rw e h
+arrive_at_one seen place places (Some (event.Arrive frame kept)) e h =
+    rw e ((kept, record { event = event.Arrive frame kept; there = e; is = (refl, refl) }), h)
+arrive_at_one seen place places (Some (event.Invoke call thread op answer)) e h = rw e h
+arrive_at_one seen place places (Some (event.Enter call thread attempt answer)) e h = rw e h
+arrive_at_one seen place places (Some (event.Burst context call burst count end acts answer failure)) e h = rw e h
+arrive_at_one seen place places (Some (event.Stage stage answers released)) e h = rw e h
+
+arrive_at : (seen : List Event) (places : List ℕ) → ArriveAt seen (frames_at seen places) (filter (is_arrival seen) places)
+arrive_at seen [] = tt
+arrive_at seen (place ∷ places) = arrive_at_one seen place places (at_number place seen) refl (arrive_at seen places)
+
+arrivals_of_one : (old view : DeskView) (frames : List (List ℕ)) → HasArrived old view frames → HasArrivals view.seen frames
+arrivals_of_one old view frames h = record {
+  places = filter (is_arrival view.seen) h.places;
+  rising = rise_from_start (length old.seen) (filter (is_arrival view.seen) h.places)
+      (rising_filter (is_arrival view.seen) (length old.seen) h.places h.rising);
+  arrive = subst (λ xs. ArriveAt view.seen xs (filter (is_arrival view.seen) h.places)) h.arrived (arrive_at view.seen h.places);
+}
+
+arrivals_from : (parts : List PartSpec) (views : List DeskView) → length views ≡ length parts
+    → ((d : ℕ) (spec : PartSpec) (view : DeskView) → slice_get parts d ≡ Some spec → slice_get views d ≡ Some view → HasArrivals view.seen spec.arrivals)
+    → HaveArrivals parts (seens_of views)
+arrivals_from [] [] l h = tt
+arrivals_from [] (view ∷ views) l h = tt
+arrivals_from (spec ∷ parts) [] l h = absurd (omega arith)
+arrivals_from (spec ∷ parts) (view ∷ views) l h = (
+  h 0 spec view refl refl,
+  arrivals_from parts views (omega arith) (λ d s v a b. h (suc d) s v a b),
+)
+
+frames_of_part : (parts : List PartSpec) (d : ℕ) (spec : PartSpec) → slice_get parts d ≡ Some spec
+    → slice_index_or (map (λ (s : PartSpec). s.arrivals) parts) d [] ≡ spec.arrivals
+frames_of_part [] d spec h = cc
+frames_of_part (p ∷ parts) zero spec h = ap (λ (s : PartSpec). s.arrivals) (inner h)
+  where
+    inner : {a b : PartSpec} → Some a ≡ Some b → a ≡ b
+    inner h = cc
+frames_of_part (p ∷ parts) (suc d) spec h = frames_of_part parts d spec h
+
+-- ---- all
+
+pub have_worked : (specs parts : List PartSpec) (threads : List ThreadSpec) (olds views : List DeskView) (rows : List (List Receipt)) → length olds ≡ length parts
+    → AreFinished specs threads (map (λ (s : PartSpec). s.arrivals) parts) olds views rows → HaveWorked parts threads (seens_of views) rows
+have_worked specs parts threads olds views rows long h = record {
+  served = rows_from olds views 0 threads rows h.arrived.0 h.rows.0
+      (λ t script row a b. (subst (λ n. AreReceipts views n script.ops row) (omega arith) (h.rows.1 t script row a b), h.rising t script row a b));
+  arrived = arrivals_from parts views (let n = h.arrived.0 in omega arith)
+      (λ d spec view a b.
+      let within = slice_get_within parts d spec a in
+      let old = some_view olds d (omega arith) in
+      arrivals_of_one old.0 view spec.arrivals
+      (subst (HasArrived old.0 view) (frames_of_part parts d spec a) (h.arrived.1 d old.0 view old.1 b)));
+}
+
+-- ---- what the workers are handed
+
+script_fits : (count : ℕ) (thread : ThreadSpec) → IsValidThread count thread → (length thread.ops ≤ 256) × All (λ (o : ℕ × Op). o.0 < count) thread.ops
+script_fits count thread v = (v.op_count, λ k d within. (v.ops k d within).0)
+
+pub scripts_fit : (scenario : Scenario) (count : ℕ) → IsValidScenario scenario → count ≡ length scenario.parts → AreScripts count scenario.threads
+scripts_fit scenario count v e =
+    subst (λ n. AreScripts n scenario.threads) (sym e)
+    (v.thread_count, λ k d within. script_fits (length scenario.parts) (get_or scenario.threads k d) (v.threads k d within))
+
+frames_fit : (c : Class) (spec : PartSpec) → spec.class ≡ c → FitsClass c spec
+    → (length spec.arrivals ≤ 256) × AreFrames spec.arrivals × (0 < length spec.arrivals → same_class c class.Net ≡ true)
+frames_fit class.Block spec e f = rw f.2 (omega arith, (λ k d within. absurd (omega arith)), λ some. absurd (omega arith))
+frames_fit class.Net spec e f = (f.2, (λ k d within. let v = f.3 k d within in (v.0, v.1.0)), λ some. refl)
+frames_fit class.Sound spec e f = rw f.2 (omega arith, (λ k d within. absurd (omega arith)), λ some. absurd (omega arith))
+
+part_at : (parts : List PartSpec) (d : ℕ) (frames : List (List ℕ)) → slice_get (map (λ (s : PartSpec). s.arrivals) parts) d ≡ Some frames
+    → (spec : PartSpec) × (slice_get parts d ≡ Some spec) × (spec.arrivals ≡ frames)
+part_at [] d frames h = cc
+part_at (p ∷ parts) zero frames h = (p, refl, inner h)
+  where
+    inner : {a b : List (List ℕ)} → Some a ≡ Some b → a ≡ b
+    inner h = cc
+part_at (p ∷ parts) (suc d) frames h = part_at parts d frames h
+
+valid_at : (parts : List PartSpec) (d : ℕ) (spec : PartSpec) → All IsValidPart parts → slice_get parts d ≡ Some spec → IsValidPart spec
+valid_at parts d spec v h =
+    let within = slice_get_within parts d spec h in
+    subst IsValidPart (get_or_from_slice_get parts d spec spec h) (v d spec within)
+
+net_at : (parts : List PartSpec) (d : ℕ) (spec : PartSpec) → slice_get parts d ≡ Some spec → same_class spec.class class.Net ≡ true → IsNetAt parts d
+net_at parts d spec h e other k = subst (λ (s : PartSpec). same_class s.class class.Net ≡ true) (inner (sym h ∙ k)) e
+  where
+    inner : {a b : PartSpec} → Some a ≡ Some b → a ≡ b
+    inner h = cc
+
+pub arrivals_fit : (parts specs : List PartSpec) → All IsValidPart parts → specs ≡ parts → AreArrivals specs (map (λ (s : PartSpec). s.arrivals) parts)
+arrivals_fit parts specs v e = subst (λ x. AreArrivals x (map (λ (s : PartSpec). s.arrivals) parts)) (sym e) (
+  length-map parts (λ (s : PartSpec). s.arrivals),
+  λ d frames h.
+      let p = part_at parts d frames h in
+      let fits = frames_fit p.0.class p.0 refl (valid_at parts d p.0 v p.1).fits in
+      let own : (length frames ≤ 256) × AreFrames frames × (0 < length frames → same_class p.0.class class.Net ≡ true) =
+      subst (λ fs. (length fs ≤ 256) × AreFrames fs × (0 < length fs → same_class p.0.class class.Net ≡ true)) p.2 fits in
+      (own.0, own.1, λ some. net_at parts d p.0 p.1 (own.2 some)),
+)
+
+-- what the seats have seen
+pub seens_are : {S : Type 0} (view : S → DeskView) (seats : List S) → map (λ s. (view s).seen) seats ≡ seens_of (map view seats)
+seens_are view [] = refl
+seens_are view (seat ∷ seats) = ap (λ xs. (view seat).seen ∷ xs) (seens_are view seats)
+
+pub gathered : {S : Type 0} (view : S → DeskView) (specs parts : List PartSpec) (threads : List ThreadSpec) (olds news all : List S) (frames : List (List (List ℕ))) (rows : List (List Receipt))
+    → all ≡ news → frames ≡ map (λ (s : PartSpec). s.arrivals) parts → length olds ≡ length parts
+    → AreFinished specs threads frames (map view olds) (map view news) rows → HaveWorked parts threads (map (λ s. (view s).seen) all) rows
+gathered view specs parts threads olds news all frames rows a f l h =
+    subst (λ seens. HaveWorked parts threads seens rows) (sym (ap (map (λ s. (view s).seen)) a ∙ seens_are view news))
+    (have_worked specs parts threads (map view olds) (map view news) rows (length-map olds view ∙ l)
+    (subst (λ x. AreFinished specs threads x (map view olds) (map view news) rows) f h))

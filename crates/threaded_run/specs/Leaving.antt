@@ -1,0 +1,54 @@
+-- What desks' parts leave once no step of theirs is left.
+use Rattle.std.specs.Prelude.{◌≡◌, ℕ, suc, None, List, [], ◌∷◌}
+use mathlib.Core.List.{IsPrefix}
+use Rattle.nook_defs.specs.declared.data.Answer.{Answer}
+use Rattle.nook_defs.specs.declared.data.Event.{Event}
+use Rattle.nook_defs.specs.declared.data.PartSpec.{PartSpec}
+use Rattle.nook_defs.specs.declared.data.Receipt.{Receipt}
+use Rattle.nook_defs.specs.declared.data.ThreadSpec.{ThreadSpec}
+use Rattle.nook_defs.specs.Room.{Kept}
+use Rattle.nook_defs.specs.Runs.{IsRun, PartRun, next_any, state_of}
+use Rattle.report_text.specs.declared.whole_report.PartEnd.{PartEnd}
+use Rattle.report_text.specs.Whole.{ShowsState}
+use Rattle.desk_like.specs.Desks.{IsRisingFrom}
+use Rattle.threaded_run.specs.Threaded.{HaveArrivals, HaveReceipts, answers_by, invoked_on}
+
+-- the part is one of this spec, what a seat at its desk has seen begins its journal, and it has no step left but
+-- invocations and arrivals
+pub record IsClosed (spec : PartSpec) (seen : List Event) (part : PartRun) : Type 0 where
+  pub same : part.state.spec ≡ spec
+  pub begins : IsPrefix seen part.journal
+  pub settled : next_any part.state ≡ None
+
+-- so it is with a part's journal and what the part ends in
+pub record IsLeft (spec : PartSpec) (seen : List Event) (journal : Kept Event) (end : PartEnd) : Type 0 where
+  pub run : IsRun spec journal.list
+  pub begins : IsPrefix seen journal.list
+  pub settled : next_any (state_of spec journal.list) ≡ None
+  pub shows : ShowsState spec (state_of spec journal.list) end
+
+-- so it is with each part's
+abbrev pub AreLeft : List PartSpec → List (List Event) → List (Kept Event) → List PartEnd → Type 0
+AreLeft [] [] [] [] = Unit {0}
+AreLeft (spec ∷ specs) (seen ∷ seens) (journal ∷ journals) (end ∷ ends) =
+    IsLeft spec seen journal end × AreLeft specs seens journals ends
+AreLeft _ _ _ _ = ⊥
+
+-- the answers of each thread's receipts, each with its part
+abbrev pub answers_in : List ThreadSpec → List (List Receipt) → List (List (ℕ × Answer))
+answers_in [] rows = []
+answers_in (t ∷ threads) [] = []
+answers_in (t ∷ threads) (row ∷ rows) = answers_by t.ops row ∷ answers_in threads rows
+
+-- a receipt for each operation of each thread, from one on, invoked in order on each part
+abbrev pub HaveRows : List (List Event) → ℕ → List ThreadSpec → List (List Receipt) → Type 0
+HaveRows journals thread [] [] = Unit {0}
+HaveRows journals thread (t ∷ threads) (row ∷ rows) =
+    (HaveReceipts journals thread t.ops row × ((part : ℕ) → IsRisingFrom 0 (invoked_on part t.ops row)))
+    × HaveRows journals (suc thread) threads rows
+HaveRows journals thread _ _ = ⊥
+
+-- threads worked off their scripts, and the parts' frames arrived, in what has been seen of each part
+pub record HaveWorked (parts : List PartSpec) (threads : List ThreadSpec) (seens : List (List Event)) (rows : List (List Receipt)) : Type 0 where
+  pub served : HaveRows seens 0 threads rows
+  pub arrived : HaveArrivals parts seens

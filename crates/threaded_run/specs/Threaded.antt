@@ -1,0 +1,111 @@
+-- What a run by threads leaves: one journal a part, and each thread's answers.
+use Rattle.std.specs.Prelude.{◌≡◌, ℕ, suc, ◌==◌, if◌then◌else◌, Bool, List, [], ◌∷◌, ◌++◌, ◌⊎◌, None, map, slice_index_or}
+use Rattle.desk_like.specs.Desks.{IsArrive, IsAt, IsReceipt, IsRisingFrom}
+use Rattle.nook_defs.specs.declared.data.Answer.{Answer}
+use Rattle.nook_defs.specs.declared.data.Event.{Event}
+use Rattle.nook_defs.specs.declared.data.Op.{Op}
+use Rattle.nook_defs.specs.declared.data.PartSpec.{PartSpec}
+use Rattle.nook_defs.specs.declared.data.Receipt.{Receipt}
+use Rattle.nook_defs.specs.declared.data.Scenario.{Scenario}
+use Rattle.nook_defs.specs.declared.data.ThreadSpec.{ThreadSpec}
+use Rattle.nook_defs.specs.Runs.{next_any, state_of}
+use Rattle.nook_defs.specs.Simulation.{IsScheduledRun, Simulation, answer_table, journals_of}
+use Rattle.sim_run.specs.Published.{with_part}
+
+-- ---- parts
+
+-- each journal ends where no step of its part may be taken but an invocation or an arrival
+abbrev pub AreSettled : List PartSpec → List (List Event) → Type 0
+AreSettled [] [] = Unit {0}
+AreSettled [] (journal ∷ journals) = ⊥
+AreSettled (spec ∷ specs) [] = ⊥
+AreSettled (spec ∷ specs) (journal ∷ journals) = (next_any (state_of spec journal) ≡ None) × AreSettled specs journals
+
+-- the frames arrive in the journal in order, each at its place
+abbrev pub ArriveAt : List Event → List (List ℕ) → List ℕ → Type 0
+ArriveAt journal [] [] = Unit {0}
+ArriveAt journal [] (place ∷ places) = ⊥
+ArriveAt journal (frame ∷ frames) [] = ⊥
+ArriveAt journal (frame ∷ frames) (place ∷ places) =
+    ((kept : Bool) × IsAt journal place (IsArrive frame kept)) × ArriveAt journal frames places
+
+-- a part's frames arrive in its journal in order
+pub record HasArrivals (journal : List Event) (frames : List (List ℕ)) : Type 0 where
+  pub places : List ℕ
+  pub rising : IsRisingFrom 0 places
+  pub arrive : ArriveAt journal frames places
+
+abbrev pub HaveArrivals : List PartSpec → List (List Event) → Type 0
+HaveArrivals [] journals = Unit {0}
+HaveArrivals (spec ∷ specs) [] = ⊥
+HaveArrivals (spec ∷ specs) (journal ∷ journals) = HasArrivals journal spec.arrivals × HaveArrivals specs journals
+
+-- ---- threads
+
+-- the journal of a part
+abbrev pub journal_at : List (List Event) → ℕ → List Event
+journal_at journals part = slice_index_or journals part []
+
+-- each operation of a script has a receipt in its part's journal
+abbrev pub HaveReceipts : List (List Event) → ℕ → List (ℕ × Op) → List Receipt → Type 0
+HaveReceipts journals thread [] [] = Unit {0}
+HaveReceipts journals thread [] (receipt ∷ receipts) = ⊥
+HaveReceipts journals thread ((part, op) ∷ ops) [] = ⊥
+HaveReceipts journals thread ((part, op) ∷ ops) (receipt ∷ receipts) =
+    IsReceipt (journal_at journals part) thread op receipt × HaveReceipts journals thread ops receipts
+
+-- the places at which a script's operations on a part were invoked
+abbrev pub invoked_on : ℕ → List (ℕ × Op) → List Receipt → List ℕ
+invoked_on part [] receipts = []
+invoked_on part (o ∷ ops) [] = []
+invoked_on part ((p, op) ∷ ops) (receipt ∷ receipts) =
+    if p == part then receipt.at_invoke ∷ invoked_on part ops receipts else invoked_on part ops receipts
+
+-- the answers of a script's operations, each with its part
+abbrev pub answers_by : List (ℕ × Op) → List Receipt → List (ℕ × Answer)
+answers_by [] receipts = []
+answers_by (o ∷ ops) [] = []
+answers_by ((part, op) ∷ ops) (receipt ∷ receipts) = (part, receipt.answer) ∷ answers_by ops receipts
+
+-- a thread's script with the answers is, on each part, in order among the thread's invocations and their answers
+pub record IsServed (journals : List (List Event)) (thread : ℕ) (ops : List (ℕ × Op)) (answers : List (ℕ × Answer)) : Type 0 where
+  pub receipts : List Receipt
+  pub have : HaveReceipts journals thread ops receipts
+  pub rising : (part : ℕ) → IsRisingFrom 0 (invoked_on part ops receipts)
+  pub same : answers ≡ answers_by ops receipts
+
+-- so is each thread's, from one on
+abbrev pub AreServed : List (List Event) → ℕ → List ThreadSpec → List (List (ℕ × Answer)) → Type 0
+AreServed journals thread [] [] = Unit {0}
+AreServed journals thread [] (answers ∷ table) = ⊥
+AreServed journals thread (t ∷ threads) [] = ⊥
+AreServed journals thread (t ∷ threads) (answers ∷ table) =
+    IsServed journals thread t.ops answers × AreServed journals (suc thread) threads table
+
+-- ---- the whole
+
+-- the journals and answers of threads that ran beside each other
+pub record IsThreaded (scenario : Scenario) (journals : List (List Event)) (answers : List (List (ℕ × Answer))) : Type 0 where
+  pub settled : AreSettled scenario.parts journals
+  pub served : AreServed journals 0 scenario.threads answers
+  pub arrived : HaveArrivals scenario.parts journals
+
+-- the journals and answers of the scheduled run, which is made where a desk refused for another cause than memory
+pub record IsMadeInPlace (scenario : Scenario) (journals : List (List Event)) (answers : List (List (ℕ × Answer))) : Type 0 where
+  pub simulation : Simulation
+  pub scheduled : IsScheduledRun scenario simulation
+  pub same_journals : journals ≡ journals_of simulation
+  pub same_answers : answers ≡ answer_table simulation
+
+-- the journals and answers of `run threads`
+abbrev pub IsRunByThreads : Scenario → List (List Event) → List (List (ℕ × Answer)) → Type 0
+IsRunByThreads scenario journals answers = IsThreaded scenario journals answers ⊎ IsMadeInPlace scenario journals answers
+
+-- the events of journals, part by part, of which the first is that of part `part`
+abbrev pub in_parts : ℕ → List (List Event) → List (ℕ × Event)
+in_parts part [] = []
+in_parts part (journal ∷ journals) = with_part part journal ++ in_parts (suc part) journals
+
+-- every operation of every thread has its answer: the parts of a thread's answers are in order those of its operations
+abbrev pub AreAnswered : Scenario → List (List (ℕ × Answer)) → Type 0
+AreAnswered scenario answers = map (λ own. map (λ a. a.0) own) answers ≡ map (λ t. map (λ o. o.0) t.ops) scenario.threads

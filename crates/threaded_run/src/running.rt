@@ -1,0 +1,185 @@
+//! The run of a scenario by threads.
+
+ghost use Rattle.std.specs.Prelude.{◌≡◌, IfOk, IfSome, None, map};
+ghost use Rattle.app_threads.specs.Workers.{AreSeats};
+ghost use Rattle.nook_defs.specs.Valid.{IsValidScenario};
+ghost use Rattle.report_text.specs.Whole.{HaveEnds};
+ghost use Rattle.request_taps.specs.Bus.{result_of, seen, told_all};
+ghost use Rattle.sim_run.specs.Reached.{AreRuns};
+ghost use Rattle.sim_run.specs.Whole.{events_in};
+ghost use Rattle.part_server.specs.Desk.{IsDeskSeat, desk_spec, desk_view};
+ghost use Rattle.threaded_run.specs.Leaving.{HaveWorked};
+ghost use Rattle.threaded_run.specs.Threaded.{AreAnswered, IsRunByThreads, in_parts};
+ghost use Rattle.threaded_run.specs.Unheard.{IsMadeByThreads, IsWholeRun};
+
+use crate::answering::answers_of;
+use crate::closing::leave_all;
+use crate::opening::{Opened, arrivals_of, open_desks};
+use crate::publishing::publish_all;
+use app_threads::{WorkerStop, run_workers};
+use nook_defs::data::{AnswerTable, DeskRefused, Scenario, WorkerTable};
+use nook_defs::listeners::CountListener;
+use nook_defs::memory::NoMemory;
+use nook_defs::outside::{Gate, Listener};
+use report_text::report::{Journals, Run};
+use report_text::whole_report::PartEnds;
+use request_taps::Bus;
+use sim_run::{Simulated, simulate};
+use std::alloc::Global;
+use std::sync::Wait;
+use std::thread::Threads;
+
+/// What a run left that nobody has heard: its journals, its answers, and what each part ends in.
+#[derive(Drop)]
+pub struct Unheard {
+    pub journals: Journals,
+    pub answers: AnswerTable,
+    pub ends: PartEnds,
+}
+
+/// Runs a valid scenario by threads: each of its threads calls the parts at their desks, by itself and in the order of
+/// its script, and each part with arrivals has a thread that hands them in. Then each part takes the steps that it has
+/// left, and the taps hear the journals, part by part.
+///
+/// In whatever order the threads got their turns, each journal is a run of its part that has no step left, and holds
+/// the operations of each thread with the answers that are told, and the part's arrivals, in order.
+///
+/// Where a desk refuses a thread for another cause than memory, the scenario is simulated under its schedule in place
+/// of it. After `NoMemory` the taps have heard all or nothing.
+pub fn run_threads<R: Threads + Wait + Sync, L: Listener, G: Gate>(
+    rt: &R,
+    alloc: Global,
+    scenario: &Scenario,
+    taps: &mut Bus<L>,
+    gate: &G,
+) -> Result<Simulated, NoMemory>
+    requires { IsValidScenario scenario.now }
+    ensures runs { IfOk result (λ whole. AreRuns scenario.now.parts (map events_in whole.run.journals)) }
+    ensures ends { IfOk result (λ whole. HaveEnds scenario.now.parts whole.run.journals whole.ends) }
+    ensures by_threads { IfOk result (λ whole. IsRunByThreads scenario.now (map events_in whole.run.journals) whole.run.answers) }
+    ensures answered { IfOk result (λ whole. AreAnswered scenario.now whole.run.answers) }
+    ensures heard { IfOk result (λ whole. map (seen L.listening) taps.new
+        ≡ told_all (in_parts 0 (map events_in whole.run.journals)) (map (seen L.listening) taps.old)) }
+    ensures totals { IfOk result (λ whole. whole.run.taps ≡ map result_of (map (seen L.listening) taps.new)) }
+{
+    let left = run_unheard(rt, alloc, scenario, gate)?;
+    publish_all(taps, left.journals.as_slice());
+    let totals = taps.totals(alloc)?;
+    Ok(Simulated {
+        run: Run {
+            journals: left.journals,
+            answers: left.answers,
+            taps: totals,
+        },
+        ends: left.ends,
+    })
+}
+
+/// Runs a valid scenario by threads, or simulates it in place of that.
+fn run_unheard<R: Threads + Wait + Sync, G: Gate>(
+    rt: &R,
+    alloc: Global,
+    scenario: &Scenario,
+    gate: &G,
+) -> Result<Unheard, NoMemory>
+    requires { IsValidScenario scenario.now }
+    ensures { IfOk result (IsWholeRun scenario.now) }
+{
+    match run_by_threads(rt, alloc, scenario, gate)? {
+        Some(left) => Ok(left),
+        None => simulate_unheard(alloc, scenario),
+    }
+}
+
+/// Simulates a valid scenario under its schedule.
+fn simulate_unheard(alloc: Global, scenario: &Scenario) -> Result<Unheard, NoMemory>
+    requires { IsValidScenario scenario.now }
+    ensures { IfOk result (IsWholeRun scenario.now) }
+{
+    let mut silent: Bus<CountListener> = Bus::of(alloc, Vec::new(alloc))?;
+    let whole = simulate(alloc, scenario, &mut silent)?;
+    Ok(without_totals(whole))
+}
+
+/// What a simulation left, without the totals of its taps.
+fn without_totals(whole: Simulated) -> Unheard
+    ensures journals { result.journals ≡ whole.run.journals }
+    ensures answers { result.answers ≡ whole.run.answers }
+    ensures ends { result.ends ≡ whole.ends }
+{
+    let Simulated { run, ends } = whole;
+    let Run {
+        journals,
+        answers,
+        ..
+    } = run;
+    Unheard {
+        journals,
+        answers,
+        ends,
+    }
+}
+
+/// Runs a valid scenario by threads; `None` where a desk refused one for another cause than memory.
+fn run_by_threads<R: Threads + Wait + Sync, G: Gate>(
+    rt: &R,
+    alloc: Global,
+    scenario: &Scenario,
+    gate: &G,
+) -> Result<Option<Unheard>, NoMemory>
+    requires { IsValidScenario scenario.now }
+    ensures { IfOk result (λ made. IfSome made (IsMadeByThreads scenario.now)) }
+{
+    let arrivals = arrivals_of(alloc, scenario.parts.as_slice())?;
+    let mut opened = open_desks(alloc, scenario.parts.as_slice())?;
+    let worked = run_workers(
+        rt,
+        alloc,
+        opened.desks.as_slice(),
+        opened.seats.as_mut_slice(),
+        &scenario.threads,
+        arrivals.as_slice(),
+        gate,
+    );
+    match worked {
+        Ok(table) => Ok(Some(gather(rt, alloc, scenario, opened, table)?)),
+        Err(stop) => stopped(stop),
+    }
+}
+
+/// What is left by threads that have worked off their scripts.
+fn gather<R: Wait>(
+    rt: &R,
+    alloc: Global,
+    scenario: &Scenario,
+    opened: Opened,
+    table: WorkerTable,
+) -> Result<Unheard, NoMemory>
+    requires specs { map desk_spec opened.desks.items ≡ scenario.now.parts }
+    requires seats { AreSeats IsDeskSeat opened.desks.items opened.seats.items }
+    requires worked { HaveWorked scenario.now.parts scenario.now.threads
+        (map (λ s. (desk_view s).seen) opened.seats.items) table }
+    ensures { IfOk result (IsMadeByThreads scenario.now) }
+{
+    let left = leave_all(rt, alloc, opened)?;
+    let answers = answers_of(alloc, scenario.threads.as_slice(), table)?;
+    Ok(Unheard {
+        journals: left.journals,
+        answers,
+        ends: left.ends,
+    })
+}
+
+/// What is made where a worker stopped: nothing, or `NoMemory` where memory was wanting.
+fn stopped(stop: WorkerStop) -> Result<Option<Unheard>, NoMemory>
+    ensures { IfOk result (λ made. made ≡ None) }
+{
+    match stop {
+        WorkerStop::NoMemory => Err(NoMemory),
+        WorkerStop::Refused {
+            refusal: DeskRefused::NoMemory { .. },
+            ..
+        } => Err(NoMemory),
+        WorkerStop::Refused { .. } => Ok(None),
+    }
+}

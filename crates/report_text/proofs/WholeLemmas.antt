@@ -1,5 +1,5 @@
 -- A whole report: its rows, part by part and act by act, and the text that they are.
-use Rattle.std.proofs.Common.{◌≡◌, ℕ, zero, suc, ◌+◌, ◌≤◌, ◌++◌, ◌∷◌, [], List, Bool, true, false, if◌then◌else◌, is_some, nat_lt, ◌||◌, codes, drop, length, Option, refl, sym, ap, ◌∙◌, add-one, append_assoc}
+use Rattle.std.proofs.Common.{◌≡◌, ℕ, zero, suc, ◌+◌, ◌≤◌, ◌++◌, ◌∷◌, [], List, Bool, false, if◌then◌else◌, is_some, nat_lt, ◌||◌, codes, drop, length, Option, refl, sym, ap, ◌∙◌, add-one, append_assoc}
 use Rattle.std.proofs.lemmas.List.{drop_all}
 use Rattle.nook_defs.specs.declared.data.Act.{Act}
 use Rattle.nook_defs.specs.declared.data.Act.TheVariants as act

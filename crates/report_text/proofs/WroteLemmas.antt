@@ -1,5 +1,6 @@
 -- Texts that are written one after another.
-use Rattle.std.proofs.Common.{◌≡◌, ℕ, ◌+◌, ◌<◌, ◌≤◌, List, [], ◌++◌, length, drop, refl, sym, ◌∙◌, ap, append_assoc, append-nil, Option, None, Some, Result, Ok, Err, OnOk, OnErr, arith, get_or, add-one, ◌∷◌, decimal, codes, suc}
+use Rattle.std.proofs.Common.{◌≡◌, ℕ, ◌+◌, ◌<◌, ◌≤◌, List, [], ◌++◌, length, drop, refl, sym, ◌∙◌, ap, append_assoc, append-nil, Option, None, Some, Result, Ok, Err, OnOk, OnErr, IsErrOf, arith, get_or, add-one, ◌∷◌, decimal, codes, suc}
+use Rattle.std.proofs.lemmas.List.{drop_all}
 use Rattle.std.proofs.Math.Seq.{drop-cons}
 use Rattle.std.proofs.Math.Nat.{le_refl, le_trans}
 use Rattle.std.specs.Io.KnownBytes.{Appends}
@@ -7,12 +8,12 @@ use Rattle.nook_defs.specs.Causes.{AppendsPrefix, Rose}
 use Rattle.nook_defs.specs.declared.data.Answer.{Answer}
 use Rattle.nook_defs.specs.declared.data.Event.{Event}
 use Rattle.nook_defs.specs.ReportLines.{answer_text, event_line, event_lines, line_feed, with_number}
-use Rattle.nook_defs.specs.declared.data.PartSpec.{PartSpec}
 use Rattle.nook_defs.specs.declared.data.ThreadSpec.{ThreadSpec}
 use Rattle.nook_defs.specs.ReportText.{answer_lines, thread_line, threads_text}
 use Rattle.report_text.specs.Answers.{answer_line}
 use Rattle.report_text.specs.declared.write.WriteStop.{WriteStop}
-use Rattle.report_text.specs.Writing.{Wrote, each_text}
+use Rattle.report_text.specs.declared.write.WriteStop.TheVariants.{Fault}
+use Rattle.report_text.specs.Writing.{Spilled, Wrote, each_text}
 
 -- one text and then another
 pub appends_more : (old mid new : Option (List ℕ)) (xs ys : List ℕ) → Appends old mid xs → Appends mid new ys → Appends old new (xs ++ ys)
@@ -49,6 +50,10 @@ prefix_longer old new xs ys p = record {
   gained = p.gained;
   whole = sym (append_assoc p.front p.rest ys) ∙ ap (λ more. more ++ ys) p.whole;
 }
+
+-- a front of a text that is another
+prefix_whole : (old new : Option (List ℕ)) (xs ys : List ℕ) → AppendsPrefix old new xs → xs ≡ ys → AppendsPrefix old new ys
+prefix_whole old new xs ys p e = record { front = p.front; rest = p.rest; gained = p.gained; whole = p.whole ∙ e }
 
 -- a count that rose before or after rose
 pub rose_later : (a b c : ℕ) → a ≤ b → Rose b c → Rose a c
@@ -109,19 +114,60 @@ progress_stop {a = a} {b = b} {c = c} {m = m} {n = n} {o = o} {x = x} rest p q =
       fault = λ e. rose_later m n o p.later (q.fault e);
     }
 
-pub progress_done : {T : Type 0} {v : T} {a b : Option (List ℕ)} {m n : ℕ} {whole : List ℕ} →
-    Progress a b m n [] whole → Wrote a b m n (Ok v) whole
-progress_done {a = a} {b = b} {whole = whole} p = record {
-  ok = appends_whole a b p.front whole p.gained (sym (append-nil p.front) ∙ p.parts);
-  err = tt;
+-- nothing more is written
+pub progress_halt : {T : Type 0} {e : WriteStop} {a b : Option (List ℕ)} {m n : ℕ} {rest whole : List ℕ} →
+    Progress a b m n rest whole → (IsErrOf {T = T} (Err e) Fault → Rose m n) → Wrote {T = T} a b m n (Err e) whole
+progress_halt {rest = rest} p f = record {
+  ok = tt;
+  err = record { front = p.front; rest = rest; gained = p.gained; whole = p.parts };
   later = p.later;
-  fault = λ e. cc;
+  fault = f;
 }
+
+-- what a buffer holds is the last of the text
+pub progress_last : {T : Type 0} {r : Result T WriteStop} {a b c : Option (List ℕ)} {m n o : ℕ} {held rest whole : List ℕ} →
+    Progress a b m n (held ++ rest) whole → rest ≡ [] → Wrote b c n o r held → Wrote a c m o r whole
+progress_last {r = r} {a = a} {b = b} {c = c} {m = m} {n = n} {o = o} {held = held} {rest = rest} {whole = whole} p e q =
+    let none : held ≡ held ++ rest = sym (ap (λ t. held ++ t) e ∙ append-nil held) in
+    let all : p.front ++ held ≡ whole = ap (λ t. p.front ++ t) none ∙ p.parts in record {
+      ok = on_ok r (λ h. appends_whole a c (p.front ++ held) whole (appends_more a b c p.front held p.gained h) all) q.ok;
+      err = on_err r (λ h. prefix_whole a c (p.front ++ held) whole (prefix_more a b c p.front held p.gained h) all) q.err;
+      later = le_trans p.later q.later;
+      fault = λ e. rose_later m n o p.later (q.fault e);
+    }
+
+held_first : (held x line rest : List ℕ) → line ≡ held ++ x → line ++ rest ≡ held ++ (x ++ rest)
+held_first held x line rest e = ap (λ t. t ++ rest) e ∙ append_assoc held x rest
+
+-- a line came into the buffer, and it was spilled
+pub spill_step : {T : Type 0} {v : T} {a b c : Option (List ℕ)} {m n o : ℕ} {line left whole : List ℕ} (held x rest : List ℕ) →
+    Progress a b m n (held ++ (x ++ rest)) whole → line ≡ held ++ x → Spilled b c n o (Ok v) line left → Progress a c m o (left ++ rest) whole
+spill_step {a = a} {b = b} {c = c} {line = line} {left = left} held x rest p e q =
+    let f = q.ok.front in record {
+      front = p.front ++ f;
+      gained = appends_more a b c p.front f p.gained q.ok.gained;
+      parts =
+          append_assoc p.front f (left ++ rest)
+          ∙ (ap (λ t. p.front ++ t) (sym (append_assoc f left rest) ∙ (ap (λ t. t ++ rest) q.ok.whole ∙ held_first held x line rest e))
+          ∙ p.parts);
+      later = le_trans p.later q.later;
+    }
+
+pub spill_stop : {T : Type 0} {e : WriteStop} {a b c : Option (List ℕ)} {m n o : ℕ} {line left whole : List ℕ} (held x rest : List ℕ) →
+    Progress a b m n (held ++ (x ++ rest)) whole → line ≡ held ++ x → Spilled {T = T} b c n o (Err e) line left → Wrote {T = T} a c m o (Err e) whole
+spill_stop {line = line} held x rest p e q =
+    progress_stop rest
+    (record { front = p.front; gained = p.gained; parts = ap (λ t. p.front ++ t) (held_first held x line rest e) ∙ p.parts; later = p.later })
+    (record { ok = tt; err = q.err; later = q.later; fault = q.fault })
 
 -- what is left of the texts of items begins with the next one's
 pub next_text : {T : Type 0} (text : ℕ → T → List ℕ) (items : List T) (i place : ℕ) (item : T) → i < length items → item ≡ get_or items i item →
     each_text text place (drop i items) ≡ text place item ++ each_text text (place + 1) (drop (i + 1) items)
 next_text text items i place item h e = rw (drop-cons items i item h, add-one place, add-one i, sym e) refl
+
+-- none is left behind the last one
+pub no_text : {T : Type 0} (text : ℕ → T → List ℕ) (items : List T) (i place : ℕ) → length items ≤ i → each_text text place (drop i items) ≡ []
+no_text text items i place h = ap (each_text text place) (drop_all i items h)
 
 -- the lines of events, one by one
 pub event_lines_each : (place : ℕ) (events : List Event) → event_lines place events ≡ each_text event_line place events

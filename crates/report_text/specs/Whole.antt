@@ -1,5 +1,5 @@
 -- A report with what its parts end in, and its text by rows of it.
-use Rattle.std.specs.Prelude.{◌≡◌, ℕ, zero, suc, Bool, true, false, is_some, nat_lt, ◌||◌, if◌then◌else◌, List, [], ◌∷◌, ◌++◌, codes, map}
+use Rattle.std.specs.Prelude.{◌≡◌, ℕ, zero, suc, Bool, false, is_some, nat_lt, ◌||◌, if◌then◌else◌, List, [], ◌∷◌, ◌++◌, codes, map}
 use Rattle.nook_defs.specs.declared.data.Act.{Act}
 use Rattle.nook_defs.specs.declared.data.Act.TheVariants as act
 use Rattle.nook_defs.specs.declared.data.Class.{Class}

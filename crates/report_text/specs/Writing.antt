@@ -1,5 +1,5 @@
 -- What the writing of a text leaves in a sink.
-use Rattle.std.specs.Prelude.{ℕ, suc, ◌≤◌, List, [], ◌∷◌, ◌++◌, Option, Result, OnOk, OnErr, IsErrOf}
+use Rattle.std.specs.Prelude.{◌≡◌, ℕ, suc, ◌≤◌, List, [], ◌∷◌, ◌++◌, Option, Result, OnOk, OnErr, IsErrOf}
 use Rattle.std.specs.Io.KnownBytes.{Appends}
 use Rattle.nook_defs.specs.Causes.{AppendsPrefix, Rose}
 use Rattle.report_text.specs.declared.write.WriteStop.{WriteStop}
@@ -8,6 +8,20 @@ use Rattle.report_text.specs.declared.write.WriteStop.TheVariants.{Fault}
 -- a text was written whole, or a front of it; a fault comes only where the sink's count of faults rose
 pub record Wrote {T : Type 0} (old new : Option (List ℕ)) (before now : ℕ) (result : Result T WriteStop) (text : List ℕ) : Type 0 where
   pub ok : OnOk result (Appends old new text)
+  pub err : OnErr result (AppendsPrefix old new text)
+  pub later : before ≤ now
+  pub fault : IsErrOf result Fault → Rose before now
+
+-- a front of a text was written, and this is left of it
+pub record Left (old new : Option (List ℕ)) (text left : List ℕ) : Type 0 where
+  pub front : List ℕ
+  pub gained : Appends old new front
+  pub whole : front ++ left ≡ text
+
+-- what a buffer held was written up to what it holds now, or it was not written whole; a fault comes only where the
+-- sink's count of faults rose
+pub record Spilled {T : Type 0} (old new : Option (List ℕ)) (before now : ℕ) (result : Result T WriteStop) (text left : List ℕ) : Type 0 where
+  pub ok : OnOk result (Left old new text left)
   pub err : OnErr result (AppendsPrefix old new text)
   pub later : before ≤ now
   pub fault : IsErrOf result Fault → Rose before now

@@ -1,4 +1,4 @@
-//! The report of a run: its lines, what it sums up, and its writing into a sink, line by line.
+//! The report of a run: its lines, what it sums up, and its writing into a sink.
 #![tactic(auto)]
 
 pub mod line;

@@ -47,6 +47,13 @@ impl Line {
         Ok(())
     }
 
+    /// Empties the line. The memory that it took stays with it.
+    pub fn clear(&mut self)
+        ensures { self.new ≡ [] }
+    {
+        self.text.clear();
+    }
+
     /// The bytes so far.
     pub fn as_bytes(&self) -> &[u8]
         ensures { result.now ≡ self.now }

@@ -1,4 +1,4 @@
-//! The writing of a whole report into a sink, line by line.
+//! The writing of a whole report into a sink.
 
 ghost use Rattle.std.specs.Prelude.{◌≡◌, ◌+◌, ◌^◌, ◌<◌, ◌++◌, ℕ, List, OnOk, bytes_eq, length, replicate};
 ghost use Rattle.nook_defs.specs.Pages.{opening_object};
@@ -10,7 +10,7 @@ use crate::line::Line;
 use crate::pieces::{push_list, push_number};
 use crate::whole_report::{PartEnd, PartReport, Report};
 use crate::write::{
-    WriteStop, write_events, write_part_line, write_status_line, write_text, write_threads,
+    WriteStop, spill, write_events, write_part_line, write_status_line, write_text, write_threads,
 };
 use nook_defs::data::{Act, Break, Class, Event, Losses, PartSpec, Scenario};
 use nook_defs::journal::Journal;
@@ -318,20 +318,6 @@ fn write_blocks<K: Sink>(alloc: Global, sink: &mut K, medium: &[Words]) -> Resul
     write_text(sink, &line)
 }
 
-/// Writes the lines of an event's acts.
-fn write_event_acts<K: Sink>(
-    alloc: Global,
-    sink: &mut K,
-    kind: Kind,
-    event: &Event,
-) -> Result<(), WriteStop>
-    ensures { Wrote (K.held sink.old) (K.held sink.new) (K.count sink.old) (K.count sink.new) result (event_rows kind event.now) }
-{
-    let mut line = Line::new(alloc);
-    push_acts(&mut line, kind, event)?;
-    write_text(sink, &line)
-}
-
 /// Writes the lines of the acts of events.
 fn write_acts<K: Sink>(
     alloc: Global,
@@ -341,10 +327,12 @@ fn write_acts<K: Sink>(
 ) -> Result<(), WriteStop>
     ensures { Wrote (K.held sink.old) (K.held sink.new) (K.count sink.old) (K.count sink.new) result (each_text (event_text kind) 0 events.now) }
 {
+    let mut buffer = Line::new(alloc);
     for event in events {
-        write_event_acts(alloc, sink, kind, event)?;
+        push_acts(&mut buffer, kind, event)?;
+        spill(sink, &mut buffer)?;
     }
-    Ok(())
+    write_text(sink, &buffer)
 }
 
 /// Writes what the device was left with or gave.

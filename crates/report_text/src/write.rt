@@ -1,10 +1,10 @@
-//! The writing of a report into a sink, line by line.
+//! The writing of a report into a sink. Lines are collected in a buffer, and written when it holds many bytes.
 
 ghost use Rattle.std.specs.Prelude.{◌≡◌, ◌+◌, ◌^◌, ◌<◌, ◌++◌, ℕ, List, OnOk, length};
 ghost use Rattle.nook_defs.specs.ReportLines.{event_line, event_lines};
 ghost use Rattle.nook_defs.specs.ReportText.{answer_lines, part_line, status_line, thread_line, threads_text};
 ghost use Rattle.report_text.specs.Answers.{answer_line};
-ghost use Rattle.report_text.specs.Writing.{Wrote, each_text};
+ghost use Rattle.report_text.specs.Writing.{Spilled, Wrote, each_text};
 
 use crate::line::Line;
 use crate::pieces::{push_answer, push_class, push_event, push_number};
@@ -77,18 +77,18 @@ impl Lined for (u32, Answer) {
     }
 }
 
-/// Writes an item's line.
-fn write_line<K: Sink, T: Lined>(
-    alloc: Global,
-    sink: &mut K,
-    place: u64,
-    item: &T,
-) -> Result<(), WriteStop>
-    ensures { Wrote (K.held sink.old) (K.held sink.new) (K.count sink.old) (K.count sink.new) result (T.text place item.now) }
+/// How many bytes a buffer holds before they are written.
+const BUFFER_SIZE: usize = 16_384;
+
+/// Writes a buffer that holds many bytes, and empties it.
+pub fn spill<K: Sink>(sink: &mut K, buffer: &mut Line) -> Result<(), WriteStop>
+    ensures { Spilled (K.held sink.old) (K.held sink.new) (K.count sink.old) (K.count sink.new) result buffer.old buffer.new }
 {
-    let mut line = Line::new(alloc);
-    item.push_line(place, &mut line)?;
-    write_all(sink, line.as_bytes())?;
+    if buffer.as_bytes().len() < BUFFER_SIZE {
+        return Ok(());
+    }
+    write_text(sink, buffer)?;
+    buffer.clear();
     Ok(())
 }
 
@@ -102,12 +102,14 @@ fn write_each<K: Sink, T: Lined>(
     requires { first + length items.now < 2 ^ 64 }
     ensures { Wrote (K.held sink.old) (K.held sink.new) (K.count sink.old) (K.count sink.new) result (each_text T.text first items.now) }
 {
+    let mut buffer = Line::new(alloc);
     let mut place = first;
     for item in items {
-        write_line(alloc, sink, place, item)?;
+        item.push_line(place, &mut buffer)?;
+        spill(sink, &mut buffer)?;
         place += 1;
     }
-    Ok(())
+    write_text(sink, &buffer)
 }
 
 /// Writes a line.

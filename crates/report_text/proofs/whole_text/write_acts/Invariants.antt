@@ -1,4 +1,4 @@
-use Rattle.std.proofs.Common.{drop}
+use Rattle.std.proofs.Common.{◌++◌, drop}
 use Rattle.report_text.proofs.WroteLemmas.{Progress}
 use Rattle.report_text.specs.Whole.{event_text}
 use Rattle.report_text.specs.Writing.{each_text}
@@ -7,4 +7,4 @@ use Rattle.report_text.proofs.whole_text.write_acts.Given as goal
 abbrev pub invariant-loop-event : goal.invariant-loop-event
 invariant-loop-event g l =
     Progress (g.K.Sink.held l.initial.sink) (g.K.Sink.held l.sink) (g.K.Sink.count l.initial.sink) (g.K.Sink.count l.sink)
-    (each_text (event_text l.kind) l.event-index (drop l.event-index l.events)) (each_text (event_text l.kind) 0 l.events)
+    (l.buffer ++ each_text (event_text l.kind) l.event-index (drop l.event-index l.events)) (each_text (event_text l.kind) 0 l.events)

@@ -2,3 +2,4 @@ pub mod CutLemmas
 pub mod Numerals
 pub mod Reports
 pub mod Safety
+pub mod Standing

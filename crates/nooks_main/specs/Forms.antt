@@ -6,6 +6,7 @@ use Rattle.nooks_main.specs.declared.words.Form.TheVariants as form
 -- the words ask for this; the number of `gen` is in decimal, with no sign and no leading zero
 abbrev pub IsForm : List (List ℕ) → Form → Type 0
 IsForm words form.Run = words ≡ codes "run" ∷ []
+IsForm words form.RunThreads = words ≡ codes "run" ∷ codes "threads" ∷ []
 IsForm words form.Asm = words ≡ codes "asm" ∷ []
 IsForm words form.Dis = words ≡ codes "dis" ∷ []
 IsForm words (form.Gen n) = (words ≡ codes "gen" ∷ decimal n ∷ []) × (1 ≤ n) × (n ≤ 256)

@@ -1,9 +1,7 @@
 -- What is claimed of each part of a run.
-use Rattle.std.specs.Prelude.{◌≡◌, ℕ, false, None, List, [], ◌∷◌, map}
-use Rattle.nook_defs.specs.declared.data.Answer.{Answer}
+use Rattle.std.specs.Prelude.{◌≡◌, false, None, List, [], ◌∷◌}
 use Rattle.nook_defs.specs.declared.data.Event.{Event}
 use Rattle.nook_defs.specs.declared.data.PartSpec.{PartSpec}
-use Rattle.nook_defs.specs.declared.data.Scenario.{Scenario}
 use Rattle.nook_defs.specs.Contract.{first_break}
 use Rattle.nook_defs.specs.Ideal.{IsClassRun}
 use Rattle.nook_defs.specs.Isolation.{IsIsolated}
@@ -32,7 +30,3 @@ AreSafe [] [] = Unit {0}
 AreSafe [] (journal ∷ journals) = ⊥
 AreSafe (spec ∷ specs) [] = ⊥
 AreSafe (spec ∷ specs) (journal ∷ journals) = IsSafe spec journal × AreSafe specs journals
-
--- every operation of every thread has its answer: the parts of a thread's answers are in order those of its operations
-abbrev pub AreAnswered : Scenario → List (List (ℕ × Answer)) → Type 0
-AreAnswered scenario answers = map (λ own. map (λ a. a.0) own) answers ≡ map (λ t. map (λ o. o.0) t.ops) scenario.threads

@@ -5,7 +5,13 @@ mod program;
 mod simulated;
 #[cfg(test)]
 mod tests;
+#[cfg(test)]
+mod thread_tests;
 mod words;
+#[cfg(test)]
+mod worked_runs;
+#[cfg(test)]
+mod worked_tests;
 
 use nook_defs::listeners::{CountListener, FreeGate};
 use nook_defs::outside::Listener;
@@ -13,11 +19,9 @@ use nook_defs::standard_streams::{InSource, OutSink};
 use std::io;
 use std::process::ExitCode;
 
-/// The kinds of event that the program's own listeners hear: failures, bursts, answers.
-const HEARD_KINDS: [u8; 3] = [32, 4, 64];
-
-/// How many events each of them hears at most.
-const MOST_HEARD: u64 = 1_000_000;
+/// The program's own listeners, of all parts: the kinds of event that each hears (failures, bursts, answers), and how many
+/// it hears at most.
+const OWN_LISTENERS: [(u8, u64); 3] = [(32, 1_000_000), (4, 1_000_000), (64, 1_000_000)];
 
 /// Runs the program on the words behind its own name, and ends with the status's code.
 fn main(rt: HostRuntime) -> io::Result<ExitCode> {
@@ -29,8 +33,8 @@ fn main(rt: HostRuntime) -> io::Result<ExitCode> {
     let mut source = InSource::new(rt.reader());
     let mut sink = OutSink::new(io::writer(&rt));
     let mut listeners: Vec<Box<dyn Listener>> = Vec::new(alloc);
-    for kinds in HEARD_KINDS {
-        let listener = CountListener::new(u8::MAX, kinds, MOST_HEARD);
+    for (kinds, limit) in OWN_LISTENERS {
+        let listener = CountListener::new(u8::MAX, kinds, limit);
         listeners.push(Box::new(alloc, listener)?)?;
     }
     let status = program::run(

@@ -1,17 +1,20 @@
 //! Whole runs: a scenario is simulated, judged, and told of.
 
-ghost use Rattle.std.specs.Prelude.{◌≡◌, ◌^◌, ◌<◌, ◌≤◌, IfOk, length, map};
+ghost use Rattle.std.specs.Prelude.{◌≡◌, ◌^◌, ◌<◌, ◌≤◌, List, [], IfOk, length, map};
 ghost use Rattle.nook_defs.specs.Generated.{gen_line, generated};
+ghost use Rattle.nook_defs.specs.Listening.{Listening};
 ghost use Rattle.nook_defs.specs.ReportText.{events_count, summary_line};
 ghost use Rattle.nook_defs.specs.Valid.{IsValidScenario};
 ghost use Rattle.nooks_main.specs.Endings.{IsMade, IsReportStatus, ReportEnds, SummaryEnds, failures_in};
+ghost use Rattle.request_taps.specs.Bus.{seen, settled};
 ghost use Rattle.sim_run.specs.Whole.{events_in};
 
 use crate::program::Status;
+use crate::words::Form;
 use nook_defs::data::Scenario;
 use nook_defs::journal::Journal;
 use nook_defs::memory::NoMemory;
-use nook_defs::outside::{Listener, Sink};
+use nook_defs::outside::{Gate, Listener, Sink};
 use report_text::whole_report::{PartReport, Report, report_of};
 use report_text::whole_text::write_report;
 use report_text::write::WriteStop;
@@ -19,7 +22,10 @@ use request_taps::{Bus, TapBus};
 use scenario_gen::generate;
 use sim_run::simulate;
 use std::alloc::Global;
+use std::sync::Wait;
+use std::thread::Threads;
 use summary_text::{Summary, write_summary};
+use threaded_run::run_threads;
 
 /// Simulates a scenario and writes the report.
 #[tactic(auto, using(crate::proofs::CutLemmas::nothing_gained))]
@@ -30,14 +36,45 @@ pub fn simulate_and_report<K: Sink>(
     listeners: Vec<Box<dyn Listener>>,
 ) -> Status
     requires { IsValidScenario scenario.now }
-    ensures ends { ReportEnds (K.held sink.old) (K.held sink.new) (K.count sink.old) (K.count sink.new) scenario.now result }
+    ensures ends { ReportEnds (K.held sink.old) (K.held sink.new) (K.count sink.old) (K.count sink.new) Form.Run scenario.now
+        (map (λ b. (⟦<dyn Listener as Listener>⟧ b.vtable).listening b.value) listeners.items) result }
     ensures later { K.count sink.old ≤ K.count sink.new }
 {
-    let Ok(report) = make_report(alloc, scenario, listeners) else {
-        return Status::NoMemory;
-    };
-    match write_report(alloc, scenario, &report, sink) {
-        Ok(()) => status_of(&report),
+    match make_report(alloc, scenario, listeners) {
+        Ok(report) => give_report(alloc, scenario, &report, sink),
+        Err(NoMemory) => Status::NoMemory,
+    }
+}
+
+/// Runs the threads of a scenario and writes the report.
+#[tactic(auto, using(crate::proofs::CutLemmas::nothing_gained))]
+pub fn run_threads_and_report<R: Threads + Wait + Sync, K: Sink, G: Gate>(
+    rt: &R,
+    alloc: Global,
+    scenario: &Scenario,
+    sink: &mut K,
+    listeners: Vec<Box<dyn Listener>>,
+    gate: &G,
+) -> Status
+    requires { IsValidScenario scenario.now }
+    ensures ends { ReportEnds (K.held sink.old) (K.held sink.new) (K.count sink.old) (K.count sink.new) Form.RunThreads scenario.now
+        (map (λ b. (⟦<dyn Listener as Listener>⟧ b.vtable).listening b.value) listeners.items) result }
+    ensures later { K.count sink.old ≤ K.count sink.new }
+{
+    match make_report_by_threads(rt, alloc, scenario, listeners, gate) {
+        Ok(report) => give_report(alloc, scenario, &report, sink),
+        Err(NoMemory) => Status::NoMemory,
+    }
+}
+
+/// Writes the report of a scenario's run.
+fn give_report<K: Sink>(alloc: Global, scenario: &Scenario, report: &Report, sink: &mut K) -> Status
+    ensures ends { (asked : Form) (hearing : List Listening) → IsMade asked scenario.now hearing report.now
+        → ReportEnds (K.held sink.old) (K.held sink.new) (K.count sink.old) (K.count sink.new) asked scenario.now hearing result }
+    ensures later { K.count sink.old ≤ K.count sink.new }
+{
+    match write_report(alloc, scenario, report, sink) {
+        Ok(()) => status_of(report),
         Err(WriteStop::Fault) => Status::WriteFault,
         Err(WriteStop::NoMemory) => Status::NoMemory,
     }
@@ -50,10 +87,25 @@ fn make_report(
     listeners: Vec<Box<dyn Listener>>,
 ) -> Result<Report, NoMemory>
     requires { IsValidScenario scenario.now }
-    ensures { IfOk result (IsMade scenario.now) }
+    ensures { IfOk result (IsMade Form.Run scenario.now (map (λ b. (⟦<dyn Listener as Listener>⟧ b.vtable).listening b.value) listeners.items)) }
 {
     let mut taps = TapBus::new(alloc, listeners)?;
     judge_run(alloc, scenario, &mut taps)
+}
+
+/// Runs the threads of a scenario and sums the run up.
+fn make_report_by_threads<R: Threads + Wait + Sync, G: Gate>(
+    rt: &R,
+    alloc: Global,
+    scenario: &Scenario,
+    listeners: Vec<Box<dyn Listener>>,
+    gate: &G,
+) -> Result<Report, NoMemory>
+    requires { IsValidScenario scenario.now }
+    ensures { IfOk result (IsMade Form.RunThreads scenario.now (map (λ b. (⟦<dyn Listener as Listener>⟧ b.vtable).listening b.value) listeners.items)) }
+{
+    let mut taps = TapBus::new(alloc, listeners)?;
+    judge_threads(rt, alloc, scenario, &mut taps, gate)
 }
 
 /// Simulates a scenario over a bus of listeners, and sums the run up.
@@ -63,9 +115,26 @@ fn judge_run<L: Listener>(
     taps: &mut Bus<L>,
 ) -> Result<Report, NoMemory>
     requires { IsValidScenario scenario.now }
-    ensures { IfOk result (IsMade scenario.now) }
+    ensures { (hearing : List Listening) → map (seen L.listening) taps.old ≡ map settled hearing
+        → IfOk result (IsMade Form.Run scenario.now hearing) }
 {
     let whole = simulate(alloc, scenario, taps)?;
+    report_of(alloc, scenario, whole.run, whole.ends)
+}
+
+/// Runs the threads of a scenario, tells a bus of listeners of the run, and sums it up.
+fn judge_threads<R: Threads + Wait + Sync, L: Listener, G: Gate>(
+    rt: &R,
+    alloc: Global,
+    scenario: &Scenario,
+    taps: &mut Bus<L>,
+    gate: &G,
+) -> Result<Report, NoMemory>
+    requires { IsValidScenario scenario.now }
+    ensures { (hearing : List Listening) → map (seen L.listening) taps.old ≡ map settled hearing
+        → IfOk result (IsMade Form.RunThreads scenario.now hearing) }
+{
+    let whole = run_threads(rt, alloc, scenario, taps, gate)?;
     report_of(alloc, scenario, whole.run, whole.ends)
 }
 
@@ -103,7 +172,7 @@ pub fn run_generated<K: Sink>(alloc: Global, number: u32, sink: &mut K) -> Statu
 /// The report of a generated scenario, which no listener hears.
 fn generate_report(alloc: Global, number: u32) -> Result<Report, NoMemory>
     requires { number ≤ 256 }
-    ensures { IfOk result (IsMade (generated number)) }
+    ensures { IfOk result (IsMade Form.Run (generated number) []) }
 {
     let scenario = generate(number, alloc)?;
     make_report(alloc, &scenario, Vec::new(alloc))
@@ -112,7 +181,7 @@ fn generate_report(alloc: Global, number: u32) -> Result<Report, NoMemory>
 /// What the line of a generated scenario tells of its report.
 fn sum_up(number: u32, report: &Report) -> Summary
     requires number { number ≤ 256 }
-    requires made { IsMade (generated number) report.now }
+    requires made { IsMade Form.Run (generated number) [] report.now }
     ensures { gen_line result.number result.events result.failures result.status
         ≡ summary_line number (generated number).parts (map events_in report.now.run.journals) }
 {

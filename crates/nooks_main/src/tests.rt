@@ -2,10 +2,10 @@
 
 ghost use Rattle.std.specs.Prelude.{◌≤◌};
 
-use crate::program::{LIMIT, Status, run};
+use crate::program::{LIMIT, Status, run, run_plain};
 use nook_defs::listeners::FreeGate;
 use nook_defs::lists::{Words, Words8};
-use nook_defs::streams_in_memory::{ListSink, ListSource, PlainSink, PlainSource};
+use nook_defs::streams_in_memory::{ListSink, ListSource};
 use std::alloc::Global;
 use std::sync::Wait;
 use std::test::Fail;
@@ -121,7 +121,7 @@ fn other_words_are_usage(rt: HostRuntime) -> Result<(), Fail> {
         &["gen", "+1"],
         &[],
         &["gen", "0"],
-        &["run", "threads"],
+        &["run", "thread"],
         &["--help"],
         &["Run"],
         &["run", "run"],
@@ -298,21 +298,9 @@ fn long_inputs_are_too_many(rt: HostRuntime) -> Result<(), Fail> {
 fn plain_streams_never_fault(rt: HostRuntime) -> Result<(), Fail> {
     let alloc = rt.alloc();
     let words = texts_of(alloc, &["run"])?;
-    let mut source = PlainSource::new(bytes_of(alloc, EXAMPLE.as_bytes())?);
-    let mut sink = PlainSink::new();
+    let bytes = bytes_of(alloc, EXAMPLE.as_bytes())?;
     let listeners = Vec::new(alloc);
-    let status = run(
-        &rt,
-        alloc,
-        words.as_slice(),
-        &mut source,
-        &mut sink,
-        listeners,
-        &FreeGate,
-    );
-    prove!(status != Status::ReadFault);
-    prove!(status != Status::WriteFault);
+    let status = run_plain(&rt, alloc, words.as_slice(), bytes, listeners, &FreeGate);
     assert_eq!(rt; status, Status::Done);
-    assert_eq!(rt; status.code(), 0);
     Ok(())
 }

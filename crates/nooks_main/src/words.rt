@@ -8,6 +8,8 @@ ghost use Rattle.nooks_main.specs.Forms.{IsForm, IsNoForm, is_plain, within};
 pub enum Form {
     /// `run`: read a scenario, simulate it, write the report.
     Run,
+    /// `run threads`: read a scenario, run each of its threads as one, write the report.
+    RunThreads,
     /// `asm`: read an assembler text, write its image.
     Asm,
     /// `dis`: read an image, write its assembler text.
@@ -47,14 +49,37 @@ fn form_of_word(word: &str) -> Option<Form>
     }
 }
 
-/// The form of a word and a number.
-fn form_of_two(word: &str, number: &str) -> Option<Form>
-    ensures found { IfSome result (IsForm (word.now ∷ number.now ∷ [])) }
-    ensures none { IfNone result (IsNoForm (word.now ∷ number.now ∷ [])) }
+/// The form of two words.
+fn form_of_two(word: &str, second: &str) -> Option<Form>
+    ensures found { IfSome result (IsForm (word.now ∷ second.now ∷ [])) }
+    ensures none { IfNone result (IsNoForm (word.now ∷ second.now ∷ [])) }
 {
-    if word != "gen" {
-        return None;
+    if word == "run" {
+        threads_form(second)
+    } else if word == "gen" {
+        generated_form(second)
+    } else {
+        None
     }
+}
+
+/// The form of `run` and another word.
+fn threads_form(second: &str) -> Option<Form>
+    ensures found { IfSome result (IsForm (codes "run" ∷ second.now ∷ [])) }
+    ensures none { IfNone result (IsNoForm (codes "run" ∷ second.now ∷ [])) }
+{
+    if second == "threads" {
+        Some(Form::RunThreads)
+    } else {
+        None
+    }
+}
+
+/// The form of `gen` and a number.
+fn generated_form(number: &str) -> Option<Form>
+    ensures found { IfSome result (IsForm (codes "gen" ∷ number.now ∷ [])) }
+    ensures none { IfNone result (IsNoForm (codes "gen" ∷ number.now ∷ [])) }
+{
     match generated_number(number) {
         Some(number) => Some(Form::Gen { number }),
         None => None,

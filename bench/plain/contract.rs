@@ -1,0 +1,356 @@
+//! What a journal shows: whether the driver kept its class's contract, and what was lost.
+
+use crate::journal::{Act, Answer, Burst, End, Event, Stage, Words};
+use crate::operation::{Operation, BLOCK_WORDS};
+use crate::scenario::PartSpec;
+use std::collections::VecDeque;
+
+const HAND_UP: u32 = 6;
+
+#[derive(Default)]
+pub struct Losses {
+    /// Sends answered as done without a frame on the wire, and samples not played of plays answered as done.
+    pub sends: u64,
+    pub samples: u64,
+    pub busy: u64,
+    pub arrived: u64,
+    pub received: u64,
+    pub queued: u64,
+    pub ring: u64,
+    pub driver: u64,
+    pub reset: u64,
+    pub full_ring: u64,
+    pub full_queue: u64,
+}
+
+pub struct Verdict {
+    pub losses: Losses,
+    /// The first event that broke the contract, counted from 1, and the clause that it broke.
+    pub broken: Option<(usize, u8)>,
+}
+
+pub fn judge(spec: &PartSpec, journal: &[Event]) -> Verdict {
+    let mut monitor = Monitor::new(spec);
+    let mut broken = None;
+    for (place, event) in journal.iter().enumerate() {
+        let clause = monitor.see(event);
+        broken = broken.or(clause.map(|clause| (place + 1, clause)));
+    }
+    Verdict {
+        losses: monitor.losses(),
+        broken,
+    }
+}
+
+struct Call<'s> {
+    number: u32,
+    operation: &'s Operation,
+    inside: bool,
+    /// Frames and samples in its own bursts.
+    sent: usize,
+    played: usize,
+    /// Samples played, in whatever burst, while it was inside.
+    heard: usize,
+    /// Whether its attempt handed a frame up.
+    handed_up: bool,
+    /// The blocks that failed in its attempt.
+    failed: Vec<u32>,
+}
+
+struct Monitor<'s> {
+    spec: &'s PartSpec,
+    medium: Vec<[u32; BLOCK_WORDS]>,
+    registers: [u32; 4],
+    /// How many frames are in the ring.
+    ring: u64,
+    /// The frames popped since the last reset and not handed up, as long as they are handed up in order.
+    popped: VecDeque<Words>,
+    in_order: bool,
+    popped_count: u64,
+    handed_count: u64,
+    queued: u64,
+    calls: Vec<Call<'s>>,
+    replay: Option<(u32, u32)>,
+    losses: Losses,
+    /// The smallest clause that the event breaks.
+    broken: Option<u8>,
+}
+
+impl<'s> Monitor<'s> {
+    fn new(spec: &'s PartSpec) -> Monitor<'s> {
+        Monitor {
+            spec,
+            medium: vec![[0; BLOCK_WORDS]; spec.blocks as usize],
+            registers: spec.class.defaults(),
+            ring: 0,
+            popped: VecDeque::new(),
+            in_order: true,
+            popped_count: 0,
+            handed_count: 0,
+            queued: 0,
+            calls: Vec::new(),
+            replay: None,
+            losses: Losses::default(),
+            broken: None,
+        }
+    }
+
+    fn losses(self) -> Losses {
+        Losses {
+            queued: self.queued.saturating_sub(self.losses.received),
+            ring: self.ring,
+            driver: self.popped_count.saturating_sub(self.handed_count),
+            ..self.losses
+        }
+    }
+
+    /// Takes an event in, and gives the smallest clause that it breaks.
+    fn see(&mut self, event: &Event<'s>) -> Option<u8> {
+        match event {
+            Event::Invoke {
+                call,
+                operation,
+                answer,
+                ..
+            } => {
+                self.calls.push(Call {
+                    number: *call,
+                    operation,
+                    inside: false,
+                    sent: 0,
+                    played: 0,
+                    heard: 0,
+                    handed_up: false,
+                    failed: Vec::new(),
+                });
+                self.answered(*call, answer.as_ref());
+            }
+            Event::Enter { call, answer, .. } => {
+                if let Some(call) = self.call(*call) {
+                    call.inside = true;
+                    call.handed_up = false;
+                    call.failed.clear();
+                }
+                self.answered(*call, answer.as_ref());
+            }
+            Event::Burst(burst) => self.see_burst(burst),
+            Event::Stage { stage, answers, .. } => self.see_stage(*stage, answers),
+            Event::Arrive { kept, .. } => {
+                self.losses.arrived += 1;
+                if *kept {
+                    self.ring += 1;
+                } else {
+                    self.losses.full_ring += 1;
+                }
+            }
+        }
+        self.broken.take()
+    }
+
+    fn call(&mut self, number: u32) -> Option<&mut Call<'s>> {
+        self.calls.iter_mut().find(|call| call.number == number)
+    }
+
+    fn inside(&self) -> impl Iterator<Item = &Call<'s>> {
+        self.calls.iter().filter(|call| call.inside)
+    }
+
+    fn breaks(&mut self, clause: u8) {
+        self.broken = Some(self.broken.map_or(clause, |other| other.min(clause)));
+    }
+
+    fn check(&mut self, clause: u8, holds: bool) {
+        if !holds {
+            self.breaks(clause);
+        }
+    }
+
+    fn see_stage(&mut self, stage: Stage, answers: &[(u32, Answer)]) {
+        match stage {
+            Stage::Stop => {
+                for (call, answer) in answers {
+                    self.answered(*call, Some(answer));
+                }
+                for call in &mut self.calls {
+                    call.inside = false;
+                }
+            }
+            Stage::Reset => {
+                self.losses.reset +=
+                    self.ring + self.popped_count.saturating_sub(self.handed_count);
+                self.ring = 0;
+                self.popped_count = 0;
+                self.handed_count = 0;
+                self.popped.clear();
+                self.in_order = true;
+                self.registers = self.spec.class.defaults();
+            }
+            Stage::ReplaySet { key, value } => self.replay = Some((key, value)),
+            _ => {}
+        }
+    }
+
+    fn see_burst(&mut self, burst: &Burst) {
+        for act in &burst.acts {
+            self.see_act(burst.call, act);
+        }
+        if let End::Service {
+            service: HAND_UP,
+            served: Some(served),
+            ..
+        } = &burst.end
+        {
+            self.see_handed_up(
+                burst.call,
+                served.moved.as_deref().unwrap_or(&[]),
+                served.result == 1,
+            );
+        }
+        let is_reply = matches!(burst.end, End::Reply(_));
+        if burst.call == 0 && (is_reply || burst.failure.is_some()) {
+            if let (Some((key, value)), None) = (self.replay.take(), &burst.failure) {
+                self.check(13, self.registers[key as usize] == value);
+            }
+        }
+        if let Some(answer) = &burst.answer {
+            self.judge_reply(burst.call, answer);
+        }
+        self.answered(burst.call, burst.answer.as_ref());
+    }
+
+    fn see_act(&mut self, number: u32, act: &Act) {
+        match act {
+            Act::Load { .. } => {}
+            Act::Store { block, words } => {
+                let wanted = self
+                    .inside()
+                    .find_map(|call| call.operation.written(*block));
+                match wanted.map(|wanted| wanted == &words[..]) {
+                    None => self.breaks(1),
+                    Some(is_wanted) => self.check(2, is_wanted),
+                }
+                self.medium[*block as usize].copy_from_slice(words);
+            }
+            Act::FailedLoad { block } | Act::FailedStore { block } => {
+                if let Some(call) = self.call(number) {
+                    call.failed.push(*block);
+                }
+            }
+            Act::Sent(frame) => self.see_sent(number, frame),
+            Act::Popped(frame) => {
+                self.popped.push_back(frame.clone());
+                self.popped_count += 1;
+                self.ring = self.ring.saturating_sub(1);
+            }
+            Act::Played { sample, .. } => self.see_played(number, *sample),
+            Act::Register { key, value } => {
+                if self.registers[*key as usize] != *value {
+                    let is_set = |call: &Call| matches!(call.operation, Operation::Set { key: own, value: wanted } if own == key && wanted == value);
+                    let asked = self.replay == Some((*key, *value)) || self.inside().any(is_set);
+                    self.check(12, asked);
+                }
+                self.registers[*key as usize] = *value;
+            }
+        }
+    }
+
+    fn see_sent(&mut self, number: u32, frame: &Words) {
+        let Some(call) = self.call(number) else {
+            return self.breaks(5);
+        };
+        let is_own = matches!(call.operation, Operation::Send { frame: own } if own == frame);
+        call.sent += 1;
+        let sent = call.sent;
+        self.check(5, is_own);
+        self.check(6, sent < 2);
+    }
+
+    fn see_played(&mut self, number: u32, sample: u32) {
+        if let Some(call) = self.call(number) {
+            call.played += 1;
+        }
+        let mut inside = self.calls.iter_mut().filter(|call| call.inside);
+        let is_next = inside.any(|call| match call.operation {
+            Operation::Play { samples } => {
+                call.heard += 1;
+                samples.get(call.heard - 1) == Some(&sample)
+            }
+            _ => false,
+        });
+        self.check(10, is_next);
+    }
+
+    fn see_handed_up(&mut self, number: u32, frame: &[u32], kept: bool) {
+        self.in_order = self.in_order
+            && self
+                .popped
+                .pop_front()
+                .is_some_and(|next| next[..] == *frame);
+        self.check(8, self.in_order);
+        self.handed_count += 1;
+        if kept {
+            self.queued += 1;
+        } else {
+            self.losses.full_queue += 1;
+        }
+        if let Some(call) = self.call(number) {
+            call.handed_up = true;
+        }
+    }
+
+    /// Judges a reply that was accepted.
+    fn judge_reply(&mut self, number: u32, answer: &Answer) {
+        let Some(call) = self.calls.iter().find(|call| call.number == number) else {
+            return;
+        };
+        let operation = call.operation;
+        if let Answer::IoError(block) = answer {
+            return self.check(15, call.failed.contains(block));
+        }
+        let (clause, holds) = match (operation, answer) {
+            (Operation::Write { data, .. }, _) => (3, self.medium_of(operation).eq(data.iter())),
+            (Operation::Read { .. }, Answer::Blocks(words)) => {
+                (4, self.medium_of(operation).eq(words.iter()))
+            }
+            (Operation::Send { .. }, _) => (7, call.sent > 0),
+            (Operation::Receive, _) => (9, self.ring == 0 || call.handed_up),
+            (Operation::Play { samples }, _) => (11, call.heard == samples.len()),
+            (Operation::Set { key, value }, _) => (13, self.registers[*key as usize] == *value),
+            (Operation::Get { key }, Answer::Value(value)) => {
+                (14, self.registers[*key as usize] == *value)
+            }
+            _ => return,
+        };
+        self.check(clause, holds);
+    }
+
+    /// The words of the blocks of a read or write.
+    fn medium_of(&self, operation: &Operation) -> impl Iterator<Item = &u32> {
+        let blocks = operation.blocks();
+        self.medium[blocks.start as usize..blocks.end as usize]
+            .iter()
+            .flatten()
+    }
+
+    /// Counts an answer, and its call is open no more.
+    fn answered(&mut self, number: u32, answer: Option<&Answer>) {
+        let Some(answer) = answer else {
+            return;
+        };
+        let Some(place) = self.calls.iter().position(|call| call.number == number) else {
+            return;
+        };
+        let call = self.calls.remove(place);
+        match (call.operation, answer) {
+            (Operation::Send { .. }, Answer::Done) => {
+                self.losses.sends += u64::from(call.sent == 0)
+            }
+            (Operation::Play { samples }, Answer::Done) => {
+                self.losses.samples += samples.len().saturating_sub(call.played) as u64;
+            }
+            (_, Answer::Frame(_)) => self.losses.received += 1,
+            (_, Answer::Busy(_)) => self.losses.busy += 1,
+            _ => {}
+        }
+    }
+}

@@ -1,0 +1,234 @@
+//! A reader of JSON.
+
+use std::borrow::Cow;
+
+/// How deep lists and objects may stand in each other.
+const DEEPEST: usize = 127;
+
+pub enum Value<'t> {
+    Null,
+    Bool,
+    /// A whole number from 0 on.
+    Whole(u64),
+    OtherNumber,
+    Text(Cow<'t, str>),
+    List(Vec<Value<'t>>),
+    Object(Vec<(Cow<'t, str>, Value<'t>)>),
+}
+
+/// Reads a text that is one value.
+pub fn parse(text: &str) -> Result<Value<'_>, String> {
+    let mut parser = Parser { text, place: 0 };
+    let value = parser.value(0)?;
+    parser.skip_space();
+    match parser.peek() {
+        None => Ok(value),
+        Some(_) => Err(parser.wrong()),
+    }
+}
+
+struct Parser<'t> {
+    text: &'t str,
+    place: usize,
+}
+
+impl<'t> Parser<'t> {
+    fn wrong(&self) -> String {
+        format!("no JSON at byte {}", self.place)
+    }
+
+    fn peek(&self) -> Option<u8> {
+        self.text.as_bytes().get(self.place).copied()
+    }
+
+    fn skip_space(&mut self) {
+        while matches!(self.peek(), Some(b' ' | b'\t' | b'\n' | b'\r')) {
+            self.place += 1;
+        }
+    }
+
+    /// Steps over a byte where it stands next.
+    fn eat(&mut self, byte: u8) -> bool {
+        let there = self.peek() == Some(byte);
+        self.place += usize::from(there);
+        there
+    }
+
+    fn expect(&mut self, byte: u8) -> Result<(), String> {
+        if self.eat(byte) {
+            Ok(())
+        } else {
+            Err(self.wrong())
+        }
+    }
+
+    fn value(&mut self, depth: usize) -> Result<Value<'t>, String> {
+        self.skip_space();
+        match self.peek() {
+            Some(b'{') if depth < DEEPEST => self.object(depth + 1),
+            Some(b'[') if depth < DEEPEST => self.list(depth + 1),
+            Some(b'"') => Ok(Value::Text(self.string()?)),
+            Some(b'n') => self.word("null", Value::Null),
+            Some(b't') => self.word("true", Value::Bool),
+            Some(b'f') => self.word("false", Value::Bool),
+            Some(b'-' | b'0'..=b'9') => self.number(),
+            _ => Err(self.wrong()),
+        }
+    }
+
+    fn word(&mut self, word: &str, value: Value<'t>) -> Result<Value<'t>, String> {
+        if !self.text[self.place..].starts_with(word) {
+            return Err(self.wrong());
+        }
+        self.place += word.len();
+        Ok(value)
+    }
+
+    fn list(&mut self, depth: usize) -> Result<Value<'t>, String> {
+        self.place += 1;
+        let mut items = Vec::new();
+        self.skip_space();
+        if self.eat(b']') {
+            return Ok(Value::List(items));
+        }
+        loop {
+            items.push(self.value(depth)?);
+            self.skip_space();
+            if !self.eat(b',') {
+                self.expect(b']')?;
+                return Ok(Value::List(items));
+            }
+        }
+    }
+
+    fn object(&mut self, depth: usize) -> Result<Value<'t>, String> {
+        self.place += 1;
+        let mut fields = Vec::new();
+        self.skip_space();
+        if self.eat(b'}') {
+            return Ok(Value::Object(fields));
+        }
+        loop {
+            self.skip_space();
+            let key = self.string()?;
+            self.skip_space();
+            self.expect(b':')?;
+            fields.push((key, self.value(depth)?));
+            self.skip_space();
+            if !self.eat(b',') {
+                self.expect(b'}')?;
+                return Ok(Value::Object(fields));
+            }
+        }
+    }
+
+    /// Steps over the digits that stand next, of which there is one at least.
+    fn digits(&mut self) -> Result<(), String> {
+        let start = self.place;
+        while matches!(self.peek(), Some(b'0'..=b'9')) {
+            self.place += 1;
+        }
+        if self.place == start {
+            Err(self.wrong())
+        } else {
+            Ok(())
+        }
+    }
+
+    fn number(&mut self) -> Result<Value<'t>, String> {
+        let start = self.place;
+        self.eat(b'-');
+        if !self.eat(b'0') {
+            self.digits()?;
+        }
+        if self.eat(b'.') {
+            self.digits()?;
+        }
+        if self.eat(b'e') || self.eat(b'E') {
+            let _signed = self.eat(b'+') || self.eat(b'-');
+            self.digits()?;
+        }
+        let text = &self.text[start..self.place];
+        if text.parse::<f64>().is_ok_and(f64::is_infinite) {
+            return Err(self.wrong());
+        }
+        Ok(text.parse().map_or(Value::OtherNumber, Value::Whole))
+    }
+
+    fn string(&mut self) -> Result<Cow<'t, str>, String> {
+        self.expect(b'"')?;
+        let start = self.place;
+        self.skip_plain();
+        if self.peek() == Some(b'"') {
+            self.place += 1;
+            return Ok(Cow::Borrowed(&self.text[start..self.place - 1]));
+        }
+        let mut made = self.text[start..self.place].to_string();
+        loop {
+            match self.peek() {
+                Some(b'"') => {
+                    self.place += 1;
+                    return Ok(Cow::Owned(made));
+                }
+                Some(b'\\') => made.push(self.escape()?),
+                _ => return Err(self.wrong()),
+            }
+            let start = self.place;
+            self.skip_plain();
+            made.push_str(&self.text[start..self.place]);
+        }
+    }
+
+    /// Steps over the characters of a string that stand for themselves.
+    fn skip_plain(&mut self) {
+        while self
+            .peek()
+            .is_some_and(|byte| byte >= b' ' && byte != b'"' && byte != b'\\')
+        {
+            self.place += 1;
+        }
+    }
+
+    fn escape(&mut self) -> Result<char, String> {
+        let letter = self.text.as_bytes().get(self.place + 1).copied();
+        let made = match letter {
+            Some(b'"') => '"',
+            Some(b'\\') => '\\',
+            Some(b'/') => '/',
+            Some(b'b') => '\u{8}',
+            Some(b'f') => '\u{c}',
+            Some(b'n') => '\n',
+            Some(b'r') => '\r',
+            Some(b't') => '\t',
+            Some(b'u') => return self.unicode(),
+            _ => return Err(self.wrong()),
+        };
+        self.place += 2;
+        Ok(made)
+    }
+
+    /// A character by its number, or by two numbers where the first is half of a pair.
+    fn unicode(&mut self) -> Result<char, String> {
+        let mut units = vec![self.unit()?];
+        if (0xd800..0xdc00).contains(&units[0]) {
+            units.push(self.unit()?);
+        }
+        String::from_utf16(&units)
+            .ok()
+            .and_then(|text| text.chars().next())
+            .ok_or_else(|| self.wrong())
+    }
+
+    /// `\u` and four hexadecimal digits.
+    fn unit(&mut self) -> Result<u16, String> {
+        let digits = self
+            .text
+            .get(self.place..self.place + 6)
+            .and_then(|text| text.strip_prefix("\\u"));
+        let unit = digits
+            .filter(|digits| digits.bytes().all(|byte| byte.is_ascii_hexdigit()))
+            .and_then(|digits| u16::from_str_radix(digits, 16).ok());
+        self.place += 6;
+        unit.ok_or_else(|| self.wrong())
+    }
+}

@@ -1,0 +1,157 @@
+//! Whole runs: actors take the steps of the parts in the order of a schedule.
+//!
+//! Each thread is an actor. Behind the threads each part has two, its recovery and its arrivals.
+
+use crate::journal::{Answer, Event};
+use crate::part::Part;
+use crate::scenario::{Scenario, ThreadSpec};
+use crate::schedule::Schedule;
+
+pub struct Run<'s> {
+    pub parts: Vec<Part<'s>>,
+    /// Of each thread, the part and the answer of each operation.
+    pub answers: Vec<Vec<(usize, Answer)>>,
+    /// How many events the listeners heard.
+    pub heard: Heard,
+}
+
+#[derive(Default)]
+pub struct Heard {
+    pub failures: u64,
+    pub bursts: u64,
+    pub answers: u64,
+}
+
+impl Heard {
+    fn hear(&mut self, event: &Event) {
+        if let Event::Burst(burst) = event {
+            self.bursts += 1;
+            self.failures += u64::from(burst.failure.is_some());
+        }
+        self.answers += u64::from(event.has_answer());
+    }
+}
+
+struct Thread<'s> {
+    spec: &'s ThreadSpec,
+    /// The part of its open call.
+    waits_for: Option<usize>,
+    answers: Vec<(usize, Answer)>,
+}
+
+impl Thread<'_> {
+    /// The place of its next operation, where it has one and no open call.
+    fn next_operation(&self) -> Option<usize> {
+        let place = self.answers.len();
+        (self.waits_for.is_none() && place < self.spec.operations.len()).then_some(place)
+    }
+}
+
+struct Simulation<'s> {
+    scenario: &'s Scenario,
+    parts: Vec<Part<'s>>,
+    threads: Vec<Thread<'s>>,
+    /// How many frames arrived at each part.
+    arrived: Vec<usize>,
+    heard: Heard,
+}
+
+pub fn simulate(scenario: &Scenario) -> Run<'_> {
+    let new_thread = |spec| Thread {
+        spec,
+        waits_for: None,
+        answers: Vec::new(),
+    };
+    let mut simulation = Simulation {
+        scenario,
+        parts: scenario.parts.iter().map(Part::new).collect(),
+        threads: scenario.threads.iter().map(new_thread).collect(),
+        arrived: vec![0; scenario.parts.len()],
+        heard: Heard::default(),
+    };
+    let actors = simulation.threads.len() + 2 * simulation.parts.len();
+    let mut schedule = Schedule::new(&scenario.order);
+    while let Some(actor) = schedule.pick(actors, |actor| simulation.can_go(actor)) {
+        let part = simulation.go(actor);
+        simulation.note(part);
+    }
+    Run {
+        parts: simulation.parts,
+        answers: simulation
+            .threads
+            .into_iter()
+            .map(|thread| thread.answers)
+            .collect(),
+        heard: simulation.heard,
+    }
+}
+
+impl Simulation<'_> {
+    fn can_go(&self, actor: usize) -> bool {
+        match self.threads.get(actor) {
+            Some(thread) => match thread.waits_for {
+                Some(part) => self.parts[part].next_for(actor as u8).is_some(),
+                None => thread.next_operation().is_some(),
+            },
+            None => {
+                let (part, is_arrival) = self.part_of(actor);
+                if is_arrival {
+                    self.arrived[part] < self.scenario.parts[part].arrivals.len()
+                } else {
+                    self.parts[part].next_recovery().is_some()
+                }
+            }
+        }
+    }
+
+    /// The part of an actor behind the threads, and whether it hands in the arrivals.
+    fn part_of(&self, actor: usize) -> (usize, bool) {
+        let behind = actor - self.threads.len();
+        (behind / 2, behind % 2 == 1)
+    }
+
+    /// An actor that can go takes its step. The part that the step was one of.
+    fn go(&mut self, actor: usize) -> usize {
+        if actor >= self.threads.len() {
+            return self.go_part(actor);
+        }
+        let thread = &mut self.threads[actor];
+        if let Some(place) = thread.next_operation() {
+            let (part, operation) = &thread.spec.operations[place];
+            thread.waits_for = Some(*part);
+            self.parts[*part].invoke(actor as u8, operation);
+            return *part;
+        }
+        let part = thread.waits_for.expect("the thread can go");
+        let step = self.parts[part]
+            .next_for(actor as u8)
+            .expect("the thread can go");
+        self.parts[part].take(step);
+        part
+    }
+
+    fn go_part(&mut self, actor: usize) -> usize {
+        let (part, is_arrival) = self.part_of(actor);
+        if is_arrival {
+            let frame = &self.scenario.parts[part].arrivals[self.arrived[part]];
+            self.arrived[part] += 1;
+            self.parts[part].arrive(frame);
+        } else {
+            let step = self.parts[part].next_recovery().expect("the part can go");
+            self.parts[part].take(step);
+        }
+        part
+    }
+
+    /// The listeners hear a part's last event, and the threads get their answers.
+    fn note(&mut self, part: usize) {
+        if let Some(event) = self.parts[part].journal().last() {
+            self.heard.hear(event);
+        }
+        for (thread, answer) in self.parts[part].take_answers() {
+            let thread = &mut self.threads[usize::from(thread)];
+            thread.waits_for = None;
+            thread.answers.push((part, answer));
+        }
+    }
+}

@@ -203,8 +203,8 @@ fn threads_run_beside_each_other(rt: HostRuntime) -> Result<(), Fail> {
     let named = format!(in alloc; " {} ", call.as_str())?;
     let replied = line_with(report, 0, named.as_str(), " -> data ")?;
     let one = line_with(report, 0, " invoke ", " t1 ")?;
-    let two = line_with(report, one + 1, " invoke ", " t1 ")?;
-    let three = line_with(report, two + 1, " invoke ", " t1 ")?;
+    let two = line_with(report, one.saturating_add(1), " invoke ", " t1 ")?;
+    let three = line_with(report, two.saturating_add(1), " invoke ", " t1 ")?;
     assert!(rt; three > replied);
     Ok(())
 }

@@ -6,7 +6,6 @@ use Rattle.serde_json.proofs.OnLiterals.{serde_json_on_literals}
 use Rattle.nook_defs.specs.AsmTokens.{lines_of, tokens_of, is_label_name, is_numeral, kind_of, register_of}
 use Rattle.nook_defs.specs.AsmLines.{value_of, operands_of, word_statement, class_statement, entry_statement, directive_statement, statement_of, line_says}
 use Rattle.nook_defs.specs.Assembler.{labels_from, draft_after, draft_from, assembled}
-use Rattle.nook_defs.specs.Built.{built_from}
 use Rattle.nook_defs.specs.Disassembler.{image_lines, disassembled}
 use Rattle.nook_defs.specs.Faults.{fault_line}
 use Rattle.nook_defs.specs.Generated.{generated}
@@ -26,5 +25,5 @@ unfolding chars encode_utf8 digits serde_json_on_literals
     labels_from draft_after draft_from assembled image_lines disassembled
     is_utf8 json_of class_named hex_word image_data image_text image_of driver_of image_from image_from_asm
     new_name fault_named fault_kind fault_of bad_block_of part_of schedule_named schedule_by schedule_of op_named op_by op_of
-    thread_of scenario_of scenario_from built_from fault_line generated
+    thread_of scenario_of scenario_from fault_line generated
 input_on_literals = tt

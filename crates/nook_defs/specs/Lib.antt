@@ -49,6 +49,5 @@ pub mod Reading
 pub mod ImageReading
 pub mod PartReading
 pub mod ScenarioReading
-pub mod Built
 pub mod Valid
 pub mod Generated

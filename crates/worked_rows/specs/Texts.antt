@@ -3,7 +3,6 @@ use Rattle.serde_json.specs.Written.{compact_text}
 use Rattle.nook_defs.specs.Faults.{told}
 use Rattle.nook_defs.specs.ImageReading.{image_from}
 use Rattle.nook_defs.specs.ImageText.{image_data}
-use Rattle.nook_defs.specs.Built.{built_from}
 use Rattle.nook_defs.specs.References.{block_words, failing_block_image}
 use Rattle.nook_defs.specs.ScenarioReading.{scenario_from}
 use Rattle.nook_defs.specs.declared.data.BadBlock.{BadBlock}
@@ -21,9 +20,6 @@ told_fault read = told (λ right. []) read
 
 abbrev pub scenario_fault : List ℕ → List ℕ
 scenario_fault bytes = told_fault (scenario_from bytes)
-
-abbrev pub built_fault : List ℕ → List ℕ
-built_fault bytes = told_fault (built_from bytes)
 
 abbrev pub image_fault : List ℕ → List ℕ
 image_fault bytes = told_fault (image_from bytes)

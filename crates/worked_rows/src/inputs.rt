@@ -2,8 +2,6 @@
 #![tactic(auto, unfolding(nook_defs::proofs::InputOnLiterals::input_on_literals))]
 
 ghost use Rattle.std.specs.Prelude.{◌≡◌, ◌∷◌, ◌++◌, [], Ok, codes, true, false};
-ghost use Rattle.nook_defs.specs.Built.{is_built};
-ghost use Rattle.nook_defs.specs.Generated.{generated};
 ghost use Rattle.nook_defs.specs.ImageReading.{image_of, image_from};
 ghost use Rattle.nook_defs.specs.ImageText.{image_data, image_text};
 ghost use Rattle.nook_defs.specs.References.{failing_block_image, sound_image};
@@ -11,7 +9,6 @@ ghost use Rattle.nook_defs.specs.ScenarioReading.{scenario_from};
 ghost use Rattle.nook_defs.specs.Valid.{IsValidImage};
 ghost use Rattle.worked_rows.specs.Texts.{
   scenario_fault,
-  built_fault,
   image_fault,
   driver_json,
   write_and_read_json,
@@ -112,13 +109,4 @@ pub fn double_name()
     ensures { scenario_fault (codes "{\"version\":1,\"parts\":[{\"class\":\"sound\",\"name\":\"s\",\"driver\":" ++ driver_json sound_image
         ++ codes "}],\"threads\":[{\"name\":\"s\",\"ops\":[]},{\"name\":\"s\",\"ops\":[]}]}")
         ≡ codes "fault 10 double_name /threads/1/name\n" }
-{}
-
-/// What is right and is not run yet.
-pub fn not_built()
-    ensures thin { is_built write_and_read ≡ true }
-    ensures bad { is_built bad_block ≡ false }
-    ensures large { is_built (generated 1) ≡ false }
-    ensures sound { built_fault (codes "{\"version\":1,\"parts\":[{\"class\":\"sound\",\"name\":\"s\",\"driver\":" ++ driver_json sound_image ++ codes "}],\"threads\":[]}")
-        ≡ codes "fault 11 not_built /\n" }
 {}

@@ -4,7 +4,7 @@ ghost use Rattle.std.specs.Prelude.{◌≡◌, length, IfOk};
 
 use crate::Device;
 use nook_defs::data::{Act, BadBlock, BadBlocks, Class};
-use nook_defs::journal::ActLog;
+use nook_defs::journal::SpareRooms;
 use nook_defs::lists::{Items, Word, Words};
 use nook_defs::memory::NoMemory;
 use std::alloc::Global;
@@ -20,11 +20,12 @@ const NOTHING: Came = ("nothing", 0, 0);
 /// The act of one OUT: of a Store the block and the first word, of a frame its length and its last word, of a
 /// sample its rate and its volume.
 fn out(alloc: Global, device: &mut Device, port: u32, word: Word) -> Result<Came, NoMemory> {
-    let mut log = ActLog::with_room(alloc)?;
+    let mut spare = SpareRooms::new(alloc);
+    let mut log = spare.open_log()?;
     if !device.output(port, word, &mut log) {
         return Ok(NO_PORT);
     }
-    let acts = log.into_acts();
+    let acts = spare.close_log(log);
     Ok(match acts.as_slice() {
         [] => NOTHING,
         [act] => came_of_act(act),

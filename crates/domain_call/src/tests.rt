@@ -5,7 +5,7 @@ ghost use Rattle.nook_defs.specs.Domain.{buffer_of};
 
 use crate::Domain;
 use nook_defs::data::{BadBlocks, Class, Fault, FaultKind, Faults, Image, Op, PartSpec};
-use nook_defs::journal::ActLog;
+use nook_defs::journal::SpareRooms;
 use nook_defs::lists::{Frames, Items, Word, Words};
 use nook_defs::machine::BurstEnd;
 use nook_defs::name::Name;
@@ -185,7 +185,7 @@ fn ran(alloc: Global, domain: &mut Domain, context: u8, faults: &[Fault]) -> Res
     if domain.bursts(context) >= 32 {
         Err("too many bursts")?
     }
-    let mut acts = ActLog::with_room(alloc)?;
+    let mut acts = SpareRooms::new(alloc).open_log()?;
     let done = domain.burst(context, faults, &mut acts);
     Ok((done.count, told(done.end), acts.len()))
 }

@@ -6,7 +6,7 @@ use crate::burst::{BurstDone, run_burst};
 use crate::bus::Bus;
 use crate::code::{decode, encode};
 use nook_defs::data::{Fault, FaultKind, TrapCause};
-use nook_defs::journal::ActLog;
+use nook_defs::journal::{ActLog, SpareRooms};
 use nook_defs::lists::Word;
 use nook_defs::machine::{BurstEnd, Cpu};
 use nook_defs::memory::NoMemory;
@@ -151,7 +151,7 @@ fn outcome(
         counter: 0,
         registers,
     };
-    let mut acts = ActLog::with_room(alloc)?;
+    let mut acts = SpareRooms::new(alloc).open_log()?;
     let done = run_burst(&mut cpu, &mut bus, faults, &mut acts);
     Ok((done, acts.len()))
 }

@@ -142,7 +142,7 @@ fn hand_up(
     ensures { (entries : List Entry) → frame_served (slice_range pages.now.words start (start + len)) pages.now.words entries queue.old ≡ outcome pages.now.words entries queue.new result }
 {
     let words = pages.words(start, len, moved);
-    let taken = queue.offer(words.copy_in_room(frame));
+    let taken = queue.offer(words.copy_in_room(frame).fitted());
     Served {
         answer: Word::from(taken),
         moved: words,

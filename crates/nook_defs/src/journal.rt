@@ -7,6 +7,7 @@ use crate::lists::{Items, Words};
 use crate::memory::{NoMemory, Room};
 use std::alloc::Global;
 use std::marker::Model;
+use std::mem;
 
 /// The events of a part in order, and spare room for more. Contracts see the list and the spare.
 #[derive(Drop)]
@@ -74,7 +75,17 @@ impl Journal {
     }
 }
 
+/// The acts of one burst at most.
+const MOST_ACTS: usize = 64;
+
+/// The acts of most bursts at most.
+const FEW_ACTS: usize = 8;
+
+/// The words of one act at most.
+const ACT_WORDS: usize = 64;
+
 /// The acts of a burst as they are made, with room for 64 that is taken before the burst. Contracts see the list.
+/// `SpareRooms` opens it and closes it.
 #[derive(Drop)]
 pub struct ActLog {
     acts: Vec<Act>,
@@ -94,15 +105,6 @@ impl Model for ActLog {
 }
 
 impl ActLog {
-    /// The empty log, with room for 64 acts and for 64 words of each.
-    pub fn with_room(alloc: Global) -> Result<ActLog, NoMemory>
-        ensures { IfOk result (λ log. log ≡ []) }
-    {
-        let acts = Vec::with_capacity(alloc, 64)?;
-        let rooms = make_rooms(alloc)?;
-        Ok(ActLog { acts, rooms })
-    }
-
     /// The number of acts.
     pub fn len(&self) -> usize
         ensures { result ≡ length self.now }
@@ -174,28 +176,88 @@ impl ActLog {
     {
         self.acts.push(Act::Register { key, value }).unwrap();
     }
+}
 
-    /// The list of the acts. It takes no memory.
-    pub fn into_acts(self) -> Acts
-        ensures { result ≡ self }
+/// Memory for acts and rooms for their words, which the bursts of a part hand on to one another: a burst takes as much anew
+/// as the one before it used up. Contracts see the number of rooms.
+#[derive(Drop)]
+pub struct SpareRooms {
+    alloc: Global,
+    /// No acts: memory for those of the next burst.
+    acts: Vec<Act>,
+    /// No acts: memory for those that it hands out, where they are few.
+    few: Vec<Act>,
+    rooms: Vec<Room<u32>>,
+}
+
+impl Model for SpareRooms {
+    ghost use Rattle.std.specs.Prelude.{◌≡◌, ◌≤◌, ℕ, [], All, length};
+
+    ghost Value = { ℕ };
+
+    ghost view = { λ s. length s.rooms.items };
+
+    ghost invariant = { λ s. (s.acts.items ≡ []) × (s.few.items ≡ []) × All (λ room. 64 ≤ room) s.rooms.items };
+}
+
+impl SpareRooms {
+    /// No rooms yet. It takes no memory.
+    pub fn new(alloc: Global) -> SpareRooms
+        ensures { result ≡ 0 }
     {
-        Items::from_vec(self.acts)
+        SpareRooms {
+            alloc,
+            acts: Vec::new(alloc),
+            few: Vec::new(alloc),
+            rooms: Vec::new(alloc),
+        }
+    }
+
+    /// The empty log of a burst, with room for 64 acts and for 64 words of each. The memory that is here goes into it,
+    /// and what it lacks is taken.
+    pub fn open_log(&mut self) -> Result<ActLog, NoMemory>
+        ensures log { IfOk result (λ log. log ≡ []) }
+        ensures used { OnOk result (self.new ≡ 0) }
+    {
+        fill_rooms(self.alloc, &mut self.rooms)?;
+        self.few.reserve(FEW_ACTS)?;
+        self.acts.reserve(MOST_ACTS)?;
+        let acts = mem::replace(&mut self.acts, Vec::new(self.alloc));
+        let rooms = mem::replace(&mut self.rooms, Vec::new(self.alloc));
+        Ok(ActLog { acts, rooms })
+    }
+
+    /// The acts of a log, without the room that they do not use. The rooms that they left are kept in place of those that
+    /// are here; an act uses one at most. It takes no memory.
+    pub fn close_log(&mut self, log: ActLog) -> Acts
+        ensures acts { result ≡ log }
+        ensures kept { 64 ≤ length log + self.new }
+    {
+        let ActLog { mut acts, rooms } = log;
+        self.rooms = rooms;
+        let mut few = mem::replace(&mut self.few, Vec::new(self.alloc));
+        // Few acts move, so that the long list stays for the next burst.
+        if acts.len() <= few.capacity() && few.append(&mut acts).is_ok() {
+            self.acts = acts;
+            return Items::from_vec(few).fitted();
+        }
+        Items::from_vec(acts).fitted()
     }
 }
 
-/// Room for 64 lists of 64 words.
-fn make_rooms(alloc: Global) -> Result<Vec<Room<u32>>, NoMemory>
-    ensures count { IfOk result (λ made. length made.items ≡ 64) }
-    ensures room { IfOk result (λ made. All (λ room. 64 ≤ room) made.items) }
+/// Takes rooms for 64 words until there are 64 rooms.
+fn fill_rooms(alloc: Global, rooms: &mut Vec<Room<u32>>) -> Result<(), NoMemory>
+    requires rooms { All (λ room. 64 ≤ room) rooms.old.items }
+    ensures rooms { All (λ room. 64 ≤ room) rooms.new.items }
+    ensures count { OnOk result (64 ≤ length rooms.new.items) }
 {
-    let mut made = Vec::with_capacity(alloc, 64)?;
-    for _count in 0..64_usize {
-        made.push(Room::new(alloc, 64)?)?;
+    for _count in rooms.len()..MOST_ACTS {
+        rooms.push(Room::new(alloc, ACT_WORDS)?)?;
     }
-    Ok(made)
+    Ok(())
 }
 
-/// The words as a list of their own, in a room of `rooms`, which is used up.
+/// The words as a list of their own, in a room of `rooms`, which is used up; what they do not fill of it is given back.
 fn kept(rooms: &mut Vec<Room<u32>>, words: &[u32]) -> Words
     requires some { 0 < length rooms.old.items }
     requires rooms { All (λ room. 64 ≤ room) rooms.old.items }
@@ -207,5 +269,5 @@ fn kept(rooms: &mut Vec<Room<u32>>, words: &[u32]) -> Words
     let room = rooms.pop().unwrap();
     let mut items = room.into_vec();
     items.extend_from_slice(words).unwrap();
-    Items::from_vec(items)
+    Items::from_vec(items).fitted()
 }

@@ -65,6 +65,15 @@ impl<T> Items<T> {
     {
         self.items
     }
+
+    /// The same list without the room that its items do not use. It takes no memory.
+    pub fn fitted(self) -> Self
+        ensures { result ≡ self }
+    {
+        let mut items = self.items;
+        items.shrink_to_fit();
+        Items { items }
+    }
 }
 
 impl<T: Drop> Items<T> {
@@ -109,7 +118,7 @@ pub trait TryCopy {
 
 impl<T: TryCopy + Drop> TryCopy for Items<T> {
     fn copy(&self, alloc: Global) -> Result<Self, NoMemory> {
-        let mut made = Items::new(alloc);
+        let mut made = Items::from_vec(Vec::with_capacity(alloc, self.items.len())?);
         for item in &self.items {
             made.push(item.copy(alloc)?)?;
         }

@@ -10,7 +10,6 @@ use crate::crossing::{Outcome, Rooms};
 use crate::state::{SHADOW, State};
 use domain_call::BurstDone;
 use nook_defs::data::{Acts, Event, Fault};
-use nook_defs::journal::ActLog;
 use nook_defs::memory::NoMemory;
 
 impl State {
@@ -23,14 +22,14 @@ impl State {
         requires faults { faults.now ≡ faults_of_burst (self.old.bursts + 1) self.old.spec.faults }
         ensures { IsTurned (burst_turned context self.old) self.old result self.new }
     {
-        let mut acts = ActLog::with_room(self.alloc)?;
         let rooms = Rooms::new(self.alloc)?;
+        let mut acts = self.spare.open_log()?;
         let call = self.served_number(context);
         let done = self.domain.burst(context, faults, &mut acts);
         self.bursts += 1;
         let burst = self.bursts;
         let outcome = self.cross(context, done.end, rooms);
-        let acts = fitted(acts.into_acts());
+        let acts = self.spare.close_log(acts);
         Ok(bursted(context, call, burst, &done, acts, outcome))
     }
 
@@ -46,15 +45,6 @@ impl State {
             None => 0,
         }
     }
-}
-
-/// The acts without the room that the burst did not use, since the journal keeps them.
-fn fitted(acts: Acts) -> Acts
-    ensures { result ≡ acts }
-{
-    let mut items = acts.into_vec();
-    items.shrink_to_fit();
-    Acts::from_vec(items)
 }
 
 /// The event of a burst.

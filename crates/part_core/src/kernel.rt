@@ -89,7 +89,7 @@ impl State {
             first,
             second,
             answer: Some(told.answer),
-            moved: told.moved,
+            moved: told.moved.fitted(),
         })
     }
 }

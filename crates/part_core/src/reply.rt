@@ -154,7 +154,8 @@ fn reply_answer(entry: &CallEntry, domain: &Domain, queue: &mut RxQueue, room: R
 {
     match entry.op {
         Op::Read { count, .. } => {
-            Answer::Blocks(domain.buffer_words(entry.thread, count * BLOCK_WORDS, room))
+            let words = domain.buffer_words(entry.thread, count * BLOCK_WORDS, room);
+            Answer::Blocks(words.fitted())
         }
         Op::Get { .. } => Answer::Value(domain.first_word(entry.thread)),
         Op::Recv => frame_or_empty(queue.take_front()),

@@ -11,6 +11,7 @@ use domain_call::Domain;
 use fault_script::FaultScript;
 use kernel_services::RxQueue;
 use nook_defs::data::{Event, Mode, PartSpec, Stage, Step};
+use nook_defs::journal::SpareRooms;
 use nook_defs::memory::NoMemory;
 use shadow_log::ShadowLog;
 use std::alloc::Global;
@@ -30,6 +31,7 @@ pub struct State {
     pub failures: u32,
     pub bursts: u32,
     pub arrived: u32,
+    pub spare: SpareRooms,
     pub alloc: Global,
 }
 
@@ -72,6 +74,7 @@ impl State {
             failures: 0,
             bursts: 0,
             arrived: 0,
+            spare: SpareRooms::new(alloc),
             alloc,
         })
     }

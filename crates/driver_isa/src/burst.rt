@@ -36,6 +36,8 @@ struct Struck<'a> {
 /// Runs one burst to its crossing. `faults` are those of this burst in rising order of `after`: one with
 /// `after` = k strikes before turn k + 1, those of one place in list order. `acts` is empty, with its full room.
 /// It takes no memory.
+// On its own, its loop has the processor's registers for itself.
+#[inline(never)]
 #[tactic(auto, unfolding(nook_defs::specs::Burst::burst))]
 pub fn run_burst<B: Bus>(
     cpu: &mut Cpu,
@@ -93,7 +95,35 @@ fn stopped(count: u32, cause: TrapCause) -> BurstDone
 }
 
 /// Strikes the faults at the front that stand at this place, in their order, up to one that is a trap.
+// Most bursts have no faults left, and each turn asks.
+#[inline(always)]
 fn strike_due<'a, B: Bus>(faults: &'a [Fault], place: u32, cpu: &mut Cpu, bus: &mut B) -> Struck<'a>
+    ensures struck { strikes_at place (B.entries bus.old) faults.now (machine_of cpu.old (B.words bus.old) (B.device bus.old))
+        ≡ record {
+          machine = machine_of cpu.new (B.words bus.new) (B.device bus.new);
+          rest = result.rest.now;
+          stopped = result.stopped;
+        } }
+    ensures entries { B.entries bus.new ≡ B.entries bus.old }
+    ensures held { B.held bus.new ≡ B.held bus.old }
+{
+    if faults.is_empty() {
+        return Struck {
+            rest: faults,
+            stopped: None,
+        };
+    }
+    strike_front(faults, place, cpu, bus)
+}
+
+/// The same of any faults, one after the other.
+#[inline(never)]
+fn strike_front<'a, B: Bus>(
+    faults: &'a [Fault],
+    place: u32,
+    cpu: &mut Cpu,
+    bus: &mut B,
+) -> Struck<'a>
     ensures struck { strikes_at place (B.entries bus.old) faults.now (machine_of cpu.old (B.words bus.old) (B.device bus.old))
         ≡ record {
           machine = machine_of cpu.new (B.words bus.new) (B.device bus.new);

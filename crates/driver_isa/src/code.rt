@@ -9,6 +9,8 @@ use nook_defs::machine::Instr;
 
 /// The instruction of a word: `None` exactly where no row of the instruction table fits, or a field that the
 /// row does not name is not zero.
+// A machine decodes at each turn; inlined, the two matches on an instruction become one.
+#[inline(always)]
 pub fn decode(word: Word) -> Option<Instr>
     ensures row { result ≡ decode_of word }
     ensures registers { IfSome result (λ instr. has_registers instr ≡ true) }

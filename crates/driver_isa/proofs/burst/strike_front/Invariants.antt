@@ -1,7 +1,7 @@
 use Rattle.std.proofs.Common.{◌≡◌, length}
 use Rattle.driver_isa.specs.Turns.{machine_of}
 use Rattle.nook_defs.specs.Burst.{strikes_at}
-use Rattle.driver_isa.proofs.burst.strike_due.Given as goal
+use Rattle.driver_isa.proofs.burst.strike_front.Given as goal
 
 abbrev pub invariant-loop-rest : goal.invariant-loop-rest
 invariant-loop-rest g l =

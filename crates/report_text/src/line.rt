@@ -2,9 +2,9 @@
 
 ghost use Rattle.std.specs.Prelude.{◌≡◌, [], ◌∷◌, ◌++◌, OnOk, decimal, string_bytes};
 
+use itoa::Buffer;
 use nook_defs::memory::NoMemory;
 use std::alloc::Global;
-use std::fmt::Write;
 use std::marker::Model;
 
 /// A line without its end. Contracts see its bytes.
@@ -43,8 +43,8 @@ impl Line {
     pub fn number(&mut self, n: u64) -> Result<(), NoMemory>
         ensures { OnOk result (self.new ≡ self.old ++ decimal n) }
     {
-        write!(self.text, "{n}")?;
-        Ok(())
+        let mut digits = Buffer::new();
+        self.push(digits.format(n))
     }
 
     /// Empties the line. The memory that it took stays with it.

@@ -2,6 +2,8 @@
 #![tactic(auto)]
 
 mod program;
+#[cfg(test)]
+mod running;
 mod simulated;
 #[cfg(test)]
 mod tests;

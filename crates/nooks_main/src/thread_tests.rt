@@ -1,18 +1,14 @@
 //! Runs by threads, and the gates that hold them back.
 
-use crate::program::{Status, run};
-use crate::worked_tests::worked_run;
-use nook_defs::lists::{Words, Words8};
+use crate::program::Status;
+use crate::running::{Audience, Outcome, plain_outcome};
+use crate::worked_runs::{WorkedRun, worked_run};
 use nook_defs::outside::Gate;
-use nook_defs::streams_in_memory::{ListSink, PlainSource};
 use std::alloc::Global;
 use std::sync::Wait;
 use std::sync::atomic::{AtomicU64, Ordering};
 use std::test::Fail;
 use std::thread::Threads;
-
-/// More bytes than any of the reports has.
-const ROOM: u32 = 65_536;
 
 /// How often a gate looks before it gives up.
 const MOST_LOOKS: u32 = 500_000_000;
@@ -20,35 +16,17 @@ const MOST_LOOKS: u32 = 500_000_000;
 /// The operations of each thread of the scenario with three parts.
 const SCRIPT: usize = 12;
 
-/// Runs the threads of a scenario behind a gate, and gives the status and the report.
-fn report_by_threads<R: Threads + Wait + Sync, G: Gate>(
+/// Runs the threads of a scenario behind a gate.
+fn outcome_of_threads<R: Threads + Wait + Sync, G: Gate>(
     rt: &R,
     alloc: Global,
-    input: &str,
+    worked: WorkedRun,
     gate: &G,
-) -> Result<(Status, String), Fail> {
-    let mut words = Vec::new(alloc);
-    words.push(String::from_str(alloc, "run")?)?;
-    words.push(String::from_str(alloc, "threads")?)?;
-    let mut bytes = Vec::new(alloc);
-    bytes.extend_from_slice(input.as_bytes())?;
-    let mut source = PlainSource::new(Words8::from_vec(bytes));
-    let none = Words::from_vec(Vec::new(alloc));
-    let mut sink = ListSink::new(alloc, ROOM, none, false)
-        .ok()
-        .ok_or("memory")?;
+) -> Result<Outcome, Fail> {
+    let input = worked.input(alloc)?;
     let listeners = Vec::new(alloc);
-    let status = run(
-        rt,
-        alloc,
-        words.as_slice(),
-        &mut source,
-        &mut sink,
-        listeners,
-        gate,
-    );
-    let written = std::str::from_utf8(sink.bytes()).ok().ok_or("text")?;
-    Ok((status, String::from_str(alloc, written)?))
+    let audience = Audience { listeners, gate };
+    plain_outcome(rt, alloc, &["run", "threads"], input.as_str(), audience)
 }
 
 /// Counts its passes, each thread's at each place.
@@ -105,13 +83,13 @@ fn push_answered(found: &mut String, line: &str) -> Result<(), Fail> {
 #[test]
 fn threads_work_off_their_scripts(rt: HostRuntime) -> Result<(), Fail> {
     let alloc = rt.alloc();
-    let worked = worked_run("three parts under a drawn schedule")?;
+    let worked = worked_run(alloc, "three parts under a drawn schedule")?;
     let mut passes = Vec::new(alloc);
     for _ in 0..4 * SCRIPT {
         passes.push(AtomicU64::new(0))?;
     }
     let gate = CountingGate { passes };
-    let (status, written) = report_by_threads(&rt, alloc, worked.input, &gate)?;
+    let (status, written) = outcome_of_threads(&rt, alloc, worked, &gate)?;
     assert_eq!(rt; status, Status::Done);
     for passed in &gate.passes {
         assert_eq!(rt; passed.load(Ordering::SeqCst), 1);
@@ -188,12 +166,12 @@ fn first_call(alloc: Global, report: &str, thread: &str) -> Result<String, Fail>
 #[test]
 fn threads_run_beside_each_other(rt: HostRuntime) -> Result<(), Fail> {
     let alloc = rt.alloc();
-    let worked = worked_run("two threads that read one disk")?;
+    let worked = worked_run(alloc, "two threads that read one disk")?;
     let gate = HoldingGate {
         passed: [AtomicU64::new(0), AtomicU64::new(0)],
         gave_up: AtomicU64::new(0),
     };
-    let (status, written) = report_by_threads(&rt, alloc, worked.input, &gate)?;
+    let (status, written) = outcome_of_threads(&rt, alloc, worked, &gate)?;
     assert_eq!(rt; gate.gave_up.load(Ordering::SeqCst), 0);
     assert_eq!(rt; status, Status::Done);
     let report = written.as_str();

@@ -1,74 +1,43 @@
 //! Whole runs over their reports, without listeners, with the program's own, and with others.
 
 use crate::OWN_LISTENERS;
-use crate::program::{Status, run};
-use crate::worked_runs::{WORKED_RUNS, WorkedRun};
+use crate::running::{Audience, Outcome, plain_outcome};
+use crate::worked_runs::{WorkedRun, worked_run, worked_runs};
 use nook_defs::data::Event;
 use nook_defs::listeners::{CountListener, FreeGate};
-use nook_defs::lists::{Words, Words8};
 use nook_defs::outside::Listener;
-use nook_defs::streams_in_memory::{ListSink, PlainSource};
 use std::alloc::Global;
 use std::sync::atomic::{AtomicU64, Ordering};
 use std::sync::{Arc, Wait};
 use std::test::Fail;
 use std::thread::Threads;
 
-/// More bytes than any of the reports has.
-const ROOM: u32 = 65_536;
-
-/// Runs the program on a scenario with listeners, and gives its status and the report.
-fn report_with<R: Threads + Wait + Sync>(
+/// Simulates a scenario with listeners.
+fn outcome_with<R: Threads + Wait + Sync>(
     rt: &R,
     alloc: Global,
-    input: &str,
+    worked: WorkedRun,
     listeners: Vec<Box<dyn Listener>>,
-) -> Result<(Status, String), Fail> {
-    let mut words = Vec::new(alloc);
-    words.push(String::from_str(alloc, "run")?)?;
-    let mut bytes = Vec::new(alloc);
-    bytes.extend_from_slice(input.as_bytes())?;
-    let mut source = PlainSource::new(Words8::from_vec(bytes));
-    let none = Words::from_vec(Vec::new(alloc));
-    let mut sink = ListSink::new(alloc, ROOM, none, false)
-        .ok()
-        .ok_or("memory")?;
-    let status = run(
-        rt,
-        alloc,
-        words.as_slice(),
-        &mut source,
-        &mut sink,
-        listeners,
-        &FreeGate,
-    );
-    let written = std::str::from_utf8(sink.bytes()).ok().ok_or("text")?;
-    Ok((status, String::from_str(alloc, written)?))
+) -> Result<Outcome, Fail> {
+    let input = worked.input(alloc)?;
+    let gate = &FreeGate;
+    let audience = Audience { listeners, gate };
+    plain_outcome(rt, alloc, &["run"], input.as_str(), audience)
 }
 
 /// The same with listeners of all parts, each of some kinds of event and with a limit.
-fn report_of<R: Threads + Wait + Sync>(
+fn outcome_of<R: Threads + Wait + Sync>(
     rt: &R,
     alloc: Global,
-    input: &str,
+    worked: WorkedRun,
     counting: &[(u8, u64)],
-) -> Result<(Status, String), Fail> {
+) -> Result<Outcome, Fail> {
     let mut listeners: Vec<Box<dyn Listener>> = Vec::new(alloc);
     for (kinds, limit) in counting {
         let listener = CountListener::new(u8::MAX, *kinds, *limit);
         listeners.push(Box::new(alloc, listener)?)?;
     }
-    report_with(rt, alloc, input, listeners)
-}
-
-/// The worked run that shows this.
-pub fn worked_run(shows: &str) -> Result<WorkedRun, Fail> {
-    for worked in WORKED_RUNS {
-        if worked.shows == shows {
-            return Ok(worked);
-        }
-    }
-    Err(Fail::from("no such run"))
+    outcome_with(rt, alloc, worked, listeners)
 }
 
 /// The run writes its report with some lines of listeners, and ends with its code.
@@ -79,7 +48,7 @@ fn writes<R: Threads + Wait + Sync>(
     counting: &[(u8, u64)],
     lines: &str,
 ) -> Result<(), Fail> {
-    let (status, written) = report_of(rt, alloc, worked.input, counting)?;
+    let (status, written) = outcome_of(rt, alloc, worked, counting)?;
     let want = format!(in alloc; "{}{lines}status {}\n", worked.report, worked.code)?;
     if written.as_str() != want.as_str() || status.code() != worked.code {
         return Err(Fail::from(worked.shows));
@@ -91,8 +60,8 @@ fn writes<R: Threads + Wait + Sync>(
 #[test]
 fn worked_runs_write_their_reports(rt: HostRuntime) -> Result<(), Fail> {
     let alloc = rt.alloc();
-    for worked in WORKED_RUNS {
-        writes(&rt, alloc, worked, &[], "")?;
+    for worked in &worked_runs(alloc)? {
+        writes(&rt, alloc, *worked, &[], "")?;
     }
     Ok(())
 }
@@ -110,9 +79,15 @@ fn own_lines(alloc: Global, totals: [u64; 3]) -> Result<String, Fail> {
 #[test]
 fn worked_runs_tell_the_totals(rt: HostRuntime) -> Result<(), Fail> {
     let alloc = rt.alloc();
-    for worked in WORKED_RUNS {
+    for worked in &worked_runs(alloc)? {
         let lines = own_lines(alloc, worked.totals)?;
-        writes(&rt, alloc, worked, OWN_LISTENERS.as_slice(), lines.as_str())?;
+        writes(
+            &rt,
+            alloc,
+            *worked,
+            OWN_LISTENERS.as_slice(),
+            lines.as_str(),
+        )?;
     }
     Ok(())
 }
@@ -121,9 +96,9 @@ fn worked_runs_tell_the_totals(rt: HostRuntime) -> Result<(), Fail> {
 #[test]
 fn drawn_schedules_repeat_themselves(rt: HostRuntime) -> Result<(), Fail> {
     let alloc = rt.alloc();
-    let worked = worked_run("three parts under a drawn schedule")?;
-    let (_, first) = report_of(&rt, alloc, worked.input, &[])?;
-    let (_, second) = report_of(&rt, alloc, worked.input, &[])?;
+    let worked = worked_run(alloc, "three parts under a drawn schedule")?;
+    let (_, first) = outcome_of(&rt, alloc, worked, &[])?;
+    let (_, second) = outcome_of(&rt, alloc, worked, &[])?;
     assert_eq!(rt; first.as_str(), second.as_str());
     assert!(rt; first.as_str().starts_with(worked.report));
     Ok(())
@@ -146,7 +121,13 @@ fn listeners_are_dropped_at_their_limits(rt: HostRuntime) -> Result<(), Fail> {
         ),
     ];
     for (shows, each, lines) in cases {
-        writes(&rt, alloc, worked_run(shows)?, each.as_slice(), lines)?;
+        writes(
+            &rt,
+            alloc,
+            worked_run(alloc, shows)?,
+            each.as_slice(),
+            lines,
+        )?;
     }
     Ok(())
 }
@@ -196,7 +177,7 @@ fn calls_as_often<R: Threads + Wait + Sync>(
     };
     let mut listeners: Vec<Box<dyn Listener>> = Vec::new(alloc);
     listeners.push(Box::new(alloc, watched)?)?;
-    let (_, written) = report_with(rt, alloc, worked.input, listeners)?;
+    let (_, written) = outcome_with(rt, alloc, worked, listeners)?;
     let total = calls.load(Ordering::SeqCst);
     let line = format!(in alloc; "tap 0 total {total} kept\n")?;
     if !written.as_str().contains(line.as_str()) {
@@ -209,8 +190,8 @@ fn calls_as_often<R: Threads + Wait + Sync>(
 #[test]
 fn listeners_are_called_as_often_as_told(rt: HostRuntime) -> Result<(), Fail> {
     let alloc = rt.alloc();
-    for worked in WORKED_RUNS {
-        calls_as_often(&rt, alloc, worked)?;
+    for worked in &worked_runs(alloc)? {
+        calls_as_often(&rt, alloc, *worked)?;
     }
     Ok(())
 }

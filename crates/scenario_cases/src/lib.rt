@@ -8,4 +8,6 @@ mod cases;
 #[cfg(test)]
 mod layers;
 #[cfg(test)]
+mod long_lists;
+#[cfg(test)]
 mod tests;

@@ -6,9 +6,10 @@ use crate::cases::{
     SECOND_PARTS, THREADS,
 };
 use crate::layers::{
-    IN_ARRIVALS, IN_BAD, IN_DATA, IN_DRIVER, IN_FAULTS, IN_IMAGE, IN_OPS, IN_PARTS, IN_PARTS_2,
-    IN_PICKS, IN_SCHEDULE, IN_SECOND_PART, IN_THREADS, IN_WORDS, Layer, WHOLE,
+    IN_ARRIVALS, IN_BAD, IN_DRIVER, IN_FAULTS, IN_IMAGE, IN_OPS, IN_PARTS, IN_PARTS_2, IN_SCHEDULE,
+    IN_SECOND_PART, IN_THREADS, Layer, WHOLE,
 };
+use crate::long_lists::{LONG_LISTS, LongList};
 use nook_defs::input::Refusal;
 use scenario_read::{ScenarioFault, fault_line, read_scenario};
 use std::alloc::Global;
@@ -141,78 +142,15 @@ fn assembler_texts_are_read_or_refused(rt: HostRuntime) -> Result<(), Fail> {
 /// Lists of the most items, and of one more.
 #[test]
 fn lists_end_at_their_limits(rt: HostRuntime) -> Result<(), Fail> {
-    let trap = r#"{"burst":1,"after":0,"kind":"trap"}"#;
-    let bad = r#"{"block":0,"after":0}"#;
-    let recv = r#"{"part":0,"op":"recv"}"#;
-    let cases = [
-        (IN_PICKS, "", "65535", 65_536, "", "5 number_range /parts"),
-        (
-            IN_PICKS,
-            "",
-            "65535",
-            65_537,
-            "",
-            "6 too_many /schedule/picks",
-        ),
-        (IN_FAULTS, "[", trap, 64, "]", "4 wrong_kind /threads"),
-        (IN_FAULTS, "[", trap, 65, "]", "6 too_many /parts/0/faults"),
-        (
-            IN_FAULTS,
-            "[",
-            "null",
-            65,
-            "]",
-            "6 too_many /parts/0/faults",
-        ),
-        (IN_BAD, "[", bad, 64, "]", "3 missing_key /parts/0/driver"),
-        (IN_BAD, "[", bad, 65, "]", "6 too_many /parts/0/bad"),
-        (IN_ARRIVALS, "[", "[1]", 256, "]", "4 wrong_kind /threads"),
-        (
-            IN_ARRIVALS,
-            "[",
-            "[1]",
-            257,
-            "]",
-            "6 too_many /parts/0/arrivals",
-        ),
-        (IN_ARRIVALS, "[[", "1", 64, "]]", "4 wrong_kind /threads"),
-        (
-            IN_ARRIVALS,
-            "[[",
-            "1",
-            65,
-            "]]",
-            "6 too_many /parts/0/arrivals/0",
-        ),
-        (
-            IN_DATA,
-            "",
-            "\"00000000\"",
-            2048,
-            "",
-            "3 missing_key /parts/0/driver/image/entries",
-        ),
-        (
-            IN_DATA,
-            "",
-            "\"00000000\"",
-            2049,
-            "",
-            "6 too_many /parts/0/driver/image/data",
-        ),
-        (IN_OPS, "", recv, 256, "", "right"),
-        (IN_OPS, "", recv, 257, "", "6 too_many /threads/0/ops"),
-        (IN_WORDS, "", "7", 256, "", "right"),
-        (
-            IN_WORDS,
-            "",
-            "7",
-            257,
-            "",
-            "6 too_many /threads/0/ops/0/data",
-        ),
-    ];
-    for (layer, front, item, count, back, want) in cases {
+    for case in LONG_LISTS {
+        let LongList {
+            layer,
+            front,
+            item,
+            count,
+            back,
+            want,
+        } = case;
         let items = repeated(rt.alloc(), item, count)?;
         let items = items.as_str();
         let text = format!(in rt.alloc(); "{front}{items}{back}")?;

@@ -132,9 +132,6 @@ get_push (z ∷ xs) x y (suc i) h = after (get_push xs x y i h)
     after (inl k) = inl k
     after (inr k) = inr (ap suc k.0, k.1)
 
-pub each_none : {X Y : Type 0} (R : X → Y → Type 0) → Each R [] []
-each_none R = (refl, λ i x y a b. absurd cc)
-
 pub each_push : {X Y : Type 0} (R : X → Y → Type 0) (xs : List X) (ys : List Y) (x : X) (y : Y) → Each R xs ys → R x y → Each R (xs ++ x ∷ []) (ys ++ y ∷ [])
 each_push {X} {Y} R xs ys x y h k = (let n = h.0 in omega (arith, length-append xs (x ∷ []), length-append ys (y ∷ [])), λ i a b p q. by_place i a b (get_push xs x a i p) (get_push ys y b i q))
   where

@@ -3,7 +3,7 @@ use Rattle.std.proofs.Common.{◌≡◌, ◌⊎◌, ℕ, zero, suc, ◌+◌, ◌
 use Rattle.std.specs.Prelude.{slice_set}
 use Rattle.std.specs.Option.{option_map}
 use Rattle.std.proofs.lemmas.List.{map-set, get_or_append_left, get_or_push, length_push, take-take, take_at}
-use Rattle.std.proofs.lemmas.Option.{slice_get_read, slice_get-map, slice_get_within}
+use Rattle.std.proofs.lemmas.Option.{slice_get_read, slice_get-map}
 use Rattle.nook_defs.specs.declared.data.PartSpec.{PartSpec}
 use Rattle.desk_like.specs.Desks.{DeskView}
 use Rattle.app_threads.specs.Steps.{IsStepAt, TakesInOne}
@@ -57,10 +57,6 @@ TakenFrom from specs olds others news =
     (length news ≡ length olds)
     × ((d : ℕ) → d < from → slice_get news d ≡ slice_get olds d)
     × ((d : ℕ) (spec : PartSpec) (v o w : DeskView) → from ≤ d → slice_get specs d ≡ Some spec → slice_get olds d ≡ Some v → slice_get others d ≡ Some o → slice_get news d ≡ Some w → TakesInOne spec v o w)
-
-pub taken_none : (from : ℕ) (specs : List PartSpec) (olds others : List DeskView) → length others ≡ from → TakenFrom from specs olds others olds
-taken_none from specs olds others n =
-    (refl, λ d l. refl, λ d spec v o w l a b c e. absurd (let k = slice_get_within others d o c in omega arith))
 
 pub taken_more : (at : ℕ) (specs : List PartSpec) (olds others mids news : List DeskView) (o : DeskView) → slice_get others at ≡ Some o
     → IsStepAt specs mids news at (λ spec v w. TakesInOne spec v o w) → TakenFrom (at + 1) specs olds others mids → TakenFrom at specs olds others news

@@ -11,10 +11,7 @@ use Rattle.app_threads.specs.Steps.{IsStepAt, Same, Splits}
 use Rattle.app_threads.specs.Workers.{AtDesks}
 use Rattle.app_threads.specs.Works.{script_works}
 use Rattle.app_threads.proofs.Listed.{drop_next, some_at, take_next}
-use Rattle.app_threads.proofs.Scripts.{at_desks_more, at_desks_refl, step_more}
-
-pub same_none : (views : List DeskView) → AtDesks Same views views
-same_none views = at_desks_refl Same views (λ d v. (refl, refl))
+use Rattle.app_threads.proofs.Scripts.{at_desks_more, step_more}
 
 pub same_more : (specs : List PartSpec) (olds mids news : List DeskView) (at : ℕ) (made : DeskView) → IsStepAt specs mids news at (λ spec v w. Splits v w made) → AtDesks Same olds mids → AtDesks Same olds news
 same_more specs olds mids news at made s h =

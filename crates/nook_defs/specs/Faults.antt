@@ -32,7 +32,6 @@ fault_text fault.BadImage = codes "7 bad_image"
 fault_text (fault.BadAsm f) = codes "8 bad_asm " ++ decimal (asm_number f.kind) ++ codes " line " ++ decimal f.line
 fault_text fault.BadClass = codes "9 bad_class"
 fault_text fault.DoubleName = codes "10 double_name"
-fault_text fault.NotBuilt = codes "11 not_built"
 
 -- a key or a place behind a `/`
 abbrev pub step_text : PathStep → List ℕ

@@ -26,8 +26,6 @@ pub enum InputFault {
     BadClass,
     /// An earlier part or thread has the name.
     DoubleName,
-    /// The scenario is right, but the program does not run it yet.
-    NotBuilt,
 }
 
 /// A key of an object of the formats.

@@ -43,7 +43,6 @@ fn push_fault(line: &mut String, fault: InputFault) -> Result<(), NoMemory>
         InputFault::BadAsm(asm) => push_asm(line, asm.kind, asm.line)?,
         InputFault::BadClass => line.push_str("9 bad_class")?,
         InputFault::DoubleName => line.push_str("10 double_name")?,
-        InputFault::NotBuilt => line.push_str("11 not_built")?,
     }
     Ok(())
 }

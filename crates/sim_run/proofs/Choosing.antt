@@ -306,24 +306,11 @@ no_invocation thread o (Some seat) h = split (enabled seat.run.state (step.Invok
 
 -- One thread or part more of a list that is gone over.
 
-drop_at : {X : Type 0} (xs : List X) (i n : ℕ) (x : X) → slice_get xs i ≡ Some x → n ≡ suc i → drop i xs ≡ x ∷ drop n xs
+pub drop_at : {X : Type 0} (xs : List X) (i n : ℕ) (x : X) → slice_get xs i ≡ Some x → n ≡ suc i → drop i xs ≡ x ∷ drop n xs
 drop_at [] i n x h e = cc
 drop_at (y ∷ xs) zero n x h e = rw e (cc)
 drop_at (y ∷ xs) (suc i) n x h e =
     rw e (drop_at xs i (suc i) x h refl)
-
-pub threads_more : (first : ℕ) (parts : List PartSeat) (threads : List ThreadState) (i : ℕ) (t : ThreadState) (made : List ℕ)
-    → slice_get threads i ≡ Some t
-    → (made ++ actor_of_thread (first + i) parts t) ++ actors_of_threads (first + (i + 1)) parts (drop (i + 1) threads)
-    ≡ made ++ actors_of_threads (first + i) parts (drop i threads)
-unfolding actors_of_threads
-threads_more first parts threads i t made h =
-    append_assoc made (actor_of_thread (first + i) parts t) (actors_of_threads (first + (i + 1)) parts (drop (i + 1) threads))
-    ∙ ap (λ n. made ++ (actor_of_thread (first + i) parts t ++ actors_of_threads n parts (drop (i + 1) threads))) (plus first i)
-    ∙ ap (λ xs. made ++ actors_of_threads (first + i) parts xs) (sym (drop_at threads i (i + 1) t h (omega arith)))
-  where
-    plus : (n k : ℕ) → n + (k + 1) ≡ n + k + 1
-    plus n k = omega arith
 
 pub seats_more : (first : ℕ) (seats : List PartSeat) (i : ℕ) (seat : PartSeat) (made : List ℕ) → slice_get seats i ≡ Some seat
     → (made ++ actors_of_seat (first + 2 * i) seat) ++ actors_of_seats (first + 2 * (i + 1)) (drop (i + 1) seats)
@@ -336,20 +323,6 @@ seats_more first seats i seat made h =
   where
     plus : (n k : ℕ) → n + 2 * (k + 1) ≡ n + 2 * k + 2
     plus n k = omega arith
-
-pub threads_step : (parts : List PartSeat) (threads : List ThreadState) (i : ℕ) (t : ThreadState) (made now whole : List ℕ)
-    → i < length threads → t ≡ get_or threads i t → now ≡ made ++ actor_of_thread i parts t
-    → made ++ actors_of_threads (0 + i) parts (drop i threads) ≡ whole
-    → now ++ actors_of_threads (0 + (i + 1)) parts (drop (i + 1) threads) ≡ whole
-threads_step parts threads i t made now whole l r e h =
-    ap (λ xs. xs ++ actors_of_threads (0 + (i + 1)) parts (drop (i + 1) threads)) (e ∙ ap (λ n. made ++ actor_of_thread n parts t) (sym (zero-add i)))
-    ∙ threads_more 0 parts threads i t made (slice_get_read threads (length threads) i t refl l r) ∙ h
-
-pub threads_end : (parts : List PartSeat) (threads : List ThreadState) (first i : ℕ) (made whole : List ℕ) → length threads ≤ i
-    → made ++ actors_of_threads first parts (drop i threads) ≡ whole → made ≡ whole
-unfolding actors_of_threads
-threads_end parts threads first i made whole l h =
-    sym (append-nil made) ∙ ap (λ xs. made ++ actors_of_threads first parts xs) (sym (drop_of_length-le threads l)) ∙ h
 
 pub seats_step : (first : ℕ) (seats : List PartSeat) (i : ℕ) (seat : PartSeat) (made now whole : List ℕ)
     → i < length seats → seat ≡ get_or seats i seat → now ≡ made ++ actors_of_seat (first + 2 * i) seat

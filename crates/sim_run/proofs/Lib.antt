@@ -1,3 +1,4 @@
+pub mod Abling
 pub mod Advancing
 pub mod Choosing
 pub mod Ending
@@ -6,3 +7,4 @@ pub mod Objects
 pub mod Picking
 pub mod Publishing
 pub mod Reaching
+pub mod Taking

@@ -1,5 +1,5 @@
 -- The kernel objects of a part, one by one.
-use Rattle.std.proofs.Common.{◌≡◌, ℕ, suc, ◌+◌, ◌-◌, ◌<◌, ◌≤◌, List, [], ◌∷◌, ◌++◌, refl, sym, ap, ◌∙◌, arith, add-one, append-nil, append_assoc}
+use Rattle.std.proofs.Common.{◌≡◌, ℕ, suc, ◌+◌, ◌-◌, ◌<◌, List, [], ◌∷◌, ◌++◌, refl, sym, ap, ◌∙◌, arith, add-one, append-nil, append_assoc}
 use Rattle.nook_defs.specs.Pages.{object_words}
 use Rattle.report_text.specs.Whole.{objects_from}
 use Rattle.sim_run.specs.Ends.{objects_in}

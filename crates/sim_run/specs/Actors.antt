@@ -57,8 +57,11 @@ unfoldable pub actors_of_seats : ℕ → List PartSeat → List ℕ
 actors_of_seats actor [] = []
 actors_of_seats actor (seat ∷ seats) = actors_of_seat actor seat ++ actors_of_seats (actor + 2) seats
 
+abbrev pub has_step : ℕ → List PartSeat → ThreadState → Bool
+has_step thread parts t = is_some (choice_when thread parts t t.waiting)
+
 abbrev pub actor_of_thread : ℕ → List PartSeat → ThreadState → List ℕ
-actor_of_thread thread parts t = named_if (is_some (choice_when thread parts t t.waiting)) thread
+actor_of_thread thread parts t = named_if (has_step thread parts t) thread
 
 -- the threads that have a step, of which the first is given
 unfoldable pub actors_of_threads : ℕ → List PartSeat → List ThreadState → List ℕ

@@ -1,3 +1,4 @@
+pub mod Able
 pub mod Actors
 pub mod Advanced
 pub mod Ends

@@ -4,7 +4,8 @@
 //! T + 2p + 1.
 
 ghost use Rattle.std.specs.Prelude.{◌≡◌, ◌+◌, ◌≤◌, ◌++◌, length, IfOk, OnOk, Some};
-ghost use Rattle.sim_run.specs.Actors.{actor_of_thread, actors_in, actors_of_seat, actors_of_seats, actors_of_threads, choice_at, choice_behind, choice_of_seat, named_if};
+ghost use Rattle.sim_run.specs.Able.{AreAble, able_actors};
+ghost use Rattle.sim_run.specs.Actors.{actors_of_seat, actors_of_seats, choice_at, choice_behind, choice_of_seat, named_if};
 
 use crate::chosen::Chosen;
 use crate::script::Script;
@@ -12,24 +13,40 @@ use crate::seat::Seat;
 use nook_defs::memory::NoMemory;
 use std::alloc::Global;
 
-/// Makes `ready` the numbers of the actors that have a step, in rising order.
-pub fn list_ready(threads: &[Script], seats: &[Seat], ready: &mut Vec<u16>) -> Result<(), NoMemory>
-    requires threads { length threads.now ≤ 16 }
+/// Whether each thread has a step.
+pub fn able_threads(
+    alloc: Global,
+    threads: &[Script],
+    seats: &[Seat],
+) -> Result<Vec<bool>, NoMemory>
+    requires { length threads.now ≤ 16 }
+    ensures { IfOk result (λ able. AreAble seats.now threads.now able.items) }
+{
+    let mut able = Vec::with_capacity(alloc, threads.len())?;
+    for (place, thread) in threads.iter().enumerate() {
+        able.push(thread.has_step(place as u8, seats))?;
+    }
+    Ok(able)
+}
+
+/// Makes `ready` the numbers of the actors that have a step, in rising order; `able` tells which threads have one.
+pub fn list_ready(able: &[bool], seats: &[Seat], ready: &mut Vec<u16>) -> Result<(), NoMemory>
+    requires able { length able.now ≤ 16 }
     requires seats { length seats.now ≤ 8 }
-    ensures { OnOk result (ready.new.items ≡ actors_in seats.now threads.now) }
+    ensures { OnOk result (ready.new.items ≡ able_actors 0 able.now ++ actors_of_seats (length able.now) seats.now) }
 {
     ready.clear();
-    add_threads(threads, seats, ready)?;
-    add_seats(threads.len() as u16, seats, ready)
+    add_threads(able, ready)?;
+    add_seats(able.len() as u16, seats, ready)
 }
 
 /// Adds the numbers of the threads that have a step.
-fn add_threads(threads: &[Script], seats: &[Seat], ready: &mut Vec<u16>) -> Result<(), NoMemory>
-    requires { length threads.now ≤ 16 }
-    ensures { OnOk result (ready.new.items ≡ ready.old.items ++ actors_of_threads 0 seats.now threads.now) }
+fn add_threads(able: &[bool], ready: &mut Vec<u16>) -> Result<(), NoMemory>
+    requires { length able.now ≤ 16 }
+    ensures { OnOk result (ready.new.items ≡ ready.old.items ++ able_actors 0 able.now) }
 {
-    for (place, thread) in threads.iter().enumerate() {
-        push_if(ready, thread.has_step(place as u8, seats), place as u16)?;
+    for (place, is_able) in able.iter().enumerate() {
+        push_if(ready, *is_able, place as u16)?;
     }
     Ok(())
 }
@@ -51,7 +68,7 @@ fn add_seat(actor: u16, seat: &Seat, ready: &mut Vec<u16>) -> Result<(), NoMemor
     requires { actor ≤ 100 }
     ensures { OnOk result (ready.new.items ≡ ready.old.items ++ actors_of_seat actor seat.now) }
 {
-    push_if(ready, seat.recovery().is_some(), actor)?;
+    push_if(ready, seat.has_recovery(), actor)?;
     push_if(ready, seat.has_arrival(), actor + 1)
 }
 

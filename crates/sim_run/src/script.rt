@@ -2,7 +2,8 @@
 
 ghost use Rattle.std.specs.Prelude.{◌≡◌, is_some, slice_get, IfOk, None, OnOk, if◌then◌else◌};
 ghost use Rattle.nook_defs.specs.Runs.{answer_among, answer_at};
-ghost use Rattle.sim_run.specs.Actors.{choice_when};
+ghost use Rattle.sim_run.specs.Able.{concerns, is_invocation, looks_at};
+ghost use Rattle.sim_run.specs.Actors.{choice_when, has_step};
 ghost use Rattle.nook_defs.specs.Simulation.{going_on, invocation, opening_thread, started, tail_ops, told};
 
 use crate::chosen::Chosen;
@@ -51,7 +52,7 @@ impl<'a> Script<'a> {
 
     /// Whether the thread has a step: of its open call, else the invocation of its next operation.
     pub fn has_step(&self, thread: u8, seats: &[Seat]) -> bool
-        ensures { result ≡ is_some (choice_when thread seats.now self.now self.now.waiting) }
+        ensures { result ≡ has_step thread seats.now self.now }
     {
         match self.waiting {
             Some(call) => goes_on(seats, call.part, thread).is_some(),
@@ -82,6 +83,27 @@ impl<'a> Script<'a> {
                 None => Ok(None),
             },
         }
+    }
+
+    /// Whether the thread looks at the part for its next step.
+    fn looks_at(&self, part: u32) -> bool
+        ensures { result ≡ looks_at part self.now }
+    {
+        match self.waiting {
+            Some(call) => call.part == part,
+            None => match self.rest.first() {
+                Some((next, _)) => *next == part,
+                None => false,
+            },
+        }
+    }
+
+    /// Whether an event of a part concerns the thread: it looks at the part, or it invoked. Any other event leaves the
+    /// thread as it is, and what it can do too.
+    pub fn is_concerned(&self, thread: u8, part: u32, event: &Event) -> bool
+        ensures { result ≡ concerns thread part event.now self.now }
+    {
+        self.looks_at(part) || is_invocation(thread, event)
     }
 
     /// Notes an event of a part: this thread's invocation takes its next operation, and an answer to its open call is
@@ -137,6 +159,16 @@ impl<'a> Script<'a> {
         ensures { result ≡ self.entry.answers }
     {
         self.answers
+    }
+}
+
+/// Whether an event is an invocation of the thread.
+fn is_invocation(thread: u8, event: &Event) -> bool
+    ensures { result ≡ is_invocation thread event.now }
+{
+    match event {
+        Event::Invoke { thread: caller, .. } => *caller == thread,
+        _ => false,
     }
 }
 

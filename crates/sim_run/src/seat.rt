@@ -17,19 +17,25 @@ use report_text::whole_report::PartEnd;
 use std::alloc::Global;
 use std::marker::Model;
 
-/// A part and the frames that have not arrived.
+/// A part and the frames that have not arrived. Whether its actors have a step is found once behind each step.
 #[derive(Drop)]
 pub struct Seat<'a> {
     part: Part,
     coming: &'a [Words],
+    has_recovery: bool,
+    has_arrival: bool,
 }
 
 impl<'a> Model for Seat<'a> {
-    ghost use Rattle.nook_defs.specs.Simulation.{PartSeat};
+    ghost use Rattle.std.specs.Prelude.{◌≡◌, is_some};
+    ghost use Rattle.nook_defs.specs.Runs.{next_recovery};
+    ghost use Rattle.nook_defs.specs.Simulation.{PartSeat, arrival};
 
     ghost Value = { PartSeat };
 
     ghost view = { λ s. record { run = s.part; coming = s.coming.now } };
+
+    ghost invariant = { λ s. (s.has_recovery ≡ is_some (next_recovery s.part.state)) × (s.has_arrival ≡ is_some (arrival s.part s.coming.now)) };
 }
 
 impl<'a> Seat<'a> {
@@ -39,9 +45,14 @@ impl<'a> Seat<'a> {
         ensures { IfOk result (λ seat. seat ≡ opening_seat spec.now) }
     {
         let part = Part::new(alloc, spec.copy(alloc)?)?;
+        let coming = spec.arrivals.as_slice();
+        let has_recovery = part.next_recovery().is_some();
+        let has_arrival = may_arrive(&part, coming);
         Ok(Seat {
             part,
-            coming: spec.arrivals.as_slice(),
+            coming,
+            has_recovery,
+            has_arrival,
         })
     }
 
@@ -75,15 +86,18 @@ impl<'a> Seat<'a> {
         self.part.next_recovery()
     }
 
+    /// Whether the boot or a recovery has a step.
+    pub fn has_recovery(&self) -> bool
+        ensures { result ≡ is_some (next_recovery self.now.run.state) }
+    {
+        self.has_recovery
+    }
+
     /// Whether a frame is left and may arrive now.
-    #[tactic(auto, unfolding(nook_defs::specs::Steps::enabled))]
     pub fn has_arrival(&self) -> bool
         ensures { result ≡ is_some (arrival self.now.run self.now.coming) }
     {
-        match self.coming.split_first() {
-            Some((frame, _)) => self.part.can_arrive(frame),
-            None => false,
-        }
+        self.has_arrival
     }
 
     /// The arrival of the next frame, where one is left and may arrive now.
@@ -112,6 +126,8 @@ impl<'a> Seat<'a> {
             return Err(NoMemory);
         }
         self.coming = coming;
+        self.has_recovery = self.part.next_recovery().is_some();
+        self.has_arrival = may_arrive(&self.part, coming);
         Ok(())
     }
 
@@ -129,6 +145,17 @@ impl<'a> Seat<'a> {
         ensures { result.list ≡ self.entry.run.journal }
     {
         self.part.into_journal()
+    }
+}
+
+/// Whether a frame is left and may arrive now.
+#[tactic(auto, unfolding(nook_defs::specs::Steps::enabled))]
+fn may_arrive(part: &Part, coming: &[Words]) -> bool
+    ensures { result ≡ is_some (arrival part.now coming.now) }
+{
+    match coming.split_first() {
+        Some((frame, _)) => part.can_arrive(frame),
+        None => false,
     }
 }
 

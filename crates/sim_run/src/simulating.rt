@@ -1,9 +1,11 @@
 //! A run as it stands: its schedule, its parts and its threads.
 
-ghost use Rattle.std.specs.Prelude.{◌≡◌, ◌≤◌, ◌<◌, All, IfOk, OnOk, length, map, slice_get};
+ghost use Rattle.std.specs.Prelude.{◌≡◌, ◌≤◌, ◌<◌, false, All, IfOk, OnOk, length, map, slice_get};
 ghost use Rattle.nook_defs.specs.Schedules.{picked};
-ghost use Rattle.nook_defs.specs.Simulation.{answer_table, answers_of, begins, journal_of, journals_of, opening_seat, opening_thread, stepped_by, threads_after};
+ghost use Rattle.nook_defs.specs.Simulation.{answer_table, answers_of, begins, journal_of, journals_of, opening_seat, opening_thread, started, stepped_by, threads_after, told};
 ghost use Rattle.nook_defs.specs.Valid.{IsValidPart, IsValidScenario};
+ghost use Rattle.sim_run.specs.Able.{AreAble, AreAbleUpTo, concerns};
+ghost use Rattle.sim_run.specs.Actors.{has_step};
 ghost use Rattle.sim_run.specs.Advanced.{IsAdvanced, IsPick, IsSteppedSeat, IsTaken, standing};
 ghost use Rattle.sim_run.specs.Ends.{ends_of};
 ghost use Rattle.sim_run.specs.Published.{HearsChoice, HearsStep, made_of};
@@ -11,7 +13,7 @@ ghost use Rattle.request_taps.specs.Bus.{seen};
 ghost use Rattle.sim_run.specs.Reached.{IsOpenChoice, MayTake};
 ghost use Rattle.sim_run.specs.Whole.{events_in};
 
-use crate::actors::{choice_of, list_ready};
+use crate::actors::{able_threads, choice_of, list_ready};
 use crate::chosen::Chosen;
 use crate::script::Script;
 use crate::seat::Seat;
@@ -40,19 +42,23 @@ pub struct Simulating<'a> {
     schedule: Schedule,
     seats: Vec<Seat<'a>>,
     threads: Vec<Script<'a>>,
+    /// Whether each thread has a step; none where that is to be found anew.
+    able: Option<Vec<bool>>,
     /// Room for the numbers of the actors that have a step.
     ready: Vec<u16>,
 }
 
 impl<'a> Model for Simulating<'a> {
-    ghost use Rattle.std.specs.Prelude.{◌≤◌, length};
+    ghost use Rattle.std.specs.Prelude.{◌≤◌, length, IfSome};
     ghost use Rattle.nook_defs.specs.Simulation.{Simulation};
+    ghost use Rattle.sim_run.specs.Able.{AreAble};
 
     ghost Value = { Simulation };
 
     ghost view = { λ s. record { order = s.schedule; parts = s.seats.items; threads = s.threads.items } };
 
-    ghost invariant = { λ s. (length s.seats.items ≤ 8) × (length s.threads.items ≤ 16) };
+    ghost invariant = { λ s. (length s.seats.items ≤ 8) × (length s.threads.items ≤ 16)
+        × IfSome s.able (λ able. AreAble s.seats.items s.threads.items able.items) };
 }
 
 impl<'a> Simulating<'a> {
@@ -70,6 +76,7 @@ impl<'a> Simulating<'a> {
             schedule,
             seats,
             threads,
+            able: None,
             ready: Vec::new(alloc),
         })
     }
@@ -80,20 +87,31 @@ impl<'a> Simulating<'a> {
         ensures advanced { IfOk result (λ some. IsAdvanced self.old some self.new) }
         ensures heard { HearsStep self.old result (map (seen L.listening) taps.old) (map (seen L.listening) taps.new) }
     {
+        let mut able = match self.able.take() {
+            Some(able) => able,
+            None => able_threads(self.alloc, &self.threads, &self.seats)?,
+        };
         let chosen = pick(
             self.alloc,
             &mut self.schedule,
             &self.threads,
             &self.seats,
+            &able,
             &mut self.ready,
         )?;
-        match chosen {
-            Some(chosen) => {
-                take(self.alloc, &mut self.seats, &mut self.threads, taps, chosen)?;
-                Ok(true)
-            }
-            None => Ok(false),
+        let has_step = chosen.is_some();
+        if let Some(chosen) = chosen {
+            take(
+                self.alloc,
+                &mut self.seats,
+                &mut self.threads,
+                &mut able,
+                taps,
+                chosen,
+            )?;
         }
+        self.able = Some(able);
+        Ok(has_step)
     }
 
     /// What the run left: one journal a part and what the part ends in, each thread's answers, and the totals of its
@@ -141,14 +159,16 @@ fn pick(
     schedule: &mut Schedule,
     threads: &[Script],
     seats: &[Seat],
+    able: &[bool],
     ready: &mut Vec<u16>,
 ) -> Result<Option<Chosen>, NoMemory>
     requires threads { length threads.now ≤ 16 }
     requires seats { length seats.now ≤ 8 }
+    requires able { AreAble seats.now threads.now able.now }
     ensures { IfOk result (λ choice. IsPick
         (standing schedule.old seats.now threads.now) choice (standing schedule.new seats.now threads.now)) }
 {
-    list_ready(threads, seats, ready)?;
+    list_ready(able, seats, ready)?;
     if ready.is_empty() {
         return Ok(None);
     }
@@ -173,22 +193,26 @@ fn take<L: Listener>(
     alloc: Global,
     seats: &mut [Seat],
     threads: &mut [Script],
+    able: &mut [bool],
     taps: &mut Bus<L>,
     chosen: Chosen,
 ) -> Result<(), NoMemory>
     requires choice { IsOpenChoice seats.old chosen }
     requires seats { length seats.old ≤ 8 }
     requires threads { length threads.old ≤ 16 }
+    requires able { AreAble seats.old threads.old able.old }
     ensures heard { HearsChoice (made_of chosen (slice_get seats.old chosen.part)) result
         (map (seen L.listening) taps.old) (map (seen L.listening) taps.new) }
     ensures taken { OnOk result (IsTaken (slice_get seats.old chosen.part) chosen seats.old threads.old seats.new threads.new) }
+    ensures able { OnOk result (AreAble seats.new threads.new able.new) }
 {
     let part = chosen.part();
     let place = part as usize;
     take_at(seats, place, chosen.into_step())?;
+    let seats = &*seats;
     let event = seats[place].newest();
     taps.publish(part as u8, event);
-    hear_all(alloc, threads, part, event)
+    hear_all(alloc, threads, able, seats, part, event)
 }
 
 /// Each part at the start of its boot.
@@ -222,13 +246,51 @@ fn take_at(seats: &mut [Seat], place: usize, step: Step) -> Result<(), NoMemory>
     seats[place].take(step)
 }
 
-/// Each thread notes an event of a part.
-fn hear_all(alloc: Global, threads: &mut [Script], part: u32, event: &Event) -> Result<(), NoMemory>
-    requires { length threads.old ≤ 16 }
-    ensures { OnOk result (threads.new ≡ threads_after 0 part event.now threads.old) }
+/// Each thread notes an event of a part, and `able` tells of those that it concerns anew whether they have a step.
+fn hear_all(
+    alloc: Global,
+    threads: &mut [Script],
+    able: &mut [bool],
+    seats: &[Seat],
+    part: u32,
+    event: &Event,
+) -> Result<(), NoMemory>
+    requires few { length threads.old ≤ 16 }
+    requires able { AreAbleUpTo 0 part event.now seats.now threads.old able.old }
+    ensures threads { OnOk result (threads.new ≡ threads_after 0 part event.now threads.old) }
+    ensures able { OnOk result (AreAble seats.now threads.new able.new) }
 {
     for place in 0..threads.len() {
-        threads[place].hear(alloc, place as u8, part, event)?;
+        hear(
+            alloc,
+            place as u8,
+            &mut threads[place],
+            &mut able[place],
+            seats,
+            part,
+            event,
+        )?;
+    }
+    Ok(())
+}
+
+/// A thread notes an event of a part, where that concerns it; `able` tells whether it has a step.
+fn hear(
+    alloc: Global,
+    number: u8,
+    thread: &mut Script,
+    able: &mut bool,
+    seats: &[Seat],
+    part: u32,
+    event: &Event,
+) -> Result<(), NoMemory>
+    requires { concerns number part event.now thread.old ≡ false → able.old ≡ has_step number seats.now thread.old }
+    ensures thread { OnOk result (thread.new ≡ told part event.now (started number part event.now thread.old)) }
+    ensures able { OnOk result (able.new ≡ has_step number seats.now thread.new) }
+{
+    if thread.is_concerned(number, part, event) {
+        thread.hear(alloc, number, part, event)?;
+        *able = thread.has_step(number, seats);
     }
     Ok(())
 }

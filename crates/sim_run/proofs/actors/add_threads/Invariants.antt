@@ -1,8 +1,7 @@
-use Rattle.std.proofs.Common.{◌≡◌, ◌+◌, ◌++◌, drop}
-use Rattle.sim_run.specs.Actors.{actors_of_threads}
+use Rattle.std.proofs.Common.{◌≡◌, ◌++◌, drop}
+use Rattle.sim_run.specs.Able.{able_actors}
 use Rattle.sim_run.proofs.actors.add_threads.Given as goal
 
 abbrev pub invariant-loop-place : goal.invariant-loop-place
 invariant-loop-place l =
-    l.ready.items ++ actors_of_threads (0 + l.place) l.seats (drop l.place l.threads)
-    ≡ l.initial.ready.items ++ actors_of_threads 0 l.seats l.threads
+    l.ready.items ++ able_actors l.place (drop l.place l.able) ≡ l.initial.ready.items ++ able_actors 0 l.able

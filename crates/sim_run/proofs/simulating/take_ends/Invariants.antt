@@ -1,4 +1,4 @@
-use Rattle.std.proofs.Common.{◌≡◌, take, map}
+use Rattle.std.proofs.Common.{◌≡◌, take}
 use Rattle.sim_run.specs.Ends.{ends_of}
 use Rattle.sim_run.proofs.simulating.take_ends.Given as goal
 

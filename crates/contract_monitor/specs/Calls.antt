@@ -1,4 +1,4 @@
-use Rattle.std.specs.Prelude.{◌≡◌, ℕ, suc, ◌<◌, ◌⊎◌, List, Option, Some, None}
+use Rattle.std.specs.Prelude.{◌≡◌, ℕ, suc, ◌<◌, ◌++◌, ◌⊎◌, false, List, [], ◌∷◌, Option, Some, None}
 use Rattle.nook_defs.specs.Contract.{Watched, enters, leaves, sent_once, played_one, handed_one, failed_at}
 use Rattle.nook_defs.specs.Losses.{Counted, count_sent, count_played, count_answered}
 use Rattle.nook_defs.specs.Places.{change_number}
@@ -54,3 +54,14 @@ counted_change changed.Sent c = count_sent c
 counted_change changed.Counted c = count_played c
 counted_change changed.Answered c = count_answered c
 counted_change change c = c
+
+-- no call is Inside
+unfoldable pub AreOutside : List Call → Type 0
+AreOutside [] = Unit {0}
+AreOutside (c ∷ calls) = (c.inside ≡ false) × AreOutside calls
+
+-- the calls are these behind others of which none is Inside
+pub record SettledBefore (calls rest : List Call) : Type 0 where
+  pub before : List Call
+  pub whole : calls ≡ before ++ rest
+  pub outside : AreOutside before

@@ -6,7 +6,7 @@ ghost use Rattle.nook_defs.specs.Losses.{count_acts};
 ghost use Rattle.contract_monitor.specs.Knowing.{saw_act, saw_played, saw_popped, saw_register, saw_sent, saw_store};
 
 use crate::blocks::set_block;
-use crate::calls::{Change, change_call, more};
+use crate::calls::{Change, more};
 use crate::clauses::wanted;
 use crate::known::Known;
 use crate::watching::{
@@ -36,11 +36,8 @@ impl Known {
         match act {
             Act::Load { .. } => Ok(()),
             Act::Failed { block, .. } => {
-                change_call(
-                    &mut self.calls,
-                    u64::from(call),
-                    Change::Failed { block: *block },
-                )
+                self.calls
+                    .change(u64::from(call), Change::Failed { block: *block })
             }
             Act::Store { block, words } => self.see_store(*block, words),
             Act::Sent { frame } => self.see_sent(call, frame),
@@ -74,7 +71,7 @@ impl Known {
         let own = is_own_frame(frame.as_slice(), &self.calls, number);
         let first = is_first_frame(&self.calls, number);
         self.clause = wanted(own, 5, wanted(first, 6, self.clause));
-        change_call(&mut self.calls, number, Change::Sent)
+        self.calls.change(number, Change::Sent)
     }
 
     /// The driver took the ring's first frame.
@@ -95,8 +92,8 @@ impl Known {
         let number = playing(&self.calls);
         let next = is_next_of(sample, &self.calls, number);
         self.clause = wanted(next, 10, self.clause);
-        change_call(&mut self.calls, number, Change::Played)?;
-        change_call(&mut self.calls, u64::from(call), Change::Counted)
+        self.calls.change(number, Change::Played)?;
+        self.calls.change(u64::from(call), Change::Counted)
     }
 
     /// A register got a value.

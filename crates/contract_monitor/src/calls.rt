@@ -1,16 +1,17 @@
 //! Every call at the place of its number, with what the contract's monitor knows of it and what is counted of it.
 
-ghost use Rattle.std.specs.Prelude.{◌≡◌, ◌+◌, ◌++◌, ◌∷◌, [], ℕ, None, Some, MatchOption, length, map, OnOk, IfOk};
+ghost use Rattle.std.specs.Prelude.{◌≡◌, ◌≤◌, ◌+◌, ◌++◌, ◌∷◌, [], ℕ, List, None, Some, MatchOption, length, map, take, OnErr, OnOk, IfOk};
 ghost use Rattle.nook_defs.specs.Contract.{enters, leaves, failed_at, handed_one, played_one, sent_once, watched};
 ghost use Rattle.nook_defs.specs.Losses.{count_answered, count_played, count_sent, counted};
 ghost use Rattle.nook_defs.specs.Places.{at_number};
-ghost use Rattle.contract_monitor.specs.Calls.{IsPlaceOf, counted_calls, counted_change, counted_of, watched_calls, watched_change, watched_of};
+ghost use Rattle.contract_monitor.specs.Calls.{AreOutside, IsPlaceOf, SettledBefore, counted_calls, counted_change, counted_of, watched_calls, watched_change, watched_of};
 
 use nook_defs::data::Op;
 use nook_defs::lists::TryCopy;
 use nook_defs::memory::NoMemory;
 use std::alloc::Global;
 use std::collections::VecDeque;
+use std::marker::Model;
 
 /// A call. `counted` are the samples that were played in its bursts, and `played` those that were its next ones.
 #[derive(Drop)]
@@ -61,48 +62,122 @@ fn place_of(number: u64, count: usize) -> Option<usize>
     Some(number as usize - 1)
 }
 
-/// The call with a number.
-pub fn find_call(calls: &[Call], number: u64) -> Option<&Call>
-    ensures watched { MatchOption result (at_number number (map watched_of calls.now) ≡ None) (λ c. at_number number (map watched_of calls.now) ≡ Some (watched_of c.now)) }
-    ensures counted { MatchOption result (at_number number (map counted_of calls.now) ≡ None) (λ c. at_number number (map counted_of calls.now) ≡ Some (counted_of c.now)) }
+/// The place of the first call from a place on that is Inside; the end where none is.
+fn first_inside(calls: &[Call], from: usize) -> usize
+    requires { from ≤ length calls.now }
+    ensures within { result ≤ length calls.now }
+    ensures outside { AreOutside (take from calls.now) → AreOutside (take result calls.now) }
 {
-    let place = place_of(number, calls.len())?;
-    Some(&calls[place])
+    for place in from..calls.len() {
+        if calls[place].inside {
+            return place;
+        }
+    }
+    calls.len()
 }
 
-/// Adds an invoked call.
-pub fn add_call(alloc: Global, calls: &mut Vec<Call>, op: &Op) -> Result<(), NoMemory>
-    ensures watched { OnOk result (map watched_of calls.new.items ≡ map watched_of calls.old.items ++ watched op.now ∷ []) }
-    ensures counted { OnOk result (map counted_of calls.new.items ≡ map counted_of calls.old.items ++ counted op.now ∷ []) }
-{
-    calls.push(Call {
-        op: op.copy(alloc)?,
-        inside: false,
-        sent: 0,
-        played: 0,
-        handed: false,
-        failed: VecDeque::new(alloc),
-        counted: 0,
-        answered: false,
-    })?;
-    Ok(())
+/// Every call at the place of its number. Contracts see them all.
+#[derive(Drop)]
+pub struct Calls {
+    all: Vec<Call>,
+    /// The calls before this place are not Inside.
+    settled: usize,
 }
 
-/// Changes the call with a number, where there is one.
-pub fn change_call(calls: &mut [Call], number: u64, change: Change) -> Result<(), NoMemory>
-    ensures watched { OnOk result (map watched_of calls.new ≡ watched_calls change number (map watched_of calls.old)) }
-    ensures counted { OnOk result (map counted_of calls.new ≡ counted_calls change number (map counted_of calls.old)) }
-{
-    let Some(place) = place_of(number, calls.len()) else {
-        return Ok(());
-    };
-    change_one(&mut calls[place], change)
+impl Model for Calls {
+    ghost use Rattle.std.specs.Prelude.{◌≤◌, List, length, take};
+    ghost use Rattle.contract_monitor.specs.Calls.{AreOutside};
+    ghost use Rattle.contract_monitor.specs.declared.calls.Call.{Call};
+
+    ghost Value = { List Call };
+
+    ghost view = { λ s. s.all.items };
+
+    ghost invariant = { λ s. (s.settled ≤ length s.all.items) × AreOutside (take s.settled s.all.items) };
 }
 
-/// Changes a call.
+impl Calls {
+    /// No calls.
+    pub fn new(alloc: Global) -> Calls
+        ensures { result ≡ [] }
+    {
+        Calls {
+            all: Vec::new(alloc),
+            settled: 0,
+        }
+    }
+
+    /// The call with a number.
+    pub fn find(&self, number: u64) -> Option<&Call>
+        ensures watched { MatchOption result (at_number number (map watched_of self.now) ≡ None) (λ c. at_number number (map watched_of self.now) ≡ Some (watched_of c.now)) }
+        ensures counted { MatchOption result (at_number number (map counted_of self.now) ≡ None) (λ c. at_number number (map counted_of self.now) ≡ Some (counted_of c.now)) }
+    {
+        let place = place_of(number, self.all.len())?;
+        Some(&self.all[place])
+    }
+
+    /// The calls that may be Inside: none of those before them is. There are at most as many calls Inside as threads,
+    /// so these are few, however many calls came before.
+    pub fn unsettled(&self) -> &[Call]
+        ensures { SettledBefore self.now result.now }
+    {
+        let (_, rest) = self.all.split_at(self.settled);
+        rest
+    }
+
+    /// How many calls there are.
+    pub fn len(&self) -> usize
+        ensures { result ≡ length self.now }
+    {
+        self.all.len()
+    }
+
+    /// Adds an invoked call.
+    pub fn add(&mut self, alloc: Global, op: &Op) -> Result<(), NoMemory>
+        ensures watched { OnOk result (map watched_of self.new ≡ map watched_of self.old ++ watched op.now ∷ []) }
+        ensures counted { OnOk result (map counted_of self.new ≡ map counted_of self.old ++ counted op.now ∷ []) }
+    {
+        self.all.push(Call {
+            op: op.copy(alloc)?,
+            inside: false,
+            sent: 0,
+            played: 0,
+            handed: false,
+            failed: VecDeque::new(alloc),
+            counted: 0,
+            answered: false,
+        })?;
+        Ok(())
+    }
+
+    /// Changes the call with a number, where there is one.
+    pub fn change(&mut self, number: u64, change: Change) -> Result<(), NoMemory>
+        ensures watched { OnOk result (map watched_of self.new ≡ watched_calls change number (map watched_of self.old)) }
+        ensures counted { OnOk result (map counted_of self.new ≡ counted_calls change number (map counted_of self.old)) }
+    {
+        let Some(place) = place_of(number, self.all.len()) else {
+            return Ok(());
+        };
+        change_one(&mut self.all[place], change)?;
+        self.settled = first_inside(&self.all, self.settled.min(place));
+        Ok(())
+    }
+
+    /// No call is Inside any more.
+    pub fn leave_all(&mut self)
+        ensures watched { map watched_of self.new ≡ map leaves (map watched_of self.old) }
+        ensures counted { map counted_of self.new ≡ map counted_of self.old }
+    {
+        leave_all(&mut self.all);
+        self.settled = self.all.len();
+    }
+}
+
+/// Changes a call. Where memory is wanting, it is Inside exactly where it was.
 fn change_one(call: &mut Call, change: Change) -> Result<(), NoMemory>
     ensures watched { OnOk result (watched_of call.new ≡ watched_change change (watched_of call.old)) }
     ensures counted { OnOk result (counted_of call.new ≡ counted_change change (counted_of call.old)) }
+    ensures err { OnErr result (call.new.inside ≡ call.old.inside) }
 {
     match change {
         Change::Enter { inside } => {
@@ -122,9 +197,10 @@ fn change_one(call: &mut Call, change: Change) -> Result<(), NoMemory>
 }
 
 /// No call is Inside any more.
-pub fn leave_all(calls: &mut [Call])
+fn leave_all(calls: &mut [Call])
     ensures watched { map watched_of calls.new ≡ map leaves (map watched_of calls.old) }
     ensures counted { map counted_of calls.new ≡ map counted_of calls.old }
+    ensures outside { AreOutside calls.new }
 {
     for call in calls {
         call.inside = false;

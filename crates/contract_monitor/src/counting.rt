@@ -6,7 +6,7 @@ ghost use Rattle.nook_defs.specs.Places.{at_number};
 ghost use Rattle.contract_monitor.specs.Calls.{counted_of};
 ghost use Rattle.contract_monitor.specs.Knowing.{saw_arrival, saw_enter, saw_invoke};
 
-use crate::calls::{Call, Change, add_call, change_call, find_call, more};
+use crate::calls::{Call, Calls, Change, more};
 use crate::known::Known;
 use nook_defs::data::{Answer, End, Op};
 use nook_defs::lists::{TryCopy, Words};
@@ -17,14 +17,14 @@ impl Known {
     pub fn add(&mut self, op: &Op) -> Result<(), NoMemory>
         ensures { OnOk result (self.new ≡ saw_invoke op.now self.old) }
     {
-        add_call(self.alloc, &mut self.calls, op)
+        self.calls.add(self.alloc, op)
     }
 
     /// A call is entered; `inside` tells that it got no answer.
     pub fn enter(&mut self, call: u32, inside: bool) -> Result<(), NoMemory>
         ensures { OnOk result (self.new ≡ saw_enter call inside self.old) }
     {
-        change_call(&mut self.calls, u64::from(call), Change::Enter { inside })
+        self.calls.change(u64::from(call), Change::Enter { inside })
     }
 
     /// A frame arrived, and the ring kept it or had no room.
@@ -92,7 +92,7 @@ impl Known {
         self.tally.samples = more(self.tally.samples, samples)?;
         self.tally.busy = more(self.tally.busy, busy_in(answer))?;
         self.tally.received = more(self.tally.received, frames_in(answer))?;
-        change_call(&mut self.calls, number, Change::Answered)
+        self.calls.change(number, Change::Answered)
     }
 }
 
@@ -124,13 +124,13 @@ fn frames_in(answer: &Answer) -> u64
 }
 
 /// 1 where this is a Send's first answer, and Done, and no frame was sent.
-fn lost_sends(calls: &[Call], number: u64, answer: &Answer) -> u64
+fn lost_sends(calls: &Calls, number: u64, answer: &Answer) -> u64
     ensures { result ≡ sends_of (is_done answer.now) (at_number number (map counted_of calls.now)) }
 {
     if !is_done(answer) {
         return 0;
     }
-    match find_call(calls, number) {
+    match calls.find(number) {
         Some(call) => sends_lost_by(call),
         None => 0,
     }
@@ -150,13 +150,13 @@ fn sends_lost_by(call: &Call) -> u64
 }
 
 /// Where this is a Play's first answer, and Done, the samples that were not played.
-fn lost_samples(calls: &[Call], number: u64, answer: &Answer) -> u64
+fn lost_samples(calls: &Calls, number: u64, answer: &Answer) -> u64
     ensures { result ≡ samples_of (is_done answer.now) (at_number number (map counted_of calls.now)) }
 {
     if !is_done(answer) {
         return 0;
     }
-    match find_call(calls, number) {
+    match calls.find(number) {
         Some(call) => samples_lost_by(call),
         None => 0,
     }

@@ -8,7 +8,7 @@ ghost use Rattle.nook_defs.specs.Places.{at_number};
 ghost use Rattle.contract_monitor.specs.Calls.{watched_of};
 
 use crate::blocks::{get_blocks, has_block, holds, is_prefix};
-use crate::calls::{Call, Change, change_call, find_call, leave_all, more};
+use crate::calls::{Call, Change, more};
 use crate::clauses::wanted;
 use crate::known::{Known, in_driver, in_ring};
 use crate::watching::{hands_up, is_replayed, register};
@@ -59,7 +59,7 @@ impl Known {
         self.handed.push(moved.copy(self.alloc)?)?;
         let front = is_prefix(&self.handed, &self.popped);
         self.clause = wanted(front, 8, self.clause);
-        change_call(&mut self.calls, u64::from(call), Change::Handed)
+        self.calls.change(u64::from(call), Change::Handed)
     }
 
     /// A reply was accepted.
@@ -70,7 +70,7 @@ impl Known {
         match answer {
             Some(answer) => {
                 self.clause = self.owed(call, answer)?;
-                change_call(&mut self.calls, u64::from(call), Change::Leave)
+                self.calls.change(u64::from(call), Change::Leave)
             }
             None => {
                 let replayed = is_replayed(&self.replay, &self.registers);
@@ -85,7 +85,7 @@ impl Known {
     fn owed(&self, call: u32, answer: &Answer) -> Result<Option<u8>, NoMemory>
         ensures { IfOk result (λ clause. clause ≡ owes_found (at_number call self.now.watch.calls) answer.now self.now.watch) }
     {
-        match find_call(&self.calls, u64::from(call)) {
+        match self.calls.find(u64::from(call)) {
             Some(call) => self.owes(call, answer),
             None => Ok(self.clause),
         }
@@ -173,7 +173,7 @@ impl Known {
         ensures counts { OnOk result (self.new.counts ≡ count_stage stage self.old.counts) }
     {
         match stage {
-            Stage::Stop => leave_all(&mut self.calls),
+            Stage::Stop => self.calls.leave_all(),
             Stage::Reset => self.see_reset()?,
             Stage::Load => {
                 self.popped.clear();

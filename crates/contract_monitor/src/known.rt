@@ -5,7 +5,7 @@ ghost use Rattle.nook_defs.specs.Losses.{told};
 ghost use Rattle.contract_monitor.specs.Knowing.{knows_first, saw_event};
 
 use crate::blocks::blank_blocks;
-use crate::calls::Call;
+use crate::calls::Calls;
 use class_table::defaults_of;
 use nook_defs::data::{Class, Event, Losses};
 use nook_defs::lists::Words;
@@ -44,7 +44,7 @@ pub struct Known {
     pub registers: [u32; 4],
     pub popped: Vec<Words>,
     pub handed: Vec<Words>,
-    pub calls: Vec<Call>,
+    pub calls: Calls,
     pub replay: Option<(u32, u32)>,
     pub clause: Option<u8>,
     pub tally: Tally,
@@ -65,12 +65,12 @@ impl Model for Known {
         registers = s.registers;
         popped = s.popped.items;
         handed = s.handed.items;
-        calls = map watched_of s.calls.items;
+        calls = map watched_of s.calls;
         replay = s.replay;
         clause = s.clause;
       };
       counts = record {
-        calls = map counted_of s.calls.items;
+        calls = map counted_of s.calls;
         sends = s.tally.sends;
         samples = s.tally.samples;
         busy = s.tally.busy;
@@ -102,7 +102,7 @@ impl Known {
             registers: defaults_of(class),
             popped: Vec::new(alloc),
             handed: Vec::new(alloc),
-            calls: Vec::new(alloc),
+            calls: Calls::new(alloc),
             replay: None,
             clause: None,
             tally: Tally {

@@ -8,7 +8,7 @@ ghost use Rattle.contract_monitor.specs.Calls.{watched_of};
 ghost use Rattle.contract_monitor.specs.Questions.{agrees, is_set_inside};
 
 use crate::blocks::{covers, words_for};
-use crate::calls::{Call, find_call};
+use crate::calls::{Call, Calls};
 use nook_defs::data::Op;
 
 /// Whether a call is a Write that is Inside and covers the block.
@@ -19,7 +19,14 @@ fn stores_at(block: u64, call: &Call) -> bool
 }
 
 /// Whether a Write that is Inside covers the block.
-pub fn is_covered(block: u64, calls: &[Call]) -> bool
+pub fn is_covered(block: u64, calls: &Calls) -> bool
+    ensures { result ≡ is_covered block (map watched_of calls.now) }
+{
+    covered_among(block, calls.unsettled())
+}
+
+/// The same of some calls.
+fn covered_among(block: u64, calls: &[Call]) -> bool
     ensures { result ≡ is_covered block (map watched_of calls.now) }
 {
     for call in calls {
@@ -38,7 +45,14 @@ fn agrees(block: u64, words: &[u32], call: &Call) -> bool
 }
 
 /// Whether each Write that is Inside and covers the block has these words for it.
-pub fn is_agreed(block: u64, words: &[u32], calls: &[Call]) -> bool
+pub fn is_agreed(block: u64, words: &[u32], calls: &Calls) -> bool
+    ensures { result ≡ is_agreed block words.now (map watched_of calls.now) }
+{
+    agreed_among(block, words, calls.unsettled())
+}
+
+/// The same of some calls.
+fn agreed_among(block: u64, words: &[u32], calls: &[Call]) -> bool
     ensures { result ≡ is_agreed block words.now (map watched_of calls.now) }
 {
     for call in calls {
@@ -60,20 +74,20 @@ fn sends(frame: &[u32], op: &Op) -> bool
 }
 
 /// Whether the call with a number sends this frame.
-pub fn is_own_frame(frame: &[u32], calls: &[Call], number: u64) -> bool
+pub fn is_own_frame(frame: &[u32], calls: &Calls, number: u64) -> bool
     ensures { result ≡ is_own_frame frame.now (at_number number (map watched_of calls.now)) }
 {
-    match find_call(calls, number) {
+    match calls.find(number) {
         Some(call) => sends(frame, &call.op),
         None => false,
     }
 }
 
 /// Whether no frame was sent yet in the bursts of the call with a number.
-pub fn is_first_frame(calls: &[Call], number: u64) -> bool
+pub fn is_first_frame(calls: &Calls, number: u64) -> bool
     ensures { result ≡ is_first_frame (at_number number (map watched_of calls.now)) }
 {
-    match find_call(calls, number) {
+    match calls.find(number) {
         Some(call) => call.sent == 0,
         None => true,
     }
@@ -87,7 +101,19 @@ fn is_playing(call: &Call) -> bool
 }
 
 /// The number of the first Play that is Inside, 0 where there is none.
-pub fn playing(calls: &[Call]) -> u64
+pub fn playing(calls: &Calls) -> u64
+    ensures { result ≡ number_where is_playing (map watched_of calls.now) }
+{
+    let rest = calls.unsettled();
+    let number = playing_among(rest);
+    if number == 0 {
+        return 0;
+    }
+    (calls.len() - rest.len()) as u64 + number
+}
+
+/// The same among some calls.
+fn playing_among(calls: &[Call]) -> u64
     ensures { result ≡ number_where is_playing (map watched_of calls.now) }
 {
     for i in 0..calls.len() {
@@ -111,10 +137,10 @@ fn is_next(op: &Op, played: u64, word: u32) -> bool
 }
 
 /// Whether a word is the next sample of the call with a number.
-pub fn is_next_of(word: u32, calls: &[Call], number: u64) -> bool
+pub fn is_next_of(word: u32, calls: &Calls, number: u64) -> bool
     ensures { result ≡ is_next_of word (at_number number (map watched_of calls.now)) }
 {
-    match find_call(calls, number) {
+    match calls.find(number) {
         Some(call) => is_next(&call.op, call.played, word),
         None => false,
     }
@@ -141,7 +167,14 @@ fn sets(key: u32, value: u32, op: &Op) -> bool
 }
 
 /// Whether a Set of the key and value is Inside.
-pub fn is_setting(key: u32, value: u32, calls: &[Call]) -> bool
+pub fn is_setting(key: u32, value: u32, calls: &Calls) -> bool
+    ensures { result ≡ is_setting key value (map watched_of calls.now) }
+{
+    setting_among(key, value, calls.unsettled())
+}
+
+/// The same of some calls.
+fn setting_among(key: u32, value: u32, calls: &[Call]) -> bool
     ensures { result ≡ is_setting key value (map watched_of calls.now) }
 {
     for call in calls {

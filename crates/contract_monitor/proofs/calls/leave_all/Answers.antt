@@ -1,7 +1,8 @@
-use Rattle.std.proofs.Common.{map, ◌∙◌, ap}
+use Rattle.std.proofs.Common.{map, ◌∙◌, ap, subst, sym}
 use Rattle.std.proofs.lemmas.List.Edits.{map_over_more}
-use Rattle.contract_monitor.specs.Calls.{watched_of, counted_of}
+use Rattle.contract_monitor.specs.Calls.{AreOutside, watched_of, counted_of}
 use Rattle.contract_monitor.proofs.Changes.{all_left, counted_left, left, watched_left}
+use Rattle.contract_monitor.proofs.Settled.{outside_left}
 use Rattle.contract_monitor.proofs.calls.leave_all.Goals as goal
 
 pub loop-call-preserved : goal.loop-call-preserved
@@ -16,3 +17,7 @@ returns-clause-watched c =
 pub returns-clause-counted : goal.returns-clause-counted
 returns-clause-counted c =
     ap (map counted_of) (all_left _ _ _ c.loop-call-test.false c.loop-call.invariant) ∙ counted_left c.args.calls.now
+
+pub returns-clause-outside : goal.returns-clause-outside
+returns-clause-outside c =
+    subst AreOutside (sym (all_left c.args.calls.now _ _ c.loop-call-test.false c.loop-call.invariant)) (outside_left c.args.calls.now)

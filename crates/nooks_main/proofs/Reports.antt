@@ -28,7 +28,7 @@ use Rattle.nooks_main.specs.declared.program.Status.{Status}
 use Rattle.nooks_main.specs.declared.program.Status.TheVariants as ended
 use Rattle.nooks_main.specs.declared.words.Form.{Form}
 use Rattle.nooks_main.specs.declared.words.Form.TheVariants as form
-use Rattle.threaded_run.specs.Threaded.{AreAnswered, IsRunByThreads, in_parts}
+use Rattle.threaded_run.specs.Threaded.{AreAnswered, IsThreaded, in_parts}
 use Rattle.nook_defs.specs.declared.data.Answer.{Answer}
 use Rattle.run_laws.proofs.Reached.{parts_answered}
 use Rattle.nooks_main.specs.Endings.{Cut, IsByThreads, IsMade, IsReportStatus, IsReportText, IsRunOf, IsScheduled, ReportEnds, IsSummaryText, Reported, Summed, failures_in}
@@ -236,10 +236,10 @@ made_of scenario hearing x (Ok report) old new begun valid simulated runs same w
 
 -- the report of a run by threads
 by_threads_of : (scenario : Scenario) (hearing : List Listening) (run : Run) (old new : List (Tap Listening)) → old ≡ map settled hearing
-    → IsRunByThreads scenario (map events_in run.journals) run.answers → new ≡ told_all (in_parts 0 (map events_in run.journals)) old
+    → IsThreaded scenario (map events_in run.journals) run.answers → new ≡ told_all (in_parts 0 (map events_in run.journals)) old
     → run.taps ≡ map result_of new → IsByThreads scenario hearing (map events_in run.journals) run.answers run.taps
 by_threads_of scenario hearing run old new begun is heard totals = record {
-  by_threads = is;
+  threaded = is;
   told =
       totals ∙ (ap (map result_of) heard
       ∙ (ap (λ taps. map result_of (told_all (in_parts 0 (map events_in run.journals)) taps)) begun
@@ -248,7 +248,7 @@ by_threads_of scenario hearing run old new begun is heard totals = record {
 
 pub threads_made_of : (scenario : Scenario) (hearing : List Listening) (x : Simulated) (r : Result Report NoMemory) (old new : List (Tap Listening))
     → old ≡ map settled hearing → IsValidScenario scenario → AreRuns scenario.parts (map events_in x.run.journals)
-    → IsRunByThreads scenario (map events_in x.run.journals) x.run.answers → AreAnswered scenario x.run.answers
+    → IsThreaded scenario (map events_in x.run.journals) x.run.answers → AreAnswered scenario x.run.answers
     → new ≡ told_all (in_parts 0 (map events_in x.run.journals)) old → x.run.taps ≡ map result_of new
     → IfOk r (λ report. report.run ≡ x.run) → IfOk r (λ report. IsReport scenario report) → IfOk r (IsMade form.RunThreads scenario hearing)
 threads_made_of scenario hearing x (Err e) old new begun valid runs is answered heard totals same whole = same

@@ -30,7 +30,7 @@ use Rattle.sim_run.specs.Published.{published}
 use Rattle.sim_run.specs.Whole.{events_in}
 use Rattle.nooks_main.specs.Forms.{IsForm, IsNoForm}
 use Rattle.nooks_main.specs.Headline.{AreSafe}
-use Rattle.threaded_run.specs.Threaded.{AreAnswered, IsRunByThreads, in_parts}
+use Rattle.threaded_run.specs.Threaded.{AreAnswered, IsThreaded, in_parts}
 use Rattle.nooks_main.specs.declared.program.Status.{Status}
 use Rattle.nooks_main.specs.declared.program.Status.TheVariants as ended
 use Rattle.nooks_main.specs.declared.words.Form.{Form}
@@ -97,11 +97,11 @@ pub record IsScheduled (scenario : Scenario) (hearing : List Listening) (journal
   pub same_answers : answers ≡ answer_table simulation
   pub told : taps ≡ map (λ l. tap_result l (published scheduled.steps (begins scenario))) hearing
 
--- the journals and the answers are those of the scenario's threads, which ran beside each other, or of its scheduled run in
--- place of that; and the totals are what the listeners count of the journals' events, part by part
+-- the journals and the answers are of a run by the scenario's threads, and the totals are what the listeners count of the
+-- journals' events, part by part
 pub record IsByThreads (scenario : Scenario) (hearing : List Listening) (journals : List (List Event))
     (answers : List (List (ℕ × Answer))) (taps : List (ℕ × Bool)) : Type 0 where
-  pub by_threads : IsRunByThreads scenario journals answers
+  pub threaded : IsThreaded scenario journals answers
   pub told : taps ≡ map (λ l. tap_result l (in_parts 0 journals)) hearing
 
 -- the run of a scenario that was asked for

@@ -183,3 +183,14 @@ parts_none actor part (x ∷ seats) h zero seat e =
 parts_none actor part (x ∷ seats) h (suc k) seat e =
     let arrivals = (with_none actor part (next_recovery x.run.state) _ h).1 in
     parts_none (actor + 2) (part + 1) seats (with_none (actor + 1) part (arrival x.run x.coming) _ arrivals).1 k seat e
+
+-- no arrival is left in any part
+pub arrivals_none : (actor part : ℕ) (seats : List PartSeat) → part_choices actor part seats ≡ []
+    → (k : ℕ) (seat : PartSeat) → slice_get seats k ≡ Some seat → arrival seat.run seat.coming ≡ None
+arrivals_none actor part [] h k seat e = no_some e
+arrivals_none actor part (x ∷ seats) h zero seat e =
+    let others = (with_none actor part (next_recovery x.run.state) _ h).1 in
+    subst (λ (y : PartSeat). arrival y.run y.coming ≡ None) (inner e) (with_none (actor + 1) part (arrival x.run x.coming) _ others).0
+arrivals_none actor part (x ∷ seats) h (suc k) seat e =
+    let others = (with_none actor part (next_recovery x.run.state) _ h).1 in
+    arrivals_none (actor + 2) (part + 1) seats (with_none (actor + 1) part (arrival x.run x.coming) _ others).1 k seat e

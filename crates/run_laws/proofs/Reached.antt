@@ -15,7 +15,7 @@ use Rattle.nook_defs.specs.declared.data.ThreadSpec.{ThreadSpec}
 use Rattle.nook_defs.specs.Log.{call_of_thread, opening_log}
 use Rattle.nook_defs.specs.Runs.{answer_at, event_of, if_enabled, next_for, next_recovery, next_of_calls, next_any, step_of}
 use Rattle.nook_defs.specs.Schedules.{Order, picked}
-use Rattle.nook_defs.specs.Simulation.{Choice, IsScheduledRun, PartSeat, Simulation, ThreadState, Waiting, actor_of, answer_table, answers_of, begins, choices_of, going_on, invocation, opening_seat, opening_thread, part_choices, runs, seat_after, stepped_by, taken, taken_by, threads_after}
+use Rattle.nook_defs.specs.Simulation.{Choice, IsScheduledRun, PartSeat, Simulation, ThreadState, Waiting, actor_of, answer_table, answers_of, arrival, begins, choices_of, going_on, invocation, opening_seat, opening_thread, part_choices, runs, seat_after, stepped_by, taken, taken_by, threads_after}
 use Rattle.nook_defs.specs.State.{PartState}
 use Rattle.nook_defs.specs.Steps.{enabled, opening}
 use Rattle.nook_defs.specs.Valid.{IsValidPart, IsValidScenario, IsValidStep, IsValidThread}
@@ -31,7 +31,7 @@ use Rattle.part_laws.proofs.ValidFits.{valid_fits}
 use Rattle.part_laws.specs.Bound.{is_invoke}
 use Rattle.part_laws.specs.Fit.{IsFit}
 use Rattle.part_laws.specs.Tied.{IsTied}
-use Rattle.run_laws.proofs.Choices.{IsOwn, IsGood, HasNoStep, choices_good, threads_none, parts_none}
+use Rattle.run_laws.proofs.Choices.{IsOwn, IsGood, HasNoStep, arrivals_none, choices_good, threads_none, parts_none}
 use Rattle.run_laws.proofs.Numbers.{number, told_number, started_number, found_none, step_says}
 use Rattle.run_laws.proofs.Threads.{AreThreadsOf, IsThreadOf, all_parts, heard_length, rest_count, rest_le, rest_less, threads_step, waiting_part, waits_in}
 
@@ -420,3 +420,18 @@ parts_answered scenario s v r = (both_end scenario v s (run_holds scenario s v r
 pub all_answered : (scenario : Scenario) (s : Simulation) → IsValidScenario scenario → IsScheduledRun scenario s
     → map length (answer_table s) ≡ map (λ t. length t.ops) scenario.threads
 all_answered scenario s v r = (both_end scenario v s (run_holds scenario s v r) r.ended).1
+
+-- at the end no part has a step left but invocations and arrivals
+pub parts_settled : (scenario : Scenario) (s : Simulation) → IsValidScenario scenario → IsScheduledRun scenario s
+    → (k : ℕ) (seat : PartSeat) → slice_get s.parts k ≡ Some seat → next_any seat.run.state ≡ None
+unfolding next_any
+parts_settled scenario s v r k seat at =
+    let h = run_holds scenario s v r in
+    rw (recovery_end scenario v s h r.ended k seat at, none_open scenario v s h r.ended k seat at) refl
+
+-- and no frame of a part may arrive
+pub none_arrives : (s : Simulation) → choices_of s ≡ [] → (k : ℕ) (seat : PartSeat) → slice_get s.parts k ≡ Some seat
+    → arrival seat.run seat.coming ≡ None
+unfolding choices_of
+none_arrives s ended =
+    arrivals_none (length s.threads) 0 s.parts (threads_none s.parts 0 s.threads (part_choices (length s.threads) 0 s.parts) ended).1

@@ -101,7 +101,7 @@ settles part e s (Some w) h = split (w.part == part)
 
 -- ---- an invocation
 
-abbrev IsOwnOf : ℕ → ℕ → ThreadState → Step → Type 0
+abbrev pub IsOwnOf : ℕ → ℕ → ThreadState → Step → Type 0
 IsOwnOf n part t (step.Invoke thread o) = (thread == n) ≡ true → (t.waiting ≡ None) × ((more : List (ℕ × Op)) × (t.rest ≡ (part, o) ∷ more))
 IsOwnOf n part t _ = Unit {0}
 
@@ -160,7 +160,7 @@ thread_step parts n spec t part seat s at tied may own is =
     by_place (inl a) f g = f a
     by_place (inr b) f g = g b
 
-own_of : (whole : List ThreadState) (n part : ℕ) (t : ThreadState) (s : Step) → IsOwn whole part s → slice_get whole n ≡ Some t → IsOwnOf n part t s
+pub own_of : (whole : List ThreadState) (n part : ℕ) (t : ThreadState) (s : Step) → IsOwn whole part s → slice_get whole n ≡ Some t → IsOwnOf n part t s
 own_of whole n part t (step.Invoke thread o) own at =
     λ mine.
     let same : own.t ≡ t = inner (sym own.at ∙ ap (slice_get whole) (eqb-true thread n mine) ∙ at) in

@@ -1,5 +1,5 @@
 -- The answers of a run by threads are those of the scripts' operations, in order.
-use Rattle.std.proofs.Common.{◌≡◌, ℕ, suc, ◌+◌, ◌<◌, ◌≤◌, List, [], ◌∷◌, ◌++◌, inl, inr, length, map, drop, get_or, refl, sym, ap, ◌∙◌, arith, add-one, append_assoc, drop-cons, subst}
+use Rattle.std.proofs.Common.{◌≡◌, ℕ, suc, ◌+◌, ◌<◌, ◌≤◌, List, [], ◌∷◌, ◌++◌, length, map, drop, get_or, refl, sym, ap, ◌∙◌, arith, add-one, append_assoc, drop-cons, subst}
 use Rattle.nook_defs.specs.declared.data.Answer.{Answer}
 use Rattle.nook_defs.specs.declared.data.Event.{Event}
 use Rattle.nook_defs.specs.declared.data.Op.{Op}
@@ -7,7 +7,7 @@ use Rattle.nook_defs.specs.declared.data.Receipt.{Receipt}
 use Rattle.nook_defs.specs.declared.data.Scenario.{Scenario}
 use Rattle.nook_defs.specs.declared.data.ThreadSpec.{ThreadSpec}
 use Rattle.nook_defs.specs.Valid.{IsValidScenario}
-use Rattle.run_laws.proofs.Reached.{parts_answered}
+use Rattle.nook_defs.specs.Simulation.{journals_of}
 use Rattle.std.proofs.lemmas.List.{length-map}
 use Rattle.threaded_run.specs.declared.running.Unheard.{Unheard}
 use Rattle.nook_defs.specs.Listening.{Listening}
@@ -18,8 +18,9 @@ use Rattle.sim_run.specs.declared.simulating.Simulated.{Simulated}
 use Rattle.sim_run.specs.Whole.{IsSimulated, events_in}
 use Rattle.threaded_run.proofs.Leaving.{count_left}
 use Rattle.threaded_run.specs.Leaving.{answers_in}
-use Rattle.threaded_run.specs.Threaded.{AreAnswered, AreServed, HaveReceipts, IsMadeInPlace, answers_by}
-use Rattle.threaded_run.specs.Unheard.{IsMadeByThreads, IsWholeRun}
+use Rattle.threaded_run.proofs.Scheduled.{scheduled_as_threaded}
+use Rattle.threaded_run.specs.Threaded.{AreAnswered, AreServed, HaveReceipts, IsThreaded, answers_by}
+use Rattle.threaded_run.specs.Unheard.{IsWholeRun}
 
 parts_by : (journals : List (List Event)) (thread : ℕ) (ops : List (ℕ × Op)) (receipts : List Receipt) → HaveReceipts journals thread ops receipts
     → map (λ a. a.0) (answers_by ops receipts) ≡ map (λ o. o.0) ops
@@ -38,35 +39,21 @@ parts_served journals thread (t ∷ threads) (answers ∷ table) h =
     let rest = parts_served journals (suc thread) threads table h.1 in
     cc
 
-in_place_answered : (scenario : Scenario) (journals : List (List Event)) (answers : List (List (ℕ × Answer))) → IsValidScenario scenario
-    → IsMadeInPlace scenario journals answers → AreAnswered scenario answers
-in_place_answered scenario journals answers valid h =
-    ap (map (λ own. map (λ a. a.0) own)) h.same_answers ∙ parts_answered scenario h.simulation valid h.scheduled
+pub threaded_answered : (scenario : Scenario) (journals : List (List Event)) (answers : List (List (ℕ × Answer))) → IsThreaded scenario journals answers
+    → AreAnswered scenario answers
+threaded_answered scenario journals answers h = parts_served journals 0 scenario.threads answers h.served
 
-pub by_threads_whole : (scenario : Scenario) (left : Unheard) → IsMadeByThreads scenario left → IsWholeRun scenario left
-by_threads_whole scenario left h = record {
-  runs = h.runs;
-  ends = h.ends;
-  by_threads = inl h.threaded;
-  answered = parts_served _ 0 scenario.threads left.answers h.threaded.served;
-}
-
+-- a scheduled run stands for one by threads
 pub in_place_whole : (scenario : Scenario) (whole : Simulated) (left : Unheard) (old new : List (Tap Listening)) → IsValidScenario scenario
     → IsSimulated scenario whole.run.journals whole.run.answers whole.run.taps old new → AreRuns scenario.parts (map events_in whole.run.journals)
     → HaveEnds scenario.parts whole.run.journals whole.ends
     → left.journals ≡ whole.run.journals → left.answers ≡ whole.run.answers → left.ends ≡ whole.ends → IsWholeRun scenario left
-in_place_whole scenario whole left old new valid s runs ends j a e =
-    let placed : IsMadeInPlace scenario (map events_in left.journals) left.answers = record {
-      simulation = s.simulation;
-      scheduled = s.scheduled;
-      same_journals = ap (map events_in) j ∙ s.same_journals;
-      same_answers = a ∙ s.same_answers;
-    } in record {
-      runs = subst (λ js. AreRuns scenario.parts (map events_in js)) (sym j) runs;
-      ends = subst (λ js. HaveEnds scenario.parts js left.ends) (sym j) (subst (HaveEnds scenario.parts whole.run.journals) (sym e) ends);
-      by_threads = inr placed;
-      answered = in_place_answered scenario (map events_in left.journals) left.answers valid placed;
-    }
+in_place_whole scenario whole left old new valid s runs ends j a e = record {
+  runs = subst (λ js. AreRuns scenario.parts (map events_in js)) (sym j) runs;
+  ends = subst (λ js. HaveEnds scenario.parts js left.ends) (sym j) (subst (HaveEnds scenario.parts whole.run.journals) (sym e) ends);
+  threaded = subst (λ js. IsThreaded scenario js left.answers) (sym (ap (map events_in) j ∙ s.same_journals))
+      (subst (IsThreaded scenario (journals_of s.simulation)) (sym (a ∙ s.same_answers)) (scheduled_as_threaded scenario s.simulation valid s.scheduled));
+}
 
 -- up to eight journals
 pub few_journals : (scenario : Scenario) (left : Unheard) → IsValidScenario scenario → IsWholeRun scenario left → length left.journals ≤ 8

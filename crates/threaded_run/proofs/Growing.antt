@@ -17,7 +17,7 @@ at_grown : {X : Type 0} (place : ℕ) (a b : List X) (x : X) → IsPrefix a b �
 at_grown zero a b x p h = h
 at_grown (suc place) a b x p h = subst (λ z. slice_get z place ≡ Some x) p.1 (got_before place a p.0 x h)
 
-is_at_grown : (seen journal : List Event) (place : ℕ) (Is : Event → Type 0) → IsPrefix seen journal → IsAt seen place Is → IsAt journal place Is
+pub is_at_grown : (seen journal : List Event) (place : ℕ) (Is : Event → Type 0) → IsPrefix seen journal → IsAt seen place Is → IsAt journal place Is
 is_at_grown seen journal place Is p h = record {
   event = h.event;
   there = at_grown place seen journal h.event p h.there;
@@ -43,7 +43,7 @@ receipts_grown seens journals thread ((part, op) ∷ ops) (receipt ∷ receipts)
   receipts_grown seens journals thread ops receipts begin h.1,
 )
 
-arrive_grown : (seen journal : List Event) (frames : List (List ℕ)) (places : List ℕ) → IsPrefix seen journal
+pub arrive_grown : (seen journal : List Event) (frames : List (List ℕ)) (places : List ℕ) → IsPrefix seen journal
     → ArriveAt seen frames places → ArriveAt journal frames places
 arrive_grown seen journal [] [] p h = h
 arrive_grown seen journal [] (place ∷ places) p h = h

@@ -4,4 +4,6 @@ pub mod Growing
 pub mod Heard
 pub mod Leaving
 pub mod Threading
+pub mod Scheduled
+pub mod Serving
 pub mod Working

@@ -14,7 +14,7 @@ use Rattle.threaded_run.proofs.Leaving.{arrivals_left, begin_left, ends_left, ru
 use Rattle.threaded_run.specs.declared.running.Unheard.{Unheard}
 use Rattle.threaded_run.specs.Leaving.{AreLeft, HaveRows, HaveWorked, answers_in}
 use Rattle.threaded_run.specs.Threaded.{AreServed, IsThreaded, journal_at}
-use Rattle.threaded_run.specs.Unheard.{IsMadeByThreads}
+use Rattle.threaded_run.specs.Unheard.{IsWholeRun}
 
 served_all : (seens journals : List (List Event)) (thread : ℕ) (threads : List ThreadSpec) (rows : List (List Receipt))
     → ((part : ℕ) → IsPrefix (journal_at seens part) (journal_at journals part))
@@ -45,7 +45,7 @@ pub made_by_threads : (scenario : Scenario) (specs : List PartSpec) (seens : Lis
     → specs ≡ scenario.parts
     → HaveWorked scenario.parts scenario.threads seens rows → AreLeft specs seens left.journals left.ends
     → left.answers ≡ answers_in scenario.threads rows
-    → IsMadeByThreads scenario left
+    → IsWholeRun scenario left
 made_by_threads scenario specs seens rows left e w l a =
     let own : AreLeft scenario.parts seens left.journals left.ends = subst (λ x. AreLeft x seens left.journals left.ends) e l in
     record {

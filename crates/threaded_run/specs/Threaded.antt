@@ -1,5 +1,5 @@
 -- What a run by threads leaves: one journal a part, and each thread's answers.
-use Rattle.std.specs.Prelude.{◌≡◌, ℕ, suc, ◌==◌, if◌then◌else◌, Bool, List, [], ◌∷◌, ◌++◌, ◌⊎◌, None, map, slice_index_or}
+use Rattle.std.specs.Prelude.{◌≡◌, ℕ, suc, ◌==◌, if◌then◌else◌, Bool, List, [], ◌∷◌, ◌++◌, None, map, slice_index_or}
 use Rattle.desk_like.specs.Desks.{IsArrive, IsAt, IsReceipt, IsRisingFrom}
 use Rattle.nook_defs.specs.declared.data.Answer.{Answer}
 use Rattle.nook_defs.specs.declared.data.Event.{Event}
@@ -9,7 +9,6 @@ use Rattle.nook_defs.specs.declared.data.Receipt.{Receipt}
 use Rattle.nook_defs.specs.declared.data.Scenario.{Scenario}
 use Rattle.nook_defs.specs.declared.data.ThreadSpec.{ThreadSpec}
 use Rattle.nook_defs.specs.Runs.{next_any, state_of}
-use Rattle.nook_defs.specs.Simulation.{IsScheduledRun, Simulation, answer_table, journals_of}
 use Rattle.sim_run.specs.Published.{with_part}
 
 -- ---- parts
@@ -84,22 +83,12 @@ AreServed journals thread (t ∷ threads) (answers ∷ table) =
 
 -- ---- the whole
 
--- the journals and answers of threads that ran beside each other
+-- the journals and answers of `run threads`: each part has taken all its steps, and each thread's operations with its
+-- answers, and each part's arrivals, are in the journals in order
 pub record IsThreaded (scenario : Scenario) (journals : List (List Event)) (answers : List (List (ℕ × Answer))) : Type 0 where
   pub settled : AreSettled scenario.parts journals
   pub served : AreServed journals 0 scenario.threads answers
   pub arrived : HaveArrivals scenario.parts journals
-
--- the journals and answers of the scheduled run, which is made where a desk refused for another cause than memory
-pub record IsMadeInPlace (scenario : Scenario) (journals : List (List Event)) (answers : List (List (ℕ × Answer))) : Type 0 where
-  pub simulation : Simulation
-  pub scheduled : IsScheduledRun scenario simulation
-  pub same_journals : journals ≡ journals_of simulation
-  pub same_answers : answers ≡ answer_table simulation
-
--- the journals and answers of `run threads`
-abbrev pub IsRunByThreads : Scenario → List (List Event) → List (List (ℕ × Answer)) → Type 0
-IsRunByThreads scenario journals answers = IsThreaded scenario journals answers ⊎ IsMadeInPlace scenario journals answers
 
 -- the events of journals, part by part, of which the first is that of part `part`
 abbrev pub in_parts : ℕ → List (List Event) → List (ℕ × Event)

@@ -5,17 +5,10 @@ use Rattle.report_text.specs.Whole.{HaveEnds}
 use Rattle.sim_run.specs.Reached.{AreRuns}
 use Rattle.sim_run.specs.Whole.{events_in}
 use Rattle.threaded_run.specs.declared.running.Unheard.{Unheard}
-use Rattle.threaded_run.specs.Threaded.{AreAnswered, IsRunByThreads, IsThreaded}
+use Rattle.threaded_run.specs.Threaded.{IsThreaded}
 
--- threads ran beside each other, and each part ends in what is told
-pub record IsMadeByThreads (scenario : Scenario) (left : Unheard) : Type 0 where
-  pub runs : AreRuns scenario.parts (map events_in left.journals)
-  pub ends : HaveEnds scenario.parts left.journals left.ends
-  pub threaded : IsThreaded scenario (map events_in left.journals) left.answers
-
--- the scenario was run, by threads or in their place
+-- the scenario was run, by its threads or under its schedule, and each part ends in what is told
 pub record IsWholeRun (scenario : Scenario) (left : Unheard) : Type 0 where
   pub runs : AreRuns scenario.parts (map events_in left.journals)
   pub ends : HaveEnds scenario.parts left.journals left.ends
-  pub by_threads : IsRunByThreads scenario (map events_in left.journals) left.answers
-  pub answered : AreAnswered scenario left.answers
+  pub threaded : IsThreaded scenario (map events_in left.journals) left.answers

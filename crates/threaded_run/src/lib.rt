@@ -3,6 +3,7 @@
 
 mod answering;
 mod closing;
+pub mod laws;
 mod opening;
 mod publishing;
 mod running;

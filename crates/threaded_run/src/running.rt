@@ -9,8 +9,8 @@ ghost use Rattle.sim_run.specs.Reached.{AreRuns};
 ghost use Rattle.sim_run.specs.Whole.{events_in};
 ghost use Rattle.part_server.specs.Desk.{IsDeskSeat, desk_spec, desk_view};
 ghost use Rattle.threaded_run.specs.Leaving.{HaveWorked};
-ghost use Rattle.threaded_run.specs.Threaded.{AreAnswered, IsRunByThreads, in_parts};
-ghost use Rattle.threaded_run.specs.Unheard.{IsMadeByThreads, IsWholeRun};
+ghost use Rattle.threaded_run.specs.Threaded.{AreAnswered, IsThreaded, in_parts};
+ghost use Rattle.threaded_run.specs.Unheard.{IsWholeRun};
 
 use crate::answering::answers_of;
 use crate::closing::leave_all;
@@ -45,7 +45,7 @@ pub struct Unheard {
 /// the operations of each thread with the answers that are told, and the part's arrivals, in order.
 ///
 /// Where a desk refuses a thread for another cause than memory, the scenario is simulated under its schedule in place
-/// of it. After `NoMemory` the taps have heard all or nothing.
+/// of it, of which the same holds. After `NoMemory` the taps have heard all or nothing.
 pub fn run_threads<R: Threads + Wait + Sync, L: Listener, G: Gate>(
     rt: &R,
     alloc: Global,
@@ -56,7 +56,7 @@ pub fn run_threads<R: Threads + Wait + Sync, L: Listener, G: Gate>(
     requires { IsValidScenario scenario.now }
     ensures runs { IfOk result (λ whole. AreRuns scenario.now.parts (map events_in whole.run.journals)) }
     ensures ends { IfOk result (λ whole. HaveEnds scenario.now.parts whole.run.journals whole.ends) }
-    ensures by_threads { IfOk result (λ whole. IsRunByThreads scenario.now (map events_in whole.run.journals) whole.run.answers) }
+    ensures threaded { IfOk result (λ whole. IsThreaded scenario.now (map events_in whole.run.journals) whole.run.answers) }
     ensures answered { IfOk result (λ whole. AreAnswered scenario.now whole.run.answers) }
     ensures heard { IfOk result (λ whole. map (seen L.listening) taps.new
         ≡ told_all (in_parts 0 (map events_in whole.run.journals)) (map (seen L.listening) taps.old)) }
@@ -128,7 +128,7 @@ fn run_by_threads<R: Threads + Wait + Sync, G: Gate>(
     gate: &G,
 ) -> Result<Option<Unheard>, NoMemory>
     requires { IsValidScenario scenario.now }
-    ensures { IfOk result (λ made. IfSome made (IsMadeByThreads scenario.now)) }
+    ensures { IfOk result (λ made. IfSome made (IsWholeRun scenario.now)) }
 {
     let arrivals = arrivals_of(alloc, scenario.parts.as_slice())?;
     let mut opened = open_desks(alloc, scenario.parts.as_slice())?;
@@ -159,7 +159,7 @@ fn gather<R: Wait>(
     requires seats { AreSeats IsDeskSeat opened.desks.items opened.seats.items }
     requires worked { HaveWorked scenario.now.parts scenario.now.threads
         (map (λ s. (desk_view s).seen) opened.seats.items) table }
-    ensures { IfOk result (IsMadeByThreads scenario.now) }
+    ensures { IfOk result (IsWholeRun scenario.now) }
 {
     let left = leave_all(rt, alloc, opened)?;
     let answers = answers_of(alloc, scenario.threads.as_slice(), table)?;

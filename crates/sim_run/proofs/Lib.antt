@@ -1,4 +1,4 @@
-pub mod Abling
+pub mod AbleThreads
 pub mod Advancing
 pub mod Choosing
 pub mod Ending

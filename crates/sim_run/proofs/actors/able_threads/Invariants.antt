@@ -1,4 +1,4 @@
-use Rattle.sim_run.proofs.Abling.{HasFlags}
+use Rattle.sim_run.proofs.AbleThreads.{HasFlags}
 use Rattle.sim_run.proofs.actors.able_threads.Given as goal
 
 abbrev pub invariant-loop-place : goal.invariant-loop-place

@@ -1,6 +1,6 @@
 use Rattle.std.proofs.Common.{false, get_or}
 use Rattle.std.proofs.lemmas.Option.{slice_get-get_or}
-use Rattle.sim_run.proofs.Abling.{flags_end, flags_step}
+use Rattle.sim_run.proofs.AbleThreads.{flags_end, flags_step}
 use Rattle.sim_run.proofs.actors.add_threads.Goals as goal
 
 pub loop-place-preserved : goal.loop-place-preserved

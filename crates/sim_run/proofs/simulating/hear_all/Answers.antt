@@ -1,5 +1,5 @@
 use Rattle.std.proofs.Common.{◌<◌, ◌≤◌, length, arith}
-use Rattle.sim_run.proofs.Abling.{all_heard, one_more_heard}
+use Rattle.sim_run.proofs.AbleThreads.{all_heard, one_more_heard}
 use Rattle.sim_run.proofs.Advancing.{heard_more}
 use Rattle.sim_run.proofs.simulating.hear_all.Goals as goal
 

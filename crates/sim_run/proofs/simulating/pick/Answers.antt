@@ -1,6 +1,6 @@
 use Rattle.std.proofs.Common.{◌≡◌, length, arith}
 use Rattle.std.proofs.lemmas.Grind.{common_steps}
-use Rattle.sim_run.proofs.Abling.{ready_named}
+use Rattle.sim_run.proofs.AbleThreads.{ready_named}
 use Rattle.sim_run.proofs.Advancing.{none_picked, pick_result}
 use Rattle.sim_run.specs.Advanced.{standing}
 use Rattle.sim_run.proofs.simulating.pick.Goals as goal

@@ -1,6 +1,6 @@
 use Rattle.std.proofs.Common.{◌∙◌, ℕ, ap, map, refl, slice_get}
 use Rattle.request_taps.specs.Bus.{seen, told}
-use Rattle.sim_run.proofs.Abling.{able_stepped}
+use Rattle.sim_run.proofs.AbleThreads.{able_stepped}
 use Rattle.sim_run.proofs.Taking.{has_taken, is_heard, is_taken}
 use Rattle.sim_run.proofs.simulating.take.Goals as goal
 

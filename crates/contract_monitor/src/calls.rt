@@ -116,8 +116,8 @@ impl Calls {
         Some(&self.all[place])
     }
 
-    /// The calls that may be Inside: none of those before them is. There are at most as many calls Inside as threads,
-    /// so these are few, however many calls came before.
+    /// The calls behind those of which none is Inside. They are few where calls are answered in about the order of their
+    /// numbers; a call that stays Inside keeps all later ones among them.
     pub fn unsettled(&self) -> &[Call]
         ensures { SettledBefore self.now result.now }
     {

@@ -13,14 +13,41 @@ use Rattle.nook_defs.specs.declared.data.FaultKind.{FaultKind}
 use Rattle.nook_defs.specs.declared.data.FaultKind.TheVariants as fault
 use Rattle.nook_defs.specs.declared.data.PartSpec.{PartSpec}
 use Rattle.nook_defs.specs.Classes.{is_set}
+use Rattle.nook_defs.specs.Domain.{domain_burst}
 use Rattle.nook_defs.specs.Entries.{is_borrow_of}
 use Rattle.nook_defs.specs.Log.{call_of_thread}
 use Rattle.nook_defs.specs.Pages.{may_write, object_words}
 use Rattle.nook_defs.specs.Runs.{step_of, state_after}
 use Rattle.nook_defs.specs.State.{PartState}
-use Rattle.nook_defs.specs.Steps.{opening}
+use Rattle.nook_defs.specs.Steps.{opening, faults_of_burst}
 
--- No driver changes a kernel object that is not lent to it.
+-- No driver changes a word that it may not write, nor a kernel object that is not lent to it.
+
+-- Inside a burst
+
+-- a fault writes the text word at the address
+abbrev pub is_code_at : ℕ → FaultKind → Bool
+is_code_at address (fault.Code a value) = nat_lt a 2048 && a == address
+is_code_at address _ = false
+
+abbrev pub writes_code : ℕ → Fault → Bool
+writes_code address f = is_code_at address f.kind
+
+-- no word changes that the driver may not write, but a text word that a fault of the burst names
+abbrev pub ChangesOnlyAllowed : List Entry → List Fault → List ℕ → List ℕ → Type 0
+ChangesOnlyAllowed entries faults before after =
+    (address : ℕ) → may_write entries address ≡ false → list_any (writes_code address) faults ≡ false
+    → slice_index after address ≡ slice_index before address
+
+-- a burst, up to what its crossing asks, changes no word that its driver may not write, but a text word that a code
+-- fault of that very burst names
+abbrev pub KeepsWithin : PartState → Event → Type 0
+KeepsWithin p (event.Burst context call number count e acts answer failure) =
+    ChangesOnlyAllowed p.domain.entries (faults_of_burst number p.spec.faults) p.domain.memory
+    (domain_burst context (faults_of_burst number p.spec.faults) p.domain).domain.memory
+KeepsWithin p _ = Unit {0}
+
+-- From one part to the next
 
 -- the 64 words of a part's kernel object
 abbrev pub object_of : ℕ → PartState → List ℕ
@@ -62,33 +89,23 @@ is_noted p _ = false
 abbrev pub kernel_object : PartState → List ℕ
 kernel_object p = p.log.config ++ (p.failures ∷ replicate 59 0)
 
--- what a step may change of the kernel's objects
+-- what a step may change
 pub record IsIsolatedStep (p : PartState) (e : Event) (q : PartState) : Type 0 where
+  -- an object 1 to 12 changes only where it was lent and its copy is given back
   pub objects : (object : ℕ) → 1 ≤ object → object ≤ 12 → KeepsObject object p e q
+  -- object 0 changes only where a Set is answered Done or a failure is carried
   pub kernel : (object_of 0 q ≡ object_of 0 p) ⊎ (is_noted p e ≡ true)
+  -- and it is the record and the count of failures
   pub record_told : object_of 0 q ≡ kernel_object q
+  -- a burst writes only where its driver may write, but for the code faults of that burst
+  pub within : KeepsWithin p e
 
 unfoldable pub IsIsolatedFrom : PartState → List Event → Type 0
 IsIsolatedFrom p [] = Unit {0}
 IsIsolatedFrom p (e ∷ events) =
     IsIsolatedStep p e (state_after p (step_of e)) × IsIsolatedFrom (state_after p (step_of e)) events
 
--- over a journal a kernel object changes only where it was lent, or the kernel changes it
+-- over a journal a burst writes only where its driver may write, and a kernel object changes only where it was lent, or
+-- the kernel changes it
 abbrev pub IsIsolated : PartSpec → List Event → Type 0
 IsIsolated spec journal = IsIsolatedFrom (opening spec) journal
-
--- Inside a burst
-
--- a fault writes the text word at the address
-abbrev pub is_code_at : ℕ → FaultKind → Bool
-is_code_at address (fault.Code a value) = nat_lt a 2048 && a == address
-is_code_at address _ = false
-
-abbrev pub writes_code : ℕ → Fault → Bool
-writes_code address f = is_code_at address f.kind
-
--- no word changes that the driver may not write, but a text word that a fault of the burst names
-abbrev pub ChangesOnlyAllowed : List Entry → List Fault → List ℕ → List ℕ → Type 0
-ChangesOnlyAllowed entries faults before after =
-    (address : ℕ) → may_write entries address ≡ false → list_any (writes_code address) faults ≡ false
-    → slice_index after address ≡ slice_index before address

@@ -5,13 +5,16 @@ use Rattle.nook_defs.specs.declared.data.Entry.{Entry}
 use Rattle.nook_defs.specs.declared.data.Fault.{Fault}
 use Rattle.nook_defs.specs.declared.data.FaultKind.{FaultKind}
 use Rattle.nook_defs.specs.declared.data.FaultKind.TheVariants as fault
+use Rattle.nook_defs.specs.declared.machine.Context.{Context}
 use Rattle.nook_defs.specs.declared.machine.Instr.{Instr}
 use Rattle.nook_defs.specs.declared.machine.Instr.TheVariants as instr
 use Rattle.nook_defs.specs.Burst.{burst, struck_memory}
 use Rattle.nook_defs.specs.Devices.{Given, Taken, input_of, output_of}
+use Rattle.nook_defs.specs.Domain.{machine_of, burst_by, domain_burst, context_of}
 use Rattle.nook_defs.specs.Isolation.{ChangesOnlyAllowed, writes_code, is_code_at}
 use Rattle.nook_defs.specs.Machine.{decode_of}
 use Rattle.nook_defs.specs.Pages.{may_write, read_word, fetch_word}
+use Rattle.nook_defs.specs.State.{DomainState}
 use Rattle.nook_defs.specs.Turn.{Machine, turn, executed, past_read, past_input, past_output, past_decode, past_fetch, stores, r}
 use Rattle.part_laws.proofs.BurstKeeps.{split, every_fault, burst_keeps}
 use Rattle.part_laws.specs.BurstLaws.{IsIsolatedBurst}
@@ -149,3 +152,14 @@ burst_isolated entries faults m = record {
   changes = changes_only_allowed entries faults m;
   same_length = burst_keeps_length entries faults m;
 }
+
+-- so it is of a domain's burst
+burst_by_within : (context : ℕ) (faults : List Fault) (d : DomainState) (o : Option Context)
+    → ChangesOnlyAllowed d.entries faults d.memory (burst_by context faults d o).domain.memory
+burst_by_within context faults d None = λ address no_right unnamed. refl
+burst_by_within context faults d (Some x) = changes_only_allowed d.entries faults (machine_of x d)
+
+pub domain_within : (context : ℕ) (faults : List Fault) (d : DomainState)
+    → ChangesOnlyAllowed d.entries faults d.memory (domain_burst context faults d).domain.memory
+unfolding domain_burst
+domain_within context faults d = burst_by_within context faults d (context_of context d.contexts)

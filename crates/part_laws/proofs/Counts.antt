@@ -79,7 +79,7 @@ nothing_counted p q a b c d e = record {
 
 -- crossings
 
-abbrev CrossCounted : PartState → Crossed → Type 0
+abbrev pub CrossCounted : PartState → Crossed → Type 0
 CrossCounted p c = IsCounted p c.state (cond (is_some c.failure) 1 0) 0 0 0
 
 failed_counted : (p : PartState) (e : End) (cause : FailCause) → CrossCounted p (failed p e cause)
@@ -118,7 +118,7 @@ shadow_reply_counted status p = split (is_accepted status p)
     (λ e. rw e (next_stage_counted p))
     (λ e. rw e (failed_counted p (end.Reply status) (shadow_fault status (stage_in p.mode))))
 
-crossed_counted : (context : ℕ) (e : BurstEnd) (p : PartState) → CrossCounted p (crossed context e p)
+pub crossed_counted : (context : ℕ) (e : BurstEnd) (p : PartState) → CrossCounted p (crossed context e p)
 unfolding crossed
 crossed_counted context (ends.Trap cause) p = failed_counted p end.Pause fail.TooManyCrossings
 crossed_counted context (ends.Kcall number) p = split (is_last context p)

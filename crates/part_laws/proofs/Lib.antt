@@ -42,3 +42,5 @@ pub mod Enters
 pub mod Arrivals
 pub mod Bursting
 pub mod Recovered
+pub mod Safe
+pub mod Answered

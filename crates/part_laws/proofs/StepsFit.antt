@@ -21,13 +21,14 @@ use Rattle.nook_defs.specs.Crossing.{Crossed, crossed, heap_start}
 use Rattle.nook_defs.specs.Devices.{with_arrival, tail_of}
 use Rattle.nook_defs.specs.Domain.{DomainBurst, domain_burst, entered_domain, plainly_entered, stopped_domain, collected_domain, loaded_domain, opening_domain}
 use Rattle.nook_defs.specs.Entries.{is_borrow_of}
-use Rattle.nook_defs.specs.Isolation.{IsIsolatedStep, IsIsolatedFrom, IsIsolated}
+use Rattle.nook_defs.specs.Isolation.{KeepsWithin, IsIsolatedStep, IsIsolatedFrom, IsIsolated}
 use Rattle.nook_defs.specs.Log.{new_call, with_call, numbered, entered, answered, change_call, entered_call, held_call, is_call, call_of_thread, stop_calls, stop_queue, is_kept}
 use Rattle.nook_defs.specs.Runs.{step_of, state_after, state_from, IsRunFrom, IsRun}
 use Rattle.nook_defs.specs.Stages.{stage_due, with_stage, is_given_up, stopped, given_up, after_collect, collects, with_reset, resets, loads_image, inits, replays_set, replays_open, resumes, stage_done, stage_by, stage_turned}
 use Rattle.nook_defs.specs.State.{CallLog, PartState}
 use Rattle.nook_defs.specs.Steps.{opening, enabled, can_invoke, faults_of_burst, with_burst, past_burst, burst_turned, arrived, turned}
 use Rattle.nook_defs.specs.Log.{opening_log}
+use Rattle.part_laws.proofs.BurstIsolation.{domain_within}
 use Rattle.part_laws.proofs.BurstKeeps.{split}
 use Rattle.part_laws.proofs.CrossingFit.{unmoved, quiet, CrossKept, crossed_kept, found_fits}
 use Rattle.part_laws.proofs.DomainFit.{DomainKept, entered_kept, plainly_kept, stopped_kept, collected_kept, loaded_kept, BurstKept, burst_kept, opening_domain_fit, opening_told}
@@ -43,16 +44,19 @@ pub record StepKept (p : PartState) (t : Turned) : Type 0 where
   pub isolated : IsIsolatedStep p t.event t.state
   pub collected : CollectsAt p t.event t.state
 
-quiet_isolated : (p : PartState) (e : Event) (q : PartState) → IsFit q → SameObjects p.domain.memory q.domain.memory → IsIsolatedStep p e q
-quiet_isolated p e q f s = record {
+quiet_isolated : (p : PartState) (e : Event) (q : PartState) → IsFit q → SameObjects p.domain.memory q.domain.memory → KeepsWithin p e
+    → IsIsolatedStep p e q
+quiet_isolated p e q f s w = record {
   objects = λ object one twelve. inl (object_stays object p.domain.memory q.domain.memory s);
   kernel = inl (object_stays 0 p.domain.memory q.domain.memory s);
   record_told = f.told;
+  within = w;
 }
 
+-- no driver runs
 quiet_step : (p : PartState) (t : Turned) → IsFit t.state → SameObjects p.domain.memory t.state.domain.memory
-    → CollectsAt p t.event t.state → StepKept p t
-quiet_step p t f s c = record { fit = f; isolated = quiet_isolated p t.event t.state f s; collected = c }
+    → KeepsWithin p t.event → CollectsAt p t.event t.state → StepKept p t
+quiet_step p t f s w c = record { fit = f; isolated = quiet_isolated p t.event t.state f s w; collected = c }
 
 -- lists of calls
 
@@ -100,13 +104,13 @@ invoked_kept_by p thread o None f t h =
     logged_fits p.spec.class p.spec.blocks thread o a p.log t h f.log in
     quiet_step p (invoked_by p thread o None)
     (quiet p p.domain (logged thread o a p.log) (queue_in p.mode o p.queue) p.mode p.bursts p.arrived f (unmoved p f) l.0 l.1)
-    (nothing_changed p.domain.memory) tt
+    (nothing_changed p.domain.memory) tt tt
 invoked_kept_by p thread o (Some a) f t h =
     let l : IsFitLog p.spec.class p.spec.blocks (numbered p.log) × ((numbered p.log).config ≡ p.log.config) =
     numbered_fits p.spec.class p.spec.blocks p.log f.log in
     quiet_step p (invoked_by p thread o (Some a))
     (quiet p p.domain (numbered p.log) p.queue p.mode p.bursts p.arrived f (unmoved p f) l.0 l.1)
-    (nothing_changed p.domain.memory) tt
+    (nothing_changed p.domain.memory) tt tt
 
 invoked_kept : (p : PartState) (thread : ℕ) (o : Op) → IsFit p → can_invoke p thread ≡ true → StepKept p (invoked thread o p)
 unfolding invoked
@@ -140,12 +144,12 @@ admitted_kept p c (admits.Reply a) f k =
     let l = answered_fits p.spec.class p.spec.blocks c.call p.log f.log in
     quiet_step p (admitted p c (admits.Reply a))
     (quiet p p.domain (answered c.call p.log) p.queue p.mode p.bursts p.arrived f (unmoved p f) l.0 l.1)
-    (nothing_changed p.domain.memory) tt
+    (nothing_changed p.domain.memory) tt tt
 admitted_kept p c admits.TakeFrame f k =
     let l = answered_fits p.spec.class p.spec.blocks c.call p.log f.log in
     quiet_step p (admitted p c admits.TakeFrame)
     (quiet p p.domain (answered c.call p.log) (tail_of p.queue) p.mode p.bursts p.arrived f (unmoved p f) l.0 l.1)
-    (nothing_changed p.domain.memory) tt
+    (nothing_changed p.domain.memory) tt tt
 admitted_kept p c (admits.Enter place) f k =
     let l = entered_fits p.spec.class p.spec.blocks c.call p.log f.log in
     let t : c.thread < 16 = k.thread in
@@ -153,11 +157,11 @@ admitted_kept p c (admits.Enter place) f k =
     entered_kept (heap_start p) c.thread place c.op p.domain f.domain (omega arith) (op_fits_buffer p.spec.class p.spec.blocks c.op k.checked) in
     quiet_step p (admitted p c (admits.Enter place))
     (quiet p (entered_domain c.thread place c.op p.domain) (entered c.call p.log) p.queue p.mode p.bursts p.arrived f d l.0 l.1)
-    d.objects tt
+    d.objects tt tt
 
 entered_kept_by : (p : PartState) (thread : ℕ) (o : Option CallEntry) → IsFit p → call_of_thread thread p.log.pending ≡ o
     → StepKept p (entered_by p thread o)
-entered_kept_by p thread None f e = quiet_step p (entered_by p thread None) f (nothing_changed p.domain.memory) tt
+entered_kept_by p thread None f e = quiet_step p (entered_by p thread None) f (nothing_changed p.domain.memory) tt tt
 entered_kept_by p thread (Some c) f e =
     admitted_kept p c (admit p.spec.class thread c.op p.log.holder (length p.queue)) f
     (found_fits (IsFitCall p.spec.class p.spec.blocks) _ p.log.pending c f.log.calls e)
@@ -169,8 +173,8 @@ entered_part_kept p thread f = entered_kept_by p thread (call_of_thread thread p
 -- Burst
 
 past_burst_kept : (p : PartState) (context : ℕ) (b : DomainBurst) → IsFit p → BurstKept (heap_start p) p.domain b
-    → StepKept p (past_burst context p b)
-past_burst_kept p context b f k =
+    → KeepsWithin p (past_burst context p b).event → StepKept p (past_burst context p b)
+past_burst_kept p context b f k w =
     let m : DomainKept (heap_start p) p.domain b.domain = record { fit = k.fit; objects = k.objects } in
     let p' : PartState = with_burst b.domain p in
     let f' : IsFit p' = quiet p b.domain p.log p.queue p.mode (p.bursts + 1) p.arrived f m f.log refl in
@@ -188,6 +192,7 @@ past_burst_kept p context b f k =
           | inr e ↦ inr e
         ];
         record_told = x.fit.told;
+        within = w;
       };
       collected = tt;
     }
@@ -197,6 +202,7 @@ unfolding burst_turned
 burst_turned_kept p context f =
     past_burst_kept p context (domain_burst context (faults_of_burst (p.bursts + 1) p.spec.faults) p.domain) f
     (burst_kept (heap_start p) context (faults_of_burst (p.bursts + 1) p.spec.faults) p.domain f.domain)
+    (domain_within context (faults_of_burst (p.bursts + 1) p.spec.faults) p.domain)
 
 -- Stage
 
@@ -216,7 +222,7 @@ stopped_step p f =
     quiet_step p (stopped p)
     (quiet p (stopped_domain p.domain) (record p.log { pending = stop_calls p.log.pending }) (stop_queue p.log.pending p.queue)
     (mode.Recovering stage.Collect) p.bursts p.arrived f d l refl)
-    d.objects tt
+    d.objects tt tt
 
 given_up_step : (p : PartState) → IsFit p → StepKept p (given_up p)
 unfolding given_up
@@ -226,7 +232,7 @@ given_up_step p f =
     { config = f.log.config; defaults = f.log.defaults; calls = tt } in
     quiet_step p (given_up p)
     (quiet p (stopped_domain p.domain) (record p.log { pending = [] }) p.queue (mode.Dead false) p.bursts p.arrived f d l refl)
-    d.objects tt
+    d.objects tt tt
 
 collects_step : (p : PartState) → IsFit p → StepKept p (collects p)
 unfolding collects collected_domain
@@ -235,7 +241,7 @@ collects_step p f =
     let c : IsCollected p.domain.entries = collect_leaves p.domain.entries f.domain.ordered in
     quiet_step p (collects p)
     (quiet p (collected_domain p.domain) p.log p.queue (after_collect p.mode) p.bursts p.arrived f d f.log refl)
-    d.objects
+    d.objects tt
     (record { in_order = f.domain.ordered; live = c.0; told = c.1; left = c.2 })
 
 resets_step : (p : PartState) → IsFit p → StepKept p (resets p)
@@ -247,7 +253,7 @@ resets_step p f =
     } in
     quiet_step p (resets p)
     (quiet p (with_reset p.log.defaults p.domain) p.log p.queue (with_stage stage.Load p.mode) p.bursts p.arrived f d f.log refl)
-    d.objects tt
+    d.objects tt tt
 
 loads_step : (p : PartState) → IsFit p → StepKept p (loads_image p)
 unfolding loads_image
@@ -255,14 +261,14 @@ loads_step p f =
     let d : DomainKept (heap_start p) p.domain (loaded_domain p.spec.image p.domain) = loaded_kept (heap_start p) p.spec p.domain f.spec f.domain in
     quiet_step p (loads_image p)
     (quiet p (loaded_domain p.spec.image p.domain) p.log p.queue (with_stage stage.Init p.mode) p.bursts p.arrived f d f.log refl)
-    d.objects tt
+    d.objects tt tt
 
 inits_step : (p : PartState) → IsFit p → StepKept p (inits p)
 unfolding inits
 inits_step p f =
     let d : DomainKept (heap_start p) p.domain (plainly_entered 16 init_place p.domain) = plainly_kept (heap_start p) 16 init_place p.domain f.domain in
     quiet_step p (inits p)
-    (quiet p (plainly_entered 16 init_place p.domain) p.log p.queue p.mode p.bursts p.arrived f d f.log refl) d.objects tt
+    (quiet p (plainly_entered 16 init_place p.domain) p.log p.queue p.mode p.bursts p.arrived f d f.log refl) d.objects tt tt
 
 replays_set_step : (p : PartState) (key value : ℕ) → IsFit p → StepKept p (replays_set key value p)
 unfolding replays_set
@@ -271,19 +277,19 @@ replays_set_step p key value f =
     entered_kept (heap_start p) 16 (set_place p.spec.class) (op.Set key value) p.domain f.domain (omega arith) tt in
     quiet_step p (replays_set key value p)
     (quiet p (entered_domain 16 (set_place p.spec.class) (op.Set key value) p.domain) p.log p.queue p.mode p.bursts p.arrived f d f.log refl)
-    d.objects tt
+    d.objects tt tt
 
 replays_open_step : (p : PartState) → IsFit p → StepKept p (replays_open p)
 unfolding replays_open
 replays_open_step p f =
     let d : DomainKept (heap_start p) p.domain (plainly_entered 16 open_place p.domain) = plainly_kept (heap_start p) 16 open_place p.domain f.domain in
     quiet_step p (replays_open p)
-    (quiet p (plainly_entered 16 open_place p.domain) p.log p.queue p.mode p.bursts p.arrived f d f.log refl) d.objects tt
+    (quiet p (plainly_entered 16 open_place p.domain) p.log p.queue p.mode p.bursts p.arrived f d f.log refl) d.objects tt tt
 
 resumes_step : (p : PartState) → IsFit p → StepKept p (resumes p)
 unfolding resumes
 resumes_step p f = quiet_step p (resumes p)
-    (quiet p p.domain p.log p.queue mode.Running p.bursts p.arrived f (unmoved p f) f.log refl) (nothing_changed p.domain.memory) tt
+    (quiet p p.domain p.log p.queue mode.Running p.bursts p.arrived f (unmoved p f) f.log refl) (nothing_changed p.domain.memory) tt tt
 
 stage_done_kept : (p : PartState) (s : Stage) → IsFit p → StepKept p (stage_done s p)
 stage_done_kept p stage.Stop f = split (is_given_up p)
@@ -298,7 +304,7 @@ stage_done_kept p stage.ReplayOpen f = replays_open_step p f
 stage_done_kept p stage.Resume f = resumes_step p f
 
 stage_by_kept : (p : PartState) (o : Option Stage) → IsFit p → StepKept p (stage_by p o)
-stage_by_kept p None f = quiet_step p (stage_by p None) f (nothing_changed p.domain.memory) tt
+stage_by_kept p None f = quiet_step p (stage_by p None) f (nothing_changed p.domain.memory) tt tt
 stage_by_kept p (Some s) f = stage_done_kept p s f
 
 stage_turned_kept : (p : PartState) → IsFit p → StepKept p (stage_turned p)
@@ -316,7 +322,7 @@ arrived_kept p frame f =
     } in
     quiet_step p (arrived frame p)
     (quiet p (record p.domain { device = with_arrival frame p.domain.device }) p.log p.queue p.mode p.bursts (p.arrived + 1) f d f.log refl)
-    d.objects tt
+    d.objects tt tt
 
 -- every step
 

@@ -6,5 +6,6 @@
 
 pub mod bounds;
 pub mod bursts;
+pub mod headline;
 pub mod recovery;
 pub mod steps;

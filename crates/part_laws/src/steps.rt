@@ -1,17 +1,18 @@
 //! Laws of steps and of journals that are runs: what every part keeps, isolation and collection.
 
 ghost use Rattle.nook_defs.specs.Isolation.{IsIsolated};
-ghost use Rattle.nook_defs.specs.Runs.{IsRun, event_of, state_after, state_of, step_of};
+ghost use Rattle.nook_defs.specs.Runs.{IsRun, answered_at, event_of, state_after, state_of, step_of};
 ghost use Rattle.nook_defs.specs.Steps.{enabled, opening, turned};
 ghost use Rattle.nook_defs.specs.State.{PartState};
 ghost use Rattle.nook_defs.specs.Valid.{IsValidPart};
 ghost use Rattle.nook_defs.specs.declared.data.Event.{Event};
 ghost use Rattle.nook_defs.specs.declared.data.PartSpec.{PartSpec};
 ghost use Rattle.nook_defs.specs.declared.data.Step.{Step};
+ghost use Rattle.part_laws.specs.Answered.{is_answered};
 ghost use Rattle.part_laws.specs.Collection.{IsCollecting};
 ghost use Rattle.part_laws.specs.Determined.{events_made, state_made};
 ghost use Rattle.part_laws.specs.Fit.{IsFit, IsFitSpec};
-ghost use Rattle.std.specs.Prelude.{List, [], ◌∷◌, ◌++◌, map, ◌≡◌, true};
+ghost use Rattle.std.specs.Prelude.{ℕ, List, [], ◌∷◌, ◌++◌, is_some, map, ◌≡◌, true};
 
 /// Each step that may be taken keeps what every part keeps: memory of 8,192 words, 17 contexts, entries in order
 /// that lie in the heap, open calls that passed the static check, and object 0 as the record and the count of
@@ -25,9 +26,11 @@ pub fn every_run_fits()
     ensures { (spec : PartSpec) (journal : List Event) → IsFitSpec spec → IsRun spec journal → IsFit (state_of spec journal) }
 {}
 
-/// No driver changes a kernel object that is not lent to it. Over each journal that is a run an object 1 to 12
-/// changes only by a served give_back of that object while it is borrowed, and then takes the words moved; object 0
-/// changes only where a Set is answered Done or a failure is carried, and is the record and the count of failures.
+/// No driver changes a word that it may not write, nor a kernel object that is not lent to it. Over each journal that
+/// is a run each burst changes only words that `may_write` allows, and text words that a code fault of that very burst
+/// names; an object 1 to 12 changes only by a served give_back of that object while it is borrowed, and then takes the
+/// words moved; object 0 changes only where a Set is answered Done or a failure is carried, and is the record and the
+/// count of failures.
 pub fn every_run_is_isolated()
     ensures { (spec : PartSpec) (journal : List Event) → IsFitSpec spec → IsRun spec journal → IsIsolated spec journal }
 {}
@@ -59,4 +62,10 @@ pub fn every_run_goes_on_by_an_enabled_step()
 /// What the laws ask of a part's image, every valid part has.
 pub fn every_valid_part_fits()
     ensures { (spec : PartSpec) → IsValidPart spec → IsFitSpec spec }
+{}
+
+/// After every run an event has answered a call exactly where the call was given its number and is open no more.
+pub fn every_run_answers_each_call_that_is_not_open()
+    ensures { (spec : PartSpec) (journal : List Event) → IsFitSpec spec → IsRun spec journal → (call : ℕ)
+        → is_some (answered_at journal call) ≡ is_answered (state_of spec journal).log call }
 {}

@@ -29,6 +29,7 @@ use Rattle.nook_defs.specs.Runs.{answer_at, if_call, answer_among}
 use Rattle.nook_defs.specs.Stages.{stage_due, is_given_up, stopped, given_up, collects, resets, loads_image, inits, replays_set, replays_open, resumes, stage_done, stage_by, stage_turned}
 use Rattle.nook_defs.specs.State.{PartState}
 use Rattle.nook_defs.specs.Steps.{enabled, turned, burst_turned, with_burst, served_number, faults_of_burst, arrived}
+use Rattle.part_laws.proofs.Answered.{AnswersCall, Shows, crossed_shows, no_call, none_below, shadow_says}
 use Rattle.part_laws.proofs.BurstKeeps.{split}
 use Rattle.part_laws.specs.Tied.{IsRising, AreApart, IsTied}
 
@@ -133,9 +134,6 @@ silent : (f : ℕ → Option Answer) (w : Option ℕ) → ((call : ℕ) → f ca
 silent f None h = refl
 silent f (Some call) h = rw (h call) refl
 
-no_call : (call c : ℕ) → if_call call c None ≡ None
-no_call call c = split (c == call) (λ e. rw e refl) (λ e. rw e refl)
-
 -- one call is answered
 one_told : (c : ℕ) (a : Answer) (w : Option ℕ) → unless c w ≡ told_number (λ call. if_call call c (Some a)) w
 one_told c a None = refl
@@ -202,55 +200,6 @@ enter_says p t thread tied = by_call (call_of_thread thread p.log.pending)
 
 -- ---- Burst
 
--- a crossing answers the call of its context
-record AnswersCall (context : ℕ) (p : PartState) (x : Crossed) : Type 0 where
-  c : CallEntry
-  a : Answer
-  other : (context == 16) ≡ false
-  found : call_of_thread context p.log.pending ≡ Some c
-  told : x.answer ≡ Some a
-  closed : x.state.log.pending ≡ filter (λ d. not (is_call c.call d)) p.log.pending
-
--- or nothing
-abbrev Shows : ℕ → PartState → Crossed → Type 0
-Shows context p x = ((x.answer ≡ None) × (x.state.log.pending ≡ p.log.pending)) ⊎ AnswersCall context p x
-
-served_shows : (number context : ℕ) (p : PartState) (r : Result Service BadParam) → Shows context p (serve_by number context p r)
-unfolding fails
-served_shows number context p (Err bad) = inl (refl, refl)
-served_shows number context p (Ok s) = inl (refl, refl)
-
-reply_shows : (status context : ℕ) (p : PartState) (o : Option CallEntry) → (context == 16) ≡ false → call_of_thread context p.log.pending ≡ o
-    → Shows context p (call_replied status p o)
-unfolding fails closes answered acknowledged
-reply_shows status context p None e h = inl (refl, refl)
-reply_shows status context p (Some c) e h = by_accept (accept c.op status)
-  where
-    by_accept : (a : Accept) → Shows context p (reply_by c status p a)
-    by_accept accepts.Take = inr (record { c = c; a = _; other = e; found = h; told = refl; closed = refl })
-    by_accept (accepts.IoError block) = inr (record { c = c; a = _; other = e; found = h; told = refl; closed = refl })
-    by_accept (accepts.Fail cause) = inl (refl, refl)
-
-crossed_shows : (context : ℕ) (e : BurstEnd) (p : PartState) → Shows context p (crossed context e p)
-unfolding crossed fails next_stage
-crossed_shows context (ends.Trap cause) p = inl (refl, refl)
-crossed_shows context (ends.Kcall k) p = split (is_last context p)
-    (λ e. rw e (inl (refl, refl)))
-    (λ e. rw e (served_shows k context p _))
-crossed_shows context ends.Pause p = split (is_last context p)
-    (λ e. rw e (inl (refl, refl)))
-    (λ e. rw e (inl (refl, refl)))
-crossed_shows context (ends.Reply status) p = by_own (context == 16) refl
-  where
-    own_shows : (b : Bool) → is_accepted status p ≡ b → Shows context p (shadow_replied status p)
-    own_shows true e = rw e (inl (refl, refl))
-    own_shows false e = rw e (inl (refl, refl))
-
-    by_own : (b : Bool) → (context == 16) ≡ b
-        → Shows context p (if b then shadow_replied status p else call_replied status p (call_of_thread context p.log.pending))
-    by_own true e = own_shows (is_accepted status p) refl
-    by_own false e = reply_shows status context p (call_of_thread context p.log.pending) e refl
-
 burst_by : (context : ℕ) (p q : PartState) (t : ℕ) (x : Crossed) → IsTied p → q.log ≡ p.log → Shows context q x
     → number t x.state.log.pending ≡ told_number (λ call. if_call call (served_number context p) x.answer) (number t p.log.pending)
 burst_by context p q t x tied same (inl h) =
@@ -273,39 +222,6 @@ burst_says p t context tied =
     burst_by context p q t (crossed context b.ending q) tied refl (crossed_shows context b.ending q)
 
 -- ---- Stage
-
--- the shadow keeps an operation, or answers it
-shadow_says : (o : Op) (thread : ℕ) (config : List ℕ) (holder : Option ℕ) (queue : List (List ℕ))
-    → ((is_kept o ≡ true) × (shadow_answer o thread config holder stage.Stop queue ≡ None))
-    ⊎ ((is_kept o ≡ false) × ((a : Answer) × (shadow_answer o thread config holder stage.Stop queue ≡ Some a)))
-unfolding shadow_answer
-shadow_says (op.Read first count) thread config holder queue = inl (refl, refl)
-shadow_says (op.Write first words) thread config holder queue = inl (refl, refl)
-shadow_says (op.Send frame) thread config holder queue = inr (refl, (_, refl))
-shadow_says op.Recv thread config holder queue = inr (refl, (_, refl))
-shadow_says op.Open thread config holder queue = inr (refl, (_, refl))
-shadow_says (op.Play samples) thread config holder queue = inr (refl, (_, refl))
-shadow_says op.Close thread config holder queue = inl (refl, refl)
-shadow_says (op.Get key) thread config holder queue = inr (refl, (_, refl))
-shadow_says (op.Set key value) thread config holder queue = inl (refl, refl)
-
--- no answer to a number below those of the calls
-none_below : (n low count : ℕ) (calls : List CallEntry) (config : List ℕ) (holder : Option ℕ) (queue : List (List ℕ)) → IsRising low count calls → n ≤ low
-    → answer_among n (stop_answers calls config holder queue) ≡ None
-none_below n low count [] config holder queue r l = refl
-none_below n low count (c ∷ calls) config holder queue r l =
-    with_none (shadow_answer c.op c.thread config holder stage.Stop queue) (none_below n c.call count calls config holder (queue_after c.op queue) r.2 (less n low c.call l r.0))
-  where
-    less : (n low k : ℕ) → n ≤ low → low < k → n ≤ k
-    less n low k a b = omega arith
-
-    apart : (n low k : ℕ) → n ≤ low → low < k → k ≡ n → ⊥
-    apart n low k a b e = omega arith
-
-    with_none : (o : Option Answer) → answer_among n (stop_answers calls config holder (queue_after c.op queue)) ≡ None
-        → answer_among n (with_answer c.call o (stop_answers calls config holder (queue_after c.op queue))) ≡ None
-    with_none None h = h
-    with_none (Some a) h = rw (ne_eqb c.call n (λ e. apart n low c.call l r.0 e)) h
 
 -- an answer to another number
 told_past : (k : ℕ) (a : Answer) (answers : List (ℕ × Answer)) (w : Option ℕ) → ((m : ℕ) → w ≡ Some m → k < m)

@@ -1,10 +1,10 @@
 -- Known bytes of a source that was read in pieces, and of a sink that was written to in pieces.
-use Rattle.std.proofs.Common.{ℕ, ◌+◌, ◌<◌, ◌≤◌, List, [], ◌++◌, length, take, drop, refl, ◌∙◌, ap, append_assoc, Option, None, Some, arith}
+use Rattle.std.proofs.Common.{ℕ, ◌+◌, ◌<◌, ◌≤◌, List, [], ◌++◌, length, take, drop, refl, sym, ◌∙◌, ap, append_assoc, length-append, Option, None, Some, arith}
 use Rattle.std.proofs.lemmas.List.{take-append-drop, take_all}
 use Rattle.std.proofs.Math.Seq.{take-add}
 use Rattle.std.proofs.lemmas.Grind.{common_steps}
 use Rattle.std.specs.Io.KnownBytes.{Appends, Consumes, IsAtEnd, Keeps}
-use Rattle.nook_defs.specs.Causes.{AppendsPrefix, HoldsMore, ReadsAll}
+use Rattle.nook_defs.specs.Causes.{AppendsPrefix, HoldsMore, ReadsAll, TakesAtMost}
 
 -- known bytes that stay begin with no bytes
 pub consumes_none : (old : Option (List ℕ)) → Consumes old old []
@@ -29,6 +29,25 @@ pub holds_more : (old new : Option (List ℕ)) (xs : List ℕ) (limit : ℕ) →
 holds_more None new xs limit p q = tt
 holds_more (Some a) None xs limit p q = absurd p
 holds_more (Some a) (Some b) xs limit p q = grind (arith, common_steps)
+
+-- few bytes were taken
+pub takes_front : (old new : Option (List ℕ)) (xs : List ℕ) (n : ℕ) → Consumes old new xs → length xs ≤ n → TakesAtMost old new n
+takes_front old new xs n p few = record { front = xs; taken = p; few = few }
+
+-- bytes, and then more that still are few
+pub takes_more : (old mid new : Option (List ℕ)) (xs ys : List ℕ) (n : ℕ) → Consumes old mid xs → Consumes mid new ys → length xs + length ys ≤ n → TakesAtMost old new n
+takes_more old mid new xs ys n p q few = record {
+  front = xs ++ ys;
+  taken = consumes_more old mid new xs ys p q;
+  few = rw (length-append xs ys) few;
+}
+
+-- few bytes, and then none
+pub takes_kept : (old mid new : Option (List ℕ)) (xs : List ℕ) (n : ℕ) → Consumes old mid xs → Keeps mid new → length xs ≤ n → TakesAtMost old new n
+takes_kept None mid new xs n p q few = record { front = xs; taken = tt; few = few }
+takes_kept (Some a) None new xs n p q few = absurd p
+takes_kept (Some a) (Some b) None xs n p q few = absurd q
+takes_kept (Some a) (Some b) (Some c) xs n p q few = record { front = xs; taken = p ∙ ap (λ rest. xs ++ rest) (sym q); few = few }
 
 -- known bytes that stay grow by none
 pub appends_none : (old : Option (List ℕ)) → Appends old old []

@@ -1,6 +1,6 @@
 -- What the outside tells of its faults, and what a whole read or write leaves.
 use Rattle.std.specs.Prelude.{◌≡◌, ℕ, ◌+◌, ◌-◌, ◌^◌, ◌<◌, ◌≤◌, min, List, [], ◌++◌, length, Option, Some, None, Result, OnErr, MatchResult}
-use Rattle.std.specs.Io.KnownBytes.{Appends}
+use Rattle.std.specs.Io.KnownBytes.{Appends, Consumes}
 
 -- a count of faults rose, or it stands at the end of its type
 abbrev pub Rose : ℕ → ℕ → Type 0
@@ -26,6 +26,12 @@ ReadsAll (Some left) (Some rest) bytes = (bytes ≡ left) × (rest ≡ [])
 abbrev pub HoldsMore : Option (List ℕ) → ℕ → Type 0
 HoldsMore None limit = Unit {0}
 HoldsMore (Some left) limit = limit < length left
+
+-- where a source tells its bytes, at most n were taken from their front
+pub record TakesAtMost (old new : Option (List ℕ)) (n : ℕ) : Type 0 where
+  pub front : List ℕ
+  pub taken : Consumes old new front
+  pub few : length front ≤ n
 
 -- a sink gained a front of a text
 pub record AppendsPrefix (old new : Option (List ℕ)) (text : List ℕ) : Type 0 where

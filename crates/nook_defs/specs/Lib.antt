@@ -51,3 +51,5 @@ pub mod PartReading
 pub mod ScenarioReading
 pub mod Valid
 pub mod Generated
+pub mod Campaigns
+pub mod CampaignReading

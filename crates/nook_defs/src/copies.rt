@@ -4,8 +4,8 @@ ghost use Rattle.std.specs.Prelude.{◌≡◌, ◌≤◌, length};
 ghost use Rattle.nook_defs.specs.Room.{answer_words};
 
 use crate::data::{
-    Act, Answer, BadBlock, End, Entry, Event, Fault, Image, Op, PartSpec, Scenario, ScheduleSpec,
-    ThreadSpec,
+    Act, Answer, BadBlock, Campaign, End, Entry, Event, Fault, Image, MemberRow, Op, PartSpec,
+    Scenario, ScheduleSpec, ThreadSpec,
 };
 use crate::lists::TryCopy;
 use crate::memory::{NoMemory, Room};
@@ -316,5 +316,23 @@ impl TryCopy for Scenario {
             parts,
             threads,
         })
+    }
+}
+
+impl TryCopy for Campaign {
+    fn copy(&self, alloc: Global) -> Result<Campaign, NoMemory> {
+        let base = self.base.copy(alloc)?;
+        let faults = self.faults.copy(alloc)?;
+        Ok(Campaign {
+            base,
+            part: self.part,
+            faults,
+        })
+    }
+}
+
+impl TryCopy for MemberRow {
+    fn copy(&self, _alloc: Global) -> Result<MemberRow, NoMemory> {
+        Ok(*self)
     }
 }

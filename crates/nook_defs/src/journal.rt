@@ -1,6 +1,6 @@
 //! The journal of a part, with room that is taken before an event is made, and the log of a burst's acts.
 
-ghost use Rattle.std.specs.Prelude.{◌≡◌, ◌<◌, ◌≤◌, [], ◌∷◌, ◌++◌, ◌+◌, All, length, slice_get, IfOk, OnOk};
+ghost use Rattle.std.specs.Prelude.{◌≡◌, ◌<◌, ◌≤◌, [], ◌∷◌, ◌++◌, ◌+◌, All, length, slice_get, IfOk, OnErr, OnOk};
 
 use crate::data::{Act, Acts, Event};
 use crate::lists::{Items, Words};
@@ -41,6 +41,16 @@ impl Journal {
         ensures room { OnOk result (1 ≤ self.new.spare) }
     {
         self.events.reserve(1)?;
+        Ok(())
+    }
+
+    /// Adds an event at the back, and takes room for it where none is to spare. After `NoMemory` the events are as before.
+    pub fn push(&mut self, event: Event) -> Result<(), NoMemory>
+        ensures ok { OnOk result (self.new.list ≡ self.old.list ++ event ∷ []) }
+        ensures err { OnErr result (self.new.list ≡ self.old.list) }
+    {
+        self.reserve()?;
+        self.push_reserved(event);
         Ok(())
     }
 
@@ -214,10 +224,11 @@ impl SpareRooms {
     }
 
     /// The empty log of a burst, with room for 64 acts and for 64 words of each. The memory that is here goes into it,
-    /// and what it lacks is taken.
+    /// and what it lacks is taken. After `NoMemory` no room is lost: there are as many as before, or more.
     pub fn open_log(&mut self) -> Result<ActLog, NoMemory>
         ensures log { IfOk result (λ log. log ≡ []) }
         ensures used { OnOk result (self.new ≡ 0) }
+        ensures left { OnErr result (self.old ≤ self.new) }
     {
         fill_rooms(self.alloc, &mut self.rooms)?;
         self.few.reserve(FEW_ACTS)?;
@@ -245,11 +256,12 @@ impl SpareRooms {
     }
 }
 
-/// Takes rooms for 64 words until there are 64 rooms.
+/// Takes rooms for 64 words until there are 64 rooms. Those that are there stay, also after `NoMemory`.
 fn fill_rooms(alloc: Global, rooms: &mut Vec<Room<u32>>) -> Result<(), NoMemory>
     requires rooms { All (λ room. 64 ≤ room) rooms.old.items }
     ensures rooms { All (λ room. 64 ≤ room) rooms.new.items }
     ensures count { OnOk result (64 ≤ length rooms.new.items) }
+    ensures kept { length rooms.old.items ≤ length rooms.new.items }
 {
     for _count in rooms.len()..MOST_ACTS {
         rooms.push(Room::new(alloc, ACT_WORDS)?)?;

@@ -164,7 +164,8 @@ pub type Picks = Items<u16>;
 pub type Frames = Items<Words>;
 
 impl Items<u32> {
-    /// An empty list with room for `n` words: adding so many takes no memory.
+    /// An empty list; memory for `n` words is asked for it. That they fit is no promise, since contracts see a list's items
+    /// alone: `Room` is memory whose size they see.
     pub fn with_room(alloc: Global, n: u32) -> Result<Words, NoMemory>
         ensures { IfOk result (λ made. made ≡ []) }
     {

@@ -2,7 +2,7 @@
 
 ghost use Rattle.std.specs.Prelude.{◌≡◌, ◌+◌, ◌≤◌, ◌<◌, IsErrOf, IfOk, OnErr, OnOk, length};
 ghost use Rattle.std.specs.Io.KnownBytes.{Appends};
-ghost use Rattle.nook_defs.specs.Causes.{AppendsPrefix, HasCause, HoldsMore, ReadsAll, Rose};
+ghost use Rattle.nook_defs.specs.Causes.{AppendsPrefix, HasCause, HoldsMore, ReadsAll, Rose, TakesAtMost};
 
 use crate::memory::NoMemory;
 use crate::outside::{Failed, Sink, Source};
@@ -39,12 +39,14 @@ impl From<AllocError> for ReadStop {
     }
 }
 
-/// All bytes that a source has left, at most `limit`. It reads to the end, or to the first byte over the limit.
-#[tactic(auto, using(crate::proofs::KnownLemmas::consumes_none, crate::proofs::KnownLemmas::consumes_more, crate::proofs::KnownLemmas::reads_all, crate::proofs::KnownLemmas::holds_more))]
+/// All bytes that a source has left, at most `limit`. It reads to the end, or to the first byte over the limit, and takes
+/// no byte behind that one, however it ends.
+#[tactic(auto, using(crate::proofs::KnownLemmas::consumes_none, crate::proofs::KnownLemmas::consumes_more, crate::proofs::KnownLemmas::reads_all, crate::proofs::KnownLemmas::holds_more, crate::proofs::KnownLemmas::takes_front, crate::proofs::KnownLemmas::takes_more, crate::proofs::KnownLemmas::takes_kept))]
 pub fn read_all<S: Source>(alloc: Global, source: &mut S, limit: u32) -> Result<Vec<u8>, ReadStop>
     ensures all { IfOk result (λ made. ReadsAll (S.left source.old) (S.left source.new) made.items) }
     ensures short { IfOk result (λ made. length made.items ≤ limit) }
     ensures too_long { IsErrOf result ReadStop.TooLong → HoldsMore (S.left source.old) limit }
+    ensures taken { TakesAtMost (S.left source.old) (S.left source.new) (limit + 1) }
     ensures later { S.count source.old ≤ S.count source.new }
     ensures fault { IsErrOf result ReadStop.Fault → Rose (S.count source.old) (S.count source.new) }
 {

@@ -5,6 +5,7 @@ use Rattle.nook_defs.proofs.whole.read_all.Given as goal
 abbrev pub invariant-reads : goal.invariant-reads
 invariant-reads g l = record {
   consumed : Consumes (g.S.Source.left l.initial.source) (g.S.Source.left l.source) l.bytes.items;
+  few : length l.bytes.items ≤ l.limit + 1;
   later : g.S.Source.count l.initial.source ≤ g.S.Source.count l.source;
 }
 

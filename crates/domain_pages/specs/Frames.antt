@@ -1,4 +1,4 @@
-use Rattle.std.specs.Prelude.{◌≡◌, ℕ, ◌-◌, ◌/◌, ◌<◌, ◌≤◌, nat_lt, if◌then◌else◌, Bool, true, false, List, ◌++◌, map, replicate, length, slice_index, slice_index_or}
+use Rattle.std.specs.Prelude.{◌≡◌, ℕ, ◌+◌, ◌-◌, ◌/◌, ◌<◌, ◌≤◌, ◌&&◌, ◌||◌, nat_le, nat_lt, if◌then◌else◌, Bool, true, false, List, ◌++◌, map, replicate, length, slice_index, slice_index_or}
 use Rattle.std.specs.List.{range_with_len}
 
 -- How a page map shows its words: a page that has a frame of its own shows the frame, every other page the image.
@@ -27,3 +27,11 @@ opening_table = replicate 115 false ++ replicate 13 true
 pub record IsFramed (table : List Bool) (frames : List ℕ) : Type 0 where
   pub frames_all : length frames ≡ 8192
   pub objects : (page : ℕ) → 115 ≤ page → page < 128 → slice_index_or table page false ≡ true
+
+-- the page has one of n words from an address on
+abbrev pub has_some : ℕ → ℕ → ℕ → Bool
+has_some start n page = nat_lt 0 n && (nat_le (start / 64) page && nat_le page ((start + n - 1) / 64))
+
+-- which of pages 0 to 114 have a frame of their own, after the kernel's write of n words from an address on
+unfoldable pub with_own : ℕ → ℕ → List Bool → List Bool
+with_own start n own = map (λ page. has_some start n page || slice_index_or own page false) (range_with_len 0 115)

@@ -1,8 +1,8 @@
 //! Frames and the table that says which pages have one, as plain slices.
 
-ghost use Rattle.std.specs.Prelude.{◌≡◌, ◌+◌, ◌*◌, ◌/◌, ◌<◌, ◌≤◌, ◌⊎◌, ℕ, [], List, true, length, slice_index, slice_index_or, slice_set, IfOk};
+ghost use Rattle.std.specs.Prelude.{◌≡◌, ◌+◌, ◌*◌, ◌/◌, ◌<◌, ◌≤◌, ◌⊎◌, ℕ, [], List, true, length, take, slice_index, slice_index_or, slice_set, IfOk};
 ghost use Rattle.nook_defs.specs.Pages.{opening_memory, padded_words, with_words};
-ghost use Rattle.domain_pages.specs.Frames.{image_word, word_at, shown, opening_table, IsFramed};
+ghost use Rattle.domain_pages.specs.Frames.{image_word, word_at, shown, opening_table, IsFramed, with_own};
 
 use nook_defs::lists::Word;
 use nook_defs::memory::NoMemory;
@@ -124,6 +124,7 @@ pub fn put_all(
     requires fits { length words.now ≤ count }
     ensures framed { IsFramed table.old frames.old → IsFramed table.new frames.new }
     ensures words { shown table.new frames.new text.now initial.now ≡ with_words start (padded_words count words.now) (shown table.old frames.old text.now initial.now) }
+    ensures own { take 115 table.new ≡ with_own start count (take 115 table.old) }
 {
     for i in 0..count {
         put(

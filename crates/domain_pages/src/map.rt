@@ -3,6 +3,7 @@
 ghost use Rattle.std.specs.Prelude.{◌≡◌, ◌+◌, ◌/◌, ◌<◌, ◌≤◌, true, false, length, slice_get, slice_set, slice_range, slice_index, slice_index_or, IfOk, OnOk, OnErr};
 ghost use Rattle.nook_defs.specs.Pages.{read_word, fetch_word, padded_words, with_words};
 ghost use Rattle.nook_defs.specs.PageMap.{opening_pages, may_change, page_written, driver_written, pages_loaded};
+ghost use Rattle.domain_pages.specs.Frames.{with_own};
 
 use crate::frames::{
     FIRST_OBJECT_PAGE, TEXT_WORDS, WORDS, opening_frames, opening_table, put, put_all, word_at,
@@ -142,12 +143,15 @@ impl PageMap {
         );
     }
 
-    /// The kernel's own write of `count` words from an address on: these words and then zeros.
+    /// The kernel's own write of `count` words from an address on: these words and then zeros. Each page that has one of
+    /// the `count` words has a copy of its own from now on; every other page is as before.
     pub fn put_words(&mut self, start: u32, words: &[Word], count: u32)
         requires within { start + count ≤ 8192 }
         requires fits { length words.now ≤ count }
         ensures words { self.new.words ≡ with_words start (padded_words count words.now) self.old.words }
         ensures lent { self.new.lent ≡ self.old.lent }
+        ensures own { self.new.own ≡ with_own start count self.old.own }
+        ensures pages { length self.old.own ≡ 115 }
     {
         put_all(
             &mut self.table,

@@ -6,7 +6,7 @@ ghost use Rattle.nook_defs.specs.Pages.{object_start};
 ghost use Rattle.nook_defs.specs.Services.{served, alloc_served, borrow_served, give_back_served, frame_served};
 ghost use Rattle.nook_defs.specs.declared.data.Entry.{Entry};
 ghost use Rattle.param_wrappers.specs.Crossing.{can_serve};
-ghost use Rattle.kernel_services.specs.Outcome.{outcome};
+ghost use Rattle.kernel_services.specs.Outcome.{outcome, own_copied, own_served};
 
 use crate::queue::RxQueue;
 use domain_pages::PageMap;
@@ -42,6 +42,7 @@ pub fn serve(
     ensures served { served tracker.old.heap_start service pages.old.words tracker.old.entries queue.old ≡ outcome pages.new.words tracker.new.entries queue.new result }
     ensures heap { tracker.new.heap_start ≡ tracker.old.heap_start }
     ensures loans { pages.new.lent ≡ pages.old.lent }
+    ensures own { pages.new.own ≡ own_served tracker.old.heap_start service tracker.old.entries pages.old.own }
 {
     match service {
         Service::Alloc { n } => alloc(n, tracker, moved),
@@ -97,6 +98,7 @@ fn borrow(
     ensures served { (queue : List (List ℕ)) → borrow_served object (free_start tracker.old.heap_start 64 tracker.old.entries) pages.old.words tracker.old.entries queue ≡ outcome pages.new.words tracker.new.entries queue result }
     ensures heap { tracker.new.heap_start ≡ tracker.old.heap_start }
     ensures loans { pages.new.lent ≡ pages.old.lent }
+    ensures own { pages.new.own ≡ own_copied (free_start tracker.old.heap_start 64 tracker.old.entries) pages.old.own }
 {
     let Some(start) = tracker.borrow(object) else {
         return told(0, moved);
@@ -107,13 +109,14 @@ fn borrow(
 }
 
 /// The words of an object's copy, written to the object; the copy ends.
-#[tactic(auto, using(crate::proofs::Padded::padded_full))]
+#[tactic(auto, using(crate::proofs::Padded::padded_full, crate::proofs::Own::own_of_object))]
 fn give_back(object: u32, pages: &mut PageMap, tracker: &mut Tracker, moved: Room<Word>) -> Served
     requires object { object ≤ 12 }
     requires room { 64 ≤ moved }
     ensures served { (queue : List (List ℕ)) → give_back_served object (borrow_start object tracker.old.entries) pages.old.words tracker.old.entries queue ≡ outcome pages.new.words tracker.new.entries queue result }
     ensures heap { tracker.new.heap_start ≡ tracker.old.heap_start }
     ensures loans { pages.new.lent ≡ pages.old.lent }
+    ensures own { pages.new.own ≡ pages.old.own }
 {
     let Some(start) = tracker.give_back(object) else {
         return told(0, moved);

@@ -1,6 +1,6 @@
 //! Entries in Collect's order: where one belongs, which end, which are there.
 
-ghost use Rattle.std.specs.Prelude.{◌≡◌, ◌+◌, ◌-◌, ◌^◌, ◌<◌, ◌≤◌, [], ◌∷◌, ◌++◌, length, take, drop, filter, insert, not, IfOk};
+ghost use Rattle.std.specs.Prelude.{◌≡◌, ◌+◌, ◌-◌, ◌^◌, ◌↔◌, ◌<◌, ◌≤◌, [], ◌∷◌, ◌++◌, length, take, drop, filter, insert, not, Contains, IsTrue, IfOk};
 ghost use Rattle.std.specs.List.{list_any};
 ghost use Rattle.nook_defs.specs.Entries.{rank, key_of, comes_before, with_entry, with_live, registered, released, borrow_start};
 ghost use Rattle.object_tracker.specs.Tracked.{fits};
@@ -106,6 +106,18 @@ pub fn has(entries: &Ordered, wanted: Wanted) -> bool
 {
     for place in 0..entries.len() {
         if fits(wanted, entries.get(place)) {
+            return true;
+        }
+    }
+    false
+}
+
+/// Whether this very entry is there.
+pub fn holds(entries: &Ordered, entry: Entry) -> bool
+    ensures { IsTrue result ↔ Contains entries.now entry }
+{
+    for place in 0..entries.len() {
+        if entries.get(place) == entry {
             return true;
         }
     }

@@ -5,7 +5,7 @@ ghost use Rattle.std.specs.List.{list_any};
 ghost use Rattle.nook_defs.specs.Entries.{opening_entries, with_entry, without_heap, without_borrow, without_buffer, is_heap_at, is_borrow_of, is_buffer_of, is_registered, registered, collected, released, borrow_start, free_start};
 
 use crate::heap::free_start;
-use crate::listing::{add, borrow_start, end_all, has, held, set_live};
+use crate::listing::{add, borrow_start, end_all, has, held, holds, set_live};
 use crate::ordered::Ordered;
 use crate::wanted::Wanted;
 use nook_defs::data::{Entry, Released};
@@ -163,6 +163,13 @@ impl Tracker {
         ensures { result ≡ is_registered self.now.entries }
     {
         has(&self.entries, Wanted::Live)
+    }
+
+    /// Whether this very entry stands in the list.
+    pub fn holds(&self, entry: &Entry) -> bool
+        ensures { IsTrue result ↔ Contains self.now.entries entry.now }
+    {
+        holds(&self.entries, *entry)
     }
 
     /// Everything but the registration ends; what ended, in order.

@@ -2,6 +2,8 @@ use Rattle.std.specs.Prelude.{ℕ, ◌+◌, ◌&&◌, nat_le, if◌then◌else�
 use Rattle.nook_defs.specs.declared.machine.Service.{Service}
 use Rattle.nook_defs.specs.declared.machine.Service.TheVariants as service
 use Rattle.nook_defs.specs.Domain.{Arguments, Lent}
+use Rattle.domain_pages.specs.Frames.{with_own}
+use Rattle.nook_defs.specs.Pages.{buffer_start}
 use Rattle.param_wrappers.specs.declared.copy.Args.{Args}
 
 -- the values of registers r1 to r3
@@ -12,6 +14,11 @@ arguments a = record { first = a.r1; second = a.r2; third = a.r3 }
 abbrev pub with_loan : ℕ → Option Lent → List Bool → List Bool
 with_loan context None loans = loans
 with_loan context (Some l) loans = if l.writable then slice_set loans context true else loans
+
+-- the pages with a copy of their own, after a buffer is lent: its two pages among them
+abbrev pub lent_own : ℕ → Option Lent → List Bool → List Bool
+lent_own context None own = own
+lent_own context (Some l) own = with_own (buffer_start context) 128 own
 
 -- the numbers of a service are such that it can be done
 abbrev pub can_serve : Service → Bool

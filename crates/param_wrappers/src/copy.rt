@@ -5,7 +5,7 @@ ghost use Rattle.std.specs.List.{list_any};
 ghost use Rattle.nook_defs.specs.Domain.{arguments_of, buffer_of, lent, lent_memory, lent_entries};
 ghost use Rattle.nook_defs.specs.Entries.{is_buffer_of, without_buffer};
 ghost use Rattle.nook_defs.specs.Pages.{buffer_start};
-ghost use Rattle.param_wrappers.specs.Crossing.{arguments, with_loan};
+ghost use Rattle.param_wrappers.specs.Crossing.{arguments, lent_own, with_loan};
 
 use domain_pages::PageMap;
 use nook_defs::data::Op;
@@ -34,6 +34,7 @@ pub fn copy_in(pages: &mut PageMap, tracker: &mut Tracker, context: u8, op: &Op)
     ensures arguments { arguments result ≡ arguments_of context op.now }
     ensures words { pages.new.words ≡ lent_memory context (buffer_of op.now) pages.old.words }
     ensures loans { pages.new.lent ≡ with_loan context (buffer_of op.now) pages.old.lent }
+    ensures own { pages.new.own ≡ lent_own context (buffer_of op.now) pages.old.own }
     ensures entries { tracker.new ≡ record tracker.old { entries = lent_entries context (buffer_of op.now) tracker.old.entries } }
 {
     let r3 = buffer_start(context);
@@ -98,6 +99,7 @@ fn lend(pages: &mut PageMap, tracker: &mut Tracker, context: u8, words: &[Word],
     requires few { length words.now ≤ 128 }
     ensures words { pages.new.words ≡ lent_memory context (lent writable words.now) pages.old.words }
     ensures loans { pages.new.lent ≡ with_loan context (lent writable words.now) pages.old.lent }
+    ensures own { pages.new.own ≡ lent_own context (lent writable words.now) pages.old.own }
     ensures entries { tracker.new ≡ record tracker.old { entries = lent_entries context (lent writable words.now) tracker.old.entries } }
 {
     pages.put_words(buffer_start(context), words, BUFFER_WORDS);

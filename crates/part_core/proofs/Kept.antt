@@ -1,5 +1,5 @@
 -- What the laws of runs say of a part, at first and after each step.
-use Rattle.std.proofs.Common.{◌≡◌, ◌+◌, ◌≤◌, ◌<◌, true, List, [], ◌∷◌, ◌++◌, refl, sym, ap, ◌∙◌, ℕ, arith, Option, Some, None, IfNone, IfSome}
+use Rattle.std.proofs.Common.{◌≡◌, ◌+◌, ◌≤◌, ◌<◌, true, List, [], ◌∷◌, ◌++◌, refl, sym, ap, ◌∙◌, ℕ, arith, Option, Some, None, IfNone, IfSome, is_some}
 use Rattle.loan_laws.proofs.StepLoans.{run_loans}
 use Rattle.nook_defs.specs.declared.data.Class.{Class}
 use Rattle.nook_defs.specs.declared.data.Class.TheVariants as class
@@ -7,13 +7,15 @@ use Rattle.nook_defs.specs.declared.data.Event.{Event}
 use Rattle.nook_defs.specs.declared.data.Fault.{Fault}
 use Rattle.nook_defs.specs.declared.data.PartSpec.{PartSpec}
 use Rattle.nook_defs.specs.declared.data.Step.{Step}
-use Rattle.nook_defs.specs.Runs.{PartRun, IsRun, IsRunFrom, event_of, next_any, opening_run, run_after, state_after, state_from, state_of}
+use Rattle.nook_defs.specs.Runs.{PartRun, IsRun, IsRunFrom, answered_at, event_of, next_any, opening_run, run_after, state_after, state_from, state_of}
 use Rattle.nook_defs.specs.State.{PartState}
 use Rattle.nook_defs.specs.Steps.{enabled, opening, turned}
 use Rattle.nook_defs.specs.Valid.{FitsClass, IsValidPart}
 use Rattle.device_laws.proofs.DeviceStays.{opening_spec, run_spec, spec_after}
+use Rattle.part_laws.proofs.Answered.{run_answered}
 use Rattle.part_laws.proofs.RunBound.{run_tied}
 use Rattle.part_laws.proofs.RunProgress.{progress}
+use Rattle.part_laws.specs.Answered.{is_answered}
 use Rattle.part_laws.specs.Progress.{HasProgress}
 use Rattle.part_laws.proofs.RunSmall.{run_few_bursts}
 use Rattle.part_laws.proofs.RunsDetermined.{run_more, state_more}
@@ -102,3 +104,9 @@ none_open p (Some s) h e = tt
 
 pub kept_none_open : (r : PartRun) (x : Option Step) → IsKept r → x ≡ next_any r.state → IfNone x (r.state.log.pending ≡ [])
 kept_none_open r x k e = none_open r.state x (progress r.state (sound r k).fit (sound r k).tied) e
+
+-- an event has answered a call that was given its number and is open no more, and no other
+pub kept_answered : (r : PartRun) (call : ℕ) → IsKept r → is_some (answered_at r.journal call) ≡ is_answered r.state.log call
+kept_answered r call k =
+    run_answered r.state.spec r.journal (valid_fits r.state.spec k.valid) k.run call
+    ∙ ap (λ (p : PartState). is_answered p.log call) (sym k.state)

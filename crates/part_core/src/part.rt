@@ -9,6 +9,7 @@ ghost use Rattle.nook_defs.specs.Steps.{can_arrive, can_invoke, enabled};
 ghost use Rattle.nook_defs.specs.Valid.{IsValidPart};
 ghost use Rattle.part_core.specs.Answering.{call_number};
 ghost use Rattle.part_core.specs.Turning.{IsStepped};
+ghost use Rattle.part_laws.specs.Answered.{is_answered};
 ghost use Rattle.part_laws.specs.Recovery.{HasFacts, IsKeptRun};
 
 use crate::state::State;
@@ -235,9 +236,11 @@ impl Part {
         self.state.log.count()
     }
 
-    /// The number of the event that answered the call, from 1; None exactly where it is open or there is no such call.
+    /// The number of the event that answered the call, from 1; None exactly where the call is open or its number was given
+    /// to none.
     pub fn answered_at(&self, call: u32) -> Option<u64>
-        ensures { result ≡ answered_at self.now.journal call }
+        ensures place { result ≡ answered_at self.now.journal call }
+        ensures told { is_some result ≡ is_answered self.now.state.log call }
     {
         place_of_answer(self.journal.as_slice(), call)
     }

@@ -9,7 +9,7 @@ use Rattle.nook_defs.specs.declared.data.Event.{Event}
 use Rattle.nook_defs.specs.Blocks.{get_blocks}
 use Rattle.nook_defs.specs.Contract.{Watch, is_prefix, break_at, break_from, first_break, first_watch, sees}
 use Rattle.nook_defs.specs.Losses.{count_event, losses, no_counts, told}
-use Rattle.contract_monitor.specs.Knowing.{Knows, knows_first}
+use Rattle.contract_monitor.specs.Knowing.{Knows, knows_first, saw_event}
 use Rattle.contract_monitor.specs.Monitors.{Monitored, StandsFor, after_event, break_of, or_break}
 
 -- ---- the first break of a list and one event more
@@ -44,15 +44,20 @@ first_break_more class size xs e =
 -- ---- the monitor
 
 pub stands_first : (class : Class) (size : ℕ) (k : Knows) → k ≡ knows_first class size
-    → StandsFor class size [] (record { knows = k; seen = 0; broken = None; failing = false })
+    → StandsFor class size [] (record { knows = k; seen = 0; broken = None })
 unfolding first_break break_from
 stands_first class size k e = record {
   watch = ap (λ k. k.watch) e;
   counts = ap (λ k. k.counts) e;
   seen = refl;
   broken = refl;
-  working = refl;
 }
+
+-- a monitor whose fields are those after one more event
+pub is_after : (e : Event) (m : Monitored) (knew known : Knows) (had seen : ℕ) (was broken : Option Break) (clause : Option ℕ) →
+    record { knows = knew; seen = had; broken = was } ≡ m → known ≡ saw_event e knew → seen ≡ had + 1 → clause ≡ known.watch.clause
+    → broken ≡ or_break was (break_of seen clause) → record { knows = known; seen = seen; broken = broken } ≡ after_event e m
+is_after e m knew known had seen was broken clause is k n c b = rw (← is, b, c, k, n) refl
 
 pub stands_more : (class : Class) (size : ℕ) (events : List Event) (e : Event) (m n : Monitored) → StandsFor class size events m
     → n ≡ after_event e m → StandsFor class size (events ++ e ∷ []) n
@@ -61,7 +66,6 @@ stands_more class size events e m n s is = rw is record {
   counts = ap (λ k. count_event k e) s.counts ∙ sym (fold-append count_event no_counts events (e ∷ []));
   seen = omega (arith, s.seen, length-append events (e ∷ []));
   broken = rw (s.broken, s.seen, s.watch) (sym (first_break_more class size events e));
-  working = s.working;
 }
 
 pub losses_stand : (class : Class) (size : ℕ) (events : List Event) (m : Monitored) → StandsFor class size events m

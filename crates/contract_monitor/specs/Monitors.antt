@@ -1,4 +1,4 @@
-use Rattle.std.specs.Prelude.{◌≡◌, ℕ, ◌+◌, Bool, false, List, length, fold, Option, Some, None}
+use Rattle.std.specs.Prelude.{◌≡◌, ℕ, ◌+◌, List, length, fold, Option, Some, None}
 use Rattle.nook_defs.specs.declared.data.Break.{Break}
 use Rattle.nook_defs.specs.declared.data.Class.{Class}
 use Rattle.nook_defs.specs.declared.data.Event.{Event}
@@ -6,13 +6,11 @@ use Rattle.nook_defs.specs.Contract.{first_break, first_watch, sees}
 use Rattle.nook_defs.specs.Losses.{no_counts, count_event}
 use Rattle.contract_monitor.specs.Knowing.{Knows, saw_event}
 
--- a monitor: what it knows, how many events it has seen, the first break, and whether an event was refused for want
--- of memory
+-- a monitor: what it knows, how many events it has seen, and the first break
 pub record Monitored : Type 0 where
   pub knows : Knows
   pub seen : ℕ
   pub broken : Option Break
-  pub failing : Bool
 
 abbrev pub break_of : ℕ → Option ℕ → Option Break
 break_of event None = None
@@ -29,7 +27,6 @@ after_event e m = record {
   knows = saw_event e m.knows;
   seen = m.seen + 1;
   broken = or_break m.broken (break_of (m.seen + 1) (sees m.knows.watch e).clause);
-  failing = m.failing;
 }
 
 -- the monitor has seen these events of a part of this class with a disk of so many blocks
@@ -38,4 +35,3 @@ pub record StandsFor (class : Class) (size : ℕ) (events : List Event) (m : Mon
   pub counts : m.knows.counts ≡ fold count_event no_counts events
   pub seen : m.seen ≡ length events
   pub broken : m.broken ≡ first_break class size events
-  pub working : m.failing ≡ false

@@ -8,7 +8,7 @@ ghost use Rattle.contract_monitor.specs.Questions.{holds_block};
 
 use class_table::{blocks_of_op, first_of_op};
 use nook_defs::data::{Class, Op};
-use nook_defs::lists::Words;
+use nook_defs::lists::{TryCopy, Words};
 use nook_defs::memory::NoMemory;
 use std::alloc::Global;
 use std::collections::VecDeque;
@@ -69,6 +69,31 @@ fn blank(alloc: Global, count: u32) -> Result<Vec<Words>, NoMemory>
     let mut made = Vec::new(alloc);
     for _block in 0..count {
         made.push(Words::from_vec(vec![in alloc; 0; BLOCK_WORDS]?))?;
+    }
+    Ok(made)
+}
+
+/// Equal blocks or frames of their own.
+pub fn copy_blocks(alloc: Global, blocks: &[Words]) -> Result<Vec<Words>, NoMemory>
+    ensures { IfOk result (λ made. made.items ≡ blocks.now) }
+{
+    let mut made = Vec::with_capacity(alloc, blocks.len())?;
+    for block in blocks {
+        made.push(block.copy(alloc)?)?;
+    }
+    Ok(made)
+}
+
+/// An equal queue of its own.
+pub fn copy_queue<T: TryCopy + Drop>(
+    alloc: Global,
+    queue: &VecDeque<T>,
+) -> Result<VecDeque<T>, NoMemory>
+    ensures { IfOk result (λ made. made.items ≡ queue.now.items) }
+{
+    let mut made = VecDeque::new(alloc);
+    for i in 0..queue.len() {
+        made.push_back(queue[i].copy(alloc)?)?;
     }
     Ok(made)
 }

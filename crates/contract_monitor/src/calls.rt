@@ -6,6 +6,7 @@ ghost use Rattle.nook_defs.specs.Losses.{count_answered, count_played, count_sen
 ghost use Rattle.nook_defs.specs.Places.{at_number};
 ghost use Rattle.contract_monitor.specs.Calls.{AreOutside, IsPlaceOf, SettledBefore, counted_calls, counted_change, counted_of, watched_calls, watched_change, watched_of};
 
+use crate::blocks::copy_queue;
 use nook_defs::data::Op;
 use nook_defs::lists::TryCopy;
 use nook_defs::memory::NoMemory;
@@ -24,6 +25,25 @@ pub struct Call {
     pub failed: VecDeque<u32>,
     pub counted: u64,
     pub answered: bool,
+}
+
+impl Call {
+    /// An equal call of its own.
+    fn copy(&self, alloc: Global) -> Result<Call, NoMemory>
+        ensures watched { IfOk result (λ made. watched_of made ≡ watched_of self.now) }
+        ensures counted { IfOk result (λ made. counted_of made ≡ counted_of self.now) }
+    {
+        Ok(Call {
+            op: self.op.copy(alloc)?,
+            inside: self.inside,
+            sent: self.sent,
+            played: self.played,
+            handed: self.handed,
+            failed: copy_queue(alloc, &self.failed)?,
+            counted: self.counted,
+            answered: self.answered,
+        })
+    }
 }
 
 /// What becomes of a call.
@@ -105,6 +125,18 @@ impl Calls {
             all: Vec::new(alloc),
             settled: 0,
         }
+    }
+
+    /// Equal calls of their own.
+    pub fn copy(&self, alloc: Global) -> Result<Calls, NoMemory>
+        ensures watched { IfOk result (λ made. map watched_of made ≡ map watched_of self.now) }
+        ensures counted { IfOk result (λ made. map counted_of made ≡ map counted_of self.now) }
+    {
+        let mut all = Vec::with_capacity(alloc, self.all.len())?;
+        for call in &self.all {
+            all.push(call.copy(alloc)?)?;
+        }
+        Ok(Calls { all, settled: 0 })
     }
 
     /// The call with a number.

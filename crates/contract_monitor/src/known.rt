@@ -4,11 +4,11 @@ ghost use Rattle.std.specs.Prelude.{◌≡◌, ◌-◌, IfOk, OnOk};
 ghost use Rattle.nook_defs.specs.Losses.{told};
 ghost use Rattle.contract_monitor.specs.Knowing.{knows_first, saw_event};
 
-use crate::blocks::blank_blocks;
+use crate::blocks::{blank_blocks, copy_blocks, copy_queue};
 use crate::calls::Calls;
 use class_table::defaults_of;
 use nook_defs::data::{Class, Event, Losses};
-use nook_defs::lists::Words;
+use nook_defs::lists::{TryCopy, Words};
 use nook_defs::memory::NoMemory;
 use std::alloc::Global;
 use std::collections::VecDeque;
@@ -188,6 +188,24 @@ impl Known {
             }
             Event::Arrive { frame, kept } => self.see_arrival(frame, *kept),
         }
+    }
+}
+
+impl TryCopy for Known {
+    fn copy(&self, alloc: Global) -> Result<Known, NoMemory> {
+        Ok(Known {
+            alloc,
+            class: self.class,
+            medium: copy_blocks(alloc, &self.medium)?,
+            ring: copy_queue(alloc, &self.ring)?,
+            registers: self.registers,
+            popped: copy_blocks(alloc, &self.popped)?,
+            handed: copy_blocks(alloc, &self.handed)?,
+            calls: self.calls.copy(alloc)?,
+            replay: self.replay,
+            clause: self.clause,
+            tally: self.tally,
+        })
     }
 }
 

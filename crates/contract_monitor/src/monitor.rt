@@ -1,35 +1,43 @@
 //! The monitor: events in, the first break and the losses out.
 
-ghost use Rattle.std.specs.Prelude.{◌≡◌, ◌∷◌, ◌++◌, [], ℕ, List, IsErr, IsTrue, IfOk, OnErr, OnOk};
+ghost use Rattle.std.specs.Prelude.{◌≡◌, ◌∷◌, ◌++◌, [], ℕ, List, IfOk, IfSome, OnErr, OnOk};
+ghost use Rattle.std.specs.Option.{ForSome};
 ghost use Rattle.nook_defs.specs.declared.data.Class.{Class};
 ghost use Rattle.nook_defs.specs.declared.data.Event.{Event};
 ghost use Rattle.nook_defs.specs.Contract.{first_break};
 ghost use Rattle.nook_defs.specs.Losses.{losses, told};
+ghost use Rattle.contract_monitor.specs.Knowing.{saw_event};
 ghost use Rattle.contract_monitor.specs.Monitors.{StandsFor, after_event, break_of, or_break};
 
 use crate::calls::more;
 use crate::known::Known;
 use nook_defs::data::{Break, Class, Event, Losses};
+use nook_defs::lists::TryCopy;
 use nook_defs::memory::NoMemory;
 use std::alloc::Global;
 use std::marker::Model;
+use std::mem;
 
 /// Judges a part's driver and counts what was lost, event by event. It keeps no event. Contracts see what it knows
 /// by the definitions of the contract and of the losses; `StandsFor` tells for which lists of events it stands.
 #[derive(Drop)]
 pub struct Monitor {
     known: Known,
+    /// The same as `known`, for the next event to be tried on; none where it has to be copied anew.
+    spare: Option<Known>,
     seen: u64,
     broken: Option<Break>,
-    failing: bool,
 }
 
 impl Model for Monitor {
+    ghost use Rattle.std.specs.Prelude.{◌≡◌, IfSome};
     ghost use Rattle.contract_monitor.specs.Monitors.{Monitored};
 
     ghost Value = { Monitored };
 
-    ghost view = { λ s. record { knows = s.known; seen = s.seen; broken = s.broken; failing = s.failing } };
+    ghost view = { λ s. record { knows = s.known; seen = s.seen; broken = s.broken } };
+
+    ghost invariant = { λ s. IfSome s.spare (λ same. same ≡ s.known) };
 }
 
 impl Monitor {
@@ -40,29 +48,26 @@ impl Monitor {
     {
         Ok(Monitor {
             known: Known::new(alloc, class, blocks)?,
+            spare: None,
             seen: 0,
             broken: None,
-            failing: false,
         })
     }
 
     /// One event more. Where the monitor stood for a list of events, it stands for that list and the event. After
-    /// NoMemory it stands for none, and answers NoMemory from then on. A count that has no room in 64 bits is refused
-    /// as memory is.
+    /// NoMemory it is as it was. A count that has no room in 64 bits is refused as memory is.
     pub fn see(&mut self, event: &Event) -> Result<(), NoMemory>
         ensures after { OnOk result (self.new ≡ after_event event.now self.old) }
         ensures stands { OnOk result ((class : Class) (size : ℕ) (events : List Event) → StandsFor class size events self.old → StandsFor class size (events ++ event.now ∷ []) self.new) }
-        ensures failing { OnErr result (IsTrue self.new.failing) }
-        ensures closed { IsTrue self.old.failing → IsErr result }
+        ensures err { OnErr result (self.new ≡ self.old) }
     {
-        if self.failing {
-            return Err(NoMemory);
-        }
-        self.failing = true;
-        self.known.see(event)?;
-        self.seen = more(self.seen, 1)?;
-        self.broken = or_break(self.broken, self.seen, self.known.clause());
-        self.failing = false;
+        let seen = more(self.seen, 1)?;
+        let mut next = same_again(&self.known, self.spare.take())?;
+        next.see(event)?;
+        self.seen = seen;
+        self.broken = or_break(self.broken, seen, next.clause());
+        let before = mem::replace(&mut self.known, next);
+        self.spare = caught_up(before, event);
         Ok(())
     }
 
@@ -87,6 +92,28 @@ impl Monitor {
         ensures { result ≡ self.now.seen }
     {
         self.seen
+    }
+}
+
+/// What is known once more: the spare, or a copy.
+fn same_again(known: &Known, spare: Option<Known>) -> Result<Known, NoMemory>
+    requires { ForSome spare (λ same. same ≡ known.now) }
+    ensures { IfOk result (λ same. same ≡ known.now) }
+{
+    match spare {
+        Some(same) => Ok(same),
+        None => known.copy(known.alloc),
+    }
+}
+
+/// What is known with this event too; none where memory was wanting.
+fn caught_up(before: Known, event: &Event) -> Option<Known>
+    ensures { IfSome result (λ known. known ≡ saw_event event.now before) }
+{
+    let mut known = before;
+    match known.see(event) {
+        Ok(()) => Some(known),
+        Err(NoMemory) => None,
     }
 }
 

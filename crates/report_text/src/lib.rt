@@ -2,7 +2,7 @@
 #![tactic(auto)]
 
 pub mod line;
-pub mod pieces;
+mod pieces;
 pub mod report;
 #[cfg(test)]
 mod tests;

@@ -1,6 +1,6 @@
 //! A line of text as it is put together.
 
-ghost use Rattle.std.specs.Prelude.{◌≡◌, [], ◌∷◌, ◌++◌, OnOk, decimal, string_bytes};
+ghost use Rattle.std.specs.Prelude.{◌≡◌, [], ◌∷◌, ◌++◌, OnErr, OnOk, decimal, string_bytes};
 
 use itoa::Buffer;
 use nook_defs::memory::NoMemory;
@@ -31,17 +31,19 @@ impl Line {
         }
     }
 
-    /// Adds a text.
+    /// Adds a text. After `NoMemory` the line is as it was.
     pub fn push(&mut self, text: &str) -> Result<(), NoMemory>
-        ensures { OnOk result (self.new ≡ self.old ++ text.now) }
+        ensures ok { OnOk result (self.new ≡ self.old ++ text.now) }
+        ensures err { OnErr result (self.new ≡ self.old) }
     {
         self.text.push_str(text)?;
         Ok(())
     }
 
-    /// Adds a number in decimal.
+    /// Adds a number in decimal. After `NoMemory` the line is as it was.
     pub fn number(&mut self, n: u64) -> Result<(), NoMemory>
-        ensures { OnOk result (self.new ≡ self.old ++ decimal n) }
+        ensures ok { OnOk result (self.new ≡ self.old ++ decimal n) }
+        ensures err { OnErr result (self.new ≡ self.old) }
     {
         let mut digits = Buffer::new();
         self.push(digits.format(n))

@@ -1,4 +1,4 @@
-//! The pieces of the lines: each call adds the text of one thing to a line.
+//! The pieces of the lines: each call adds the text of one thing to a line, which its maker drops after `NoMemory`.
 
 ghost use Rattle.std.specs.Prelude.{◌≡◌, [], ◌∷◌, ◌++◌, Option, OnOk};
 ghost use Rattle.nook_defs.specs.Keys.{class_text};

@@ -81,8 +81,7 @@ fn end(alloc: Global, failures: u32) -> Result<PartEnd, NoMemory> {
 fn journal(alloc: Global, act: Option<Act>) -> Result<Journal, NoMemory> {
     let mut made = Journal::new(alloc);
     if let Some(act) = act {
-        made.reserve()?;
-        made.push_reserved(burst(alloc, act)?);
+        made.push(burst(alloc, act)?)?;
     }
     Ok(made)
 }

@@ -44,7 +44,7 @@ impl From<NoMemory> for WriteStop {
 }
 
 /// What has a line for each of its items.
-pub trait Lined {
+trait Lined {
     // the line of an item with this number
     ghost text: { ℕ → Self → List ℕ };
 
@@ -80,7 +80,8 @@ impl Lined for (u32, Answer) {
 /// How many bytes a buffer holds before they are written.
 const BUFFER_SIZE: usize = 16_384;
 
-/// Writes a buffer that holds many bytes, and empties it.
+/// Writes a buffer that holds 16,384 bytes or more, and empties it. With fewer it does nothing. A buffer that was not
+/// written whole is left as it was.
 pub fn spill<K: Sink>(sink: &mut K, buffer: &mut Line) -> Result<(), WriteStop>
     ensures { Spilled (K.held sink.old) (K.held sink.new) (K.count sink.old) (K.count sink.new) result buffer.old buffer.new }
 {

@@ -15,7 +15,7 @@ returns c =
     let rest = kept_counts n in
     on_ok c.push_kept_counts.result
     (λ h. piece_more c.args.line.now c.push_number.new.line end a (line_feed ++ (b ++ (d ++ rest))) c.in_ok-push_number.ensures
-    (piece_more c.push_number.new.line c.push.new.self end line_feed (b ++ (d ++ rest)) c.in_ok-push.ensures
+    (piece_more c.push_number.new.line c.push.new.self end line_feed (b ++ (d ++ rest)) c.in_ok-push.ensures.ok
     (piece_more c.push.new.self c.push_number-2.new.line end b (d ++ rest) c.in_ok-push_number-2.ensures
     (piece_more c.push_number-2.new.line c.push_number-3.new.line end d rest c.in_ok-push_number-3.ensures h))))
     c.push_kept_counts.ensures

@@ -12,4 +12,4 @@ returns c =
     on_ok c.push.result
     (λ h. piece_more c.args.line.now c.push_number.new.line c.push.new.self first (second ++ line_feed) c.in_ok-push_number.ensures
     (piece_more c.push_number.new.line c.push_number-2.new.line c.push.new.self second line_feed c.in_ok-push_number-2.ensures h))
-    c.push.ensures
+    c.push.ensures.ok

@@ -98,7 +98,7 @@ burst_then name d =
     (λ after ha. chained IsValidKind IsValidFault (fault_kind name d) (λ kind. let read : Result Fault Refusal = Ok (record { burst = burst; after = after; kind = kind }) in read)
     (kind_holds name d) (λ kind hk. valid_fault burst after kind hb ha hk)))
 
-fault_holds : (d : Data) → IfOk (fault_of d) IsValidFault
+pub fault_holds : (d : Data) → IfOk (fault_of d) IsValidFault
 unfolding fault_of
 fault_holds d =
     passed IsValidFault (is_object d) (λ members. required key.Kind (named_of fault_named) d >>= checks_fault d)

@@ -1,6 +1,6 @@
 -- The bytes that `Value::from_slice` takes for text are those that the definition takes for text.
-use Rattle.std.proofs.Common.{◌≡◌, ℕ, Bool, true, false, ◌&&◌, List, refl, sym, Some, None}
-use Rattle.std.specs.Prelude.{IsUtf8, chars, Ok, Err}
+use Rattle.std.proofs.Common.{◌≡◌, ℕ, Bool, true, false, ◌&&◌, List, refl, Some, None}
+use Rattle.std.specs.Prelude.{IsUtf8, chars, Ok}
 use Rattle.std.proofs.lemmas.Str.{encodes-chars, scalars-chars}
 use Rattle.std.proofs.lemmas.Slice.Eq.{bytes_eq-Decides}
 use Rattle.serde_json.specs.Data.{Data}

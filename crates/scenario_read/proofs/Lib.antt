@@ -2,4 +2,5 @@ pub mod Counts
 pub mod HexWords
 pub mod JsonText
 pub mod Members
+pub mod OpCounts
 pub mod ValidRead

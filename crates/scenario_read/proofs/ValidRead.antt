@@ -2,11 +2,15 @@
 use Rattle.std.proofs.Common.{subst}
 use Rattle.std.specs.Prelude.{Result, Ok, Err, IfOk}
 use Rattle.serde_json.specs.Data.{Data}
+use Rattle.nook_defs.specs.CampaignReading.{campaign_of}
+use Rattle.nook_defs.specs.Campaigns.{IsValidCampaign}
 use Rattle.nook_defs.specs.ImageReading.{image_of}
 use Rattle.nook_defs.specs.ScenarioReading.{scenario_of}
 use Rattle.nook_defs.specs.Valid.{IsValidImage, IsValidScenario}
+use Rattle.nook_defs.specs.declared.data.Campaign.{Campaign}
 use Rattle.nook_defs.specs.declared.data.Image.{Image}
 use Rattle.nook_defs.specs.declared.data.Scenario.{Scenario}
+use Rattle.scenario_laws.proofs.CampaignsRead.{campaign_holds}
 use Rattle.scenario_laws.proofs.ImagesRead.{image_is_valid}
 use Rattle.scenario_laws.proofs.ScenariosRead.{scenario_holds}
 use Rattle.scenario_read.specs.Gives.{Gives}
@@ -19,3 +23,7 @@ valid_image d (Err why) h = tt
 pub valid_scenario : (d : Data) (r : Result Scenario ScenarioFault) → Gives r (scenario_of d) → IfOk r IsValidScenario
 valid_scenario d (Ok scenario) h = subst (λ read. IfOk read IsValidScenario) h (scenario_holds d)
 valid_scenario d (Err why) h = tt
+
+pub valid_campaign : (d : Data) (r : Result Campaign ScenarioFault) → Gives r (campaign_of d) → IfOk r IsValidCampaign
+valid_campaign d (Ok campaign) h = subst (λ read. IfOk read IsValidCampaign) h (campaign_holds d)
+valid_campaign d (Err why) h = tt

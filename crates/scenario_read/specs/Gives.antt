@@ -1,5 +1,4 @@
-use Rattle.std.specs.Prelude.{◌≡◌, ⊤, List, [], ◌∷◌, Option, Some, None, Result, Ok, Err}
-use Rattle.nook_defs.specs.Reading.{under, bad}
+use Rattle.std.specs.Prelude.{◌≡◌, ⊤, [], ◌∷◌, Result, Ok, Err}
 use Rattle.nook_defs.specs.declared.input.InputFault.TheVariants as fault
 use Rattle.nook_defs.specs.declared.input.Key.{Key}
 use Rattle.nook_defs.specs.declared.input.PathStep.TheVariants as step

@@ -2,6 +2,7 @@
 
 ghost use Rattle.std.specs.Prelude.{◌≡◌};
 ghost use Rattle.serde_json.specs.View.{view};
+ghost use Rattle.nook_defs.specs.CampaignReading.{member_faults_of};
 ghost use Rattle.nook_defs.specs.Reading.{named_of, required};
 ghost use Rattle.nook_defs.specs.PartReading.{bad_block_of, bad_blocks_of, fault_kind, fault_named, fault_of, faults_of};
 ghost use Rattle.nook_defs.specs.declared.input.Key.TheVariants as key;
@@ -21,6 +22,13 @@ pub fn faults_of(alloc: Global, value: &Value) -> Result<Faults, ScenarioFault>
     ensures { Gives result (faults_of (view value.now)) }
 {
     read_list(alloc, &FaultReader, value, 0, 64)
+}
+
+/// 1 to 4,096 faults, one for each member of a campaign.
+pub fn member_faults_of(alloc: Global, value: &Value) -> Result<Faults, ScenarioFault>
+    ensures { Gives result (member_faults_of (view value.now)) }
+{
+    read_list(alloc, &FaultReader, value, 1, 4096)
 }
 
 /// Reads faults.

@@ -49,7 +49,7 @@ pub fn json_of(alloc: Global, bytes: &[u8]) -> Result<Value, ScenarioFault>
 
 /// A scenario: its version, schedule, parts and threads.
 #[tactic(auto, unfolding(nook_defs::specs::ScenarioReading::scenario_of))]
-fn scenario_of(alloc: Global, value: &Value) -> Result<Scenario, ScenarioFault>
+pub fn scenario_of(alloc: Global, value: &Value) -> Result<Scenario, ScenarioFault>
     ensures { Gives result (scenario_of (view value.now)) }
 {
     check_keys(

@@ -1,0 +1,124 @@
+//! Campaigns: a scenario, one of its parts, and the faults that strike it.
+
+ghost use Rattle.std.specs.Prelude.{◌≡◌, List, IfOk, length, nat_lt};
+ghost use Rattle.serde_json.specs.View.{view};
+ghost use Rattle.nook_defs.specs.CampaignReading.{campaign_from, campaign_of, check_base, check_ops, check_own_faults};
+ghost use Rattle.nook_defs.specs.Campaigns.{IsValidCampaign, faults_at, ops_count};
+ghost use Rattle.nook_defs.specs.Reading.{refuse_if};
+ghost use Rattle.nook_defs.specs.declared.data.Fault.{Fault};
+ghost use Rattle.nook_defs.specs.declared.input.InputFault.TheVariants as fault;
+ghost use Rattle.scenario_read.specs.Gives.{Gives};
+
+use crate::faults::member_faults_of;
+use crate::fields::{check_keys, field, number_at};
+use crate::scenario::{json_of, scenario_of};
+use crate::stop::{ScenarioFault, at, bad_here, behind};
+use nook_defs::data::{Campaign, PartSpec, Scenario, ThreadSpec};
+use nook_defs::input::{InputFault, Key, PathStep};
+use serde_json::Value;
+use std::alloc::Global;
+
+/// Operations that the threads of a campaign's scenario may have in all.
+const MOST_OPS: usize = 64;
+/// Faults that the struck part may have of its own.
+const MOST_OWN_FAULTS: usize = 63;
+
+/// The campaign of a JSON text. It keeps its limits.
+///
+/// # Errors
+///
+/// The first fault of the text with its path, or want of memory. The scenario comes first, then the part, then the
+/// faults, then the operations of all threads together, then the faults that the part has of its own.
+#[tactic(auto, unfolding(nook_defs::specs::CampaignReading::campaign_from), using(crate::proofs::ValidRead::valid_campaign))]
+pub fn read_campaign(alloc: Global, bytes: &[u8]) -> Result<Campaign, ScenarioFault>
+    ensures gives { Gives result (campaign_from bytes.now) }
+    ensures valid { IfOk result IsValidCampaign }
+{
+    let value = json_of(alloc, bytes)?;
+    campaign_of(alloc, &value)
+}
+
+/// A campaign: its scenario, the place of the struck part and the faults, and then the limits of the scenario.
+#[tactic(auto, unfolding(nook_defs::specs::CampaignReading::campaign_of))]
+fn campaign_of(alloc: Global, value: &Value) -> Result<Campaign, ScenarioFault>
+    ensures { Gives result (campaign_of (view value.now)) }
+{
+    check_keys(alloc, value, &[Key::Base, Key::Part, Key::Faults])?;
+    let base = at(
+        Key::Base,
+        scenario_of(alloc, field(alloc, value, Key::Base)?),
+    )?;
+    let Ok(count) = u32::try_from(base.parts.len()) else {
+        return Err(ScenarioFault::NoMemory);
+    };
+    let last = count.saturating_sub(1);
+    let part = number_at(alloc, value, Key::Part, 0, u64::from(last))? as u32;
+    let inside = field(alloc, value, Key::Faults)?;
+    let faults = at(Key::Faults, member_faults_of(alloc, inside))?;
+    check_base(alloc, &base, part)?;
+    Ok(Campaign { base, part, faults })
+}
+
+/// The scenario has no more operations than a campaign runs, and its part at a place has room for one more fault.
+fn check_base(alloc: Global, base: &Scenario, part: u32) -> Result<(), ScenarioFault>
+    ensures { Gives result (check_base base.now part) }
+{
+    check_ops(alloc, base.threads.as_slice())?;
+    let own = own_fault_count(base.parts.as_slice(), part as usize);
+    check_own_faults(alloc, part, own > MOST_OWN_FAULTS)
+}
+
+/// The threads have at most 64 operations in all.
+fn check_ops(alloc: Global, threads: &[ThreadSpec]) -> Result<(), ScenarioFault>
+    ensures { Gives result (check_ops threads.now) }
+{
+    let checked = refuse_if(alloc, has_many_ops(threads));
+    at(Key::Base, at(Key::Threads, checked))
+}
+
+/// The part at a place is told whether it has too many faults of its own.
+fn check_own_faults(alloc: Global, part: u32, too_many: bool) -> Result<(), ScenarioFault>
+    ensures { (own : List Fault) → too_many ≡ nat_lt 63 (length own) → Gives result (check_own_faults part own) }
+{
+    let checked = at(Key::Faults, refuse_if(alloc, too_many));
+    at(
+        Key::Base,
+        at(Key::Parts, behind(PathStep::Place(part), checked)),
+    )
+}
+
+/// What is too long is refused.
+fn refuse_if(alloc: Global, too_long: bool) -> Result<(), ScenarioFault>
+    ensures { Gives result (refuse_if too_long fault.TooMany) }
+{
+    if too_long {
+        return bad_here(alloc, InputFault::TooMany);
+    }
+    Ok(())
+}
+
+/// Whether the threads have more than 64 operations in all.
+#[tactic(auto, using(crate::proofs::OpCounts::one_thread, crate::proofs::OpCounts::fewer_left, crate::proofs::OpCounts::none_left))]
+fn has_many_ops(threads: &[ThreadSpec]) -> bool
+    ensures { result ≡ nat_lt 64 (ops_count threads.now) }
+{
+    let mut left = MOST_OPS;
+    for thread in threads {
+        let count = thread.ops.len();
+        if left < count {
+            return true;
+        }
+        left -= count;
+    }
+    false
+}
+
+/// The number of faults that the part at a place has of its own, 0 where there is no such part.
+fn own_fault_count(parts: &[PartSpec], place: usize) -> usize
+    ensures { result ≡ length (faults_at parts.now place) }
+{
+    match parts.get(place) {
+        None => 0,
+        Some(part) => part.faults.len(),
+    }
+}

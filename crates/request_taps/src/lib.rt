@@ -1,4 +1,4 @@
-//! The bus of listeners that hear a run's events as they are made.
+//! The bus of listeners that hear a run's events.
 //!
 //! A listener is dropped when its total reaches its limit, when it is detached, or with the bus. Its total is kept.
 #![tactic(auto)]

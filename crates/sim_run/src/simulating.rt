@@ -81,8 +81,8 @@ impl<'a> Simulating<'a> {
         })
     }
 
-    /// Takes the step that the schedule picks, and tells whether any actor had one.
-    /// The taps hear the event as soon as it is made.
+    /// Takes the step that the schedule picks, and tells whether any actor had one. The taps have then heard its event.
+    /// After `NoMemory` they have heard the event that it makes, or nothing.
     pub fn advance<L: Listener>(&mut self, taps: &mut Bus<L>) -> Result<bool, NoMemory>
         ensures advanced { IfOk result (λ some. IsAdvanced self.old some self.new) }
         ensures heard { HearsStep self.old result (map (seen L.listening) taps.old) (map (seen L.listening) taps.new) }

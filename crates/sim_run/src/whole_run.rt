@@ -18,8 +18,9 @@ use std::alloc::Global;
 const MOST_STEPS: u32 = 67_108_864;
 
 /// Runs a valid scenario: its actors take their steps under its schedule until none has one. The journals, one a part,
-/// and the answers are those of the scheduled run, and each journal is a run of its part, which ends in what is told. The taps hear each event as
-/// it is made, and their totals are told. After `NoMemory` they have heard the events up to there.
+/// and the answers are those of the scheduled run, and each journal is a run of its part, which ends in what is told.
+/// The taps have heard each event of the run, in the order in which they were made, and their totals are told. After
+/// `NoMemory` they have heard the events of its first steps.
 pub fn simulate<L: Listener>(
     alloc: Global,
     scenario: &Scenario,

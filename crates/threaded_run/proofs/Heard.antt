@@ -1,14 +1,17 @@
 -- Journals that are published one after another.
-use Rattle.std.proofs.Common.{◌≡◌, ℕ, suc, ◌+◌, ◌<◌, List, [], ◌∷◌, length, map, drop, get_or, refl, sym, ap, ◌∙◌, add-one, drop-cons}
+use Rattle.std.proofs.Common.{◌≡◌, ℕ, suc, ◌+◌, ◌<◌, List, [], ◌∷◌, length, map, drop, get_or, inl, inr, refl, sym, ap, ◌∙◌, add-one, drop-cons}
+use Rattle.nook_defs.specs.declared.data.Answer.{Answer}
 use Rattle.nook_defs.specs.declared.data.Event.{Event}
+use Rattle.nook_defs.specs.declared.data.Scenario.{Scenario}
 use Rattle.nook_defs.specs.Listening.{Listening}
 use Rattle.nook_defs.specs.Room.{Kept}
 use Rattle.request_taps.specs.Bus.{told, told_all}
 use Rattle.request_taps.specs.declared.tap.Tap.{Tap}
 use Rattle.sim_run.proofs.Publishing.{told_all_append}
 use Rattle.sim_run.specs.Published.{with_part}
+use Rattle.sim_run.specs.Reached.{AreRuns}
 use Rattle.sim_run.specs.Whole.{events_in}
-use Rattle.threaded_run.specs.Threaded.{in_parts}
+use Rattle.threaded_run.specs.Threaded.{HearAllOrNothing, IsThreaded, in_parts}
 
 front : {X : Type 0} (xs : List X) (i : ℕ) (x : X) → i < length xs → x ≡ get_or xs i x → drop i xs ≡ x ∷ drop (i + 1) xs
 front xs i x within is =
@@ -47,3 +50,14 @@ all_heard xs n say now e none =
     drop_all : {X : Type 0} (xs : List X) → drop (length xs) xs ≡ []
     drop_all [] = refl
     drop_all (x ∷ xs) = drop_all xs
+
+-- ---- what is heard of a run that is refused
+
+pub heard_nothing : (scenario : Scenario) (taps : List (Tap Listening)) → HearAllOrNothing scenario taps taps
+heard_nothing scenario taps = inl refl
+
+pub heard_all : (scenario : Scenario) (journals : List (Kept Event)) (answers : List (List (ℕ × Answer))) (old new : List (Tap Listening))
+    → AreRuns scenario.parts (map events_in journals) → IsThreaded scenario (map events_in journals) answers
+    → new ≡ told_all (in_parts 0 (map events_in journals)) old → HearAllOrNothing scenario old new
+heard_all scenario journals answers old new runs threaded heard =
+    inr (record { journals = map events_in journals; answers = answers; runs = runs; threaded = threaded; heard = heard })

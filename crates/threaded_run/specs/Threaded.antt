@@ -1,5 +1,5 @@
 -- What a run by threads leaves: one journal a part, and each thread's answers.
-use Rattle.std.specs.Prelude.{◌≡◌, ℕ, suc, ◌==◌, if◌then◌else◌, Bool, List, [], ◌∷◌, ◌++◌, None, map, slice_index_or}
+use Rattle.std.specs.Prelude.{◌≡◌, ℕ, suc, ◌==◌, if◌then◌else◌, Bool, List, [], ◌∷◌, ◌++◌, ◌⊎◌, None, map, slice_index_or}
 use Rattle.desk_like.specs.Desks.{IsArrive, IsAt, IsReceipt, IsRisingFrom}
 use Rattle.nook_defs.specs.declared.data.Answer.{Answer}
 use Rattle.nook_defs.specs.declared.data.Event.{Event}
@@ -9,7 +9,11 @@ use Rattle.nook_defs.specs.declared.data.Receipt.{Receipt}
 use Rattle.nook_defs.specs.declared.data.Scenario.{Scenario}
 use Rattle.nook_defs.specs.declared.data.ThreadSpec.{ThreadSpec}
 use Rattle.nook_defs.specs.Runs.{next_any, state_of}
+use Rattle.nook_defs.specs.Listening.{Listening}
+use Rattle.request_taps.specs.Bus.{told_all}
+use Rattle.request_taps.specs.declared.tap.Tap.{Tap}
 use Rattle.sim_run.specs.Published.{with_part}
+use Rattle.sim_run.specs.Reached.{AreRuns}
 
 -- ---- parts
 
@@ -94,6 +98,18 @@ pub record IsThreaded (scenario : Scenario) (journals : List (List Event)) (answ
 abbrev pub in_parts : ℕ → List (List Event) → List (ℕ × Event)
 in_parts part [] = []
 in_parts part (journal ∷ journals) = with_part part journal ++ in_parts (suc part) journals
+
+-- taps heard all events of journals that `run threads` may leave, part by part
+pub record HearAll (scenario : Scenario) (old new : List (Tap Listening)) : Type 0 where
+  pub journals : List (List Event)
+  pub answers : List (List (ℕ × Answer))
+  pub runs : AreRuns scenario.parts journals
+  pub threaded : IsThreaded scenario journals answers
+  pub heard : new ≡ told_all (in_parts 0 journals) old
+
+-- what taps have heard where memory was wanting
+abbrev pub HearAllOrNothing : Scenario → List (Tap Listening) → List (Tap Listening) → Type 0
+HearAllOrNothing scenario old new = (new ≡ old) ⊎ HearAll scenario old new
 
 -- every operation of every thread has its answer: the parts of a thread's answers are in order those of its operations
 abbrev pub AreAnswered : Scenario → List (List (ℕ × Answer)) → Type 0

@@ -1,6 +1,6 @@
 //! The run of a scenario by threads.
 
-ghost use Rattle.std.specs.Prelude.{◌≡◌, IfOk, IfSome, None, map};
+ghost use Rattle.std.specs.Prelude.{◌≡◌, IfOk, IfSome, None, OnErr, map};
 ghost use Rattle.app_threads.specs.Workers.{AreSeats};
 ghost use Rattle.nook_defs.specs.Valid.{IsValidScenario};
 ghost use Rattle.report_text.specs.Whole.{HaveEnds};
@@ -9,7 +9,7 @@ ghost use Rattle.sim_run.specs.Reached.{AreRuns};
 ghost use Rattle.sim_run.specs.Whole.{events_in};
 ghost use Rattle.part_server.specs.Desk.{IsDeskSeat, desk_spec, desk_view};
 ghost use Rattle.threaded_run.specs.Leaving.{HaveWorked};
-ghost use Rattle.threaded_run.specs.Threaded.{AreAnswered, IsThreaded, in_parts};
+ghost use Rattle.threaded_run.specs.Threaded.{AreAnswered, HearAllOrNothing, IsThreaded, in_parts};
 ghost use Rattle.threaded_run.specs.Unheard.{IsWholeRun};
 
 use crate::answering::answers_of;
@@ -45,7 +45,8 @@ pub struct Unheard {
 /// the operations of each thread with the answers that are told, and the part's arrivals, in order.
 ///
 /// Where a desk refuses a thread for another cause than memory, the scenario is simulated under its schedule in place
-/// of it, of which the same holds. After `NoMemory` the taps have heard all or nothing.
+/// of it, of which the same holds. After `NoMemory` the taps have heard nothing, or all events of the journals of such a
+/// run, part by part.
 pub fn run_threads<R: Threads + Wait + Sync, L: Listener, G: Gate>(
     rt: &R,
     alloc: Global,
@@ -61,6 +62,8 @@ pub fn run_threads<R: Threads + Wait + Sync, L: Listener, G: Gate>(
     ensures heard { IfOk result (λ whole. map (seen L.listening) taps.new
         ≡ told_all (in_parts 0 (map events_in whole.run.journals)) (map (seen L.listening) taps.old)) }
     ensures totals { IfOk result (λ whole. whole.run.taps ≡ map result_of (map (seen L.listening) taps.new)) }
+    ensures refused { OnErr result (HearAllOrNothing scenario.now
+        (map (seen L.listening) taps.old) (map (seen L.listening) taps.new)) }
 {
     let left = run_unheard(rt, alloc, scenario, gate)?;
     publish_all(taps, left.journals.as_slice());

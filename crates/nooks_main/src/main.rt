@@ -1,52 +1,83 @@
-//! The program `nooks`: one call of [`program::run`] over the words, standard input and standard output.
+//! The program `nooks`: one call of [`nooks::run`] over the words, standard input and standard output.
 #![tactic(auto)]
 
-mod program;
-#[cfg(test)]
-mod running;
-mod simulated;
-#[cfg(test)]
-mod tests;
-#[cfg(test)]
-mod thread_tests;
-mod words;
-#[cfg(test)]
-mod worked_runs;
-#[cfg(test)]
-mod worked_tests;
+mod echo;
+mod messages;
 
+use echo::Echo;
+use messages::message_of;
 use nook_defs::listeners::{CountListener, FreeGate};
-use nook_defs::outside::Listener;
+use nook_defs::outside::{Listener, Sink};
 use nook_defs::standard_streams::{InSource, OutSink};
+use nooks::{OWN_LISTENERS, Status, run};
+use std::alloc::{AllocError, Global};
+use std::env::Env;
 use std::io;
+use std::io::{ErrorKind, IsTerminal};
 use std::process::ExitCode;
+use std::sync::Wait;
+use std::thread::Threads;
 
-/// The program's own listeners, of all parts: the kinds of event that each hears (failures, bursts, answers), and how many
-/// it hears at most.
-const OWN_LISTENERS: [(u8, u64); 3] = [(32, 1_000_000), (4, 1_000_000), (64, 1_000_000)];
+/// Runs the program on the words behind its own name, says on standard error what went wrong, and ends with the status's
+/// code. Memory that is wanting before the call ends it as memory that is wanting within.
+fn main(rt: HostRuntime) -> ExitCode {
+    let mut sink = Echo::new(OutSink::new(io::writer(&rt)));
+    let status = answer(&rt, &mut sink).unwrap_or(Status::NoMemory);
+    // What standard error does not take is lost: there is nobody left to tell.
+    let _said = say(&rt, status, sink.front());
+    ExitCode::from(status.code())
+}
 
-/// Runs the program on the words behind its own name, and ends with the status's code.
-fn main(rt: HostRuntime) -> io::Result<ExitCode> {
+/// Makes the words and the listeners, and does what the words ask for.
+fn answer<R: Env + Input + AllocGlobal + Threads + Wait + Sync, K: Sink>(
+    rt: &R,
+    sink: &mut K,
+) -> Result<Status, AllocError> {
     let alloc = rt.alloc();
-    let mut words = Vec::new(alloc);
-    for word in std::env::args(&rt)?.skip(1) {
-        words.push(word)?;
-    }
-    let mut source = InSource::new(rt.reader());
-    let mut sink = OutSink::new(io::writer(&rt));
+    let words = words_of(rt, alloc)?;
     let mut listeners: Vec<Box<dyn Listener>> = Vec::new(alloc);
     for (kinds, limit) in OWN_LISTENERS {
         let listener = CountListener::new(u8::MAX, kinds, limit);
         listeners.push(Box::new(alloc, listener)?)?;
     }
-    let status = program::run(
-        &rt,
+    let mut source = InSource::new(rt.reader());
+    let status = run(
+        rt,
         alloc,
         words.as_slice(),
         &mut source,
-        &mut sink,
+        sink,
         listeners,
         &FreeGate,
     );
-    Ok(ExitCode::from(status.code()))
+    Ok(status)
+}
+
+/// The words behind the program's own name. A word that is not UTF-8 makes them words of no form: one empty word.
+fn words_of<R: Env + AllocGlobal>(rt: &R, alloc: Global) -> Result<Vec<String>, AllocError> {
+    let mut words = Vec::new(alloc);
+    match std::env::args(rt) {
+        Ok(given) => {
+            for word in given.skip(1) {
+                words.push(word)?;
+            }
+        }
+        Err(error) if error.kind() == ErrorKind::OutOfMemory => return Err(AllocError),
+        Err(_) => words.push(String::new(alloc))?,
+    }
+    Ok(words)
+}
+
+/// Says what went wrong on standard error, in one line. The line of a fault of the input went to standard output: it is said
+/// again where that is no terminal, so that a redirection does not hide it.
+fn say(rt: &HostRuntime, status: Status, front: &[u8]) -> io::Result<()> {
+    if status == Status::BadInput && !rt.stdout().is_terminal() {
+        if let Ok(line) = std::str::from_utf8(front) {
+            eprint!(rt; "nooks: {line}")?;
+        }
+    }
+    if let Some(message) = message_of(status) {
+        eprintln!(rt; "nooks: {message}")?;
+    }
+    Ok(())
 }

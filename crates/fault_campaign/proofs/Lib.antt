@@ -1,0 +1,5 @@
+pub mod Rows
+pub mod Struck
+pub mod Tables
+pub mod Tallied
+pub mod Written

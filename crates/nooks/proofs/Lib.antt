@@ -1,0 +1,6 @@
+pub mod Campaigns
+pub mod Numerals
+pub mod Reports
+pub mod Runs
+pub mod Safety
+pub mod Written

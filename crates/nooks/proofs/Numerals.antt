@@ -1,0 +1,88 @@
+-- The number of a generated scenario and its text.
+use Rattle.std.proofs.Common.{◌≡◌, ℕ, ◌^◌, ◌<◌, ◌≤◌, ◌==◌, ◌&&◌, nat_le, not, if◌then◌else◌, Bool, true, false, Option, Some, None, Result, Ok, Err, List, [], ◌∷◌, IfNone, IfSome, get_or, refl, sym, ap, ◌∙◌, arith, true≢false, decimal, length}
+use Rattle.std.proofs.lemmas.Bool.{and_parts, le-leb, leb-true}
+use Rattle.std.proofs.lemmas.Fmt.{decimal-digits_value, first_decimal, parse-decimal}
+use Rattle.std.proofs.lemmas.Str.Parse.{numerals_by_value, tells_digits}
+use Rattle.std.specs.Str.Parse.{ParsesUnsigned, AllDigits, IsNumeral, digits_value}
+use Rattle.nooks.specs.Forms.{is_plain, within}
+use Rattle.part_laws.proofs.BurstKeeps.{split}
+
+-- what a plain text that was parsed is
+
+not_equal : (a b : ℕ) → not (a == b) ≡ true → (a == b) ≡ false
+not_equal a b h = by_test (a == b) h
+  where
+    by_test : (t : Bool) → not t ≡ true → t ≡ false
+    by_test true k = absurd (true≢false (sym k))
+    by_test false k = refl
+
+spelled : (b : ℕ) (bs : List ℕ) (n : ℕ) → (b == 48) ≡ false → IsNumeral 10 (b ∷ bs) → digits_value 10 (b ∷ bs) < 2 ^ 32 → n ≡ digits_value 10 (b ∷ bs)
+    → (b ∷ bs) ≡ decimal n
+spelled b bs n zero numeral small e =
+    let few : digits_value 10 (b ∷ bs) < 2 ^ 64 = omega (arith, small) in
+    let text : decimal (digits_value 10 (b ∷ bs)) ≡ b ∷ bs =
+    decimal-digits_value (numerals_by_value _ tells_digits) (b ∷ bs) numeral.1 numeral.0 (λ z. absurd (grind (arith, z, zero))) few in
+    sym (ap decimal e ∙ text)
+
+plain_is_decimal : (E : Type 0) (bs : List ℕ) (n : ℕ) → ParsesUnsigned {E = E} 32 10 bs (Ok n) → is_plain bs ≡ true → bs ≡ decimal n
+plain_is_decimal E [] n h p = absurd (true≢false (sym p))
+plain_is_decimal E (b ∷ bs) n h p =
+    let parts = and_parts (not (b == 43)) (not (b == 48)) p in
+    let plus : (b == 43) ≡ false = not_equal b 43 parts.0 in
+    let read : (IsNumeral 10 (b ∷ bs) × (digits_value 10 (b ∷ bs) < 2 ^ 32)) × (n ≡ digits_value 10 (b ∷ bs)) = rw plus at h in
+    spelled b bs n (not_equal b 48 parts.1) read.0.0 read.0.1 read.1
+
+-- the text of a number is plain
+
+different : (a b : ℕ) → b < a → not (a == b) ≡ true
+different a b low = split (a == b) (λ e. absurd (grind (arith, e, low))) (λ e. ap not e)
+
+head_is_plain : (ds : List ℕ) → 48 < get_or ds 0 0 → is_plain ds ≡ true
+head_is_plain [] h = absurd (omega (arith, h))
+head_is_plain (b ∷ ds) h =
+    let low : 48 < b = h in
+    let plus : 43 < b = omega (arith, low) in
+    let first : not (b == 43) ≡ true = different b 43 plus in
+    let second : not (b == 48) ≡ true = different b 48 low in
+    ap (λ x. x && not (b == 48)) first ∙ second
+
+decimal_is_plain : (n : ℕ) → 1 ≤ n → n ≤ 256 → is_plain (decimal n) ≡ true
+decimal_is_plain n low high = head_is_plain (decimal n) (first_decimal n (omega (arith, low)) (omega (arith, high)))
+
+is_within : (n : ℕ) → 1 ≤ n → n ≤ 256 → within n true ≡ Some n
+is_within n low high =
+    let first : nat_le 1 n ≡ true = le-leb 1 n low in
+    let second : nat_le n 256 ≡ true = le-leb n 256 high in
+    rw (first, second) refl
+
+-- what the function gives
+
+found_by : (bs : List ℕ) (n : ℕ) (low high plain : Bool) → low ≡ nat_le 1 n → high ≡ nat_le n 256 → (plain ≡ true → bs ≡ decimal n)
+    → IfSome (if low && high && plain then Some n else None) (λ m. (bs ≡ decimal m) × (1 ≤ m) × (m ≤ 256))
+found_by bs n true true true a b p = (p refl, leb-true 1 n (sym a), leb-true n 256 (sym b))
+found_by bs n true true false a b p = tt
+found_by bs n true false plain a b p = tt
+found_by bs n false high plain a b p = tt
+
+pub number_found : (E : Type 0) (bs : List ℕ) (r : Result ℕ E) (n : ℕ) (x : Option ℕ) → ParsesUnsigned 32 10 bs r → r ≡ Ok n → x ≡ within n (is_plain bs)
+    → IfSome x (λ m. (bs ≡ decimal m) × (1 ≤ m) × (m ≤ 256))
+number_found E bs r n x h e w =
+    let read : ParsesUnsigned {E = E} 32 10 bs (Ok n) = rw e at h in
+    rw w (found_by bs n (nat_le 1 n) (nat_le n 256) (is_plain bs) refl refl (λ p. plain_is_decimal E bs n read p))
+
+pub number_none : (E : Type 0) (bs : List ℕ) (r : Result ℕ E) (m : ℕ) (x : Option ℕ) → ParsesUnsigned 32 10 bs r → r ≡ Ok m → x ≡ within m (is_plain bs)
+    → IfNone x ((n : ℕ) → bs ≡ decimal n → 1 ≤ n → n ≤ 256 → ⊥)
+number_none E bs r m (Some y) h e w = tt
+number_none E bs r m None h e w = λ n text low high.
+    let parsed : r ≡ Ok n = parse-decimal 32 n bs r (omega (arith, high)) (omega (arith, high)) text h in
+    let same : m ≡ n = cc in
+    let plain : is_plain bs ≡ true = ap is_plain text ∙ decimal_is_plain n low high in
+    let some : within m (is_plain bs) ≡ Some n = rw (same, plain) (is_within n low high) in
+    let none : None ≡ Some n = w ∙ some in
+    absurd (cc)
+
+pub number_failed : (E : Type 0) (bs : List ℕ) (r : Result ℕ E) (x : E) → ParsesUnsigned 32 10 bs r → r ≡ Err x
+    → (n : ℕ) → bs ≡ decimal n → 1 ≤ n → n ≤ 256 → ⊥
+number_failed E bs r x h e n text low high =
+    let parsed : r ≡ Ok n = parse-decimal 32 n bs r (omega (arith, high)) (omega (arith, high)) text h in
+    absurd (cc)

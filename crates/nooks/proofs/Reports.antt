@@ -1,0 +1,285 @@
+-- The writing of reports and of summaries ends as the status tells.
+use Rattle.std.proofs.Common.{◌≡◌, ℕ, ◌+◌, ◌^◌, ◌<◌, ◌≤◌, ◌==◌, ◌||◌, Bool, true, false, if◌then◌else◌, List, [], ◌∷◌, ◌++◌, ◌⊎◌, inl, inr, length, map, Option, Result, Ok, Err, IfOk, OnOk, OnErr, refl, sym, ap, ◌∙◌, subst, arith, append_assoc}
+use Rattle.nook_defs.specs.declared.data.Event.{Event}
+use Rattle.nook_defs.specs.declared.data.PartSpec.{PartSpec}
+use Rattle.nook_defs.specs.declared.data.Scenario.{Scenario}
+use Rattle.nook_defs.specs.declared.memory.NoMemory.{NoMemory}
+use Rattle.nook_defs.specs.Listening.{Listening}
+use Rattle.nook_defs.specs.Generated.{gen_line, generated}
+use Rattle.nook_defs.specs.ReportText.{events_count, failures_count, has_break, has_given_up, report_text, status_of, summary_line}
+use Rattle.nook_defs.specs.Room.{Kept}
+use Rattle.nook_defs.specs.Runs.{state_of}
+use Rattle.nook_defs.specs.Simulation.{begins, journals_of}
+use Rattle.nook_defs.specs.Valid.{IsValidScenario}
+use Rattle.report_text.specs.Whole.{HaveEnds, IsReport, summaries}
+use Rattle.report_text.specs.declared.whole_report.PartEnd.{PartEnd}
+use Rattle.report_text.specs.declared.whole_report.PartReport.{PartReport}
+use Rattle.report_text.specs.declared.whole_report.Report.{Report}
+use Rattle.report_text.specs.declared.report.Run.{Run}
+use Rattle.request_taps.specs.Bus.{result_of, settled, told_all}
+use Rattle.request_taps.specs.declared.tap.Tap.{Tap}
+use Rattle.request_taps.proofs.Totals.{all_totals}
+use Rattle.sim_run.specs.Published.{published}
+use Rattle.nooks.proofs.Safety.{all_safe}
+use Rattle.nooks.specs.declared.program.Status.{Status}
+use Rattle.nooks.specs.declared.program.Status.TheVariants as ended
+use Rattle.nooks.specs.declared.words.Form.{Form}
+use Rattle.nooks.specs.declared.words.Form.TheVariants as form
+use Rattle.threaded_run.specs.Threaded.{AreAnswered, IsThreaded, in_parts}
+use Rattle.nook_defs.specs.declared.data.Answer.{Answer}
+use Rattle.run_laws.proofs.Reached.{parts_answered}
+use Rattle.nooks.specs.Answers.{IsByThreads, IsReportStatus, IsReported, IsRunOf, IsScheduled, IsSummary, IsWhole, Left}
+use Rattle.nooks.specs.Endings.{IsBegun, IsWritten, Writes}
+use Rattle.nooks.specs.Making.{IsMade, TellsStatus, failures_in, left_of}
+use Rattle.nooks.specs.Streams.{Change, Gains, GainsFront}
+use Rattle.sim_run.proofs.Reaching.{few_events}
+use Rattle.sim_run.specs.declared.simulating.Simulated.{Simulated}
+use Rattle.sim_run.specs.Reached.{AreRuns}
+use Rattle.sim_run.specs.Whole.{IsSimulated, events_in}
+
+-- ---- the status
+
+abbrev gone_status : Bool → ℕ
+gone_status gone = if gone then 1 else 0
+
+abbrev status_by : Bool → Bool → ℕ
+status_by broken gone = if broken then 7 else gone_status gone
+
+known_by : (broken gone : Bool) → (status_by broken gone ≡ 0 → ⊥) → (status_by broken gone ≡ 1 → ⊥) → status_by broken gone ≡ 7
+known_by true gone a b = refl
+known_by false true a b = absurd (b refl)
+known_by false false a b = absurd (a refl)
+
+pub status_known : (specs : List PartSpec) (journals : List (List Event)) → (status_of specs journals ≡ 0 → ⊥) → (status_of specs journals ≡ 1 → ⊥)
+    → status_of specs journals ≡ 7
+status_known specs journals not_done not_gone = known_by (has_break specs journals) (has_given_up specs journals) not_done not_gone
+
+-- every run has a status
+known_status : (broken gone : Bool) → (status : Status) × IsReportStatus (status_by broken gone) status
+known_status true gone = (ended.ContractBroken, refl)
+known_status false true = (ended.GivenUp, refl)
+known_status false false = (ended.Done, refl)
+
+run_status : (specs : List PartSpec) (journals : List (List Event)) → (status : Status) × IsReportStatus (status_of specs journals) status
+run_status specs journals = known_status (has_break specs journals) (has_given_up specs journals)
+
+-- a status that is told by its number is the run's
+pub told_status : (specs : List PartSpec) (journals : List (List Event)) (number : ℕ) (status : Status) → number ≡ status_of specs journals
+    → TellsStatus number status → IsReportStatus (status_of specs journals) status
+told_status specs journals number ended.Done e tells = sym e ∙ tells
+told_status specs journals number ended.GivenUp e tells = sym e ∙ tells
+told_status specs journals number ended.Usage e tells = absurd tells
+told_status specs journals number ended.BadInput e tells = absurd tells
+told_status specs journals number ended.ReadFault e tells = absurd tells
+told_status specs journals number ended.WriteFault e tells = absurd tells
+told_status specs journals number ended.NoMemory e tells = absurd tells
+told_status specs journals number ended.ContractBroken e tells =
+    status_known specs journals (λ z. tells.0 (e ∙ z)) (λ o. tells.1 (e ∙ o))
+
+-- what was written whole ends with a status that is told
+pub told_writes : (Answer : List ℕ → Status → Type 0) (sink : Change) (number : ℕ) (status : Status) → TellsStatus number status
+    → IsWritten Answer sink status → Writes Answer sink status
+told_writes Answer sink number ended.Done tells written = written
+told_writes Answer sink number ended.GivenUp tells written = written
+told_writes Answer sink number ended.Usage tells written = absurd tells
+told_writes Answer sink number ended.BadInput tells written = absurd tells
+told_writes Answer sink number ended.ReadFault tells written = absurd tells
+told_writes Answer sink number ended.WriteFault tells written = absurd tells
+told_writes Answer sink number ended.NoMemory tells written = absurd tells
+told_writes Answer sink number ended.ContractBroken tells written = written
+
+-- ---- reports
+
+reported : (asked : Form) (scenario : Scenario) (hearing : List Listening) (report : Report) (status : Status) → IsMade asked scenario hearing report
+    → IsReportStatus (status_of scenario.parts (map events_in report.run.journals)) status
+    → IsReported asked scenario hearing (report_text scenario (map events_in report.run.journals) report.run.answers report.run.taps report.status) status
+reported asked scenario hearing report status made is = record {
+  left = left_of report.run;
+  run = made.run;
+  whole = made.whole;
+  status_is = is;
+  text_is = ap (λ s. report_text scenario (map events_in report.run.journals) report.run.answers report.run.taps s) made.is_report.status;
+}
+
+-- a report that was written ends as its status tells
+pub report_written : (asked : Form) (scenario : Scenario) (hearing : List Listening) (report : Report) (sink : Change) (status : Status)
+    → IsMade asked scenario hearing report
+    → Gains sink (report_text scenario (map events_in report.run.journals) report.run.answers report.run.taps report.status)
+    → TellsStatus report.status status → Writes (IsReported asked scenario hearing) sink status
+report_written asked scenario hearing report sink status made gained tells =
+    let is = told_status scenario.parts (map events_in report.run.journals) report.status status made.is_report.status tells in
+    told_writes (IsReported asked scenario hearing) sink report.status status tells (record {
+      text = report_text scenario (map events_in report.run.journals) report.run.answers report.run.taps report.status;
+      answer = reported asked scenario hearing report status made is;
+      gained = gained;
+    })
+
+-- a report of which a front was written
+pub report_begun : (asked : Form) (scenario : Scenario) (hearing : List Listening) (report : Report) (sink : Change) → IsMade asked scenario hearing report
+    → GainsFront sink (report_text scenario (map events_in report.run.journals) report.run.answers report.run.taps report.status)
+    → IsBegun (IsReported asked scenario hearing) sink
+report_begun asked scenario hearing report sink made front =
+    let is = run_status scenario.parts (map events_in report.run.journals) in
+    record {
+      text = report_text scenario (map events_in report.run.journals) report.run.answers report.run.taps report.status;
+      status = is.0;
+      answer = reported asked scenario hearing report is.0 made is.1;
+      gained = front;
+    }
+
+-- ---- summaries
+
+same_failures : (specs : List PartSpec) (journals : List (Kept Event)) (ends : List PartEnd) → HaveEnds specs journals ends
+    → failures_in (summaries specs journals ends) ≡ failures_count specs (map events_in journals)
+unfolding failures_count
+same_failures [] journals ends h = refl
+same_failures (s ∷ specs) [] ends h = refl
+same_failures (s ∷ specs) (journal ∷ journals) [] h = absurd h
+same_failures (s ∷ specs) (journal ∷ journals) (e ∷ ends) h =
+    let first : e.failures ≡ (state_of s journal.list).failures = h.0.failures in
+    rw (first, same_failures specs journals ends h.1) refl
+
+few_parts : (specs : List PartSpec) (journals : List (Kept Event)) (ends : List PartEnd) → length (summaries specs journals ends) ≤ length specs
+few_parts [] journals ends = omega arith
+few_parts (s ∷ specs) [] ends = omega arith
+few_parts (s ∷ specs) (journal ∷ journals) [] = omega arith
+few_parts (s ∷ specs) (journal ∷ journals) (e ∷ ends) = let rest = few_parts specs journals ends in omega arith
+
+pub few_events_in : (scenario : Scenario) (hearing : List Listening) (report : Report) → IsValidScenario scenario → IsMade form.Run scenario hearing report
+    → events_count (map events_in report.run.journals) < 2 ^ 63
+few_events_in scenario hearing report valid made =
+    let at : events_count (journals_of made.run.simulation) < 2 ^ 26 =
+    subst (λ x. events_count (journals_of x) < 2 ^ 26) made.run.scheduled.reached (few_events scenario made.run.scheduled.steps valid) in
+    let less : events_count (map events_in report.run.journals) < 2 ^ 26 = rw (made.run.same_journals) at in
+    omega arith
+
+pub few_parts_in : (scenario : Scenario) (hearing : List Listening) (report : Report) → IsValidScenario scenario → IsMade form.Run scenario hearing report → length report.parts ≤ 8
+few_parts_in scenario hearing report valid made =
+    let most : length scenario.parts ≤ 8 = valid.part_count.1 in
+    let few = few_parts scenario.parts report.run.journals report.ends in
+    let less : length (summaries scenario.parts report.run.journals report.ends) ≤ 8 = omega arith in
+    rw (made.is_report.parts) less
+
+line_is : (n : ℕ) (specs : List PartSpec) (journals : List (List Event))
+    → summary_line n specs journals ≡ gen_line n (events_count journals) (failures_count specs journals) (status_of specs journals)
+unfolding summary_line
+line_is n specs journals = simp append_assoc
+
+pub summary_is : (scenario : Scenario) (hearing : List Listening) (report : Report) (number : ℕ) → IsMade form.Run scenario hearing report
+    → gen_line number (events_count (map events_in report.run.journals)) (failures_in report.parts) report.status
+    ≡ summary_line number scenario.parts (map events_in report.run.journals)
+summary_is scenario hearing report number made =
+    let failures : failures_in report.parts ≡ failures_count scenario.parts (map events_in report.run.journals) =
+    ap failures_in made.is_report.parts ∙ same_failures scenario.parts report.run.journals report.ends made.is_report.ends in
+    let status : report.status ≡ status_of scenario.parts (map events_in report.run.journals) = made.is_report.status in
+    ap (λ f. gen_line number (events_count (map events_in report.run.journals)) f report.status) failures
+    ∙ (ap (λ s. gen_line number (events_count (map events_in report.run.journals)) (failures_count scenario.parts (map events_in report.run.journals)) s) status
+    ∙ sym (line_is number scenario.parts (map events_in report.run.journals)))
+
+summed : (number : ℕ) (report : Report) (status : Status) → IsMade form.Run (generated number) [] report
+    → IsReportStatus (status_of (generated number).parts (map events_in report.run.journals)) status
+    → IsSummary number (summary_line number (generated number).parts (map events_in report.run.journals)) status
+summed number report status made is = record {
+  left = left_of report.run;
+  run = made.run;
+  whole = made.whole;
+  status_is = is;
+  text_is = refl;
+}
+
+-- a line that was written ends as its status tells
+pub summary_written : (number : ℕ) (report : Report) (sink : Change) (status : Status) → IsMade form.Run (generated number) [] report
+    → Gains sink (summary_line number (generated number).parts (map events_in report.run.journals)) → TellsStatus report.status status
+    → Writes (IsSummary number) sink status
+summary_written number report sink status made gained tells =
+    let is = told_status (generated number).parts (map events_in report.run.journals) report.status status made.is_report.status tells in
+    told_writes (IsSummary number) sink report.status status tells (record {
+      text = summary_line number (generated number).parts (map events_in report.run.journals);
+      answer = summed number report status made is;
+      gained = gained;
+    })
+
+-- a line of which a front was written
+pub summary_begun : (number : ℕ) (report : Report) (sink : Change) → IsMade form.Run (generated number) [] report
+    → GainsFront sink (summary_line number (generated number).parts (map events_in report.run.journals)) → IsBegun (IsSummary number) sink
+summary_begun number report sink made front =
+    let is = run_status (generated number).parts (map events_in report.run.journals) in
+    record {
+      text = summary_line number (generated number).parts (map events_in report.run.journals);
+      status = is.0;
+      answer = summed number report is.0 made is.1;
+      gained = front;
+    }
+
+-- ---- what is made of a simulated run
+
+-- listeners that are settled, seen one by one or all at once
+pub settled_all : {A : Type 0} → (listening : A → Listening) (listeners : List A)
+    → map (λ l. settled (listening l)) listeners ≡ map settled (map listening listeners)
+settled_all listening [] = refl
+settled_all listening (l ∷ listeners) = ap (λ taps. settled (listening l) ∷ taps) (settled_all listening listeners)
+
+-- the listeners of a bus count what they hear of the run
+pub scheduled_of : (scenario : Scenario) (hearing : List Listening) (run : Run) (old new : List (Tap Listening)) → old ≡ map settled hearing
+    → IsSimulated scenario run.journals run.answers run.taps old new
+    → IsScheduled scenario hearing (left_of run)
+scheduled_of scenario hearing run old new begun s = record {
+  simulation = s.simulation;
+  scheduled = s.scheduled;
+  same_journals = s.same_journals;
+  same_answers = s.same_answers;
+  told =
+      s.same_totals ∙ (ap (map result_of) s.heard
+      ∙ (ap (λ taps. map result_of (told_all (published s.scheduled.steps (begins scenario)) taps)) begun
+      ∙ all_totals hearing (published s.scheduled.steps (begins scenario))));
+}
+
+all_answered : (scenario : Scenario) (run : Run) (old new : List (Tap Listening)) → IsValidScenario scenario
+    → IsSimulated scenario run.journals run.answers run.taps old new → AreAnswered scenario run.answers
+all_answered scenario run old new valid simulated =
+    ap (λ (table : List (List (ℕ × Answer))). map (λ (own : List (ℕ × Answer)). map (λ (a : ℕ × Answer). a.0) own) table) simulated.same_answers
+    ∙ parts_answered scenario simulated.simulation valid simulated.scheduled
+
+made_at : (asked : Form) (scenario : Scenario) (hearing : List Listening) (run : Run) (report : Report) → IsValidScenario scenario
+    → IsRunOf asked scenario hearing (left_of run) → AreAnswered scenario run.answers
+    → AreRuns scenario.parts (map events_in run.journals) → report.run ≡ run → IsReport scenario report → IsMade asked scenario hearing report
+made_at asked scenario hearing run report valid is answered runs e whole = record {
+  run = subst (λ (r : Run). IsRunOf asked scenario hearing (left_of r)) (sym e) is;
+  whole = subst (λ (r : Run). IsWhole scenario (left_of r)) (sym e) (record {
+    safe = all_safe scenario (map events_in run.journals) valid runs;
+    answered = answered;
+  });
+  is_report = whole;
+}
+
+-- the report of a run that was simulated
+pub made_of : (scenario : Scenario) (hearing : List Listening) (x : Simulated) (r : Result Report NoMemory) (old new : List (Tap Listening))
+    → old ≡ map settled hearing → IsValidScenario scenario
+    → IsSimulated scenario x.run.journals x.run.answers x.run.taps old new → AreRuns scenario.parts (map events_in x.run.journals)
+    → IfOk r (λ report. report.run ≡ x.run) → IfOk r (λ report. IsReport scenario report) → IfOk r (IsMade form.Run scenario hearing)
+made_of scenario hearing x (Err e) old new begun valid simulated runs same whole = same
+made_of scenario hearing x (Ok report) old new begun valid simulated runs same whole =
+    made_at form.Run scenario hearing x.run report valid (scheduled_of scenario hearing x.run old new begun simulated)
+    (all_answered scenario x.run old new valid simulated) runs same whole
+
+-- the report of a run by threads
+by_threads_of : (scenario : Scenario) (hearing : List Listening) (run : Run) (old new : List (Tap Listening)) → old ≡ map settled hearing
+    → IsThreaded scenario (map events_in run.journals) run.answers → new ≡ told_all (in_parts 0 (map events_in run.journals)) old
+    → run.taps ≡ map result_of new → IsByThreads scenario hearing (left_of run)
+by_threads_of scenario hearing run old new begun is heard totals = record {
+  threaded = is;
+  told =
+      totals ∙ (ap (map result_of) heard
+      ∙ (ap (λ taps. map result_of (told_all (in_parts 0 (map events_in run.journals)) taps)) begun
+      ∙ all_totals hearing (in_parts 0 (map events_in run.journals))));
+}
+
+pub threads_made_of : (scenario : Scenario) (hearing : List Listening) (x : Simulated) (r : Result Report NoMemory) (old new : List (Tap Listening))
+    → old ≡ map settled hearing → IsValidScenario scenario → AreRuns scenario.parts (map events_in x.run.journals)
+    → IsThreaded scenario (map events_in x.run.journals) x.run.answers → AreAnswered scenario x.run.answers
+    → new ≡ told_all (in_parts 0 (map events_in x.run.journals)) old → x.run.taps ≡ map result_of new
+    → IfOk r (λ report. report.run ≡ x.run) → IfOk r (λ report. IsReport scenario report) → IfOk r (IsMade form.RunThreads scenario hearing)
+threads_made_of scenario hearing x (Err e) old new begun valid runs is answered heard totals same whole = same
+threads_made_of scenario hearing x (Ok report) old new begun valid runs is answered heard totals same whole =
+    made_at form.RunThreads scenario hearing x.run report valid (by_threads_of scenario hearing x.run old new begun is heard totals)
+    answered runs same whole

@@ -1,0 +1,19 @@
+use Rattle.std.proofs.Common.{[]}
+use Rattle.nooks.proofs.answering.answer.Goals as goal
+
+pub returns-in-Run-clause-ends : goal.returns-in-Run-clause-ends
+returns-in-Run-clause-ends g c = rw (c.in-Run.is) c.run_scenario.ensures.ends
+
+pub returns-in-RunThreads-clause-ends : goal.returns-in-RunThreads-clause-ends
+returns-in-RunThreads-clause-ends g c = rw (c.in-RunThreads.is) c.run_scenario_by_threads.ensures.ends
+
+-- whoever listens, images and assembler texts are not run
+
+pub returns-in-Asm-clause-ends : goal.returns-in-Asm-clause-ends
+returns-in-Asm-clause-ends g c = rw (c.in-Asm.is) (c.run_asm.ensures.ends [])
+
+pub returns-in-Dis-clause-ends : goal.returns-in-Dis-clause-ends
+returns-in-Dis-clause-ends g c = rw (c.in-Dis.is) (c.run_dis.ensures.ends [])
+
+pub returns-in-Campaign-clause-ends : goal.returns-in-Campaign-clause-ends
+returns-in-Campaign-clause-ends g c = rw (c.in-Campaign.is) (c.run_campaign.ensures.ends [])

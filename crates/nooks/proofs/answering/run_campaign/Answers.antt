@@ -1,0 +1,14 @@
+use Rattle.std.proofs.Common.{refl}
+use Rattle.nook_defs.specs.CampaignReading.{campaign_from}
+use Rattle.nooks.proofs.Campaigns.{campaign_answered}
+use Rattle.nooks.proofs.Written.{refused}
+use Rattle.nooks.specs.declared.words.Form.TheVariants as form
+use Rattle.nooks.proofs.answering.run_campaign.Goals as goal
+
+pub returns-in-Ok-clause-ends : goal.returns-in-Ok-clause-ends
+returns-in-Ok-clause-ends g c hearing = campaign_answered c.args.bytes.now c.in-Ok.campaign hearing _ c.give_table.result c.in-Ok.ensures.gives
+    c.in-Ok.ensures.valid c.give_table.ensures.ends
+
+pub returns-in-Err-clause-ends : goal.returns-in-Err-clause-ends
+returns-in-Err-clause-ends g c hearing = refused form.Campaign c.args.bytes.now hearing _ (campaign_from c.args.bytes.now) c.in-Err.stop _
+    c.refuse_for.result refl c.in-Err.ensures.gives c.refuse_for.ensures.ends

@@ -1,0 +1,20 @@
+use Rattle.std.proofs.Common.{Err, ap, inr}
+use Rattle.nooks.proofs.Reports.{report_begun, report_written}
+use Rattle.nooks.proofs.simulated.give_report.Goals as goal
+
+pub returns-in-Ok-clause-ends : goal.returns-in-Ok-clause-ends
+returns-in-Ok-clause-ends g c asked hearing made =
+    report_written asked c.args.scenario.now hearing c.args.report.now _ c.status_of.result made (c.in-Ok.ensures.text made.is_report).ok
+    c.status_of.ensures
+
+pub returns-in-Err-Fault-clause-ends : goal.returns-in-Err-Fault-clause-ends
+returns-in-Err-Fault-clause-ends g c asked hearing made =
+    let wrote = c.in-Err-Fault.ensures.text made.is_report in (
+      wrote.fault (ap Err c.in-Err-Fault.field-0-is),
+      report_begun asked c.args.scenario.now hearing c.args.report.now _ made wrote.err,
+    )
+
+pub returns-in-Err-NoMemory-clause-ends : goal.returns-in-Err-NoMemory-clause-ends
+returns-in-Err-NoMemory-clause-ends g c asked hearing made =
+    let wrote = c.in-Err-NoMemory.ensures.text made.is_report in
+    inr (report_begun asked c.args.scenario.now hearing c.args.report.now _ made wrote.err)

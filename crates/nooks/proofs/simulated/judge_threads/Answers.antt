@@ -1,0 +1,10 @@
+use Rattle.std.proofs.Common.{map}
+use Rattle.request_taps.specs.Bus.{seen}
+use Rattle.nooks.proofs.Reports.{threads_made_of}
+use Rattle.nooks.proofs.simulated.judge_threads.Goals as goal
+
+pub returns : goal.returns
+returns g c hearing begun = threads_made_of c.args.scenario.now hearing c.in_ok-whole.whole c.report_of.result
+    (map (seen g.L.Listener.listening) c.args.taps.now) (map (seen g.L.Listener.listening) c.run_threads.new.taps) begun c.requires
+    c.in_ok-whole.ensures.runs c.in_ok-whole.ensures.threaded c.in_ok-whole.ensures.answered c.in_ok-whole.ensures.heard
+    c.in_ok-whole.ensures.totals c.report_of.ensures.run (c.report_of.ensures.whole c.in_ok-whole.ensures.ends)

@@ -1,0 +1,12 @@
+use Rattle.std.proofs.Common.{Err, ap, inr}
+use Rattle.nooks.proofs.Reports.{summary_begun}
+use Rattle.nooks.proofs.simulated.run_generated.Goals as goal
+
+pub returns-in-Err-Fault-clause-ends : goal.returns-in-Err-Fault-clause-ends
+returns-in-Err-Fault-clause-ends g c = (
+  c.in-Err-Fault.ensures.fault (ap Err c.in-Err-Fault.field-0-is),
+  summary_begun c.args.number c.in-Ok.report _ c.in-Ok.ensures (rw (← c.sum_up.ensures) c.in-Err-Fault.ensures.err),
+)
+
+pub returns-clause-ends : goal.returns-clause-ends
+returns-clause-ends g c = inr (summary_begun c.args.number c.in-Ok.report _ c.in-Ok.ensures (rw (← c.sum_up.ensures) c.in-Err-NoMemory.ensures.err))

@@ -1,0 +1,48 @@
+-- The forms of words.
+use Rattle.std.specs.Prelude.{◌≡◌, ℕ, ◌≤◌, ◌==◌, ◌&&◌, nat_le, not, if◌then◌else◌, Bool, true, false, Option, Some, None, List, [], ◌∷◌, codes, decimal}
+use Rattle.nooks.specs.declared.words.Form.{Form}
+use Rattle.nooks.specs.declared.words.Form.TheVariants as form
+
+-- the words are of this form; the number of `gen` is in decimal, with no sign and no leading zero
+abbrev pub IsForm : List (List ℕ) → Form → Type 0
+IsForm words form.Run = words ≡ codes "run" ∷ []
+IsForm words form.RunThreads = words ≡ codes "run" ∷ codes "threads" ∷ []
+IsForm words form.Asm = words ≡ codes "asm" ∷ []
+IsForm words form.Dis = words ≡ codes "dis" ∷ []
+IsForm words (form.Gen n) = (words ≡ codes "gen" ∷ decimal n ∷ []) × (1 ≤ n) × (n ≤ 256)
+IsForm words form.Campaign = words ≡ codes "campaign" ∷ []
+IsForm words form.Help = words ≡ codes "--help" ∷ []
+IsForm words form.Version = words ≡ codes "--version" ∷ []
+
+-- the words are of no form that the program knows
+abbrev pub IsNoForm : List (List ℕ) → Type 0
+IsNoForm words = (form : Form) → IsForm words form → ⊥
+
+-- the form of some words, if they are of one
+abbrev pub Asks : List (List ℕ) → Option Form → Type 0
+Asks words None = IsNoForm words
+Asks words (Some form) = IsForm words form
+
+-- the source is read for it
+abbrev pub is_reading : Form → Bool
+is_reading form.Run = true
+is_reading form.RunThreads = true
+is_reading form.Asm = true
+is_reading form.Dis = true
+is_reading (form.Gen n) = false
+is_reading form.Campaign = true
+is_reading form.Help = false
+is_reading form.Version = false
+
+-- nothing is read for these words
+abbrev pub AskUnread : List (List ℕ) → Type 0
+AskUnread words = (form : Form) → IsForm words form → is_reading form ≡ false
+
+-- the text begins with neither a sign nor a zero
+abbrev pub is_plain : List ℕ → Bool
+is_plain [] = false
+is_plain (byte ∷ rest) = not (byte == 43) && not (byte == 48)
+
+-- a number from 1 to 256 whose text is plain
+abbrev pub within : ℕ → Bool → Option ℕ
+within number plain = if nat_le 1 number && nat_le number 256 && plain then Some number else None

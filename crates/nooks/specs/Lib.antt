@@ -1,0 +1,6 @@
+pub mod Answers
+pub mod Endings
+pub mod Forms
+pub mod Making
+pub mod Streams
+pub mod Texts

@@ -1,0 +1,35 @@
+-- A report in the making: what the program's own functions hand on to one another.
+use Rattle.std.specs.Prelude.{◌≡◌, ℕ, ◌+◌, List, [], ◌∷◌, map}
+use Rattle.nook_defs.specs.Listening.{Listening}
+use Rattle.nook_defs.specs.declared.data.Scenario.{Scenario}
+use Rattle.report_text.specs.Whole.{IsReport}
+use Rattle.report_text.specs.declared.report.Run.{Run}
+use Rattle.report_text.specs.declared.whole_report.PartReport.{PartReport}
+use Rattle.report_text.specs.declared.whole_report.Report.{Report}
+use Rattle.sim_run.specs.Whole.{events_in}
+use Rattle.nooks.specs.Answers.{IsRunOf, IsWhole, Left}
+use Rattle.nooks.specs.declared.program.Status.{Status}
+use Rattle.nooks.specs.declared.program.Status.TheVariants as ended
+use Rattle.nooks.specs.declared.words.Form.{Form}
+
+-- what a run in memory left
+abbrev pub left_of : Run → Left
+left_of run = record { journals = map events_in run.journals; answers = run.answers; taps = run.taps }
+
+-- a report of the scenario's run, whose parts end as their journals lead
+pub record IsMade (asked : Form) (scenario : Scenario) (hearing : List Listening) (report : Report) : Type 0 where
+  pub run : IsRunOf asked scenario hearing (left_of report.run)
+  pub whole : IsWhole scenario (left_of report.run)
+  pub is_report : IsReport scenario report
+
+-- the failures of some parts
+abbrev pub failures_in : List PartReport → ℕ
+failures_in [] = 0
+failures_in (part ∷ parts) = part.failures + failures_in parts
+
+-- the status by a report's number, of which any but 0 and 1 stands for a broken contract
+abbrev pub TellsStatus : ℕ → Status → Type 0
+TellsStatus number ended.Done = number ≡ 0
+TellsStatus number ended.GivenUp = number ≡ 1
+TellsStatus number ended.ContractBroken = (number ≡ 0 → ⊥) × (number ≡ 1 → ⊥)
+TellsStatus number status = ⊥

@@ -1,0 +1,40 @@
+-- The texts that are the same in every run.
+use Rattle.std.specs.Prelude.{ℕ, List, [], ◌∷◌, ◌++◌, codes}
+use Rattle.nook_defs.specs.declared.input.InputFault.{InputFault}
+use Rattle.nook_defs.specs.declared.input.Refusal.{Refusal}
+
+-- a line of text
+abbrev pub line : List ℕ → List ℕ
+line text = text ++ 10 ∷ []
+
+-- what words of no form are answered with
+abbrev pub usage_text : List ℕ
+usage_text = line (codes "usage: nooks run | run threads | asm | dis | gen N | campaign")
+
+-- a fault of the whole input
+abbrev pub at_root : InputFault → Refusal
+at_root fault = record { fault = fault; path = [] }
+
+-- what `--help` writes: a line for each form of words, and one for each status
+abbrev pub help_text : List ℕ
+help_text =
+    line (codes "nooks run             read a scenario, simulate it, write the report")
+    ++ (line (codes "nooks run threads     the same, each thread of the scenario as a thread of its own")
+    ++ (line (codes "nooks asm             read a driver as assembler text, write its image as JSON")
+    ++ (line (codes "nooks dis             read an image as JSON, write assembler text")
+    ++ (line (codes "nooks gen N           simulate generated scenario N (1 to 256), write the line that sums it up")
+    ++ (line (codes "nooks campaign        read a scenario and a list of faults, simulate it once for each, write the table")
+    ++ (line (codes "nooks --help          write this")
+    ++ (line (codes "nooks --version       write the program's version, and the kit that it is proved with")
+    ++ (line (codes "status 0              done; no part was given up")
+    ++ (line (codes "status 1              a part was given up")
+    ++ (line (codes "status 2              the words are of no form; nothing was read")
+    ++ (line (codes "status 3              the input was refused; the line written says why and where")
+    ++ (line (codes "status 4              reading failed; nothing was written")
+    ++ (line (codes "status 5              writing failed; a front of the output was written")
+    ++ (line (codes "status 6              memory was wanting; a front of the output was written, or nothing")
+    ++ line (codes "status 7              a driver broke its class's contract")))))))))))))))
+
+-- what `--version` writes: the program's name and version, and the kit that it is proved with
+abbrev pub version_text : List ℕ
+version_text = line (codes "nooks 0.9.0, proved with rattle-kit-13f logic dac8208d650f15bf")

@@ -1,0 +1,319 @@
+//! The forms of words that read an input: what its bytes are answered with, or the line of their first fault.
+
+ghost use Rattle.std.specs.Prelude.{◌≡◌, ℕ, ◌≤◌, List, Some, Ok, Err, map, IfOk, IsTrue};
+ghost use Rattle.nook_defs.specs.Campaigns.{IsTable, IsValidCampaign, table_text};
+ghost use Rattle.nook_defs.specs.Disassembler.{disassembled};
+ghost use Rattle.nook_defs.specs.Faults.{fault_line as line_of};
+ghost use Rattle.nook_defs.specs.ImageReading.{image_from_asm};
+ghost use Rattle.nook_defs.specs.ImageText.{image_text};
+ghost use Rattle.nook_defs.specs.Listening.{Listening};
+ghost use Rattle.nook_defs.specs.declared.data.MemberRow.{MemberRow};
+ghost use Rattle.nook_defs.specs.Valid.{IsValidScenario};
+ghost use Rattle.nooks.specs.Answers.{AnswersInput, IsReported, Says};
+ghost use Rattle.nooks.specs.Endings.{Ends, StopWrites, Writes};
+ghost use Rattle.nooks.specs.Forms.{is_reading};
+ghost use Rattle.nooks.specs.Streams.{Whole, change};
+ghost use Rattle.nooks.specs.Texts.{at_root as root_refusal};
+ghost use Rattle.request_taps.specs.Bus.{seen, settled};
+ghost use Rattle.scenario_read.specs.Gives.{Gives};
+
+use crate::heard::{Heard, all_heard};
+use crate::program::{LIMIT, Status, finish};
+use crate::simulated::{run_threads_and_report, simulate_and_report};
+use crate::words::Form;
+use driver_asm::{AsmError, assemble, disassemble, write_image};
+use fault_campaign::write_campaign;
+use nook_defs::assembler::AsmFault;
+use nook_defs::data::{Campaign, Image, Scenario};
+use nook_defs::input::{InputFault, Path, Refusal};
+use nook_defs::memory::NoMemory;
+use nook_defs::outside::{Gate, Listener, Sink, Source};
+use nook_defs::whole::{ReadStop, read_all};
+use report_text::write::WriteStop;
+use request_taps::Bus;
+use scenario_read::{ScenarioFault, fault_line, read_campaign, read_image, read_scenario};
+use std::alloc::Global;
+use std::sync::Wait;
+use std::thread::Threads;
+
+/// Reads the source and answers its bytes. The form is one that reads.
+pub fn read_and_answer<R: Threads + Wait + Sync, S: Source, K: Sink, G: Gate, T: Drop>(
+    rt: &R,
+    alloc: Global,
+    asked: Form,
+    source: &mut S,
+    sink: &mut K,
+    listeners: Vec<T>,
+    gate: &G,
+) -> Status
+where
+    Heard<T>: Listener,
+    requires { IsTrue (is_reading asked) }
+    ensures ends { Ends (Some asked)
+        (map (λ v. ⟦<Heard<T> as Listener>⟧.listening (record { value = v })) listeners.items)
+        (change S.left S.count source.old source.new) LIMIT (change K.held K.count sink.old sink.new) result }
+    ensures unwritten { result ≡ Status.ReadFault → sink.new ≡ sink.old }
+    ensures source_later { S.count source.old ≤ S.count source.new }
+    ensures sink_later { K.count sink.old ≤ K.count sink.new }
+{
+    match read_all(alloc, source, LIMIT) {
+        Ok(bytes) => answer(rt, alloc, asked, bytes.as_slice(), sink, listeners, gate),
+        Err(ReadStop::TooLong) => refuse(alloc, sink, &at_root(alloc, InputFault::TooMany)),
+        Err(ReadStop::Fault) => Status::ReadFault,
+        Err(ReadStop::NoMemory) => Status::NoMemory,
+    }
+}
+
+/// Answers the bytes of the source, or tells their first fault.
+fn answer<R: Threads + Wait + Sync, K: Sink, G: Gate, T: Drop>(
+    rt: &R,
+    alloc: Global,
+    asked: Form,
+    bytes: &[u8],
+    sink: &mut K,
+    listeners: Vec<T>,
+    gate: &G,
+) -> Status
+where
+    Heard<T>: Listener,
+    requires { IsTrue (is_reading asked) }
+    ensures ends { Writes (AnswersInput asked (Whole bytes.now)
+        (map (λ v. ⟦<Heard<T> as Listener>⟧.listening (record { value = v })) listeners.items))
+        (change K.held K.count sink.old sink.new) result }
+    ensures later { K.count sink.old ≤ K.count sink.new }
+{
+    match asked {
+        Form::Run => run_scenario(alloc, bytes, sink, listeners),
+        Form::RunThreads => run_scenario_by_threads(rt, alloc, bytes, sink, listeners, gate),
+        Form::Asm => run_asm(alloc, bytes, sink),
+        Form::Dis => run_dis(alloc, bytes, sink),
+        Form::Campaign => run_campaign(rt, alloc, bytes, sink),
+        Form::Gen { .. } | Form::Help | Form::Version => unreachable!(),
+    }
+}
+
+/// Simulates the scenario of some bytes and writes the report.
+fn run_scenario<K: Sink, T: Drop>(
+    alloc: Global,
+    bytes: &[u8],
+    sink: &mut K,
+    listeners: Vec<T>,
+) -> Status
+where
+    Heard<T>: Listener,
+    ensures ends { Writes (AnswersInput Form.Run (Whole bytes.now)
+        (map (λ v. ⟦<Heard<T> as Listener>⟧.listening (record { value = v })) listeners.items))
+        (change K.held K.count sink.old sink.new) result }
+    ensures later { K.count sink.old ≤ K.count sink.new }
+{
+    match read_scenario(alloc, bytes) {
+        Ok(scenario) => report_run(alloc, &scenario, sink, listeners),
+        Err(stop) => refuse_for(alloc, sink, &stop),
+    }
+}
+
+/// Runs the threads of the scenario of some bytes and writes the report.
+fn run_scenario_by_threads<R: Threads + Wait + Sync, K: Sink, G: Gate, T: Drop>(
+    rt: &R,
+    alloc: Global,
+    bytes: &[u8],
+    sink: &mut K,
+    listeners: Vec<T>,
+    gate: &G,
+) -> Status
+where
+    Heard<T>: Listener,
+    ensures ends { Writes (AnswersInput Form.RunThreads (Whole bytes.now)
+        (map (λ v. ⟦<Heard<T> as Listener>⟧.listening (record { value = v })) listeners.items))
+        (change K.held K.count sink.old sink.new) result }
+    ensures later { K.count sink.old ≤ K.count sink.new }
+{
+    match read_scenario(alloc, bytes) {
+        Ok(scenario) => report_threads(rt, alloc, &scenario, sink, listeners, gate),
+        Err(stop) => refuse_for(alloc, sink, &stop),
+    }
+}
+
+/// Simulates a scenario, which listeners hear, and writes the report.
+fn report_run<K: Sink, T: Drop>(
+    alloc: Global,
+    scenario: &Scenario,
+    sink: &mut K,
+    listeners: Vec<T>,
+) -> Status
+where
+    Heard<T>: Listener,
+    requires { IsValidScenario scenario.now }
+    ensures ends { Writes (IsReported Form.Run scenario.now
+        (map (λ v. ⟦<Heard<T> as Listener>⟧.listening (record { value = v })) listeners.items))
+        (change K.held K.count sink.old sink.new) result }
+    ensures later { K.count sink.old ≤ K.count sink.new }
+{
+    match bus_of(alloc, listeners) {
+        Ok(mut taps) => simulate_and_report(alloc, scenario, sink, &mut taps),
+        Err(NoMemory) => Status::NoMemory,
+    }
+}
+
+/// Runs the threads of a scenario, which listeners hear, and writes the report.
+fn report_threads<R: Threads + Wait + Sync, K: Sink, G: Gate, T: Drop>(
+    rt: &R,
+    alloc: Global,
+    scenario: &Scenario,
+    sink: &mut K,
+    listeners: Vec<T>,
+    gate: &G,
+) -> Status
+where
+    Heard<T>: Listener,
+    requires { IsValidScenario scenario.now }
+    ensures ends { Writes (IsReported Form.RunThreads scenario.now
+        (map (λ v. ⟦<Heard<T> as Listener>⟧.listening (record { value = v })) listeners.items))
+        (change K.held K.count sink.old sink.new) result }
+    ensures later { K.count sink.old ≤ K.count sink.new }
+{
+    match bus_of(alloc, listeners) {
+        Ok(mut taps) => run_threads_and_report(rt, alloc, scenario, sink, &mut taps, gate),
+        Err(NoMemory) => Status::NoMemory,
+    }
+}
+
+/// A bus of listeners.
+fn bus_of<T: Drop>(alloc: Global, listeners: Vec<T>) -> Result<Bus<Heard<T>>, NoMemory>
+where
+    Heard<T>: Listener,
+    ensures { IfOk result (λ bus. map (seen ⟦<Heard<T> as Listener>⟧.listening) bus
+        ≡ map settled (map (λ v. ⟦<Heard<T> as Listener>⟧.listening (record { value = v })) listeners.items)) }
+{
+    let heard = all_heard(alloc, listeners)?;
+    Bus::of(alloc, heard)
+}
+
+/// Writes the image of an assembler text.
+fn run_asm<K: Sink>(alloc: Global, bytes: &[u8], sink: &mut K) -> Status
+    ensures ends { (hearing : List Listening) → Writes (AnswersInput Form.Asm (Whole bytes.now) hearing)
+        (change K.held K.count sink.old sink.new) result }
+    ensures later { K.count sink.old ≤ K.count sink.new }
+{
+    match read_asm(alloc, bytes) {
+        Ok(image) => give_image(alloc, sink, &image),
+        Err(stop) => refuse_for(alloc, sink, &stop),
+    }
+}
+
+/// Writes the assembler text of an image.
+fn run_dis<K: Sink>(alloc: Global, bytes: &[u8], sink: &mut K) -> Status
+    ensures ends { (hearing : List Listening) → Writes (AnswersInput Form.Dis (Whole bytes.now) hearing)
+        (change K.held K.count sink.old sink.new) result }
+    ensures later { K.count sink.old ≤ K.count sink.new }
+{
+    match read_image(alloc, bytes) {
+        Ok(image) => give_assembler_text(alloc, sink, &image),
+        Err(stop) => refuse_for(alloc, sink, &stop),
+    }
+}
+
+/// Runs the campaign of some bytes and writes its table.
+fn run_campaign<R: Threads + Wait + Sync, K: Sink>(
+    rt: &R,
+    alloc: Global,
+    bytes: &[u8],
+    sink: &mut K,
+) -> Status
+    ensures ends { (hearing : List Listening) → Writes (AnswersInput Form.Campaign (Whole bytes.now) hearing)
+        (change K.held K.count sink.old sink.new) result }
+    ensures later { K.count sink.old ≤ K.count sink.new }
+{
+    match read_campaign(alloc, bytes) {
+        Ok(campaign) => give_table(rt, alloc, &campaign, sink),
+        Err(stop) => refuse_for(alloc, sink, &stop),
+    }
+}
+
+/// Writes the table of a campaign, a batch of its members after the other.
+fn give_table<R: Threads + Wait + Sync, K: Sink>(
+    rt: &R,
+    alloc: Global,
+    campaign: &Campaign,
+    sink: &mut K,
+) -> Status
+    requires { IsValidCampaign campaign.now }
+    ensures ends { (rows : List MemberRow) → IsTable campaign.now rows
+        → Writes (Says (table_text rows) Status.Done) (change K.held K.count sink.old sink.new) result }
+    ensures later { K.count sink.old ≤ K.count sink.new }
+{
+    match write_campaign(rt, alloc, campaign, sink) {
+        Ok(()) => Status::Done,
+        Err(WriteStop::Fault) => Status::WriteFault,
+        Err(WriteStop::NoMemory) => Status::NoMemory,
+    }
+}
+
+/// Tells why some bytes are not read.
+fn refuse_for<K: Sink>(alloc: Global, sink: &mut K, stop: &ScenarioFault) -> Status
+    ensures ends { StopWrites stop.now (change K.held K.count sink.old sink.new) result }
+    ensures later { K.count sink.old ≤ K.count sink.new }
+{
+    match stop {
+        ScenarioFault::Bad(refusal) => refuse(alloc, sink, refusal),
+        ScenarioFault::NoMemory => Status::NoMemory,
+    }
+}
+
+/// The image of an assembler text.
+#[tactic(auto, unfolding(nook_defs::specs::ImageReading::image_from_asm))]
+fn read_asm(alloc: Global, bytes: &[u8]) -> Result<Image, ScenarioFault>
+    ensures { Gives result (image_from_asm bytes.now) }
+{
+    match assemble(alloc, bytes) {
+        Ok(image) => Ok(image),
+        Err(AsmError::NoMemory) => Err(ScenarioFault::NoMemory),
+        Err(AsmError::Bad { kind, line }) => Err(ScenarioFault::Bad(at_root(
+            alloc,
+            InputFault::BadAsm(AsmFault { kind, line }),
+        ))),
+    }
+}
+
+/// A fault of the whole input.
+fn at_root(alloc: Global, fault: InputFault) -> Refusal
+    ensures { result ≡ root_refusal fault }
+{
+    Refusal {
+        fault,
+        path: Path::new(alloc),
+    }
+}
+
+/// Writes the line that tells why an input is refused.
+fn refuse<K: Sink>(alloc: Global, sink: &mut K, refusal: &Refusal) -> Status
+    ensures ends { Writes (Says (line_of refusal.now) Status.BadInput) (change K.held K.count sink.old sink.new) result }
+    ensures later { K.count sink.old ≤ K.count sink.new }
+{
+    match fault_line(alloc, refusal) {
+        Ok(line) => finish(sink, line.as_bytes(), Status::BadInput),
+        Err(NoMemory) => Status::NoMemory,
+    }
+}
+
+/// Writes an image.
+fn give_image<K: Sink>(alloc: Global, sink: &mut K, image: &Image) -> Status
+    ensures ends { Writes (Says (image_text image.now) Status.Done) (change K.held K.count sink.old sink.new) result }
+    ensures later { K.count sink.old ≤ K.count sink.new }
+{
+    match write_image(alloc, image) {
+        Ok(text) => finish(sink, text.as_slice(), Status::Done),
+        Err(NoMemory) => Status::NoMemory,
+    }
+}
+
+/// Writes the assembler text of an image.
+fn give_assembler_text<K: Sink>(alloc: Global, sink: &mut K, image: &Image) -> Status
+    ensures ends { Writes (Says (disassembled image.now) Status.Done) (change K.held K.count sink.old sink.new) result }
+    ensures later { K.count sink.old ≤ K.count sink.new }
+{
+    match disassemble(alloc, image) {
+        Ok(text) => finish(sink, text.as_slice(), Status::Done),
+        Err(NoMemory) => Status::NoMemory,
+    }
+}

@@ -1,0 +1,131 @@
+//! The forms of words that the program knows.
+
+ghost use Rattle.std.specs.Prelude.{◌≡◌, ℕ, ◌≤◌, [], ◌∷◌, codes, decimal, map, string_bytes, IfNone, IfSome};
+ghost use Rattle.nooks.specs.Forms.{IsForm, IsNoForm, is_plain, within};
+
+/// What the program is asked to do.
+#[derive(Clone, Copy, Debug, PartialEq, Eq)]
+pub enum Form {
+    /// `run`: read a scenario, simulate it, write the report.
+    Run,
+    /// `run threads`: read a scenario, run each of its threads as one, write the report.
+    RunThreads,
+    /// `asm`: read an assembler text, write its image.
+    Asm,
+    /// `dis`: read an image, write its assembler text.
+    Dis,
+    /// `gen` N: simulate the generated scenario of a number from 1 to 256, write the line that sums it up.
+    Gen { number: u32 },
+    /// `campaign`: read a scenario and faults, simulate it once for each fault, write the table of what became of it.
+    Campaign,
+    /// `--help`: write a line for each form and for each status.
+    Help,
+    /// `--version`: write the program's version.
+    Version,
+}
+
+/// The greatest number of a generated scenario.
+const MOST_GENERATED: u32 = 256;
+
+/// The form of the words; `None` exactly where they are of no form.
+pub fn form_of(words: &[String]) -> Option<Form>
+    ensures found { IfSome result (IsForm (map string_bytes words.now)) }
+    ensures none { IfNone result (IsNoForm (map string_bytes words.now)) }
+{
+    match words {
+        [word] => form_of_word(word.as_str()),
+        [word, number] => form_of_two(word.as_str(), number.as_str()),
+        _ => None,
+    }
+}
+
+/// The form of one word.
+fn form_of_word(word: &str) -> Option<Form>
+    ensures found { IfSome result (IsForm (word.now ∷ [])) }
+    ensures none { IfNone result (IsNoForm (word.now ∷ [])) }
+{
+    if word == "run" {
+        Some(Form::Run)
+    } else if word == "asm" {
+        Some(Form::Asm)
+    } else if word == "dis" {
+        Some(Form::Dis)
+    } else if word == "campaign" {
+        Some(Form::Campaign)
+    } else if word == "--help" {
+        Some(Form::Help)
+    } else if word == "--version" {
+        Some(Form::Version)
+    } else {
+        None
+    }
+}
+
+/// The form of two words.
+fn form_of_two(word: &str, second: &str) -> Option<Form>
+    ensures found { IfSome result (IsForm (word.now ∷ second.now ∷ [])) }
+    ensures none { IfNone result (IsNoForm (word.now ∷ second.now ∷ [])) }
+{
+    if word == "run" {
+        threads_form(second)
+    } else if word == "gen" {
+        generated_form(second)
+    } else {
+        None
+    }
+}
+
+/// The form of `run` and another word.
+fn threads_form(second: &str) -> Option<Form>
+    ensures found { IfSome result (IsForm (codes "run" ∷ second.now ∷ [])) }
+    ensures none { IfNone result (IsNoForm (codes "run" ∷ second.now ∷ [])) }
+{
+    if second == "threads" {
+        Some(Form::RunThreads)
+    } else {
+        None
+    }
+}
+
+/// The form of `gen` and a number.
+fn generated_form(number: &str) -> Option<Form>
+    ensures found { IfSome result (IsForm (codes "gen" ∷ number.now ∷ [])) }
+    ensures none { IfNone result (IsNoForm (codes "gen" ∷ number.now ∷ [])) }
+{
+    match generated_number(number) {
+        Some(number) => Some(Form::Gen { number }),
+        None => None,
+    }
+}
+
+/// The number of a generated scenario in decimal, with no sign and no leading zero.
+fn generated_number(text: &str) -> Option<u32>
+    ensures found { IfSome result (λ n. (text.now ≡ decimal n) × (1 ≤ n) × (n ≤ 256)) }
+    ensures none { IfNone result ((n : ℕ) → text.now ≡ decimal n → 1 ≤ n → n ≤ 256 → ⊥) }
+{
+    match text.parse::<u32>() {
+        Ok(number) => within(number, is_plain(text)),
+        Err(_) => None,
+    }
+}
+
+/// A number from 1 to 256 whose text is plain.
+fn within(number: u32, plain: bool) -> Option<u32>
+    ensures { result ≡ within number plain }
+{
+    if 1 <= number && number <= MOST_GENERATED && plain {
+        Some(number)
+    } else {
+        None
+    }
+}
+
+/// Whether the text begins with neither a sign nor a zero.
+fn is_plain(text: &str) -> bool
+    ensures { result ≡ is_plain text.now }
+{
+    match text.as_bytes().first() {
+        Some(byte) => *byte != b'+' && *byte != b'0',
+        None => false,
+    }
+}

@@ -1,7 +1,0 @@
-use Rattle.std.proofs.Common.{◌≡◌, ◌+◌, drop, map}
-use Rattle.nook_defs.specs.ReportText.{events_count}
-use Rattle.sim_run.specs.Whole.{events_in}
-use Rattle.nooks_main.proofs.simulated.count_events.Given as goal
-
-abbrev pub invariant-loop-journal : goal.invariant-loop-journal
-invariant-loop-journal l = l.count + events_count (map events_in (drop l.journal-index l.journals)) ≡ events_count (map events_in l.journals)

@@ -1,6 +1,0 @@
-use Rattle.std.proofs.Common.{◌≡◌, ◌+◌, ◌*◌, ◌≤◌, drop}
-use Rattle.nooks_main.specs.Endings.{failures_in}
-use Rattle.nooks_main.proofs.simulated.count_failures.Given as goal
-
-abbrev pub invariant-loop-part : goal.invariant-loop-part
-invariant-loop-part l = (l.count + failures_in (drop l.part-index l.parts) ≡ failures_in l.parts) × (l.count ≤ 4294967295 * l.part-index)

@@ -1,7 +1,9 @@
 //! The simulator of driver domains as an ordinary Rust program, with nothing proved: what the proved program's time and
-//! memory are measured against. `plain run` reads a scenario from standard input and writes its report.
+//! memory are measured against. `plain run` reads a scenario from standard input and writes its report, `plain campaign`
+//! a campaign and its table.
 
 mod assembler;
+mod campaign;
 mod class;
 mod contract;
 mod device;
@@ -23,21 +25,41 @@ use std::process::ExitCode;
 
 const LONGEST_INPUT: u64 = 1_048_576;
 
-fn main() -> ExitCode {
-    if !std::env::args().skip(1).eq(["run"]) {
-        eprintln!("usage: plain run");
-        return ExitCode::from(2);
+/// Why there is no whole output.
+enum Stop {
+    BadInput(String),
+    WriteFault(io::Error),
+}
+
+impl From<String> for Stop {
+    fn from(reason: String) -> Stop {
+        Stop::BadInput(reason)
     }
-    let scenario = match read_input().and_then(|text| scenario::read(&text)) {
-        Ok(scenario) => scenario,
-        Err(reason) => {
-            eprintln!("plain: {reason}");
-            return ExitCode::from(3);
+}
+
+impl From<io::Error> for Stop {
+    fn from(error: io::Error) -> Stop {
+        Stop::WriteFault(error)
+    }
+}
+
+fn main() -> ExitCode {
+    let words: Vec<String> = std::env::args().skip(1).collect();
+    let form = match words.as_slice() {
+        [word] if word == "run" => run,
+        [word] if word == "campaign" => run_campaign,
+        _ => {
+            eprintln!("usage: plain run | campaign");
+            return ExitCode::from(2);
         }
     };
-    match run(&scenario) {
+    match form() {
         Ok(status) => ExitCode::from(status),
-        Err(error) => {
+        Err(Stop::BadInput(reason)) => {
+            eprintln!("plain: {reason}");
+            ExitCode::from(3)
+        }
+        Err(Stop::WriteFault(error)) => {
             eprintln!("plain: {error}");
             ExitCode::from(5)
         }
@@ -57,11 +79,23 @@ fn read_input() -> Result<String, String> {
     Ok(text)
 }
 
-/// Simulates a scenario, writes its report and gives its status.
-fn run(scenario: &scenario::Scenario) -> io::Result<u8> {
-    let run = simulation::simulate(scenario);
+/// Reads a scenario, simulates it, writes its report and gives its status.
+fn run() -> Result<u8, Stop> {
+    let scenario = scenario::read(&read_input()?)?;
+    let run = simulation::simulate(&scenario);
     let mut out = BufWriter::new(io::stdout().lock());
-    let status = report::write(scenario, &run, &mut out)?;
+    let status = report::write(&scenario, &run, &mut out)?;
     out.flush()?;
     Ok(status)
+}
+
+/// Reads a campaign, runs its members and writes its table.
+fn run_campaign() -> Result<u8, Stop> {
+    let text = read_input()?;
+    let value = json::parse(&text)?;
+    let campaign = campaign::read(&value)?;
+    let mut out = BufWriter::new(io::stdout().lock());
+    campaign::write(&campaign.run(), &mut out)?;
+    out.flush()?;
+    Ok(0)
 }

@@ -98,6 +98,10 @@ impl<'s> Part<'s> {
         }
     }
 
+    pub fn spec(&self) -> &'s PartSpec {
+        self.spec
+    }
+
     pub fn memory(&self) -> &Memory {
         &self.memory
     }
@@ -112,6 +116,10 @@ impl<'s> Part<'s> {
 
     pub fn failures(&self) -> u32 {
         self.failures
+    }
+
+    pub fn is_given_up(&self) -> bool {
+        self.failures > self.spec.limit
     }
 
     pub fn journal(&self) -> &[Event<'s>] {
@@ -600,7 +608,7 @@ impl<'s> Part<'s> {
     fn stop(&mut self) -> Vec<(u32, Answer)> {
         self.contexts = [const { None }; CONTEXTS];
         self.tracker.set_registered(false);
-        let gives_up = self.failures > self.spec.limit;
+        let gives_up = self.is_given_up();
         let mut answers = Vec::new();
         for mut call in std::mem::take(&mut self.calls) {
             let answer = if gives_up {

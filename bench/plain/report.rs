@@ -1,12 +1,12 @@
 //! The report's text.
 
 use crate::class::Class;
-use crate::contract::{judge, Verdict};
+use crate::contract::Verdict;
 use crate::journal::{Act, Answer, Burst, End, Event, Failure, Released, Stage, Trap};
 use crate::memory::OBJECTS;
 use crate::operation::Operation;
 use crate::part::Part;
-use crate::scenario::{PartSpec, Scenario};
+use crate::scenario::Scenario;
 use crate::simulation::Run;
 use std::fmt::{self, Display, Formatter};
 use std::io::{self, Write};
@@ -16,12 +16,9 @@ const MOST_HEARD: u64 = 1_000_000;
 
 /// Writes the report, and gives its status.
 pub fn write(scenario: &Scenario, run: &Run, out: &mut impl Write) -> io::Result<u8> {
-    let mut broken = false;
-    let mut given_up = false;
-    for (place, (spec, part)) in scenario.parts.iter().zip(&run.parts).enumerate() {
-        let verdict = judge(spec, part.journal());
-        broken |= verdict.broken.is_some();
-        given_up |= part.failures() > spec.limit;
+    let verdicts = run.verdicts();
+    for (place, (part, verdict)) in run.parts.iter().zip(&verdicts).enumerate() {
+        let spec = part.spec();
         writeln!(
             out,
             "part {place} {} {} limit {}",
@@ -32,7 +29,7 @@ pub fn write(scenario: &Scenario, run: &Run, out: &mut impl Write) -> io::Result
         for (place, event) in part.journal().iter().enumerate() {
             writeln!(out, "{} {event}", place + 1)?;
         }
-        write_ends(spec, part, &verdict, out)?;
+        write_ends(part, verdict, out)?;
     }
     for (place, (spec, answers)) in scenario.threads.iter().zip(&run.answers).enumerate() {
         writeln!(out, "thread {place} {}", spec.name)?;
@@ -51,18 +48,13 @@ pub fn write(scenario: &Scenario, run: &Run, out: &mut impl Write) -> io::Result
         };
         writeln!(out, "tap {place} total {} {fate}", heard.min(MOST_HEARD))?;
     }
-    let status = if broken { 7 } else { u8::from(given_up) };
+    let status = run.status(&verdicts);
     writeln!(out, "status {status}")?;
     Ok(status)
 }
 
 /// What stands behind the events of a part.
-fn write_ends(
-    spec: &PartSpec,
-    part: &Part,
-    verdict: &Verdict,
-    out: &mut impl Write,
-) -> io::Result<()> {
+fn write_ends(part: &Part, verdict: &Verdict, out: &mut impl Write) -> io::Result<()> {
     for object in (1..OBJECTS).filter(|object| !part.memory().is_untouched(*object)) {
         writeln!(
             out,
@@ -78,7 +70,7 @@ fn write_ends(
     write_outputs(part.journal(), out)?;
     let [first, second, third, fourth] = part.record();
     writeln!(out, "config {first} {second} {third} {fourth}")?;
-    write_losses(spec.class, verdict, out)?;
+    write_losses(part.spec().class, verdict, out)?;
     writeln!(out, "failures {}", part.failures())?;
     match verdict.broken {
         None => writeln!(out, "contract kept"),

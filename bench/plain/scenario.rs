@@ -48,12 +48,14 @@ pub struct Image {
 }
 
 /// What strikes a burst behind so many turns.
+#[derive(Clone, Copy)]
 pub struct Fault {
     pub burst: u32,
     pub after: u32,
     pub kind: FaultKind,
 }
 
+#[derive(Clone, Copy)]
 pub enum FaultKind {
     Trap,
     Hang,
@@ -68,14 +70,17 @@ pub struct ThreadSpec {
     pub operations: Vec<(usize, Operation)>,
 }
 
-type Read<T> = Result<T, String>;
+pub type Read<T> = Result<T, String>;
 
 const WORDS: RangeInclusive<u64> = 0..=u32::MAX as u64;
 
 pub fn read(text: &str) -> Read<Scenario> {
-    let value = json::parse(text)?;
+    read_scenario(&json::parse(text)?)
+}
+
+pub fn read_scenario(value: &Value) -> Read<Scenario> {
     let root = Object::new(
-        &value,
+        value,
         "the scenario",
         &["version", "schedule", "parts", "threads"],
     )?;
@@ -250,7 +255,7 @@ fn hexadecimal(value: &Value) -> Read<u32> {
     }
 }
 
-fn read_fault(value: &Value) -> Read<Fault> {
+pub fn read_fault(value: &Value) -> Read<Fault> {
     let kind = tag(value, "kind")?;
     let own: &[&str] = match kind {
         "poke" | "code" => &["address", "value"],
@@ -380,13 +385,13 @@ fn words(value: &Value, length: RangeInclusive<usize>) -> Read<Words> {
 }
 
 /// The fields of an object, of which the last counts where a key comes twice.
-struct Object<'v> {
+pub struct Object<'v> {
     what: &'v str,
     fields: &'v [(std::borrow::Cow<'v, str>, Value<'v>)],
 }
 
 impl<'v> Object<'v> {
-    fn new(value: &'v Value, what: &'v str, keys: &[&str]) -> Read<Object<'v>> {
+    pub fn new(value: &'v Value, what: &'v str, keys: &[&str]) -> Read<Object<'v>> {
         let Value::Object(fields) = value else {
             return Err(format!("{what} is no object"));
         };
@@ -403,12 +408,12 @@ impl<'v> Object<'v> {
             .map(|(_, value)| value)
     }
 
-    fn required(&self, key: &str) -> Read<&'v Value<'v>> {
+    pub fn required(&self, key: &str) -> Read<&'v Value<'v>> {
         self.optional(key)
             .ok_or_else(|| format!("{}: {key} is missing", self.what))
     }
 
-    fn number(&self, key: &str, range: RangeInclusive<u64>) -> Read<u64> {
+    pub fn number(&self, key: &str, range: RangeInclusive<u64>) -> Read<u64> {
         whole(self.required(key)?, range)
             .map_err(|reason| format!("{}, {key}: {reason}", self.what))
     }
@@ -424,7 +429,7 @@ impl<'v> Object<'v> {
         }
     }
 
-    fn list(&self, key: &str, length: RangeInclusive<usize>) -> Read<&'v [Value<'v>]> {
+    pub fn list(&self, key: &str, length: RangeInclusive<usize>) -> Read<&'v [Value<'v>]> {
         match self.required(key)? {
             Value::List(items) if length.contains(&items.len()) => Ok(items),
             _ => Err(format!(

@@ -2,6 +2,7 @@
 //!
 //! Each thread is an actor. Behind the threads each part has two, its recovery and its arrivals.
 
+use crate::contract::{judge, Verdict};
 use crate::journal::{Answer, Event};
 use crate::part::Part;
 use crate::scenario::{Scenario, ThreadSpec};
@@ -13,6 +14,25 @@ pub struct Run<'s> {
     pub answers: Vec<Vec<(usize, Answer)>>,
     /// How many events the listeners heard.
     pub heard: Heard,
+}
+
+impl Run<'_> {
+    /// Of each part, what its journal shows.
+    pub fn verdicts(&self) -> Vec<Verdict> {
+        self.parts
+            .iter()
+            .map(|part| judge(part.spec(), part.journal()))
+            .collect()
+    }
+
+    /// 7 where a driver broke its class's contract, else 1 where a part was given up, else 0.
+    pub fn status(&self, verdicts: &[Verdict]) -> u8 {
+        if verdicts.iter().any(|verdict| verdict.broken.is_some()) {
+            7
+        } else {
+            u8::from(self.parts.iter().any(Part::is_given_up))
+        }
+    }
 }
 
 #[derive(Default)]

@@ -59,6 +59,19 @@ pub enum Answer {
     Gone { failures: u32 },
 }
 
+/// What a mirror of two disks answers.
+#[derive(Drop)]
+pub enum MirrorAnswer {
+    Done,
+    Blocks(Words),
+    /// The medium failed at this block, on each side that was asked and is still there.
+    IoError { block: u32 },
+    BadRange,
+    BadLength,
+    /// Neither side is left.
+    BothLost,
+}
+
 /// A stage of the boot or of a recovery.
 #[derive(Clone, Copy, PartialEq, Eq)]
 pub enum Stage {
@@ -421,6 +434,8 @@ pub type PartOps = Items<(u32, Op)>;
 pub type PartAnswers = Items<(u32, Answer)>;
 /// Each thread's answers.
 pub type AnswerTable = Items<PartAnswers>;
+/// A mirror's answers, in the order of its operations.
+pub type MirrorAnswers = Items<MirrorAnswer>;
 /// Each listener's total and whether it was kept.
 pub type TapTotals = Items<(u64, bool)>;
 /// A thread's receipts.

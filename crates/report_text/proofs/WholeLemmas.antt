@@ -8,14 +8,16 @@ use Rattle.nook_defs.specs.declared.data.Class.{Class}
 use Rattle.nook_defs.specs.declared.data.Class.TheVariants as class
 use Rattle.nook_defs.specs.declared.data.Event.{Event}
 use Rattle.nook_defs.specs.declared.data.Losses.{Losses}
+use Rattle.nook_defs.specs.declared.data.MirrorAnswer.{MirrorAnswer}
 use Rattle.nook_defs.specs.declared.data.PartSpec.{PartSpec}
 use Rattle.nook_defs.specs.declared.data.Scenario.{Scenario}
+use Rattle.nook_defs.specs.declared.data.ThreadSpec.{ThreadSpec}
 use Rattle.nook_defs.specs.Contract.{first_break}
 use Rattle.nook_defs.specs.Devices.{medium_of}
 use Rattle.nook_defs.specs.Losses.{losses}
 use Rattle.nook_defs.specs.Pages.{object_words}
 use Rattle.nook_defs.specs.ReportLines.{event_lines, line_feed, spaced, with_list, with_number}
-use Rattle.nook_defs.specs.ReportText.{acts_of, acts_of_event, block_lines, config_line, contract_line, device_lines, failures_line, final_lines, has_break, has_given_up, losses_lines, object_line, object_lines, part_line, part_text, parts_text, played_lines, report_text, status_line, status_of, taps_text, threads_text, wire_lines}
+use Rattle.nook_defs.specs.ReportText.{acts_of, acts_of_event, block_lines, config_line, contract_line, device_lines, failures_line, final_lines, has_break, has_given_up, losses_lines, object_line, object_lines, part_line, part_text, parts_text, played_lines, report_text, status_line, status_of, taps_text, thread_line, threads_text, wire_lines}
 use Rattle.nook_defs.specs.Room.{Kept}
 use Rattle.nook_defs.specs.Runs.{state_of}
 use Rattle.nook_defs.specs.Stages.{is_given_up}
@@ -25,7 +27,8 @@ use Rattle.report_text.specs.declared.whole_report.PartEnd.{PartEnd}
 use Rattle.report_text.specs.declared.whole_report.PartReport.{PartReport}
 use Rattle.report_text.specs.declared.whole_report.Report.{Report}
 use Rattle.report_text.specs.declared.whole_text.Kind.TheVariants as kind
-use Rattle.report_text.specs.Whole.{HaveEnds, IsReport, ShowsState, device_rows, event_text, is_broken, is_gone, lists_of, objects_from, part_rows, parts_rows, played_row, report_rows, status_in, summaries, summary, wire_row}
+use Rattle.report_text.specs.Mirrored.{mirror_answer_line, mirror_report_rows, mirror_report_text, mirror_threads_text}
+use Rattle.report_text.specs.Whole.{HaveEnds, IsReport, ShowsState, device_rows, event_text, final_rows, is_broken, is_gone, lists_of, objects_from, part_rows, parts_rows, played_row, report_rows, status_in, summaries, summary, wire_row}
 use Rattle.report_text.specs.Writing.{each_text}
 
 -- ---- one item and the others
@@ -122,6 +125,13 @@ final_text s c events n verdict p e h =
     (ap (λ words. config_line words) h.config)
     (ap (λ count. failures_line count) h.failures)
 
+pub final_same : (s : PartSpec) (events : List Event) (r : PartReport) (p : PartState) (e : PartEnd) → ShowsState s p e
+    → r.failures ≡ e.failures → final_rows s.class events r e ≡ final_lines s.class events r.losses r.first_break p
+final_same s events r p e h k =
+    ap (λ count. each_text object_line 1 e.objects ++ (device_rows s.class events e.medium ++ (config_line e.config
+    ++ (losses_lines s.class r.losses ++ (failures_line count ++ contract_line r.first_break))))) k
+    ∙ final_text s s.class events r.losses r.first_break p e h
+
 part_same : (place : ℕ) (s : PartSpec) (events : List Event) (e : PartEnd) → ShowsState s (state_of s events) e
     → part_rows place s events (summary s events e) e ≡ part_text place s events
 unfolding part_text
@@ -193,6 +203,25 @@ rows_are_text scenario r h =
     ap (λ front. front ++ (threads_text 0 scenario.threads r.run.answers ++ (taps_text 0 r.run.taps ++ status_line r.status)))
     (ap (λ parts. parts_rows 0 scenario.parts r.run.journals parts r.ends) h.parts
     ∙ parts_same 0 scenario.parts r.run.journals r.ends h.ends)
+
+pub mirror_rows_are_text : (scenario : Scenario) (r : Report) (answers : List MirrorAnswer) (status : ℕ) → IsReport scenario r
+    → mirror_report_rows scenario r answers status
+    ≡ mirror_report_text scenario (lists_of r.run.journals) answers r.run.taps status
+unfolding mirror_report_text
+mirror_rows_are_text scenario r answers status h =
+    ap (λ front. front ++ (mirror_threads_text scenario.threads answers ++ (taps_text 0 r.run.taps ++ status_line status)))
+    (ap (λ parts. parts_rows 0 scenario.parts r.run.journals parts r.ends) h.parts
+    ∙ parts_same 0 scenario.parts r.run.journals r.ends h.ends)
+
+pub mirror_threads_first : (threads : List ThreadSpec) (answers : List MirrorAnswer) (t : ThreadSpec) (more : List ThreadSpec)
+    → threads ≡ t ∷ more → mirror_threads_text threads answers ≡ thread_line 0 t ++ each_text mirror_answer_line 1 answers
+unfolding mirror_threads_text
+mirror_threads_first threads answers t more h = rw h refl
+
+pub mirror_threads_none : (threads : List ThreadSpec) (answers : List MirrorAnswer) → threads ≡ []
+    → mirror_threads_text threads answers ≡ []
+unfolding mirror_threads_text
+mirror_threads_none threads answers h = rw h refl
 
 -- ---- parts beyond the last one that is summed up
 

@@ -1,3 +1,4 @@
 pub mod Answers
 pub mod Whole
 pub mod Writing
+pub mod Mirrored

@@ -136,10 +136,14 @@ sample_counts n = with_number (codes "losses samples ") n.samples ++ (with_numbe
 abbrev pub ending_rows : Class → PartReport → PartEnd → List ℕ
 ending_rows c r e = config_line e.config ++ (losses_lines c r.losses ++ (failures_line r.failures ++ contract_line r.first_break))
 
+-- the lines behind a part's events
+abbrev pub final_rows : Class → List Event → PartReport → PartEnd → List ℕ
+final_rows c events r e =
+    each_text object_line 1 e.objects ++ (device_rows c events e.medium ++ ending_rows c r e)
+
 abbrev pub part_rows : ℕ → PartSpec → List Event → PartReport → PartEnd → List ℕ
 part_rows place s events r e =
-    part_line place s ++ (event_lines 1 events
-    ++ (each_text object_line 1 e.objects ++ (device_rows s.class events e.medium ++ ending_rows s.class r e)))
+    part_line place s ++ (event_lines 1 events ++ final_rows s.class events r e)
 
 abbrev pub parts_rows : ℕ → List PartSpec → List (Kept Event) → List PartReport → List PartEnd → List ℕ
 parts_rows place [] journals reports ends = []

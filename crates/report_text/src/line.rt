@@ -3,6 +3,7 @@
 ghost use Rattle.std.specs.Prelude.{◌≡◌, [], ◌∷◌, ◌++◌, OnErr, OnOk, decimal, string_bytes};
 
 use itoa::Buffer;
+use nook_defs::lists::Words8;
 use nook_defs::memory::NoMemory;
 use std::alloc::Global;
 use std::marker::Model;
@@ -54,6 +55,13 @@ impl Line {
         ensures { self.new ≡ [] }
     {
         self.text.clear();
+    }
+
+    /// The line's bytes as a list. It takes no memory.
+    pub fn into_words(self) -> Words8
+        ensures { result ≡ self }
+    {
+        Words8::from_vec(self.text.into_bytes())
     }
 
     /// The bytes so far.

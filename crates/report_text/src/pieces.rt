@@ -3,10 +3,11 @@
 ghost use Rattle.std.specs.Prelude.{◌≡◌, [], ◌∷◌, ◌++◌, Option, OnOk};
 ghost use Rattle.nook_defs.specs.Keys.{class_text};
 ghost use Rattle.nook_defs.specs.ReportLines.{act_text, acts_tail, answer_tail, answer_text, answers_tail, cause_tail, cause_text, comma_words, end_text, event_text, failed_text, inner_words, kept_text, moved_text, op_text, released_tail, released_text, result_text, right_text, spaced, stage_text, trap_text, with_list, with_number, words_text};
+ghost use Rattle.report_text.specs.Mirrored.{mirror_answer_text};
 
 use crate::line::Line;
 use nook_defs::data::{
-    Act, Acts, Answer, Class, End, Entry, Event, FailCause, Op, Stage, TrapCause,
+    Act, Acts, Answer, Class, End, Entry, Event, FailCause, MirrorAnswer, Op, Stage, TrapCause,
 };
 use nook_defs::lists::Words;
 use nook_defs::memory::NoMemory;
@@ -130,6 +131,20 @@ pub fn push_answer(line: &mut Line, answer: &Answer) -> Result<(), NoMemory>
         Answer::BadClass => line.push("bad_class"),
         Answer::IoError { block } => push_number(line, "io_error ", u64::from(*block)),
         Answer::Gone { failures } => push_number(line, "gone ", u64::from(*failures)),
+    }
+}
+
+/// A mirror's answer.
+pub fn push_mirror_answer(line: &mut Line, answer: &MirrorAnswer) -> Result<(), NoMemory>
+    ensures { OnOk result (line.new ≡ line.old ++ mirror_answer_text answer.now) }
+{
+    match answer {
+        MirrorAnswer::Done => line.push("done"),
+        MirrorAnswer::Blocks(words) => push_list(line, "data ", words),
+        MirrorAnswer::IoError { block } => push_number(line, "io_error ", u64::from(*block)),
+        MirrorAnswer::BadRange => line.push("bad_range"),
+        MirrorAnswer::BadLength => line.push("bad_length"),
+        MirrorAnswer::BothLost => line.push("both_lost"),
     }
 }
 

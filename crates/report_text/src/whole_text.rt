@@ -2,17 +2,22 @@
 
 ghost use Rattle.std.specs.Prelude.{◌≡◌, ◌+◌, ◌^◌, ◌<◌, ◌++◌, ℕ, List, OnOk, bytes_eq, length, replicate};
 ghost use Rattle.nook_defs.specs.Pages.{opening_object};
-ghost use Rattle.nook_defs.specs.ReportText.{block_line, block_lines, config_line, contract_line, failures_line, losses_lines, object_line, played_lines, report_text, spaced_each, status_line, tap_line, tap_text, taps_text, threads_text, wire_lines};
-ghost use Rattle.report_text.specs.Whole.{IsReport, device_rows, ending_rows, event_rows, event_text, frame_counts, kept_counts, lists_of, lost_counts, part_rows, parts_rows, played_row, report_rows, sample_counts, wire_row};
+ghost use Rattle.nook_defs.specs.ReportText.{block_line, block_lines, config_line, contract_line, failures_line, final_lines, losses_lines, object_line, played_lines, report_text, spaced_each, status_line, tap_line, tap_text, taps_text, threads_text, wire_lines};
+ghost use Rattle.nook_defs.specs.State.{PartState};
+ghost use Rattle.report_text.specs.Mirrored.{mirror_report_rows, mirror_report_text};
+ghost use Rattle.report_text.specs.Whole.{IsReport, ShowsState, device_rows, ending_rows, event_rows, event_text, final_rows, frame_counts, kept_counts, lists_of, lost_counts, part_rows, parts_rows, played_row, report_rows, sample_counts, wire_row};
 ghost use Rattle.report_text.specs.Writing.{Wrote, each_text};
 
 use crate::line::Line;
 use crate::pieces::{push_list, push_number};
 use crate::whole_report::{PartEnd, PartReport, Report};
 use crate::write::{
-    WriteStop, spill, write_events, write_part_line, write_status_line, write_text, write_threads,
+    WriteStop, spill, write_events, write_mirror_threads, write_part_line, write_status_line,
+    write_text, write_threads,
 };
-use nook_defs::data::{Act, Break, Class, Event, Losses, PartSpec, Scenario};
+use nook_defs::data::{
+    Act, Break, Class, Event, Losses, MirrorAnswer, MirrorAnswers, PartSpec, Scenario,
+};
 use nook_defs::journal::Journal;
 use nook_defs::lists::Words;
 use nook_defs::memory::NoMemory;
@@ -367,6 +372,39 @@ fn write_ending<K: Sink>(
     write_text(sink, &line)
 }
 
+/// Writes the lines behind a part's events. Where the part ends as its journal leads to, they are those of the journal.
+pub fn write_final<K: Sink>(
+    alloc: Global,
+    sink: &mut K,
+    spec: &PartSpec,
+    events: &[Event],
+    summed: &PartReport,
+    end: &PartEnd,
+) -> Result<(), WriteStop>
+    ensures rows { Wrote (K.held sink.old) (K.held sink.new) (K.count sink.old) (K.count sink.new) result (final_rows spec.now.class events.now summed.now end.now) }
+    ensures text { (state : PartState) → ShowsState spec.now state end.now → summed.now.failures ≡ end.now.failures
+        → Wrote (K.held sink.old) (K.held sink.new) (K.count sink.old) (K.count sink.new) result
+        (final_lines spec.now.class events.now summed.now.losses summed.now.first_break state) }
+{
+    write_final_rows(alloc, sink, spec.class, events, summed, end)
+}
+
+/// Writes the rows behind a part's events.
+fn write_final_rows<K: Sink>(
+    alloc: Global,
+    sink: &mut K,
+    class: Class,
+    events: &[Event],
+    summed: &PartReport,
+    end: &PartEnd,
+) -> Result<(), WriteStop>
+    ensures { Wrote (K.held sink.old) (K.held sink.new) (K.count sink.old) (K.count sink.new) result (final_rows class events.now summed.now end.now) }
+{
+    write_objects(alloc, sink, end.objects.as_slice())?;
+    write_device(alloc, sink, class, events, end.medium.as_slice())?;
+    write_ending(alloc, sink, class, summed, end)
+}
+
 /// Writes a part's lines.
 fn write_part<K: Sink>(
     alloc: Global,
@@ -381,9 +419,7 @@ fn write_part<K: Sink>(
 {
     write_part_line(alloc, sink, place, spec)?;
     write_events(alloc, sink, events)?;
-    write_objects(alloc, sink, end.objects.as_slice())?;
-    write_device(alloc, sink, spec.class, events, end.medium.as_slice())?;
-    write_ending(alloc, sink, spec.class, summed, end)
+    write_final_rows(alloc, sink, spec.class, events, summed, end)
 }
 
 /// Writes the lines of the parts, the first of them number `place`.
@@ -423,8 +459,12 @@ fn write_parts<K: Sink>(
     )
 }
 
-/// Writes the listeners.
-fn write_taps<K: Sink>(alloc: Global, sink: &mut K, taps: &[(u64, bool)]) -> Result<(), WriteStop>
+/// Writes the listeners, the first of them number 0.
+pub fn write_taps<K: Sink>(
+    alloc: Global,
+    sink: &mut K,
+    taps: &[(u64, bool)],
+) -> Result<(), WriteStop>
     ensures { Wrote (K.held sink.old) (K.held sink.new) (K.count sink.old) (K.count sink.new) result (taps_text 0 taps.now) }
 {
     let mut line = Line::new(alloc);
@@ -445,6 +485,39 @@ pub fn write_report<K: Sink>(
     ensures text { IsReport scenario.now report.now → Wrote (K.held sink.old) (K.held sink.new) (K.count sink.old) (K.count sink.new) result (report_text scenario.now (lists_of report.now.run.journals) report.now.run.answers report.now.run.taps report.now.status) }
 {
     write_rows(alloc, scenario, report, sink)
+}
+
+/// Writes a report of a mirror: what `write_report` writes, with the mirror's answers in the thread's lines and this
+/// status in the last. After a failure the sink has gained a front of it; a fault comes only from the sink's own.
+pub fn write_mirror_report<K: Sink>(
+    alloc: Global,
+    scenario: &Scenario,
+    report: &Report,
+    answers: &MirrorAnswers,
+    status: u32,
+    sink: &mut K,
+) -> Result<(), WriteStop>
+    ensures rows { Wrote (K.held sink.old) (K.held sink.new) (K.count sink.old) (K.count sink.new) result (mirror_report_rows scenario.now report.now answers.now status) }
+    ensures text { IsReport scenario.now report.now → Wrote (K.held sink.old) (K.held sink.new) (K.count sink.old) (K.count sink.new) result (mirror_report_text scenario.now (lists_of report.now.run.journals) answers.now report.now.run.taps status) }
+{
+    write_mirror_rows(alloc, scenario, report, answers.as_slice(), status, sink)
+}
+
+/// Writes the rows of a report of a mirror.
+fn write_mirror_rows<K: Sink>(
+    alloc: Global,
+    scenario: &Scenario,
+    report: &Report,
+    answers: &[MirrorAnswer],
+    status: u32,
+    sink: &mut K,
+) -> Result<(), WriteStop>
+    ensures { Wrote (K.held sink.old) (K.held sink.new) (K.count sink.old) (K.count sink.new) result (mirror_report_rows scenario.now report.now answers.now status) }
+{
+    write_all_parts(alloc, scenario, report, sink)?;
+    write_mirror_threads(alloc, sink, scenario.threads.as_slice(), answers)?;
+    write_taps(alloc, sink, report.run.taps.as_slice())?;
+    write_status_line(alloc, sink, status)
 }
 
 /// Writes the rows of a report.

@@ -1,14 +1,16 @@
 //! The writing of a report into a sink. Lines are collected in a buffer, and written when it holds many bytes.
 
-ghost use Rattle.std.specs.Prelude.{◌≡◌, ◌+◌, ◌^◌, ◌<◌, ◌++◌, ℕ, List, OnOk, length};
+ghost use Rattle.std.specs.Prelude.{◌≡◌, ◌+◌, ◌^◌, ◌<◌, ◌++◌, ℕ, List, IfOk, OnOk, length};
 ghost use Rattle.nook_defs.specs.ReportLines.{event_line, event_lines};
 ghost use Rattle.nook_defs.specs.ReportText.{answer_lines, part_line, status_line, thread_line, threads_text};
 ghost use Rattle.report_text.specs.Answers.{answer_line};
+ghost use Rattle.report_text.specs.Mirrored.{mirror_answer_line, mirror_threads_text};
 ghost use Rattle.report_text.specs.Writing.{Spilled, Wrote, each_text};
 
 use crate::line::Line;
-use crate::pieces::{push_answer, push_class, push_event, push_number};
-use nook_defs::data::{Answer, Event, PartAnswers, PartSpec, ThreadSpec};
+use crate::pieces::{push_answer, push_class, push_event, push_mirror_answer, push_number};
+use nook_defs::data::{Answer, Event, MirrorAnswer, PartAnswers, PartSpec, ThreadSpec};
+use nook_defs::lists::Words8;
 use nook_defs::memory::NoMemory;
 use nook_defs::outside::{Failed, Sink};
 use nook_defs::whole::write_all;
@@ -75,6 +77,26 @@ impl Lined for (u32, Answer) {
         push_answer(line, &self.1)?;
         line.push("\n")
     }
+}
+
+impl Lined for MirrorAnswer {
+    ghost text = { mirror_answer_line };
+
+    fn push_line(&self, place: u64, line: &mut Line) -> Result<(), NoMemory> {
+        line.number(place)?;
+        line.push(" p0 ")?;
+        push_mirror_answer(line, self)?;
+        line.push("\n")
+    }
+}
+
+/// The line of an event at a place of its journal, from 1: its number, what happened, a line feed.
+pub fn event_line(alloc: Global, place: u64, event: &Event) -> Result<Words8, NoMemory>
+    ensures { IfOk result (λ line. line ≡ event_line place event.now) }
+{
+    let mut line = Line::new(alloc);
+    event.push_line(place, &mut line)?;
+    Ok(line.into_words())
 }
 
 /// How many bytes a buffer holds before they are written.
@@ -209,6 +231,23 @@ pub fn write_threads<K: Sink>(
     write_thread_line(alloc, sink, place, thread)?;
     write_answers(alloc, sink, own.as_slice())?;
     write_threads(alloc, sink, place + 1, more_threads, more_answers)
+}
+
+/// Writes the line of a mirror's thread with the mirror's answers; nothing where there is no thread.
+#[tactic(auto, unfolding(crate::specs::Mirrored::mirror_threads_text))]
+pub fn write_mirror_threads<K: Sink>(
+    alloc: Global,
+    sink: &mut K,
+    threads: &[ThreadSpec],
+    answers: &[MirrorAnswer],
+) -> Result<(), WriteStop>
+    ensures { Wrote (K.held sink.old) (K.held sink.new) (K.count sink.old) (K.count sink.new) result (mirror_threads_text threads.now answers.now) }
+{
+    let Some((thread, _)) = threads.split_first() else {
+        return Ok(());
+    };
+    write_thread_line(alloc, sink, 0, thread)?;
+    write_each(alloc, sink, 1, answers)
 }
 
 /// Writes the last line.

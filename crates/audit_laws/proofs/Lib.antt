@@ -1,0 +1,10 @@
+pub mod Lines
+pub mod Words
+pub mod Naming
+pub mod NoFeed
+pub mod OneLine
+pub mod Wholes
+pub mod Leading
+pub mod Passing
+pub mod Nexts
+pub mod Reading

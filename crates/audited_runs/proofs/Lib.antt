@@ -1,0 +1,17 @@
+pub mod Shares
+pub mod Frames
+pub mod SoFar
+pub mod Reached
+pub mod Ended
+pub mod Apart
+pub mod Texts
+pub mod Serves
+pub mod Placed
+pub mod Sections
+pub mod Exact
+pub mod Asked
+pub mod Once
+pub mod Unique
+pub mod Merged
+pub mod Threaded
+pub mod ThreadedText

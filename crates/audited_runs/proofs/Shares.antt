@@ -1,0 +1,232 @@
+-- What each part knows of a thread changes as the thread does.
+use Rattle.std.proofs.Common.{◌≡◌, ℕ, suc, ◌+◌, ◌==◌, if◌then◌else◌, Bool, true, false, Option, Some, None, List, [], ◌∷◌, ◌++◌, length, length-append, map, filter, slice_get, refl, sym, ap, ap₂, ◌∙◌, subst, arith, eqb-true, eq-eqb}
+use Rattle.nook_defs.specs.declared.data.Answer.{Answer}
+use Rattle.nook_defs.specs.declared.data.Event.{Event}
+use Rattle.nook_defs.specs.declared.data.Event.TheVariants as event
+use Rattle.nook_defs.specs.declared.data.Op.{Op}
+use Rattle.nook_defs.specs.declared.data.ThreadSpec.{ThreadSpec}
+use Rattle.nook_defs.specs.Runs.{answer_at, step_of}
+use Rattle.nook_defs.specs.Simulation.{ThreadState, Waiting, if_part, opening_thread, settled, settled_by, started, tail_ops, threads_after, told}
+use Rattle.part_laws.proofs.Places.{split}
+use Rattle.run_laws.proofs.Choices.{IsOwn}
+use Rattle.audit_laws.proofs.Nexts.{inner}
+use Rattle.audit_laws.specs.Audit.{is_on}
+
+-- ---- a thread, as a part knows it
+
+abbrev pub is_from : ℕ → ℕ × Answer → Bool
+is_from place a = a.0 == place
+
+abbrev pub waiting_on : ℕ → Option Waiting → Option Waiting
+waiting_on place None = None
+waiting_on place (Some w) = if w.part == place then Some w else None
+
+-- the thread's operations on the part, its open call if that is the part's, and the part's answers
+abbrev pub share_of : ℕ → ThreadState → ThreadState
+share_of place t = record {
+  rest = filter (is_on place) t.rest;
+  waiting = waiting_on place t.waiting;
+  answers = filter (is_from place) t.answers;
+}
+
+-- ---- filters
+
+pub filter_same : {X : Type 0} (p : X → Bool) (x : X) (xs : List X) → p x ≡ true → filter p (x ∷ xs) ≡ x ∷ filter p xs
+filter_same p x xs h = rw (filter, h) refl
+
+pub filter_none : {X : Type 0} (p : X → Bool) (x : X) (xs : List X) → p x ≡ false → filter p (x ∷ xs) ≡ filter p xs
+filter_none p x xs h = rw (filter, h) refl
+
+filter_push : {X : Type 0} (p : X → Bool) (xs : List X) (x : X) → p x ≡ true → filter p (xs ++ x ∷ []) ≡ filter p xs ++ x ∷ []
+filter_push p [] x h = filter_same p x [] h
+filter_push p (y ∷ xs) x h = split (p y)
+    (λ e. filter_same p y (xs ++ x ∷ []) e ∙ ap (λ ys. y ∷ ys) (filter_push p xs x h) ∙ ap (λ ys. ys ++ x ∷ []) (sym (filter_same p y xs e)))
+    (λ e. filter_none p y (xs ++ x ∷ []) e ∙ filter_push p xs x h ∙ ap (λ ys. ys ++ x ∷ []) (sym (filter_none p y xs e)))
+
+filter_skip : {X : Type 0} (p : X → Bool) (xs : List X) (x : X) → p x ≡ false → filter p (xs ++ x ∷ []) ≡ filter p xs
+filter_skip p [] x h = filter_none p x [] h
+filter_skip p (y ∷ xs) x h = split (p y)
+    (λ e. filter_same p y (xs ++ x ∷ []) e ∙ ap (λ ys. y ∷ ys) (filter_skip p xs x h) ∙ sym (filter_same p y xs e))
+    (λ e. filter_none p y (xs ++ x ∷ []) e ∙ filter_skip p xs x h ∙ sym (filter_none p y xs e))
+
+-- ---- an event that is the thread's own
+
+-- where the event is the thread's invocation, the thread waits nowhere, and the operation is its next
+abbrev pub MayStart : ℕ → ℕ → Event → ThreadState → Type 0
+MayStart n part (event.Invoke call thread o a) t = thread ≡ n → (t.waiting ≡ None) × ((more : List (ℕ × Op)) × (t.rest ≡ (part, o) ∷ more))
+MayStart n part e t = Unit {0}
+
+share_started : (n part : ℕ) (e : Event) (t : ThreadState) → MayStart n part e t → share_of part (started n part e t) ≡ started n part e (share_of part t)
+share_started n part (event.Invoke call thread o a) t may = split (thread == n)
+    (λ e.
+    let m = may (eqb-true thread n e) in
+    let mine : (part == part) ≡ true = eq-eqb part part refl in
+    let rest : filter (is_on part) (tail_ops t.rest) ≡ tail_ops (filter (is_on part) t.rest) =
+    ap (λ xs. filter (is_on part) (tail_ops xs)) m.1.1 ∙ sym (ap (λ xs. tail_ops (filter (is_on part) xs)) m.1.1 ∙ ap tail_ops (filter_same (is_on part) (part, o) m.1.0 mine)) in
+    rw (e, mine, rest) refl)
+    (λ e. rw e refl)
+share_started n part (event.Enter call thread attempt a) t may = refl
+share_started n part (event.Burst context call burst count end acts a failure) t may = refl
+share_started n part (event.Stage stage answers released) t may = refl
+share_started n part (event.Arrive frame kept) t may = refl
+
+share_settled : (part : ℕ) (t : ThreadState) (a : Option Answer) → share_of part (settled_by part t a) ≡ settled_by part (share_of part t) a
+share_settled part t None = refl
+share_settled part t (Some a) =
+    ap {B = ThreadState} (λ xs. record { rest = filter (is_on part) t.rest; waiting = None; answers = xs })
+    (filter_push (is_from part) t.answers (part, a) (eq-eqb part part refl))
+
+share_told_by : (part : ℕ) (e : Event) (t : ThreadState) (w : Option Waiting)
+    → share_of part (settled part e t w) ≡ settled part e (share_of part t) (waiting_on part w)
+share_told_by part e t None = refl
+share_told_by part e t (Some w) = split (w.part == part)
+    (λ h. rw h (share_settled part t (answer_at w.call e) ∙ sym (waits h)))
+    (λ h. rw h refl)
+  where
+    waits : (w.part == part) ≡ true → settled_by part (share_of part t) (if_part part w.part (answer_at w.call e)) ≡ settled_by part (share_of part t) (answer_at w.call e)
+    waits h = rw h refl
+
+pub share_own : (n part : ℕ) (e : Event) (t : ThreadState) → MayStart n part e t
+    → told part e (started n part e (share_of part t)) ≡ share_of part (told part e (started n part e t))
+share_own n part e t may =
+    let s : ThreadState = started n part e t in
+    ap (told part e) (sym (share_started n part e t may)) ∙ sym (share_told_by part e s s.waiting)
+
+-- ---- an event of another part
+
+share_not_started : (n part place : ℕ) (e : Event) (t : ThreadState) → (part == place) ≡ false → MayStart n part e t
+    → share_of place (started n part e t) ≡ share_of place t
+share_not_started n part place (event.Invoke call thread o a) t other may = split (thread == n)
+    (λ e.
+    let m = may (eqb-true thread n e) in
+    let rest : filter (is_on place) (tail_ops t.rest) ≡ filter (is_on place) t.rest =
+    ap (λ xs. filter (is_on place) (tail_ops xs)) m.1.1 ∙ sym (ap (filter (is_on place)) m.1.1 ∙ filter_none (is_on place) (part, o) m.1.0 other) in
+    rw (e, other, rest, m.0) refl)
+    (λ e. rw e refl)
+share_not_started n part place (event.Enter call thread attempt a) t other may = refl
+share_not_started n part place (event.Burst context call burst count end acts a failure) t other may = refl
+share_not_started n part place (event.Stage stage answers released) t other may = refl
+share_not_started n part place (event.Arrive frame kept) t other may = refl
+
+share_not_settled : (part place : ℕ) (t : ThreadState) (w : Waiting) (a : Option Answer) → (part == place) ≡ false → t.waiting ≡ Some w → w.part ≡ part
+    → share_of place (settled_by part t a) ≡ share_of place t
+share_not_settled part place t w None other e is = refl
+share_not_settled part place t w (Some a) other e is =
+    let waits : waiting_on place t.waiting ≡ None = ap (waiting_on place) e ∙ ap (λ (k : ℕ). if k == place then Some w else None) is ∙ not_here (part == place) other in
+    rw (filter_skip (is_from place) t.answers (part, a) other, waits) refl
+  where
+    not_here : (b : Bool) → b ≡ false → (if b then Some w else None) ≡ None
+    not_here b h = rw h refl
+
+share_not_told : (part place : ℕ) (e : Event) (t : ThreadState) (w : Option Waiting) → (part == place) ≡ false → t.waiting ≡ w
+    → share_of place (settled part e t w) ≡ share_of place t
+share_not_told part place e t None other h = refl
+share_not_told part place e t (Some w) other h = split (w.part == part)
+    (λ k. ap (λ b. share_of place (settled_by part t (if b then answer_at w.call e else None))) k
+    ∙ share_not_settled part place t w (answer_at w.call e) other h (eqb-true w.part part k))
+    (λ k. ap (λ b. share_of place (settled_by part t (if b then answer_at w.call e else None))) k)
+
+pub share_other : (n part place : ℕ) (e : Event) (t : ThreadState) → (part == place) ≡ false → MayStart n part e t
+    → share_of place (told part e (started n part e t)) ≡ share_of place t
+share_other n part place e t other may =
+    let s : ThreadState = started n part e t in
+    share_not_told part place e s s.waiting other refl ∙ share_not_started n part place e t other may
+
+-- ---- all threads
+
+abbrev pub AllMay : ℕ → ℕ → Event → List ThreadState → Type 0
+AllMay n part e [] = Unit {0}
+AllMay n part e (t ∷ threads) = MayStart n part e t × AllMay (n + 1) part e threads
+
+pub all_own : (n part : ℕ) (e : Event) (threads : List ThreadState) → AllMay n part e threads
+    → threads_after n part e (map (share_of part) threads) ≡ map (share_of part) (threads_after n part e threads)
+all_own n part e [] may = refl
+all_own n part e (t ∷ threads) may =
+    ap₂ (λ (x : ThreadState) xs. x ∷ xs) (share_own n part e t may.0) (all_own (n + 1) part e threads may.1)
+
+pub all_other : (n part place : ℕ) (e : Event) (threads : List ThreadState) → (part == place) ≡ false → AllMay n part e threads
+    → map (share_of place) (threads_after n part e threads) ≡ map (share_of place) threads
+all_other n part place e [] other may = refl
+all_other n part place e (t ∷ threads) other may =
+    ap₂ (λ (x : ThreadState) xs. x ∷ xs) (share_other n part place e t other may.0) (all_other (n + 1) part place e threads other may.1)
+
+-- the step is its thread's own
+may_start : (n part : ℕ) (e : Event) (t : ThreadState) (whole : List ThreadState) → slice_get whole n ≡ Some t → IsOwn whole part (step_of e) → MayStart n part e t
+may_start n part (event.Invoke call thread o a) t whole at own = λ same.
+    let is : own.t ≡ t = inner (sym own.at ∙ ap (slice_get whole) same ∙ at) in
+    (subst (λ (x : ThreadState). x.waiting ≡ None) is own.free, (own.more, subst (λ (x : ThreadState). x.rest ≡ (part, o) ∷ own.more) is own.next))
+may_start n part (event.Enter call thread attempt a) t whole at own = tt
+may_start n part (event.Burst context call burst count end acts a failure) t whole at own = tt
+may_start n part (event.Stage stage answers released) t whole at own = tt
+may_start n part (event.Arrive frame kept) t whole at own = tt
+
+pub all_may : (n part : ℕ) (e : Event) (threads whole : List ThreadState) → ((k : ℕ) → slice_get threads k ≡ slice_get whole (n + k))
+    → IsOwn whole part (step_of e) → AllMay n part e threads
+all_may n part e [] whole same own = tt
+all_may n part e (t ∷ threads) whole same own = (
+  may_start n part e t whole (ap (slice_get whole) (first n) ∙ sym (same 0)) own,
+  all_may (n + 1) part e threads whole (λ k. same (suc k) ∙ ap (slice_get whole) (next n k)) own,
+)
+  where
+    first : (n : ℕ) → n ≡ n + 0
+    first n = omega arith
+
+    next : (n k : ℕ) → n + suc k ≡ n + 1 + k
+    next n k = omega arith
+
+-- ---- how many operations a thread has left
+
+abbrev pub waits_for : Option Waiting → ℕ
+waits_for None = 0
+waits_for (Some w) = 1
+
+-- the operations of a thread: answered, open, or not invoked
+abbrev pub operations_of : ThreadState → ℕ
+operations_of t = length t.answers + waits_for t.waiting + length t.rest
+
+started_counted : (n part : ℕ) (e : Event) (t : ThreadState) → MayStart n part e t → operations_of (started n part e t) ≡ operations_of t
+started_counted n part (event.Invoke call thread o a) t may = split (thread == n)
+    (λ e.
+    let m = may (eqb-true thread n e) in
+    let rest : length t.rest ≡ suc (length (tail_ops t.rest)) = ap length m.1.1 ∙ sym (ap (λ xs. suc (length (tail_ops xs))) m.1.1) in
+    let free : waits_for t.waiting ≡ 0 = ap waits_for m.0 in
+    rw e (omega arith))
+    (λ e. rw e refl)
+started_counted n part (event.Enter call thread attempt a) t may = refl
+started_counted n part (event.Burst context call burst count end acts a failure) t may = refl
+started_counted n part (event.Stage stage answers released) t may = refl
+started_counted n part (event.Arrive frame kept) t may = refl
+
+settled_counted : (part : ℕ) (t : ThreadState) (w : Waiting) (a : Option Answer) → t.waiting ≡ Some w → operations_of (settled_by part t a) ≡ operations_of t
+settled_counted part t w None h = refl
+settled_counted part t w (Some a) h =
+    let size : length (t.answers ++ (part, a) ∷ []) ≡ length t.answers + 1 = length-append t.answers ((part, a) ∷ []) in
+    let waits : waits_for t.waiting ≡ 1 = ap waits_for h in
+    omega arith
+
+told_counted : (part : ℕ) (e : Event) (t : ThreadState) (w : Option Waiting) → t.waiting ≡ w → operations_of (settled part e t w) ≡ operations_of t
+told_counted part e t None h = refl
+told_counted part e t (Some w) h = settled_counted part t w (if_part part w.part (answer_at w.call e)) h
+
+-- each thread has its script's operations
+abbrev pub AreCounted : List ThreadSpec → List ThreadState → Type 0
+AreCounted [] [] = Unit {0}
+AreCounted [] (t ∷ threads) = ⊥
+AreCounted (spec ∷ specs) [] = ⊥
+AreCounted (spec ∷ specs) (t ∷ threads) = (operations_of t ≡ length spec.ops) × AreCounted specs threads
+
+pub counted_after : (n part : ℕ) (e : Event) (specs : List ThreadSpec) (threads : List ThreadState) → AllMay n part e threads → AreCounted specs threads
+    → AreCounted specs (threads_after n part e threads)
+counted_after n part e [] [] may are = tt
+counted_after n part e [] (t ∷ threads) may are = absurd are
+counted_after n part e (spec ∷ specs) [] may are = absurd are
+counted_after n part e (spec ∷ specs) (t ∷ threads) may are =
+    let s : ThreadState = started n part e t in
+    (told_counted part e s s.waiting refl ∙ started_counted n part e t may.0 ∙ are.0, counted_after (n + 1) part e specs threads may.1 are.1)
+
+pub counted_opening : (specs : List ThreadSpec) → AreCounted specs (map opening_thread specs)
+counted_opening [] = tt
+counted_opening (spec ∷ specs) = (none_yet (length spec.ops), counted_opening specs)
+  where
+    none_yet : (n : ℕ) → 0 + 0 + n ≡ n
+    none_yet n = omega arith

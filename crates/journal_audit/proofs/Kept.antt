@@ -1,0 +1,109 @@
+-- What is kept of the sections that are over, when one more is over.
+use Rattle.std.proofs.Common.{◌≡◌, ◌<◌, ◌≤◌, ℕ, suc, ◌+◌, ◌||◌, Bool, true, false, is_some, List, [], ◌∷◌, ◌++◌, length, drop, get_or, map, refl, sym, ap, ◌∙◌, add-one, add-zero, append-nil, append_assoc, length-append, arith}
+use Rattle.std.proofs.Math.Bool.{or-false}
+use Rattle.std.proofs.Math.ListN.{drop_of_length-le}
+use Rattle.std.proofs.Math.Seq.{drop-cons}
+use Rattle.std.proofs.lemmas.List.{map-append}
+use Rattle.audit_laws.specs.Audit.{Done, Section, done_of, each_of_part, journal_in, own_listeners, published_in}
+use Rattle.nook_defs.specs.Contract.{first_break}
+use Rattle.nook_defs.specs.Listening.{Listening}
+use Rattle.nook_defs.specs.ReportText.{has_break, has_given_up}
+use Rattle.nook_defs.specs.Runs.{state_of}
+use Rattle.nook_defs.specs.Simulation.{answers_of}
+use Rattle.nook_defs.specs.Stages.{is_given_up}
+use Rattle.nook_defs.specs.declared.data.Event.{Event}
+use Rattle.nook_defs.specs.declared.data.PartSpec.{PartSpec}
+use Rattle.request_taps.specs.Bus.{settled, told, told_all}
+use Rattle.request_taps.specs.declared.tap.Tap.{Tap}
+use Rattle.journal_audit.specs.Tallies.{SumsUp, Tallied, answers_in}
+
+-- ---- listeners
+
+-- the next event is heard
+pub told_next : (part i : ℕ) (e : Event) (events : List Event) (taps : List (Tap Listening)) → i < length events → e ≡ get_or events i e
+    → told_all (each_of_part part (drop i events)) taps ≡ told_all (each_of_part part (drop (i + 1) events)) (map (told part e) taps)
+unfolding told_all
+told_next part i e events taps less is = rw (add-one i, drop-cons events i e less, ← is) refl
+
+-- no event is left
+pub told_none : (part i : ℕ) (events : List Event) (taps : List (Tap Listening)) → length events ≤ i
+    → told_all (each_of_part part (drop i events)) taps ≡ taps
+unfolding told_all
+told_none part i events taps most = rw (drop_of_length-le events {i = i} most) refl
+
+told_both : (xs ys : List (ℕ × Event)) (taps : List (Tap Listening)) → told_all (xs ++ ys) taps ≡ told_all ys (told_all xs taps)
+unfolding told_all
+told_both [] ys taps = refl
+told_both (e ∷ xs) ys taps = told_both xs ys (map (told e.0 e.1) taps)
+
+published_back : (part : ℕ) (sections : List Done) (d : Done)
+    → published_in part (sections ++ d ∷ []) ≡ published_in part sections ++ each_of_part (part + length sections) d.journal
+published_back part [] d = rw (add-zero part) (append-nil (each_of_part part d.journal))
+published_back part (x ∷ sections) d =
+    let n : suc part + length sections ≡ part + suc (length sections) = omega arith in
+    rw (published_back (suc part) sections d, n)
+    (sym (append_assoc (each_of_part part x.journal) (published_in (suc part) sections) (each_of_part (part + suc (length sections)) d.journal)))
+
+heard_back : (sections : List Done) (d : Done) (place : ℕ) (taps : List (Tap Listening)) → 0 + length sections ≡ place
+    → taps ≡ told_all (published_in 0 sections) (map settled own_listeners)
+    → told_all (each_of_part place d.journal) taps ≡ told_all (published_in 0 (sections ++ d ∷ [])) (map settled own_listeners)
+heard_back sections d place taps h e =
+    ap (told_all (each_of_part place d.journal)) e
+    ∙ (sym (told_both (published_in 0 sections) (each_of_part place d.journal) (map settled own_listeners))
+    ∙ ap (λ xs. told_all xs (map settled own_listeners))
+    (ap (λ n. published_in 0 sections ++ each_of_part n d.journal) (sym h) ∙ sym (published_back 0 sections d)))
+
+-- ---- breaks and failures
+
+or_assoc : (a b c : Bool) → a || (b || c) ≡ (a || b) || c
+or_assoc true b c = refl
+or_assoc false b c = refl
+
+break_back : (specs : List PartSpec) (s : PartSpec) (sections : List Done) (d : Done) → length sections ≡ length specs
+    → has_break (specs ++ s ∷ []) (map journal_in (sections ++ d ∷ []))
+    ≡ has_break specs (map journal_in sections) || is_some (first_break s.class s.blocks d.journal)
+unfolding has_break
+break_back [] s [] d h = or-false (is_some (first_break s.class s.blocks d.journal))
+break_back [] s (x ∷ sections) d h = absurd (cc)
+break_back (r ∷ specs) s [] d h = absurd (cc)
+break_back (r ∷ specs) s (x ∷ sections) d h =
+    rw (break_back specs s sections d (omega arith))
+    (or_assoc (is_some (first_break r.class r.blocks x.journal)) (has_break specs (map journal_in sections)) (is_some (first_break s.class s.blocks d.journal)))
+
+given_up_back : (specs : List PartSpec) (s : PartSpec) (sections : List Done) (d : Done) → length sections ≡ length specs
+    → has_given_up (specs ++ s ∷ []) (map journal_in (sections ++ d ∷ []))
+    ≡ has_given_up specs (map journal_in sections) || is_given_up (state_of s d.journal)
+unfolding has_given_up
+given_up_back [] s [] d h = or-false (is_given_up (state_of s d.journal))
+given_up_back [] s (x ∷ sections) d h = absurd (cc)
+given_up_back (r ∷ specs) s [] d h = absurd (cc)
+given_up_back (r ∷ specs) s (x ∷ sections) d h =
+    rw (given_up_back specs s sections d (omega arith))
+    (or_assoc (is_given_up (state_of r x.journal)) (has_given_up specs (map journal_in sections)) (is_given_up (state_of s d.journal)))
+
+-- ---- one more section
+
+-- what is kept after a section more
+pub record Adds (s : Section) (old new : Tallied) : Type 0 where
+  pub answers : new.answers ≡ old.answers ++ map answers_of s.threads ∷ []
+  pub taps : new.taps ≡ told_all (each_of_part s.place s.seat.run.journal) old.taps
+  pub broken : new.broken ≡ old.broken || is_some (first_break s.spec.class s.spec.blocks s.seat.run.journal)
+  pub given_up : new.given_up ≡ old.given_up || is_given_up (state_of s.spec s.seat.run.journal)
+
+pub kept : (specs : List PartSpec) (sections : List Done) (s : Section) (old new : Tallied) → length specs ≡ s.place
+    → SumsUp specs sections old → Adds s old new → SumsUp (specs ++ s.spec ∷ []) (sections ++ done_of s ∷ []) new
+kept specs sections s old new place sums adds =
+    let part : length sections ≡ s.place = sums.many ∙ place in
+    let from_zero : 0 + length sections ≡ s.place = omega arith in
+    record {
+      many = omega (arith, length-append sections (done_of s ∷ []), length-append specs (s.spec ∷ []));
+      answers = adds.answers ∙ ap (λ l. l ++ map answers_of s.threads ∷ []) sums.answers ∙ sym (map-append answers_in sections (done_of s ∷ []));
+      taps = adds.taps ∙ heard_back sections (done_of s) s.place old.taps from_zero sums.taps;
+      broken = adds.broken ∙ ap (λ b. b || is_some (first_break s.spec.class s.spec.blocks s.seat.run.journal)) sums.broken
+          ∙ sym (break_back specs s.spec sections (done_of s) sums.many);
+      given_up = adds.given_up ∙ ap (λ b. b || is_given_up (state_of s.spec s.seat.run.journal)) sums.given_up
+          ∙ sym (given_up_back specs s.spec sections (done_of s) sums.many);
+    }
+
+pub or_same : {a b c d : Bool} → a ≡ b → c ≡ d → a || c ≡ b || d
+or_same e f = cc

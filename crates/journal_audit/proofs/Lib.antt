@@ -1,0 +1,14 @@
+pub mod Lines
+pub mod Placing
+pub mod Compared
+pub mod Taken
+pub mod Finding
+pub mod Sections
+pub mod Kept
+pub mod Endings
+pub mod Scripts
+pub mod WordsRead
+pub mod OnPart
+pub mod Hearing
+pub mod SectionSteps
+pub mod Naming

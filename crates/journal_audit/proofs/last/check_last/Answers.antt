@@ -1,0 +1,40 @@
+use Rattle.std.proofs.Common.{Some, ◌++◌, [], ap, sym, subst, ◌∙◌}
+use Rattle.audit_laws.specs.Audit.{last_lines}
+use Rattle.nook_defs.specs.ReportText.{status_line, taps_text, threads_text}
+use Rattle.report_text.specs.Writing.{Wrote}
+use Rattle.journal_audit.specs.Comparisons.{Comparison, held_in, untouched}
+use Rattle.journal_audit.specs.Found.{at_last, found_from}
+use Rattle.journal_audit.specs.Stopping.{Checks}
+use Rattle.audit_laws.proofs.Wholes.{last_lines_ended}
+use Rattle.journal_audit.proofs.Taken.{Held, text_kept}
+use Rattle.journal_audit.proofs.Endings.{due_checked, last_due, last_text, settled_ok, settled_unfit}
+use Rattle.journal_audit.proofs.last.check_last.Goals as goal
+use Rattle.journal_audit.proofs.last.check_last.Goals.{After-write_last-written}
+
+held : (c : After-write_last-written)
+    → Held c.write_last-written.new.sink c.args.cursor.now.rest c.write_last-written.result
+    (threads_text 0 c.args.threads.now c.as_slice.result.now ++ (taps_text 0 c.in_ok-taps.taps ++ status_line c.status.result))
+held c = record {
+  is =
+      subst
+      (λ (x : Comparison). Wrote (Some (held_in x)) (Some (held_in c.write_last-written.new.sink)) x.faults
+      c.write_last-written.new.sink.faults c.write_last-written.result
+      (threads_text 0 c.args.threads.now c.as_slice.result.now ++ (taps_text 0 c.in_ok-taps.taps ++ status_line c.status.result)))
+      (c.new-compared.ensures ∙ ap untouched c.rest.ensures) c.write_last-written.ensures;
+}
+
+pub settle-requires : goal.settle-requires
+settle-requires c = text_kept _ _ _ _ (held (goal.at.settle-requires c).After-write_last-written)
+
+pub returns : goal.returns
+returns c = λ scenario sections threads sums.
+    let here = (goal.at.returns c).After-write_last-written in
+    let answers = c.as_slice.ensures ∙ c.in_ok-answers.ensures sections (sym (c.answers.ensures ∙ sums.answers)) in
+    let text = last_text scenario sections c.args.tally.now c.args.threads.now c.as_slice.result.now c.in_ok-taps.taps c.status.result
+    sums threads answers c.in_ok-taps.ensures c.status.ensures in
+    let wrote = subst (Held c.write_last-written.new.sink c.args.cursor.now.rest c.write_last-written.result) text (held here) in
+    subst (λ before. Checks c.settle.result before (found_from scenario (at_last sections []) c.settle.new.self))
+    (sym (last_due scenario sections c.args.cursor.now (last_lines_ended scenario sections)))
+    (due_checked c.settle.result scenario (at_last sections []) (last_lines scenario sections) c.args.cursor.now c.settle.new.self
+    (last_lines_ended scenario sections)
+    (settled_ok c.settle.result _ _ _ _ _ wrote c.settle.ensures.ok) (settled_unfit c.settle.result _ _ _ _ wrote c.settle.ensures.unfit))

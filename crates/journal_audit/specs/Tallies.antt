@@ -1,0 +1,39 @@
+-- What is kept of the sections that are over.
+use Rattle.std.specs.Prelude.{◌≡◌, ℕ, Bool, List, length, map}
+use Rattle.audit_laws.specs.Audit.{Done, Section, journal_in, own_listeners, published_in}
+use Rattle.nook_defs.specs.Contract.{first_break}
+use Rattle.nook_defs.specs.Losses.{losses}
+use Rattle.nook_defs.specs.ReportText.{has_break, has_given_up}
+use Rattle.nook_defs.specs.Listening.{Listening}
+use Rattle.nook_defs.specs.declared.data.Answer.{Answer}
+use Rattle.nook_defs.specs.declared.data.PartSpec.{PartSpec}
+use Rattle.report_text.specs.declared.whole_report.PartReport.{PartReport}
+use Rattle.request_taps.specs.Bus.{settled, told_all}
+use Rattle.request_taps.specs.declared.tap.Tap.{Tap}
+
+-- the answers of each section to each thread, what the program's own listeners heard, and whether some part broke its
+-- contract or was given up
+pub record Tallied : Type 0 where
+  pub answers : List (List (List (ℕ × Answer)))
+  pub taps : List (Tap Listening)
+  pub broken : Bool
+  pub given_up : Bool
+
+abbrev pub answers_in : Done → List (List (ℕ × Answer))
+answers_in d = d.answers
+
+-- it is kept of these sections of a scenario with these parts
+pub record SumsUp (parts : List PartSpec) (sections : List Done) (t : Tallied) : Type 0 where
+  pub many : length sections ≡ length parts
+  pub answers : t.answers ≡ map answers_in sections
+  pub taps : t.taps ≡ told_all (published_in 0 sections) (map settled own_listeners)
+  pub broken : t.broken ≡ has_break parts (map journal_in sections)
+  pub given_up : t.given_up ≡ has_given_up parts (map journal_in sections)
+
+-- what is summed up of a section's part
+abbrev pub judged_in : Section → PartReport
+judged_in s = record {
+  losses = losses s.seat.run.journal;
+  first_break = first_break s.spec.class s.spec.blocks s.seat.run.journal;
+  failures = s.seat.run.state.failures;
+}

@@ -1,0 +1,184 @@
+//! The audit of a report, line by line.
+
+ghost use Rattle.std.specs.Prelude.{◌≡◌, ◌<◌, ◌++◌, ◌∷◌, [], ℕ, List, None, Option, true, false, IfOk, OnOk, bytes_eq, length};
+ghost use Rattle.audit_laws.specs.Audit.{Done, audited, is_numbered, opening_audit, opening_section};
+ghost use Rattle.journal_audit.specs.Found.{ArePast, at_last, between, found_from, inside};
+ghost use Rattle.journal_audit.specs.Placed.{IsEnding};
+ghost use Rattle.journal_audit.specs.Stopping.{Checks, Leads};
+ghost use Rattle.journal_audit.specs.Tallies.{SumsUp};
+ghost use Rattle.nook_defs.specs.ReportText.{part_line};
+ghost use Rattle.nook_defs.specs.Valid.{IsValidPart, IsValidScenario};
+ghost use Rattle.nook_defs.specs.declared.data.PartSpec.{PartSpec as Spec};
+ghost use Rattle.nook_defs.specs.declared.data.Scenario.{Scenario as Given};
+
+use crate::comparing::Comparing;
+use crate::cursor::Cursor;
+use crate::ending::check_ending;
+use crate::last::check_last;
+use crate::section::Section;
+use crate::stop::Stop;
+use crate::tally::Tally;
+use nook_defs::data::{PartSpec, Scenario};
+use nook_defs::memory::NoMemory;
+use report_text::write::{WriteStop, write_part_line};
+use std::alloc::Global;
+
+/// Checks a printed report line by line, along the steps that its lines name, with no trust in the run that printed it.
+/// None where every line fits and none is missing; else the number of the first line that does not fit, from 1, or one more
+/// than there are lines where lines are missing. A line fits where it is that of a step which its part may take, or one of
+/// those that stand behind the events; a rest without a line feed does not. The part whose section is read is kept in
+/// memory with its journal; of those before it the threads' answers stay, and no text.
+pub fn audit(alloc: Global, scenario: &Scenario, report: &[u8]) -> Result<Option<u64>, NoMemory>
+    requires { IsValidScenario scenario.now }
+    ensures exact { IfOk result (λ found. found ≡ audited scenario.now report.now) }
+{
+    let mut cursor = Cursor::new(report);
+    match check(alloc, scenario, &mut cursor) {
+        Ok(()) => Ok(None),
+        Err(Stop::Unfit { line }) => Ok(Some(line)),
+        Err(Stop::NoMemory) => Err(NoMemory),
+    }
+}
+
+/// Checks a whole report.
+fn check(alloc: Global, scenario: &Scenario, cursor: &mut Cursor) -> Result<(), Stop>
+    requires { IsValidScenario scenario.now }
+    ensures { Checks result (found_from scenario.now (opening_audit scenario.now) cursor.old) None }
+{
+    let mut tally = Tally::new(alloc)?;
+    check_parts(alloc, scenario, cursor, &mut tally)?;
+    check_last(alloc, cursor, scenario.threads.as_slice(), &tally)?;
+    check_end(cursor)
+}
+
+/// Checks the sections.
+fn check_parts(
+    alloc: Global,
+    scenario: &Scenario,
+    cursor: &mut Cursor,
+    tally: &mut Tally,
+) -> Result<(), Stop>
+    requires valid { IsValidScenario scenario.now }
+    requires none { SumsUp [] [] tally.old }
+    ensures { Leads result (found_from scenario.now (opening_audit scenario.now) cursor.old)
+        (ArePast scenario.now scenario.now.parts [] (found_from scenario.now (opening_audit scenario.now) cursor.old) cursor.new tally.new) }
+{
+    let specs = scenario.parts.as_slice();
+    for place in 0..specs.len() {
+        check_part(alloc, scenario, place as u32, &specs[place], cursor, tally)?;
+    }
+    Ok(())
+}
+
+/// Checks the section of a part.
+fn check_part(
+    alloc: Global,
+    scenario: &Scenario,
+    place: u32,
+    spec: &PartSpec,
+    cursor: &mut Cursor,
+    tally: &mut Tally,
+) -> Result<(), Stop>
+    requires place { place < 256 }
+    requires scenario { IsValidScenario scenario.now }
+    requires spec { IsValidPart spec.now }
+    ensures { (specs coming : List Spec) (found : Option ℕ) → length specs ≡ place
+        → ArePast scenario.now specs (spec.now ∷ coming) found cursor.old tally.old
+        → Leads result found (ArePast scenario.now (specs ++ spec.now ∷ []) coming found cursor.new tally.new) }
+{
+    check_part_line(alloc, place, spec, cursor)?;
+    let mut section = Section::new(alloc, scenario.threads.as_slice(), place, spec)?;
+    check_events(alloc, cursor, &mut section)?;
+    check_ending(alloc, cursor, section, tally)
+}
+
+/// Checks the first line of a section.
+fn check_part_line(
+    alloc: Global,
+    place: u32,
+    spec: &PartSpec,
+    cursor: &mut Cursor,
+) -> Result<(), Stop>
+    ensures { (scenario : Given) (sections : List Done) (coming : List Spec) → length sections ≡ place
+        → Checks result (found_from scenario (between sections (spec.now ∷ coming)) cursor.old)
+        (found_from scenario (inside sections (opening_section scenario.threads place spec.now) coming) cursor.new) }
+{
+    let line = cursor.line()?;
+    if !is_part_line(alloc, place, spec, line)? {
+        return Err(Stop::Unfit {
+            line: cursor.number(),
+        });
+    }
+    cursor.skip(line.len());
+    Ok(())
+}
+
+/// Whether a line is the first of a part's section.
+fn is_part_line(alloc: Global, place: u32, spec: &PartSpec, line: &[u8]) -> Result<bool, NoMemory>
+    ensures { IfOk result (λ same. same ≡ bytes_eq line.now (part_line place spec.now)) }
+{
+    let mut compared = Comparing::new(line);
+    let written = write_part_line(alloc, &mut compared, u64::from(place), spec);
+    if written == Err(WriteStop::NoMemory) {
+        return Err(NoMemory);
+    }
+    Ok(compared.wrong().is_none() && compared.matched() == line.len())
+}
+
+/// Checks the lines of a section's events, up to the first line that does not begin with a digit.
+fn check_events(alloc: Global, cursor: &mut Cursor, section: &mut Section) -> Result<(), Stop>
+    ensures checks { (scenario : Given) (sections : List Done) (coming : List Spec)
+        → Checks result (found_from scenario (inside sections section.old coming) cursor.old)
+        (found_from scenario (inside sections section.new coming) cursor.new) }
+    ensures ending { OnOk result (IsEnding cursor.new) }
+    ensures place { OnOk result (section.new.place ≡ section.old.place) }
+    ensures spec { OnOk result (section.new.spec ≡ section.old.spec) }
+{
+    'events: while check_event(alloc, cursor, section)? {}
+    Ok(())
+}
+
+/// Checks the next line where it begins with a digit, and tells whether it does.
+fn check_event(alloc: Global, cursor: &mut Cursor, section: &mut Section) -> Result<bool, Stop>
+    ensures checks { (scenario : Given) (sections : List Done) (coming : List Spec)
+        → Checks result (found_from scenario (inside sections section.old coming) cursor.old)
+        (found_from scenario (inside sections section.new coming) cursor.new) }
+    ensures more { IfOk result (λ more. more ≡ true → length cursor.new.rest < length cursor.old.rest) }
+    ensures ending { IfOk result (λ more. more ≡ false → IsEnding cursor.new) }
+    ensures place { OnOk result (section.new.place ≡ section.old.place) }
+    ensures spec { OnOk result (section.new.spec ≡ section.old.spec) }
+{
+    let line = cursor.line()?;
+    if !is_numbered(line) {
+        return Ok(false);
+    }
+    if !section.after_event(alloc, line)? {
+        return Err(Stop::Unfit {
+            line: cursor.number(),
+        });
+    }
+    cursor.skip(line.len());
+    Ok(true)
+}
+
+/// Whether a line begins with a digit.
+fn is_numbered(line: &[u8]) -> bool
+    ensures { result ≡ is_numbered line.now }
+{
+    match line.first() {
+        Some(byte) => byte.is_ascii_digit(),
+        None => false,
+    }
+}
+
+/// Checks that nothing stands behind the last line.
+fn check_end(cursor: &Cursor) -> Result<(), Stop>
+    ensures { (scenario : Given) (sections : List Done) → Checks result (found_from scenario (at_last sections []) cursor.now) None }
+{
+    if cursor.rest().is_empty() {
+        return Ok(());
+    }
+    Err(Stop::Unfit {
+        line: cursor.number(),
+    })
+}

@@ -1,0 +1,108 @@
+//! The lines behind a section's events.
+
+ghost use Rattle.std.specs.Prelude.{◌≡◌, ◌<◌, ◌++◌, ◌∷◌, [], List, IfOk, OnOk, length};
+ghost use Rattle.contract_monitor.specs.Monitors.{StandsFor};
+ghost use Rattle.audit_laws.specs.Audit.{Done, done_of, section_end};
+ghost use Rattle.journal_audit.specs.Found.{between, found_from, inside};
+ghost use Rattle.journal_audit.specs.Placed.{Departs, Follows, IsEnding};
+ghost use Rattle.journal_audit.specs.Stopping.{Checks, OnUnfit};
+ghost use Rattle.journal_audit.specs.Tallies.{SumsUp, judged_in};
+ghost use Rattle.nook_defs.specs.declared.data.PartSpec.{PartSpec as Spec};
+ghost use Rattle.nook_defs.specs.declared.data.Scenario.{Scenario};
+
+use crate::comparing::Comparing;
+use crate::cursor::Cursor;
+use crate::section::Section;
+use crate::stop::Stop;
+use crate::tally::Tally;
+use contract_monitor::Monitor;
+use nook_defs::data::{Event, PartSpec};
+use nook_defs::memory::NoMemory;
+use report_text::whole_report::PartReport;
+use report_text::whole_text::write_final;
+use sim_run::end_of;
+use std::alloc::Global;
+
+/// Checks the lines behind a section's events, which is over then.
+pub fn check_ending(
+    alloc: Global,
+    cursor: &mut Cursor,
+    section: Section,
+    tally: &mut Tally,
+) -> Result<(), Stop>
+    requires { section.place < 256 }
+    ensures checks { (scenario : Scenario) (sections : List Done) (coming : List Spec) → IsEnding cursor.old
+        → Checks result (found_from scenario (inside sections section.entry coming) cursor.old)
+        (found_from scenario (between (sections ++ done_of section.entry ∷ []) coming) cursor.new) }
+    ensures sums { (specs : List Spec) (sections : List Done) → length specs ≡ section.entry.place
+        → SumsUp specs sections tally.old
+        → OnOk result (SumsUp (specs ++ section.entry.spec ∷ []) (sections ++ done_of section.entry ∷ []) tally.new) }
+{
+    let judged = judge_ending(alloc, cursor, &section)?;
+    tally.add(alloc, section, &judged)?;
+    Ok(())
+}
+
+/// Checks the lines behind a section's events against what is summed up of its part.
+fn judge_ending(alloc: Global, cursor: &mut Cursor, section: &Section) -> Result<PartReport, Stop>
+    ensures checks { (scenario : Scenario) (sections : List Done) (coming : List Spec) → IsEnding cursor.old
+        → Checks result (found_from scenario (inside sections section.now coming) cursor.old)
+        (found_from scenario (between (sections ++ done_of section.now ∷ []) coming) cursor.new) }
+    ensures judged { IfOk result (λ judged. judged ≡ judged_in section.now) }
+{
+    if !section.is_complete() {
+        return Err(Stop::Unfit {
+            line: cursor.number(),
+        });
+    }
+    let judged = judge(alloc, section)?;
+    compare_ending(alloc, cursor, section, &judged)?;
+    Ok(judged)
+}
+
+/// Compares the lines behind a section's events.
+fn compare_ending(
+    alloc: Global,
+    cursor: &mut Cursor,
+    section: &Section,
+    judged: &PartReport,
+) -> Result<(), Stop>
+    requires { judged.now ≡ judged_in section.now }
+    ensures ok { OnOk result (Follows (section_end section.now) cursor.old cursor.new) }
+    ensures unfit { OnUnfit result (Departs (section_end section.now) cursor.old) }
+{
+    let end = end_of(alloc, section.part())?;
+    let mut compared = Comparing::new(cursor.rest());
+    let written = write_final(
+        alloc,
+        &mut compared,
+        section.spec(),
+        section.events(),
+        judged,
+        &end,
+    );
+    cursor.settle(&compared, written)
+}
+
+/// What is summed up of a section's part.
+fn judge(alloc: Global, section: &Section) -> Result<PartReport, NoMemory>
+    ensures { IfOk result (λ judged. judged ≡ judged_in section.now) }
+{
+    let monitor = watched(alloc, section.spec(), section.events())?;
+    Ok(PartReport {
+        losses: monitor.losses(),
+        first_break: monitor.first_break(),
+        failures: section.part().failures(),
+    })
+}
+
+/// The monitor of a part, behind its events.
+fn watched(alloc: Global, spec: &PartSpec, events: &[Event]) -> Result<Monitor, NoMemory>
+    ensures { IfOk result (λ monitor. StandsFor spec.now.class spec.now.blocks events.now monitor) }
+{
+    let mut monitor = Monitor::new(alloc, spec.class, spec.blocks)?;
+    for event in events {
+        monitor.see(event)?;
+    }
+    Ok(monitor)
+}

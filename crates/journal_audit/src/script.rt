@@ -1,0 +1,193 @@
+//! What a thread asks of one part: the operations that it has not invoked, its open call and its answers.
+
+ghost use Rattle.std.specs.Prelude.{◌≡◌, ℕ, true, List, ◌∷◌, [], None, IfOk, MatchOption, OnOk, filter, if◌then◌else◌};
+ghost use Rattle.audit_laws.specs.Audit.{is_on, is_through, thread_on};
+ghost use Rattle.nook_defs.specs.Runs.{answer_among, answer_at};
+ghost use Rattle.nook_defs.specs.Simulation.{started, tail_ops, told};
+ghost use Rattle.journal_audit.specs.Sections.{is_at, with_state};
+ghost use Rattle.nook_defs.specs.declared.data.Op.{Op};
+
+use nook_defs::data::{Answer, Event, Op, PartAnswers, ThreadSpec};
+use nook_defs::lists::{Items, TryCopy};
+use nook_defs::memory::NoMemory;
+use std::alloc::Global;
+use std::marker::Model;
+
+/// What a thread asks of one part, and was answered by it.
+#[derive(Drop)]
+pub struct Script<'a> {
+    part: u32,
+    /// The rest of the thread's script from an operation on the part on.
+    rest: &'a [(u32, Op)],
+    /// The number of the open call.
+    waiting: Option<u32>,
+    answers: PartAnswers,
+}
+
+impl<'a> Model for Script<'a> {
+    ghost use Rattle.std.specs.Prelude.{◌≡◌, true, filter};
+    ghost use Rattle.audit_laws.specs.Audit.{is_on};
+    ghost use Rattle.journal_audit.specs.Sections.{OnPart, is_at, waiting_on};
+
+    ghost Value = { OnPart };
+
+    ghost view = { λ s. record { part = s.part; state = record { rest = filter (is_on s.part) s.rest.now; waiting = waiting_on s.part s.waiting; answers = s.answers } } };
+
+    ghost invariant = { λ s. is_at s.part s.rest.now ≡ true };
+}
+
+impl<'a> Script<'a> {
+    /// What a thread asks of a part from the start on.
+    pub fn new(alloc: Global, part: u32, spec: &'a ThreadSpec) -> Script<'a>
+        ensures { result ≡ record { part = part; state = thread_on part spec.now } }
+    {
+        Script {
+            part,
+            rest: from_part(part, spec.ops.as_slice()),
+            waiting: None,
+            answers: Items::new(alloc),
+        }
+    }
+
+    /// The next operation on the part.
+    pub fn next(&self) -> Option<&'a Op>
+        ensures { MatchOption result (self.now.state.rest ≡ [])
+            (λ op. (more : List (ℕ × Op)) × (self.now.state.rest ≡ (self.now.part, op.now) ∷ more)) }
+    {
+        match self.rest.first() {
+            Some((_, op)) => Some(op),
+            None => None,
+        }
+    }
+
+    /// Whether all operations on the part were invoked and answered.
+    pub fn is_through(&self) -> bool
+        ensures { result ≡ is_through self.now.state }
+    {
+        self.rest.is_empty() && self.waiting.is_none()
+    }
+
+    /// Notes an event of the part: this thread's invocation takes its next operation, and an answer to its open call is
+    /// kept.
+    pub fn hear(&mut self, alloc: Global, thread: u8, event: &Event) -> Result<(), NoMemory>
+        ensures part { self.new.part ≡ self.old.part }
+        ensures state { OnOk result (self.new.state ≡ told self.old.part event.now (started thread self.old.part event.now self.old.state)) }
+    {
+        self.start(thread, event);
+        self.settle(alloc, event)
+    }
+
+    /// This thread's invocation takes its next operation.
+    fn start(&mut self, thread: u8, event: &Event)
+        ensures { self.new ≡ with_state self.old (started thread self.old.part event.now self.old.state) }
+    {
+        if let Event::Invoke {
+            call,
+            thread: caller,
+            ..
+        } = event
+            && *caller == thread
+        {
+            self.rest = behind_first(self.part, self.rest);
+            self.waiting = Some(*call);
+        }
+    }
+
+    /// An answer to the open call is kept.
+    fn settle(&mut self, alloc: Global, event: &Event) -> Result<(), NoMemory>
+        ensures part { self.new.part ≡ self.old.part }
+        ensures state { OnOk result (self.new ≡ with_state self.old (told self.old.part event.now self.old.state)) }
+    {
+        let Some(call) = self.waiting else {
+            return Ok(());
+        };
+        if let Some(answer) = answer_to(alloc, call, event)? {
+            self.answers.push((self.part, answer))?;
+            self.waiting = None;
+        }
+        Ok(())
+    }
+
+    /// The answers, each with its part.
+    pub fn into_answers(self) -> PartAnswers
+        ensures { result ≡ self.entry.state.answers }
+    {
+        self.answers
+    }
+}
+
+/// The operations from the first one on a part on.
+fn from_part<'a>(part: u32, ops: &'a [(u32, Op)]) -> &'a [(u32, Op)]
+    ensures same { filter (is_on part) result.now ≡ filter (is_on part) ops.now }
+    ensures first { is_at part result.now ≡ true }
+{
+    for place in 0..ops.len() {
+        if ops[place].0 == part {
+            return &ops[place..];
+        }
+    }
+    &ops[ops.len()..]
+}
+
+/// The operations behind the first one, from the next on the part on.
+fn behind_first<'a>(part: u32, ops: &'a [(u32, Op)]) -> &'a [(u32, Op)]
+    requires { is_at part ops.now ≡ true }
+    ensures rest { filter (is_on part) result.now ≡ tail_ops (filter (is_on part) ops.now) }
+    ensures first { is_at part result.now ≡ true }
+{
+    match ops.split_first() {
+        Some((_, rest)) => from_part(part, rest),
+        None => ops,
+    }
+}
+
+/// The answer that an event gives to a call.
+fn answer_to(alloc: Global, call: u32, event: &Event) -> Result<Option<Answer>, NoMemory>
+    ensures { IfOk result (λ answer. answer ≡ answer_at call event.now) }
+{
+    match event {
+        Event::Invoke {
+            call: number,
+            answer,
+            ..
+        }
+        | Event::Enter {
+            call: number,
+            answer,
+            ..
+        }
+        | Event::Burst {
+            call: number,
+            answer,
+            ..
+        } => copy_if(alloc, *number == call, answer),
+        Event::Stage { answers, .. } => answer_in(alloc, call, answers.as_slice()),
+        Event::Arrive { .. } => Ok(None),
+    }
+}
+
+/// The answer where the test holds.
+fn copy_if(alloc: Global, test: bool, answer: &Option<Answer>) -> Result<Option<Answer>, NoMemory>
+    ensures { IfOk result (λ made. made ≡ (if test then answer.now else None)) }
+{
+    match answer {
+        Some(answer) if test => Ok(Some(answer.copy(alloc)?)),
+        _ => Ok(None),
+    }
+}
+
+/// The first answer to a call among the answers of a stage.
+fn answer_in(
+    alloc: Global,
+    call: u32,
+    answers: &[(u32, Answer)],
+) -> Result<Option<Answer>, NoMemory>
+    ensures { IfOk result (λ made. made ≡ answer_among call answers.now) }
+{
+    for (number, answer) in answers {
+        if *number == call {
+            return Ok(Some(answer.copy(alloc)?));
+        }
+    }
+    Ok(None)
+}

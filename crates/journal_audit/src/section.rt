@@ -1,0 +1,294 @@
+//! The section of one part: the part as the lines so far leave it.
+
+ghost use Rattle.std.specs.Prelude.{◌≡◌, ◌<◌, ◌≤◌, ℕ, IfOk, OnOk, Some, bytes_eq, codes, length, map};
+ghost use Rattle.audit_laws.specs.Audit.{after_event, are_through, arrival_of, context_in, if_burst, if_entered, if_invoked, is_complete, opening_section, step_named, thread_on};
+ghost use Rattle.nook_defs.specs.ReportLines.{event_line};
+ghost use Rattle.nook_defs.specs.Runs.{state_of};
+ghost use Rattle.nook_defs.specs.Simulation.{answers_of, coming_after, threads_after};
+ghost use Rattle.nook_defs.specs.Valid.{IsValidPart};
+ghost use Rattle.nook_defs.specs.declared.data.Event.{Event};
+ghost use Rattle.journal_audit.specs.Sections.{AreOn, IsAfter, IsTaken, newest_in, state_in, with_threads};
+
+use crate::script::Script;
+use crate::words::{context_in, word_at};
+use nook_defs::data::{AnswerTable, Event, PartSpec, Step, ThreadSpec};
+use nook_defs::lists::{Items, TryCopy, Words};
+use nook_defs::memory::NoMemory;
+use part_core::{Part, StepRefused};
+use report_text::write::event_line;
+use std::alloc::Global;
+use std::marker::Model;
+
+/// A part as the lines of its section so far leave it, with the frames that have not arrived and what each thread asks of
+/// it.
+#[derive(Drop)]
+pub struct Section<'a> {
+    place: u32,
+    spec: &'a PartSpec,
+    part: Part,
+    coming: &'a [Words],
+    threads: Vec<Script<'a>>,
+}
+
+impl<'a> Model for Section<'a> {
+    ghost use Rattle.std.specs.Prelude.{◌≡◌, ◌≤◌, length, map};
+    ghost use Rattle.audit_laws.specs.Audit.{Section as Sectioned};
+    ghost use Rattle.journal_audit.specs.Sections.{AreOn, state_in};
+
+    ghost Value = { Sectioned };
+
+    ghost view = { λ s. record { place = s.place; spec = s.spec.now; seat = record { run = s.part; coming = s.coming.now }; threads = map state_in s.threads.items } };
+
+    ghost invariant = { λ s. (s.part.state.spec ≡ s.spec.now) × AreOn s.place s.threads.items × (length s.threads.items ≤ 16) };
+}
+
+impl<'a> Section<'a> {
+    /// The section behind the first line of a valid part, of a scenario with these threads.
+    pub fn new(
+        alloc: Global,
+        threads: &'a [ThreadSpec],
+        place: u32,
+        spec: &'a PartSpec,
+    ) -> Result<Section<'a>, NoMemory>
+        requires threads { length threads.now ≤ 16 }
+        requires valid { IsValidPart spec.now }
+        ensures { IfOk result (λ section. section ≡ opening_section threads.now place spec.now) }
+    {
+        let part = Part::new(alloc, spec.copy(alloc)?)?;
+        let threads = threads_on(alloc, place, threads)?;
+        Ok(Section {
+            place,
+            spec,
+            part,
+            coming: spec.arrivals.as_slice(),
+            threads,
+        })
+    }
+
+    /// The step that a line names by its words.
+    fn step_named(&self, alloc: Global, line: &[u8]) -> Result<Option<Step>, NoMemory>
+        ensures { IfOk result (λ step. step ≡ step_named self.now line.now) }
+    {
+        let kind = word_at(1, line);
+        if kind == b"invoke".as_slice() {
+            return self.invocation(alloc, word_at(3, line));
+        }
+        if kind == b"enter".as_slice() {
+            return Ok(entry(word_at(3, line)));
+        }
+        if kind == b"burst".as_slice() {
+            return Ok(burst(word_at(2, line)));
+        }
+        if kind == b"stage".as_slice() {
+            return Ok(Some(Step::Stage));
+        }
+        if kind == b"arrive".as_slice() {
+            return self.arrival(alloc);
+        }
+        Ok(None)
+    }
+
+    /// The invocation of the next operation of the thread that a word names.
+    fn invocation(&self, alloc: Global, word: &[u8]) -> Result<Option<Step>, NoMemory>
+        ensures { IfOk result (λ step. step ≡ if_invoked self.now.threads (context_in (codes "t") word.now)) }
+    {
+        let Some(thread) = context_in(b't', word) else {
+            return Ok(None);
+        };
+        let Some(script) = self.threads.get(thread as usize) else {
+            return Ok(None);
+        };
+        let Some(op) = script.next() else {
+            return Ok(None);
+        };
+        let op = op.copy(alloc)?;
+        Ok(Some(Step::Invoke { thread, op }))
+    }
+
+    /// The arrival of the next frame.
+    fn arrival(&self, alloc: Global) -> Result<Option<Step>, NoMemory>
+        ensures { IfOk result (λ step. step ≡ arrival_of self.now.seat.coming) }
+    {
+        let Some((frame, _)) = self.coming.split_first() else {
+            return Ok(None);
+        };
+        let frame = frame.copy(alloc)?;
+        Ok(Some(Step::Arrive { frame }))
+    }
+
+    /// Takes the step that a line of an event names, and tells whether the line fits: the step may be taken, and the line is
+    /// that of its event. Where it does not fit, or memory was wanting, the section is of no use any more.
+    pub fn after_event(&mut self, alloc: Global, line: &[u8]) -> Result<bool, NoMemory>
+        ensures { IfOk result (λ fits. IsAfter fits (after_event self.old line.now) self.new) }
+    {
+        let Some(step) = self.step_named(alloc, line)? else {
+            return Ok(false);
+        };
+        if !self.take(step)? {
+            return Ok(false);
+        }
+        if !self.is_newest(alloc, line)? {
+            return Ok(false);
+        }
+        self.hear(alloc)?;
+        Ok(true)
+    }
+
+    /// Takes a step, and tells whether it might be taken.
+    fn take(&mut self, step: Step) -> Result<bool, NoMemory>
+        ensures { IfOk result (λ taken. IsTaken taken self.old step self.new) }
+    {
+        let coming = frames_after(&step, self.coming);
+        match self.part.step(step) {
+            Ok(_) => {
+                self.coming = coming;
+                Ok(true)
+            }
+            Err(StepRefused::NotEnabled) => Ok(false),
+            Err(StepRefused::NoMemory) => Err(NoMemory),
+        }
+    }
+
+    /// Whether a line is that of the newest event.
+    fn is_newest(&self, alloc: Global, line: &[u8]) -> Result<bool, NoMemory>
+        requires { 0 < length self.now.seat.run.journal }
+        ensures { IfOk result (λ same. (event : Event) → newest_in self.now.seat.run.journal ≡ Some event
+            → same ≡ bytes_eq line.now (event_line (length self.now.seat.run.journal) event)) }
+    {
+        let place = self.events().len() as u64;
+        let printed = event_line(alloc, place, newest(&self.part))?;
+        Ok(printed.as_slice() == line)
+    }
+
+    /// Each thread notes the newest event.
+    fn hear(&mut self, alloc: Global) -> Result<(), NoMemory>
+        requires { 0 < length self.old.seat.run.journal }
+        ensures { OnOk result ((event : Event) → newest_in self.old.seat.run.journal ≡ Some event
+            → self.new ≡ with_threads self.old (threads_after 0 self.old.place event self.old.threads)) }
+    {
+        hear_all(alloc, &mut self.threads, newest(&self.part))
+    }
+
+    /// The events so far, which lead to the part's state.
+    pub fn events(&self) -> &[Event]
+        ensures events { result.now ≡ self.now.seat.run.journal }
+        ensures state { self.now.seat.run.state ≡ state_of self.now.spec self.now.seat.run.journal }
+    {
+        self.part.journal().as_slice()
+    }
+
+    /// Whether all operations on the part were invoked and answered, all frames have arrived, and the part has no step left.
+    #[tactic(auto, unfolding(audit_laws::specs::Audit::is_complete))]
+    pub fn is_complete(&self) -> bool
+        ensures { result ≡ is_complete self.now }
+    {
+        are_through(&self.threads) && self.coming.is_empty() && self.part.next_any().is_none()
+    }
+
+    /// What the part is made from.
+    pub fn spec(&self) -> &'a PartSpec
+        ensures { result.now ≡ self.now.spec }
+    {
+        self.spec
+    }
+
+    /// The part.
+    pub fn part(&self) -> &Part
+        ensures run { result.now ≡ self.now.seat.run }
+        ensures spec { self.now.seat.run.state.spec ≡ self.now.spec }
+    {
+        &self.part
+    }
+
+    /// The part's place in the scenario.
+    pub fn place(&self) -> u32
+        ensures { result ≡ self.now.place }
+    {
+        self.place
+    }
+
+    /// What the part answered each thread. The part is dropped.
+    pub fn into_answers(self, alloc: Global) -> Result<AnswerTable, NoMemory>
+        ensures { IfOk result (λ made. made ≡ map answers_of self.entry.threads) }
+    {
+        let mut made = Items::new(alloc);
+        for thread in self.threads {
+            made.push(thread.into_answers())?;
+        }
+        Ok(made)
+    }
+}
+
+/// What each thread asks of a part.
+fn threads_on<'a>(
+    alloc: Global,
+    part: u32,
+    specs: &'a [ThreadSpec],
+) -> Result<Vec<Script<'a>>, NoMemory>
+    ensures states { IfOk result (λ made. map state_in made.items ≡ map (thread_on part) specs.now) }
+    ensures parts { IfOk result (λ made. AreOn part made.items) }
+{
+    let mut made = Vec::with_capacity(alloc, specs.len())?;
+    for spec in specs {
+        made.push(Script::new(alloc, part, spec))?;
+    }
+    Ok(made)
+}
+
+/// The entry of the thread that a word names.
+fn entry(word: &[u8]) -> Option<Step>
+    ensures { result ≡ if_entered (context_in (codes "x") word.now) }
+{
+    let Some(thread) = context_in(b'x', word) else {
+        return None;
+    };
+    Some(Step::Enter { thread })
+}
+
+/// The burst of the context that a word names.
+fn burst(word: &[u8]) -> Option<Step>
+    ensures { result ≡ if_burst (context_in (codes "x") word.now) }
+{
+    let Some(context) = context_in(b'x', word) else {
+        return None;
+    };
+    Some(Step::Burst { context })
+}
+
+/// The newest event of a part.
+fn newest(part: &Part) -> &Event
+    requires { 0 < length part.now.journal }
+    ensures { newest_in part.now.journal ≡ Some result.now }
+{
+    let journal = part.journal();
+    journal.get(journal.len() - 1)
+}
+
+/// Each thread notes an event of the part.
+fn hear_all(alloc: Global, threads: &mut [Script], event: &Event) -> Result<(), NoMemory>
+    requires few { length threads.old ≤ 16 }
+    ensures parts { (part : ℕ) → AreOn part threads.old → AreOn part threads.new }
+    ensures states { (part : ℕ) → AreOn part threads.old → OnOk result (map state_in threads.new ≡ threads_after 0 part event.now (map state_in threads.old)) }
+{
+    for place in 0..threads.len() {
+        threads[place].hear(alloc, place as u8, event)?;
+    }
+    Ok(())
+}
+
+/// Whether all threads are done with a part.
+fn are_through(threads: &[Script]) -> bool
+    ensures { result ≡ are_through (map state_in threads.now) }
+{
+    threads.iter().all(|thread| thread.is_through())
+}
+
+/// The frames that are left after a step.
+fn frames_after<'a>(step: &Step, coming: &'a [Words]) -> &'a [Words]
+    ensures { result.now ≡ coming_after step.now coming.now }
+{
+    match (step, coming.split_first()) {
+        (Step::Arrive { .. }, Some((_, rest))) => rest,
+        _ => coming,
+    }
+}

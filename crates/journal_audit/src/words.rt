@@ -1,0 +1,51 @@
+//! The words of a line, and the context that a word names.
+
+ghost use Rattle.std.specs.Prelude.{◌≡◌, ◌<◌, ◌++◌, ◌==◌, ◌∷◌, [], bytes_eq, decimal};
+ghost use Rattle.std.specs.List.{position};
+ghost use Rattle.audit_laws.specs.Audit.{context_in, word_at};
+
+/// How many contexts there are: those of the threads, and the shadow's own.
+const CONTEXTS: u8 = 17;
+
+/// The word at a place of a line, from 0, between blanks; empty where there is none. The line feed is a part of the last.
+pub fn word_at(place: u32, line: &[u8]) -> &[u8]
+    ensures { result.now ≡ word_at place line.now }
+{
+    match blank_in(line) {
+        Some(at) if place == 0 => &line[..at],
+        Some(at) => word_at(place - 1, &line[at + 1..]),
+        None if place == 0 => line,
+        None => &line[line.len()..],
+    }
+}
+
+/// The place of the first blank.
+fn blank_in(line: &[u8]) -> Option<usize>
+    ensures { result ≡ position (λ b. b == 32) line.now }
+{
+    line.iter().position(|byte| *byte == b' ')
+}
+
+/// The context, 0 to 16, that a word names by a letter and its number.
+pub fn context_in(letter: u8, word: &[u8]) -> Option<u8>
+    ensures { result ≡ context_in (letter ∷ []) word.now }
+{
+    for context in 0..CONTEXTS {
+        if is_context(letter, word, context) {
+            return Some(context);
+        }
+    }
+    None
+}
+
+/// Whether a word is a letter and the number of a context.
+fn is_context(letter: u8, word: &[u8], context: u8) -> bool
+    requires { context < 17 }
+    ensures { result ≡ bytes_eq word.now ((letter ∷ []) ++ decimal context) }
+{
+    if context < 10 {
+        word == [letter, b'0' + context].as_slice()
+    } else {
+        word == [letter, b'1', b'0' + (context - 10)].as_slice()
+    }
+}

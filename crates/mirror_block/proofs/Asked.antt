@@ -1,0 +1,81 @@
+-- How asking a side ends, by how its desk's call ends.
+use Rattle.std.proofs.Common.{◌≡◌, ℕ, suc, ◌+◌, ◌-◌, ◌<◌, ◌≤◌, true, false, Option, Some, None, Ok, Err, List, [], ◌∷◌, length, slice_get, sym, refl, ap, ◌∙◌, inl, inr, arith}
+use Rattle.nook_defs.specs.declared.data.Answer.{Answer}
+use Rattle.nook_defs.specs.declared.data.DeskRefused.TheVariants as refused
+use Rattle.nook_defs.specs.declared.data.Event.{Event}
+use Rattle.nook_defs.specs.declared.data.Event.TheVariants as event
+use Rattle.nook_defs.specs.declared.data.Op.{Op}
+use Rattle.nook_defs.specs.declared.data.PartSpec.{PartSpec}
+use Rattle.nook_defs.specs.declared.data.Receipt.{Receipt}
+use Rattle.nook_defs.specs.Places.{at_number}
+use Rattle.nook_defs.specs.Runs.{IsRun, state_of}
+use Rattle.desk_like.specs.Desks.{CallEnds, DeskView}
+use Rattle.mirror_block.specs.Disk.{IsShown}
+use Rattle.mirror_block.specs.Rule.{is_disk_op}
+use Rattle.mirror_block.specs.Sides.{IsAsked, IsFull, IsSide, WantsMemory, and_more, answers_gained}
+use Rattle.mirror_block.proofs.Calls.{answered_once, asked, calls_counted, closed_behind, given, open_unanswered}
+use Rattle.mirror_block.proofs.Gains.{IsCalled, called, nothing_added, place_behind}
+use Rattle.mirror_block.proofs.Plain.{call_shown, served_by}
+
+module _ (spec : PartSpec) (old new : DeskView) (o : Op) (side : IsSide spec spec.blocks false old) (run : IsRun spec new.seen) where
+  none : (state_of spec old.seen).log.pending ≡ []
+  none = side.none_open refl
+
+  -- the side of a mirror that stopped
+  stopped_side : new.alone ≡ old.alone → IsSide spec spec.blocks true new
+  stopped_side a = record {
+    class = side.class;
+    size = refl;
+    alone = a ∙ side.alone;
+    run = run;
+    none_open = λ e. absurd cc;
+    idle = λ e. absurd cc;
+  }
+
+  -- the event of a place from the invocation on
+  from_place : (call at : ℕ) (e : Event) → (c : IsCalled old new call o) → suc (length old.seen) ≤ at → at_number at new.seen ≡ Some e
+      → (i : ℕ) × (slice_get (event.Invoke call 0 o c.answer ∷ c.tail) i ≡ Some e)
+  from_place call at e c low there =
+      let i : ℕ = at - suc (length old.seen) in
+      let place : at ≡ suc (length old.seen + i) = omega arith in (
+        i,
+        sym (place_behind old.seen (event.Invoke call 0 o c.answer ∷ c.tail) i)
+            ∙ ap (λ (l : List Event). slice_get l (length old.seen + i)) c.seen ∙ ap (λ (n : ℕ). at_number n new.seen) (sym place) ∙ there,
+      )
+
+  pub said : (receipt : Receipt) → is_disk_op o ≡ true → CallEnds spec old new 0 o (Ok receipt)
+      → IsAsked old new o × (answers_gained old new ≡ receipt.answer ∷ []) × IsSide spec spec.blocks false new × IsShown spec.blocks old.seen new.seen o receipt.answer
+  said receipt disk_op ends =
+      let c : IsCalled old new receipt.call o = called old new receipt.call o receipt.at_invoke side.alone ends.0 in
+      let low : length old.seen < receipt.at_invoke = ends.0.adds.rising.0 in
+      let later : receipt.at_invoke ≤ receipt.at_reply = ends.1.ordered in
+      let place = from_place receipt.call receipt.at_reply ends.1.answered.event c (omega arith) ends.1.answered.there in
+      let first = answered_once spec old new receipt.call o run none c receipt.answer place.0 ends.1.answered.event place.1 ends.1.answered.is in (
+        asked spec old new receipt.call o run none c,
+        given spec old new receipt.call o run none c ∙ ap (λ (x : Option Answer). and_more x []) first,
+        record {
+          class = side.class;
+          size = refl;
+          alone = ends.0.adds.alone ∙ side.alone;
+          run = run;
+          none_open = λ e. closed_behind spec old new receipt.call o run none c receipt.answer first;
+          idle = λ e device shows. (served_by spec.blocks old new receipt.call o disk_op c receipt.answer first (side.idle refl) device shows).over;
+        },
+        call_shown spec.blocks old new receipt.call o disk_op c receipt.answer first (side.idle refl),
+      )
+
+  pub no_memory : (which : Option ℕ) → CallEnds spec old new 0 o (Err (refused.NoMemory which)) → WantsMemory old new o × IsSide spec spec.blocks true new
+  no_memory None ends = (inl (nothing_added old new side.alone ends), stopped_side ends.alone)
+  no_memory (Some call) ends =
+      let c : IsCalled old new call o = called old new call o ends.1.0 side.alone ends.1.1 in
+      let first = open_unanswered spec old new call o run none c ends.0 in (
+        inr (asked spec old new call o run none c, given spec old new call o run none c ∙ ap (λ (x : Option Answer). and_more x []) first),
+        stopped_side ends.1.1.adds.alone,
+      )
+
+  pub full : CallEnds spec old new 0 o (Err refused.TooManyCalls) → IsFull old new o
+  full ends =
+      let same = nothing_added old new side.alone ends.0 in (
+        same,
+        sym (calls_counted spec old.seen side.run) ∙ ap (λ (v : DeskView). (state_of spec v.seen).log.count) (sym same) ∙ ends.2,
+      )

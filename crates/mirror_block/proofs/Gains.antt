@@ -1,0 +1,142 @@
+-- What a call adds to what the one seat of a side has seen.
+use Rattle.std.proofs.Common.{◌≡◌, ℕ, zero, suc, ◌+◌, ◌<◌, ◌≤◌, Bool, true, Option, Some, List, [], ◌∷◌, ◌++◌, length, drop, slice_get, subst, sym, refl, ap, ◌∙◌, arith, append-nil, length-append}
+use Rattle.std.proofs.Math.Seq.{drop-append_seam}
+use Rattle.std.proofs.lemmas.List.Elements.{All-contains, All-from_recursion}
+use Rattle.std.proofs.lemmas.Map.Made.{Contains-tail}
+use Rattle.std.proofs.lemmas.Option.{slice_get_within}
+use Rattle.std.specs.List.{AllByRecursion, Contains}
+use Rattle.nook_defs.specs.declared.data.Answer.{Answer}
+use Rattle.nook_defs.specs.declared.data.Event.{Event}
+use Rattle.nook_defs.specs.declared.data.Event.TheVariants as event
+use Rattle.nook_defs.specs.declared.data.Op.{Op}
+use Rattle.nook_defs.specs.Places.{at_number}
+use Rattle.part_laws.proofs.Places.{get_mid, some_same}
+use Rattle.desk_like.specs.Desks.{AddsNothing, DeskView, Invokes, IsAt, IsInvoke, IsOther, IsRisingFrom}
+use Rattle.mirror_block.specs.Sides.{gained}
+
+pub gained_is : (old new : DeskView) (more : List Event) → old.seen ++ more ≡ new.seen → gained old new ≡ more
+gained_is old new more e = ap (drop (length old.seen)) (sym e) ∙ drop-append_seam old.seen more
+
+abbrev view : List Event → List ℕ → Bool → DeskView
+view seen made alone = record { seen = seen; made = made; alone = alone }
+
+same_view : (v w : DeskView) → v.seen ≡ w.seen → v.made ≡ w.made → v.alone ≡ w.alone → v ≡ w
+same_view v w e f g =
+    ap (λ (s : List Event). view s v.made v.alone) e
+    ∙ ap (λ (m : List ℕ). view w.seen m v.alone) f
+    ∙ ap (λ (b : Bool). view w.seen w.made b) g
+
+-- ---- places
+
+place_is : (n k : ℕ) (xs : List Event) → n ≡ k → slice_get xs n ≡ slice_get xs k
+place_is n k xs e = ap (λ (m : ℕ). slice_get xs m) e
+
+-- a place behind a list holds what stands behind it
+pub place_behind : (xs ys : List Event) (i : ℕ) → slice_get (xs ++ ys) (length xs + i) ≡ slice_get ys i
+place_behind [] ys i = place_is (0 + i) i ys (omega arith)
+place_behind (x ∷ xs) ys i = place_is (suc (length xs) + i) (suc (length xs + i)) (x ∷ xs ++ ys) (omega arith) ∙ place_behind xs ys i
+
+rising_from : (low last : ℕ) (places : List ℕ) → low ≤ last → IsRisingFrom last places → AllByRecursion (λ (q : ℕ). low ≤ q) places
+rising_from low last [] l r = tt
+rising_from low last (place ∷ places) l r =
+    let first : last < place = r.0 in
+    (omega arith, rising_from low place places (omega arith) r.1)
+
+-- an event stands at a place of the list
+within : (place : ℕ) (xs : List Event) (e : Event) → at_number place xs ≡ Some e → place ≤ length xs
+within zero xs e h = absurd cc
+within (suc place) xs e h = let l : place < length xs = slice_get_within xs place e h in omega arith
+
+all_by_place : (P : Event → Type 0) (events : List Event) → ((i : ℕ) (e : Event) → slice_get events i ≡ Some e → P e) → AllByRecursion P events
+all_by_place P [] h = tt
+all_by_place P (e ∷ events) h = (h 0 e refl, all_by_place P events (λ i x at. h (suc i) x at))
+
+-- ---- nothing was added
+
+none_contained : (place : ℕ) → Contains [] place → ⊥
+none_contained place c = let l = c.1 in absurd (omega arith)
+
+-- where nothing was added through the only seat, it knows the same
+pub nothing_added : (old new : DeskView) → old.alone ≡ true → AddsNothing old new → new ≡ old
+nothing_added old new alone a = same_view new old (seen a.seen.0 a.seen.1) (a.made ∙ append-nil old.made) a.alone
+  where
+    seen : (more : List Event) → old.seen ++ more ≡ new.seen → new.seen ≡ old.seen
+    seen [] e = sym e ∙ append-nil old.seen
+    seen (x ∷ more) e =
+        let long : length old.seen + suc (length more) ≡ length new.seen = sym (length-append old.seen (x ∷ more)) ∙ ap length e in
+        absurd (none_contained (suc (length old.seen)) (a.own alone (suc (length old.seen)) (omega arith) (omega arith)))
+
+-- ---- a call was added
+
+-- one invocation of thread 0 was added, and behind it no other invocation and no arrival
+pub record IsCalled (old new : DeskView) (call : ℕ) (o : Op) : Type 0 where
+  pub answer : Option Answer
+  pub tail : List Event
+  pub seen : old.seen ++ event.Invoke call 0 o answer ∷ tail ≡ new.seen
+  pub others : AllByRecursion IsOther tail
+
+-- what was added through the only seat, by the place of the invocation
+module _ (old new : DeskView) (call : ℕ) (o : Op) (at : ℕ) (alone : old.alone ≡ true) (h : Invokes old new call 0 o at) where
+  contained : (place : ℕ) → length old.seen < place → place ≤ length new.seen → Contains (at ∷ h.others) place
+  contained place l m = h.adds.own alone place l m
+
+  -- a place that is not the invocation's holds no invocation
+  other_place : (place : ℕ) → (at ≡ place → ⊥) → Contains (at ∷ h.others) place → IsAt new.seen place IsOther
+  other_place place n c =
+      All-contains (λ (q : ℕ). IsAt new.seen q IsOther) h.others place h.rest (Contains-tail at h.others place n c)
+
+  -- the invocation stands right behind what was seen
+  first_place : at ≡ suc (length old.seen)
+  first_place =
+      let low : length old.seen < at = h.adds.rising.0 in
+      let high : at ≤ length new.seen = within at new.seen h.invoked.event h.invoked.there in
+      let above : AllByRecursion (λ (q : ℕ). at ≤ q) (at ∷ h.others) = (omega arith, rising_from at at h.others (omega arith) h.adds.rising.1) in
+      let least : at ≤ suc (length old.seen) =
+      All-contains (λ (q : ℕ). at ≤ q) (at ∷ h.others) (suc (length old.seen)) (All-from_recursion (λ (q : ℕ). at ≤ q) (at ∷ h.others) above)
+      (contained (suc (length old.seen)) (omega arith) (omega arith)) in
+      omega arith
+
+  -- the other events that were added
+  later : (first : Event) (tail : List Event) → old.seen ++ first ∷ tail ≡ new.seen → AllByRecursion IsOther tail
+  later first tail e = all_by_place IsOther tail by_place
+    where
+      by_place : (i : ℕ) (x : Event) → slice_get tail i ≡ Some x → IsOther x
+      by_place i x there =
+          let place : ℕ = suc (length old.seen + suc i) in
+          let found : at_number place new.seen ≡ Some x =
+          ap (λ (l : List Event). at_number place l) (sym e) ∙ place_behind old.seen (first ∷ tail) (suc i) ∙ there in
+          let high : place ≤ length new.seen = within place new.seen x found in
+          let same : at ≡ suc (length old.seen) = first_place in
+          let other : IsAt new.seen place IsOther = other_place place (λ q. absurd (omega arith)) (contained place (omega arith) high) in
+          subst IsOther (some_same other.event x (sym other.there ∙ found)) other.is
+
+  by_first : (first : Event) (tail : List Event) → old.seen ++ first ∷ tail ≡ new.seen → IsInvoke call 0 o first → AllByRecursion IsOther tail
+      → IsCalled old new call o
+  by_first (event.Invoke c t p answer) tail e is others = record {
+    answer = answer;
+    tail = tail;
+    seen = ap (λ (x : Event). old.seen ++ x ∷ tail)
+        (sym (ap (λ (n : ℕ). event.Invoke n t p answer) is.0 ∙ ap (λ (n : ℕ). event.Invoke call n p answer) is.1 ∙ ap (λ (q : Op). event.Invoke call 0 q answer) is.2))
+        ∙ e;
+    others = others;
+  }
+  by_first (event.Enter c t attempt answer) tail e is others = absurd is
+  by_first (event.Burst context c burst count end acts answer failure) tail e is others = absurd is
+  by_first (event.Stage stage answers released) tail e is others = absurd is
+  by_first (event.Arrive frame kept) tail e is others = absurd is
+
+  pub called : IsCalled old new call o
+  called = by_more h.adds.seen.0 h.adds.seen.1
+    where
+      by_more : (more : List Event) → old.seen ++ more ≡ new.seen → IsCalled old new call o
+      by_more [] e =
+          let low : length old.seen < at = h.adds.rising.0 in
+          let high : at ≤ length new.seen = within at new.seen h.invoked.event h.invoked.there in
+          let same : length old.seen ≡ length new.seen = ap length (sym (append-nil old.seen) ∙ e) in
+          absurd (omega arith)
+      by_more (first ∷ tail) e =
+          let found : at_number at new.seen ≡ Some first =
+          ap (λ (n : ℕ). at_number n new.seen) first_place ∙ ap (λ (l : List Event). slice_get l (length old.seen)) (sym e) ∙ get_mid old.seen tail first in
+          let is : IsInvoke call 0 o first =
+          subst (IsInvoke call 0 o) (some_same h.invoked.event first (sym h.invoked.there ∙ found)) h.invoked.is in
+          by_first first tail e is (later first tail e)

@@ -1,0 +1,9 @@
+pub mod Asked
+pub mod Calls
+pub mod Gains
+pub mod Mirrored
+pub mod NewMirror
+pub mod OneDisk
+pub mod Outcomes
+pub mod Plain
+pub mod Worked

@@ -1,0 +1,251 @@
+-- The rule's outcome, by what both sides said: who stays, and that the answer is one that the disk of a side gives.
+use Rattle.std.proofs.Common.{◌≡◌, ℕ, ◌&&◌, ◌||◌, not, Bool, true, false, Option, Some, None, is_some, List, subst, sym, refl, ap, ◌∙◌, true≢false, inl, inr, ◌⊎◌}
+use Rattle.std.specs.Prelude.{if◌then◌else◌, option_and_then}
+use Rattle.nook_defs.specs.declared.data.Answer.{Answer}
+use Rattle.nook_defs.specs.declared.data.Answer.TheVariants as answered
+use Rattle.nook_defs.specs.declared.data.MirrorAnswer.TheVariants as mirror
+use Rattle.nook_defs.specs.declared.data.Op.{Op}
+use Rattle.nook_defs.specs.declared.data.Op.TheVariants.{Read, Write, Send, Recv, Open, Play, Close, Get, Set}
+use Rattle.nook_defs.specs.Classes.{is_write, static_check}
+use Rattle.nook_defs.specs.declared.data.Class.TheVariants.{Block}
+use Rattle.nook_defs.specs.declared.data.MirrorAnswer.{MirrorAnswer}
+use Rattle.part_laws.proofs.Places.{some_same}
+use Rattle.mirror_block.specs.Disk.{ServesChecked, ServesSaid}
+use Rattle.mirror_block.specs.Rule.{Outcome, Presence, Said, Stepped, after_asking, after_failed_write, after_read, after_write, asks_right, failed_block, failed_read, is_disk_op, is_done, mirror_step, outcome, read_answer, refusal_of, says, stays_after_read, step_checked, step_refused, stepped, words_read}
+
+abbrev Blocks : Type 0
+Blocks = List (List ℕ)
+
+-- ---- what a test of a side's words tells
+
+done_is : (l : Option Answer) → is_done l ≡ true → l ≡ Some answered.Done
+done_is None h = absurd cc
+done_is (Some answered.Done) h = refl
+done_is (Some a) h = absurd cc
+
+words_are : (l : Option Answer) (words : List ℕ) → words_read l ≡ Some words → l ≡ Some (answered.Blocks words)
+words_are None words h = absurd cc
+words_are (Some (answered.Blocks own)) words h = cc
+words_are (Some a) words h = absurd cc
+
+failed_at : (l : Option Answer) (block : ℕ) → failed_block l ≡ Some block → l ≡ Some (answered.IoError block)
+failed_at None block h = absurd cc
+failed_at (Some (answered.IoError own)) block h = cc
+failed_at (Some a) block h = absurd cc
+
+-- a side that was asked and gave neither blocks nor the block that failed goes after a Read
+goes_after_read : (present : Bool) (l : Option Answer) → words_read l ≡ None → failed_block l ≡ None → (l ≡ None → present ≡ false) → stays_after_read present l ≡ false
+goes_after_read present None w f h = h refl
+goes_after_read present (Some (answered.Blocks words)) w f h = absurd cc
+goes_after_read present (Some (answered.IoError block)) w f h = absurd cc
+goes_after_read present (Some a) w f h = refl
+
+-- ---- the answer is one that a side's disk gives
+
+-- a side's disk serves the operation so, where it stays
+abbrev pub Serving : Blocks → Blocks → Op → Option Answer → Bool → Type 0
+Serving disk after o said stays = (a : Answer) → said ≡ Some a → stays ≡ true → ServesSaid disk o a after
+
+write_serves : (disk after : Blocks) (o : Op) (l r : Option Answer) (dl dr : Bool) → is_done l ≡ dl → is_done r ≡ dr
+    → (fl fr : Option ℕ) → failed_block l ≡ fl → failed_block r ≡ fr
+    → Serving disk after o l (if dl || dr then outcome dl dr mirror.Done else after_failed_write fl fr).present.left
+    → Serving disk after o r (if dl || dr then outcome dl dr mirror.Done else after_failed_write fl fr).present.right
+    → ((if dl || dr then outcome dl dr mirror.Done else after_failed_write fl fr).present.left || (if dl || dr then outcome dl dr mirror.Done else after_failed_write fl fr).present.right) ≡ true
+    → ServesChecked disk o (if dl || dr then outcome dl dr mirror.Done else after_failed_write fl fr).answer after
+write_serves disk after o l r true dr el er fl fr gl gr L R some = L answered.Done (done_is l el) refl
+write_serves disk after o l r false true el er fl fr gl gr L R some = R answered.Done (done_is r er) refl
+write_serves disk after o l r false false el er (Some block) fr gl gr L R some = L (answered.IoError block) (failed_at l block gl) refl
+write_serves disk after o l r false false el er None (Some block) gl gr L R some = R (answered.IoError block) (failed_at r block gr) refl
+write_serves disk after o l r false false el er None None gl gr L R some = absurd cc
+
+read_serves : (disk after : Blocks) (o : Op) (present : Presence) (l r : Option Answer) (wl wr : Option (List ℕ)) → words_read l ≡ wl → words_read r ≡ wr
+    → (fl fr : Option ℕ) → failed_block l ≡ fl → failed_block r ≡ fr
+    → Serving disk after o l (stays_after_read present.left l) → Serving disk after o r (stays_after_read present.right r)
+    → (l ≡ None → present.left ≡ false) → (words_read l ≡ None → r ≡ None → present.right ≡ false)
+    → (stays_after_read present.left l || stays_after_read present.right r) ≡ true
+    → ServesChecked disk o (read_answer wl wr (failed_read fl fr)) after
+read_serves disk after o present l r (Some words) wr el er fl fr gl gr L R hl hr some =
+    let e = words_are l words el in L (answered.Blocks words) e (ap (stays_after_read present.left) e)
+read_serves disk after o present l r None (Some words) el er fl fr gl gr L R hl hr some =
+    let e = words_are r words er in R (answered.Blocks words) e (ap (stays_after_read present.right) e)
+read_serves disk after o present l r None None el er (Some block) fr gl gr L R hl hr some =
+    let e = failed_at l block gl in L (answered.IoError block) e (ap (stays_after_read present.left) e)
+read_serves disk after o present l r None None el er None (Some block) gl gr L R hl hr some =
+    let e = failed_at r block gr in R (answered.IoError block) e (ap (stays_after_read present.right) e)
+read_serves disk after o present l r None None el er None None gl gr L R hl hr some =
+    let a = goes_after_read present.left l el gl hl in
+    let b = goes_after_read present.right r er gr (hr el) in
+    absurd (true≢false (sym some ∙ ap (λ (x : Bool). x || stays_after_read present.right r) a ∙ b))
+
+-- where the right side was not asked in a Read although the left gave no blocks, it was not present
+unasked : (present : Presence) (first count : ℕ) (l : Option Answer) → asks_right present (Read first count) l ≡ false → words_read l ≡ None → present.right ≡ false
+unasked present first count l h w = by_right present.right (sym (ap (λ (o : Option (List ℕ)). present.right && (false || not (is_some o))) w) ∙ h)
+  where
+    by_right : (b : Bool) → (b && true) ≡ false → b ≡ false
+    by_right false h = refl
+    by_right true h = absurd cc
+
+-- the answer of an operation is one that the disk of a side that stays gives
+pub outcome_serves : (disk after : Blocks) (present : Presence) (o : Op) (l r : Option Answer) → is_disk_op o ≡ true
+    → Serving disk after o l (after_asking present o l r).present.left → Serving disk after o r (after_asking present o l r).present.right
+    → (l ≡ None → present.left ≡ false) → (r ≡ None → asks_right present o l ≡ false)
+    → ((after_asking present o l r).present.left || (after_asking present o l r).present.right) ≡ true
+    → ServesChecked disk o (after_asking present o l r).answer after
+outcome_serves disk after present (Read first count) l r d L R hl hr some =
+    read_serves disk after (Read first count) present l r (words_read l) (words_read r) refl refl (failed_block l) (failed_block r) refl refl L R hl
+    (λ w e. unasked present first count l (hr e) w) some
+outcome_serves disk after present (Write first words) l r d L R hl hr some =
+    write_serves disk after (Write first words) l r (is_done l) (is_done r) refl refl (failed_block l) (failed_block r) refl refl L R some
+outcome_serves disk after present (Send frame) l r d L R hl hr some = absurd cc
+outcome_serves disk after present Recv l r d L R hl hr some = absurd cc
+outcome_serves disk after present Open l r d L R hl hr some = absurd cc
+outcome_serves disk after present (Play samples) l r d L R hl hr some = absurd cc
+outcome_serves disk after present Close l r d L R hl hr some = absurd cc
+outcome_serves disk after present (Get key) l r d L R hl hr some = absurd cc
+outcome_serves disk after present (Set key value) l r d L R hl hr some = absurd cc
+
+-- ---- where both sides stay, both have the same disk
+
+both_did : (dl dr : Bool) (fl fr : Option ℕ) → (if dl || dr then outcome dl dr mirror.Done else after_failed_write fl fr).present.left ≡ true
+    → (if dl || dr then outcome dl dr mirror.Done else after_failed_write fl fr).present.right ≡ true → (dl ≡ true) × (dr ≡ true)
+both_did true true fl fr h k = (refl, refl)
+both_did true false fl fr h k = absurd cc
+both_did false true fl fr h k = absurd cc
+both_did false false (Some block) fr h k = absurd cc
+both_did false false None (Some block) h k = absurd cc
+both_did false false None None h k = absurd cc
+
+-- a side's disk after an operation: as it was where the side was not asked, else as it serves it
+abbrev pub Changes : Blocks → Blocks → Op → Option Answer → Type 0
+Changes disk after o None = after ≡ disk
+Changes disk after o (Some a) = ServesSaid disk o a after
+
+stays_same : (disk after : Blocks) (first count : ℕ) (present : Bool) (l : Option Answer) → stays_after_read present l ≡ true → Changes disk after (Read first count) l → after ≡ disk
+stays_same disk after first count present None s h = h
+stays_same disk after first count present (Some (answered.Blocks words)) s h = h.1
+stays_same disk after first count present (Some (answered.IoError block)) s h = h.1
+stays_same disk after first count present (Some a) s h = absurd cc
+
+pub both_same : (disk left right : Blocks) (present : Presence) (o : Op) (l r : Option Answer) → is_disk_op o ≡ true
+    → (after_asking present o l r).present.left ≡ true → (after_asking present o l r).present.right ≡ true → Changes disk left o l → Changes disk right o r → right ≡ left
+both_same disk left right present (Read first count) l r d sl sr L R =
+    stays_same disk right first count present.right r sr R ∙ sym (stays_same disk left first count present.left l sl L)
+both_same disk left right present (Write first words) l r d sl sr L R =
+    let k = both_did (is_done l) (is_done r) (failed_block l) (failed_block r) sl sr in
+    subst (Changes disk right (Write first words)) (done_is r k.1) R ∙ sym (subst (Changes disk left (Write first words)) (done_is l k.0) L)
+both_same disk left right present (Send frame) l r d sl sr L R = absurd cc
+both_same disk left right present Recv l r d sl sr L R = absurd cc
+both_same disk left right present Open l r d sl sr L R = absurd cc
+both_same disk left right present (Play samples) l r d sl sr L R = absurd cc
+both_same disk left right present Close l r d sl sr L R = absurd cc
+both_same disk left right present (Get key) l r d sl sr L R = absurd cc
+both_same disk left right present (Set key value) l r d sl sr L R = absurd cc
+
+-- ---- a side that stays was present
+
+stayed_write : (dl dr : Bool) (l r : Option Answer) → is_done l ≡ dl → is_done r ≡ dr → (fl fr : Option ℕ) → failed_block l ≡ fl → failed_block r ≡ fr → (here there : Bool)
+    → ((a : Answer) → l ≡ Some a → here ≡ true) → ((a : Answer) → r ≡ Some a → there ≡ true)
+    → ((if dl || dr then outcome dl dr mirror.Done else after_failed_write fl fr).present.left ≡ true → here ≡ true)
+    × ((if dl || dr then outcome dl dr mirror.Done else after_failed_write fl fr).present.right ≡ true → there ≡ true)
+stayed_write true true l r el er fl fr gl gr here there L R = ((λ h. L answered.Done (done_is l el)), (λ h. R answered.Done (done_is r er)))
+stayed_write true false l r el er fl fr gl gr here there L R = ((λ h. L answered.Done (done_is l el)), (λ h. absurd cc))
+stayed_write false true l r el er fl fr gl gr here there L R = ((λ h. absurd cc), (λ h. R answered.Done (done_is r er)))
+stayed_write false false l r el er (Some block) fr gl gr here there L R = ((λ h. L (answered.IoError block) (failed_at l block gl)), (λ h. absurd cc))
+stayed_write false false l r el er None (Some block) gl gr here there L R = ((λ h. absurd cc), (λ h. R (answered.IoError block) (failed_at r block gr)))
+stayed_write false false l r el er None None gl gr here there L R = ((λ h. absurd cc), (λ h. absurd cc))
+
+stayed_read : (present : Bool) (l : Option Answer) → ((a : Answer) → l ≡ Some a → present ≡ true) → stays_after_read present l ≡ true → present ≡ true
+stayed_read present None L h = h
+stayed_read present (Some a) L h = L a refl
+
+pub stayed : (present : Presence) (o : Op) (l r : Option Answer) → is_disk_op o ≡ true
+    → ((a : Answer) → l ≡ Some a → present.left ≡ true) → ((a : Answer) → r ≡ Some a → present.right ≡ true)
+    → ((after_asking present o l r).present.left ≡ true → present.left ≡ true) × ((after_asking present o l r).present.right ≡ true → present.right ≡ true)
+stayed present (Read first count) l r d L R = (stayed_read present.left l L, stayed_read present.right r R)
+stayed present (Write first words) l r d L R =
+    stayed_write (is_done l) (is_done r) l r refl refl (failed_block l) (failed_block r) refl refl present.left present.right L R
+stayed present (Send frame) l r d L R = absurd cc
+stayed present Recv l r d L R = absurd cc
+stayed present Open l r d L R = absurd cc
+stayed present (Play samples) l r d L R = absurd cc
+stayed present Close l r d L R = absurd cc
+stayed present (Get key) l r d L R = absurd cc
+stayed present (Set key value) l r d L R = absurd cc
+
+-- ---- where no side stays the answer is BothLost
+
+or_true : (b : Bool) → (b || true) ≡ true
+or_true true = refl
+or_true false = refl
+
+-- the mirror answers BothLost, or a side stays
+abbrev IsLostOrLeft : Outcome → Type 0
+IsLostOrLeft out = (out.answer ≡ mirror.BothLost) ⊎ ((out.present.left || out.present.right) ≡ true)
+
+write_left : (dl dr : Bool) (fl fr : Option ℕ) → IsLostOrLeft (if dl || dr then outcome dl dr mirror.Done else after_failed_write fl fr)
+write_left true dr fl fr = inr refl
+write_left false true fl fr = inr refl
+write_left false false (Some block) fr = inr refl
+write_left false false None (Some block) = inr refl
+write_left false false None None = inl refl
+
+read_left : (present : Presence) (l r : Option Answer) (wl wr : Option (List ℕ)) → words_read l ≡ wl → words_read r ≡ wr → (fl fr : Option ℕ) → failed_block l ≡ fl → failed_block r ≡ fr
+    → IsLostOrLeft (outcome (stays_after_read present.left l) (stays_after_read present.right r) (read_answer wl wr (failed_read fl fr)))
+read_left present l r (Some words) wr el er fl fr gl gr =
+    inr (ap (λ (b : Bool). b || stays_after_read present.right r) (ap (stays_after_read present.left) (words_are l words el)))
+read_left present l r None (Some words) el er fl fr gl gr =
+    inr (ap (λ (b : Bool). stays_after_read present.left l || b) (ap (stays_after_read present.right) (words_are r words er)) ∙ or_true (stays_after_read present.left l))
+read_left present l r None None el er (Some block) fr gl gr =
+    inr (ap (λ (b : Bool). b || stays_after_read present.right r) (ap (stays_after_read present.left) (failed_at l block gl)))
+read_left present l r None None el er None (Some block) gl gr =
+    inr (ap (λ (b : Bool). stays_after_read present.left l || b) (ap (stays_after_read present.right) (failed_at r block gr)) ∙ or_true (stays_after_read present.left l))
+read_left present l r None None el er None None gl gr = inl refl
+
+asking_left : (present : Presence) (o : Op) (l r : Option Answer) → IsLostOrLeft (after_asking present o l r)
+asking_left present o l r = by_op (is_write o)
+  where
+    by_op : (b : Bool) → IsLostOrLeft (if b then after_write l r else after_read present l r)
+    by_op true = write_left (is_done l) (is_done r) (failed_block l) (failed_block r)
+    by_op false = read_left present l r (words_read l) (words_read r) refl refl (failed_block l) (failed_block r) refl refl
+
+-- a side stays where the answer is not BothLost and a side was present before
+abbrev KeepsSide : Presence → Stepped → Type 0
+KeepsSide present s =
+    (s.outcome.answer ≡ mirror.BothLost → ⊥) → (present.left || present.right) ≡ true → (s.outcome.present.left || s.outcome.present.right) ≡ true
+
+step_keeps : (check : Option Answer) (present : Presence) (o : Op) (lefts rights : List Answer) (s : Stepped) → step_checked check present o lefts rights ≡ Some s → KeepsSide present s
+step_keeps (Some refusal) present o lefts rights s h not_lost some = by_refusal (refusal_of refusal) h
+  where
+    by_refusal : (a : Option MirrorAnswer) → step_refused present a lefts rights ≡ Some s → (s.outcome.present.left || s.outcome.present.right) ≡ true
+    by_refusal None h = absurd cc
+    by_refusal (Some a) h = subst (λ (t : Stepped). (t.outcome.present.left || t.outcome.present.right) ≡ true) (some_same _ s h) some
+step_keeps None present o lefts rights s h not_lost some = by_left (says present.left lefts) h
+  where
+    by_outcome : (left right : Said) → Some (stepped present o left right) ≡ Some s → (s.outcome.present.left || s.outcome.present.right) ≡ true
+    by_outcome left right h =
+        let e : stepped present o left right ≡ s = some_same (stepped present o left right) s h in
+        by_case (subst (λ (t : Stepped). IsLostOrLeft t.outcome) e (asking_left present o left.said right.said))
+      where
+        by_case : IsLostOrLeft s.outcome → (s.outcome.present.left || s.outcome.present.right) ≡ true
+        by_case (inl lost) = absurd (not_lost lost)
+        by_case (inr left) = left
+
+    by_right : (left : Said) (right : Option Said) → option_and_then (λ right. Some (stepped present o left right)) right ≡ Some s → (s.outcome.present.left || s.outcome.present.right) ≡ true
+    by_right left None h = absurd cc
+    by_right left (Some right) h = by_outcome left right h
+
+    by_left : (left : Option Said) → option_and_then (λ left. option_and_then (λ right. Some (stepped present o left right)) (says (asks_right present o left.said) rights)) left ≡ Some s
+        → (s.outcome.present.left || s.outcome.present.right) ≡ true
+    by_left None h = absurd cc
+    by_left (Some left) h = by_right left (says (asks_right present o left.said) rights) h
+
+pub mirror_keeps : (n : ℕ) (present : Presence) (o : Op) (lefts rights : List Answer) (s : Stepped) → mirror_step n present o lefts rights ≡ Some s → KeepsSide present s
+mirror_keeps n present (Read first count) lefts rights s h = step_keeps (static_check Block n (Read first count)) present (Read first count) lefts rights s h
+mirror_keeps n present (Write first words) lefts rights s h = step_keeps (static_check Block n (Write first words)) present (Write first words) lefts rights s h
+mirror_keeps n present (Send frame) lefts rights s h = absurd cc
+mirror_keeps n present Recv lefts rights s h = absurd cc
+mirror_keeps n present Open lefts rights s h = absurd cc
+mirror_keeps n present (Play samples) lefts rights s h = absurd cc
+mirror_keeps n present Close lefts rights s h = absurd cc
+mirror_keeps n present (Get key) lefts rights s h = absurd cc
+mirror_keeps n present (Set key value) lefts rights s h = absurd cc

@@ -1,0 +1,5 @@
+pub mod Disk
+pub mod Mirrors
+pub mod Outcomes
+pub mod Rule
+pub mod Sides

@@ -1,0 +1,18 @@
+//! What follows for a list of operations.
+
+ghost use Rattle.std.specs.Prelude.{◌≡◌, ◌||◌, true, ℕ, List};
+ghost use Rattle.nook_defs.specs.declared.data.MirrorAnswer.{MirrorAnswer};
+ghost use Rattle.nook_defs.specs.declared.data.Op.{Op};
+ghost use Rattle.mirror_block.specs.Disk.{ServesAll};
+ghost use Rattle.mirror_block.specs.Mirrors.{AreServed, IsDisk, MirrorView};
+
+use desk_like::DeskLike;
+
+/// Over any operations of which none is answered `BothLost` the answers are those of one plain disk with bad blocks,
+/// and what the sides show at the end is that disk. It is so where, behind each operation, the trace of each present
+/// side is a run of the class's never-failing disk.
+pub fn the_answers_are_those_of_one_disk<D: DeskLike>()
+    ensures { (old new : MirrorView D) (served : List (Op × MirrorAnswer)) (disk : List (List ℕ))
+        → (old.present.left || old.present.right) ≡ true → IsDisk old disk → AreServed D.spec old served new
+        → (after : List (List ℕ)) × IsDisk new after × ServesAll old.blocks disk served after }
+{}

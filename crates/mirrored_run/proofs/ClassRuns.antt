@@ -1,0 +1,312 @@
+-- A disk whose driver kept the contract and that answered no call Gone shows one run of the class's never-failing disk,
+-- also where its part was given up with no call open.
+use Rattle.std.proofs.Common.{◌≡◌, inl, inr, ℕ, ◌+◌, ◌<◌, ◌≤◌, ◌&&◌, not, is_some, nat_le, nat_lt, eqb, true, false, Option, Some, None, List, [], ◌∷◌, ◌++◌, length, eq-eqb, refl, sym, ap, subst, ◌∙◌, arith, true≢false}
+use Rattle.std.specs.List.{AllByRecursion}
+use Rattle.std.proofs.lemmas.Bool.{and_parts, cond-false, cond-true, leb-false, leb-true}
+use Rattle.nook_defs.specs.declared.data.Answer.{Answer}
+use Rattle.nook_defs.specs.declared.data.Answer.TheVariants as answered
+use Rattle.nook_defs.specs.declared.data.CallEntry.{CallEntry}
+use Rattle.nook_defs.specs.declared.data.Class.{Class}
+use Rattle.nook_defs.specs.declared.data.Class.TheVariants as class
+use Rattle.nook_defs.specs.declared.data.Event.{Event}
+use Rattle.nook_defs.specs.declared.data.Event.TheVariants as event
+use Rattle.nook_defs.specs.declared.data.Mode.{Mode}
+use Rattle.nook_defs.specs.declared.data.Mode.TheVariants as mode
+use Rattle.nook_defs.specs.declared.data.Op.{Op}
+use Rattle.nook_defs.specs.declared.data.PartSpec.{PartSpec}
+use Rattle.nook_defs.specs.declared.data.Stage.TheVariants as stage
+use Rattle.nook_defs.specs.declared.data.Step.TheVariants as step
+use Rattle.nook_defs.specs.Calls.{answer_in, invoked, invoked_by}
+use Rattle.nook_defs.specs.Classes.{same_class, static_check}
+use Rattle.nook_defs.specs.Contract.{first_break, first_watch}
+use Rattle.nook_defs.specs.Ideal.{IsClassRun}
+use Rattle.nook_defs.specs.Log.{IsNumbered, call_of_thread, gone_answers, opening_log}
+use Rattle.nook_defs.specs.Runs.{IsRun, IsRunFrom, answer_at, event_of, if_call, state_after, state_from, state_of, step_of}
+use Rattle.nook_defs.specs.Stages.{collects, stage_due, stage_turned}
+use Rattle.nook_defs.specs.State.{PartState}
+use Rattle.nook_defs.specs.Steps.{enabled, is_driven, is_inside, is_ready, is_running, opening, turned}
+use Rattle.nook_defs.specs.Trace.{Track, shown_answers, trace, trace_from}
+use Rattle.app_threads.proofs.CallNumbers.{CameFrom, HasEntry, Quiet, small_calls}
+use Rattle.app_threads.proofs.OpenCalls.{open_after}
+use Rattle.device_laws.proofs.DeviceStays.{spec_after, run_spec}
+use Rattle.part_laws.specs.Bound.{calls_of, is_invoke}
+use Rattle.part_laws.specs.Facts.{is_dead}
+use Rattle.part_laws.specs.Recovery.{Gone}
+use Rattle.part_laws.proofs.Counts.{counted_from}
+use Rattle.part_laws.proofs.Places.{split}
+use Rattle.part_laws.proofs.Recovered.{gone_stays, sees_one_run}
+use Rattle.part_laws.proofs.RunBound.{count_more}
+use Rattle.part_laws.proofs.Stages.{with_mode}
+use Rattle.mirror_block.specs.Sides.{Invocation, and_more, answers_given, first_answer, invocations, or_later}
+use Rattle.mirror_block.proofs.Calls.{run_parts}
+use Rattle.mirrored_run.proofs.GivingUp.{GivenUp, StopsAll, given_up_in, gives_up, gone_given, has_gone, more_gone, trace_ends, unbroken_before}
+
+-- the static check of a disk of so many blocks passes each
+abbrev pub AreChecked : ℕ → List Invocation → Type 0
+AreChecked blocks invoked = AllByRecursion (λ i. static_check class.Block blocks i.op ≡ None) invoked
+
+-- ---- behind what was given up
+
+abbrev told_in : Event → Option Answer
+told_in (event.Invoke call thread o a) = a
+told_in _ = None
+
+dead_answer : (m : Mode) (t : ℕ) (o : Op) (p : PartState) → is_dead m ≡ true → answer_in m t o p ≡ Some (answered.Gone p.failures)
+dead_answer (mode.Boot s) t o p d = absurd cc
+dead_answer mode.Running t o p d = absurd cc
+dead_answer (mode.Recovering s) t o p d = absurd cc
+dead_answer (mode.Dead collected) t o p d = refl
+
+-- a call that passes the static check is answered Gone
+dead_invoke : (p : PartState) (c t : ℕ) (o : Op) (a : Option Answer) → is_dead p.mode ≡ true → static_check p.spec.class p.spec.blocks o ≡ None
+    → event_of p (step.Invoke t o) ≡ event.Invoke c t o a → a ≡ Some (answered.Gone p.failures)
+unfolding turned invoked
+dead_invoke p c t o a d check e =
+    sym (ap told_in e) ∙ ap (λ (r : Option Answer). told_in (invoked_by p t o r).event) check ∙ dead_answer p.mode t o p d
+
+own_call : (call : ℕ) (a : Option Answer) → if_call call call a ≡ a
+own_call call a = cond-true (eqb call call) a None (eq-eqb call call refl)
+
+-- it is then among the answers
+gone_first : (c t f : ℕ) (o : Op) (a : Option Answer) (events : List Event) → a ≡ Some (answered.Gone f) → has_gone (answers_given (event.Invoke c t o a ∷ events)) ≡ true
+gone_first c t f o a events e =
+    ap (λ (x : Option Answer). has_gone (and_more (or_later x (first_answer c events)) (answers_given events))) (own_call c a ∙ e)
+
+dead_runs : (m : Mode) → is_dead m ≡ true → is_running m ≡ true → ⊥
+dead_runs (mode.Dead collected) d r = absurd cc
+dead_runs (mode.Boot s) d r = absurd cc
+dead_runs mode.Running d r = absurd cc
+dead_runs (mode.Recovering s) d r = absurd cc
+
+dead_bursts : (p : PartState) (context : ℕ) → Gone p → enabled p (step.Burst context) ≡ true → ⊥
+unfolding enabled
+dead_bursts p context g e = split (eqb context 16)
+    (λ t. true≢false (sym (sym (cond-true (eqb context 16) (is_driven p) (is_running p.mode && is_inside (call_of_thread context p.log.pending)) t) ∙ e) ∙ g.1))
+    (λ t. dead_runs p.mode g.0 (and_parts (is_running p.mode) (is_inside (call_of_thread context p.log.pending))
+    (sym (cond-false (eqb context 16) (is_driven p) (is_running p.mode && is_inside (call_of_thread context p.log.pending)) t) ∙ e)).0)
+
+abbrev answers_in : Event → List (ℕ × Answer)
+answers_in (event.Stage s answers released) = answers
+answers_in _ = []
+
+dead_stage : (m : Mode) (p : PartState) → is_dead m ≡ true → is_some (stage_due m) ≡ true → answers_in (stage_turned (with_mode m p)).event ≡ []
+unfolding stage_turned collects
+dead_stage (mode.Dead false) p d s = refl
+dead_stage (mode.Dead true) p d s = absurd cc
+dead_stage (mode.Boot s) p d e = absurd cc
+dead_stage mode.Running p d s = absurd cc
+dead_stage (mode.Recovering s) p d e = absurd cc
+
+no_arrival : (p : PartState) (frame : List ℕ) → p.spec.class ≡ class.Block → enabled p (step.Arrive frame) ≡ true → ⊥
+unfolding enabled
+no_arrival p frame b e =
+    let k = and_parts (same_class p.spec.class class.Net && (nat_le 1 (length frame) && nat_le (length frame) 64)) (nat_lt p.arrived 100000) e in
+    let l = and_parts (same_class p.spec.class class.Net) (nat_le 1 (length frame) && nat_le (length frame) 64) k.0 in
+    absurd (true≢false (sym l.0 ∙ ap (λ (c : Class). same_class c class.Net) b))
+
+module _ (spec : PartSpec) (block : spec.class ≡ class.Block) where
+  checked_so : (p : PartState) (o : Op) → p.spec ≡ spec → static_check class.Block spec.blocks o ≡ None → static_check p.spec.class p.spec.blocks o ≡ None
+  checked_so p o s c = ap (λ (x : PartSpec). static_check x.class x.blocks o) s ∙ ap (λ (x : Class). static_check x spec.blocks o) block ∙ c
+
+  -- nothing is shown where nothing more is answered Gone
+  nothing_shown : (events : List Event) (p : PartState) → Gone p → p.spec ≡ spec → IsRunFrom p events → AreChecked spec.blocks (invocations events)
+      → has_gone (answers_given events) ≡ false → (ts : List Track) → trace_from ts events ≡ []
+  unfolding IsRunFrom trace_from enabled turned
+  nothing_shown [] p g s r c n ts = refl
+  nothing_shown (event.Invoke k t o a ∷ events) p g s r c n ts =
+      absurd (true≢false (sym (gone_first k t p.failures o a events (dead_invoke p k t o a g.0 (checked_so p o s c.0) r.1)) ∙ n))
+  nothing_shown (event.Enter k t attempt a ∷ events) p g s r c n ts =
+      absurd (dead_runs p.mode g.0 (and_parts (is_running p.mode) (is_ready p (call_of_thread t p.log.pending)) r.0).0)
+  nothing_shown (event.Burst context k burst count end acts a failure ∷ events) p g s r c n ts = absurd (dead_bursts p context g r.0)
+  nothing_shown (event.Stage st answers released ∷ events) p g s r c n ts =
+      let due = (and_parts (is_some (stage_due p.mode)) (not (is_driven p)) r.0).0 in
+      let none : answers ≡ [] = sym (ap answers_in r.1) ∙ dead_stage p.mode p g.0 due in
+      ap (λ (xs : List (ℕ × Answer)). shown_answers xs ts ++ trace_from ts events) none
+      ∙ nothing_shown events (state_after p step.Stage) (gone_stays p step.Stage g r.0) (spec_after p step.Stage ∙ s) r.2 c n ts
+  nothing_shown (event.Arrive frame kept ∷ events) p g s r c n ts = absurd (no_arrival p frame (ap (λ (x : PartSpec). x.class) s ∙ block) r.0)
+
+-- ---- a call that was open where the part was given up
+
+-- a call that was invoked in these events
+record Invoked (k : ℕ) (events : List Event) : Type 0 where
+  before : List Event
+  thread : ℕ
+  op : Op
+  told : Option Answer
+  behind : List Event
+  parts : before ++ (event.Invoke k thread op told ∷ behind) ≡ events
+
+abbrev call_number : Event → ℕ
+call_number (event.Invoke call thread op answer) = call
+call_number _ = 0
+
+number_is : (p : PartState) (c t : ℕ) (o : Op) (check a : Option Answer) → (invoked_by p t o check).event ≡ event.Invoke c t o a → c ≡ p.log.count + 1
+number_is p c t o None a e = ap call_number (sym e)
+number_is p c t o (Some refusal) a e = ap call_number (sym e)
+
+invoke_number : (p : PartState) (c t : ℕ) (o : Op) (a : Option Answer) → event_of p (step.Invoke t o) ≡ event.Invoke c t o a → c ≡ p.log.count + 1
+unfolding turned invoked
+invoke_number p c t o a e = number_is p c t o (static_check p.spec.class p.spec.blocks o) a e
+
+-- the next number was given by the event
+invoked_first : (k : ℕ) (e : Event) (events : List Event) (p : PartState) → IsRunFrom p (e ∷ []) → (state_after p (step_of e)).log.count ≡ p.log.count + calls_of (e ∷ [])
+    → p.log.count < k → k ≤ (state_after p (step_of e)).log.count → Invoked k (e ∷ events)
+unfolding IsRunFrom
+invoked_first k (event.Invoke c t o a) events p r n l m =
+    let one = count_more is_invoke (event.Invoke c t o a) [] in
+    let number = invoke_number p c t o a r.1 in
+    let same : c ≡ k = omega arith in
+    record { before = []; thread = t; op = o; told = a; behind = events; parts = ap (λ (j : ℕ). event.Invoke j t o a ∷ events) (sym same) }
+invoked_first k (event.Enter c t attempt a) events p r n l m = let none = count_more is_invoke (event.Enter c t attempt a) [] in absurd (omega arith)
+invoked_first k (event.Burst context c burst count end acts a failure) events p r n l m =
+    let none = count_more is_invoke (event.Burst context c burst count end acts a failure) [] in absurd (omega arith)
+invoked_first k (event.Stage s answers released) events p r n l m = let none = count_more is_invoke (event.Stage s answers released) [] in absurd (omega arith)
+invoked_first k (event.Arrive frame kept) events p r n l m = let none = count_more is_invoke (event.Arrive frame kept) [] in absurd (omega arith)
+
+-- a number that was given in a run was given by an invocation
+invoked_in : (k : ℕ) (events : List Event) (p : PartState) → IsRunFrom p events → p.log.count < k → k ≤ (state_from p events).log.count → Invoked k events
+unfolding IsRunFrom state_from
+invoked_in k [] p r l m = absurd (omega arith)
+invoked_in k (e ∷ events) p r l m = split (nat_le k (state_after p (step_of e)).log.count)
+    (λ t.
+    let one : IsRunFrom p (e ∷ []) = (r.0, r.1, tt) in
+    invoked_first k e events p one (counted_from p (e ∷ []) one).calls' l (leb-true k (state_after p (step_of e)).log.count t))
+    (λ t.
+    let i = invoked_in k events (state_after p (step_of e)) r.2 (leb-false k (state_after p (step_of e)).log.count t) m in
+    record { before = e ∷ i.before; thread = i.thread; op = i.op; told = i.told; behind = i.behind; parts = ap (λ (l : List Event). e ∷ l) i.parts })
+
+all_behind : (P : Event → Type 0) (xs ys : List Event) → AllByRecursion P (xs ++ ys) → AllByRecursion P ys
+all_behind P [] ys h = h
+all_behind P (x ∷ xs) ys h = all_behind P xs ys h.1
+
+quiet_answers : (call thread : ℕ) (events : List Event) → AllByRecursion (Quiet call thread) events → AllByRecursion (λ e. answer_at call e ≡ None) events
+quiet_answers call thread [] h = tt
+quiet_answers call thread (e ∷ events) h = (h.0.0, quiet_answers call thread events h.1)
+
+opening_numbered : (spec : PartSpec) → IsNumbered 0 (opening spec).log.count (opening spec).log.pending
+unfolding opening opening_log
+opening_numbered spec = omega arith
+
+opening_none : (spec : PartSpec) → ((opening spec).log.count ≡ 0) × ((opening spec).log.pending ≡ [])
+unfolding opening opening_log
+opening_none spec = (refl, refl)
+
+append_four : (xs ys zs : List Event) (x e : Event) → (xs ++ (x ∷ ys)) ++ (e ∷ zs) ≡ xs ++ (x ∷ (ys ++ (e ∷ zs)))
+append_four [] ys zs x e = refl
+append_four (w ∷ xs) ys zs x e = ap (λ (l : List Event). w ∷ l) (append_four xs ys zs x e)
+
+open_gone : (spec : PartSpec) (before behind : List Event) (e : Event) (c : CallEntry) (cs : List CallEntry) (failures : ℕ) → IsRun spec before
+    → (state_of spec before).log.pending ≡ c ∷ cs → e ≡ event.Stage stage.Stop (gone_answers failures (c ∷ cs)) []
+    → has_gone (answers_given (before ++ (e ∷ behind))) ≡ true
+open_gone spec before behind e c cs failures run here stop =
+    let q : PartState = state_of spec before in
+    let o = open_after (opening spec) before (opening_numbered spec) run in
+    let first = subst (AllByRecursion (λ (x : CallEntry). AllByRecursion (Quiet x.call x.thread) before × CameFrom (opening spec).log x.call x.thread)) here o.1 in
+    let small = subst (AllByRecursion (λ (x : CallEntry). x.call ≤ q.log.count)) here (small_calls q.log.count q.log.pending o.0) in
+    let i : Invoked c.call before = invoked_in c.call before (opening spec) run (came c.call c.thread first.0.1) small.0 in
+    let quiet = all_behind (λ x. answer_at c.call x ≡ None) i.before (event.Invoke c.call i.thread i.op i.told ∷ i.behind)
+    (subst (AllByRecursion (λ x. answer_at c.call x ≡ None)) (sym i.parts) (quiet_answers c.call c.thread before first.0.0)) in
+    let told : answer_at c.call e ≡ Some (answered.Gone failures) =
+    ap (answer_at c.call) stop ∙ cond-true (eqb c.call c.call) (Some (answered.Gone failures)) _ (eq-eqb c.call c.call refl) in
+    subst (λ (l : List Event). has_gone (answers_given (l ++ (e ∷ behind))) ≡ true) i.parts
+    (ap (λ (l : List Event). has_gone (answers_given l)) (append_four i.before i.behind behind (event.Invoke c.call i.thread i.op i.told) e)
+    ∙ gone_given c.call i.thread i.op i.told i.before i.behind behind e failures quiet told)
+  where
+    came : (n t : ℕ) → CameFrom (opening spec).log n t → (opening spec).log.count < n
+    came n t (inl k) = absurd (subst (λ (xs : List CallEntry). HasEntry xs n t) (opening_none spec).1 k)
+    came n t (inr k) = k
+
+-- ---- the whole
+
+opening_alive : (spec : PartSpec) → is_dead (opening spec).mode ≡ false
+unfolding opening
+opening_alive spec = refl
+
+pub invoked_parts : (xs ys : List Event) → invocations (xs ++ ys) ≡ invocations xs ++ invocations ys
+invoked_parts [] ys = refl
+invoked_parts (event.Invoke c t o a ∷ xs) ys = ap (λ (l : List Invocation). record { call = c; thread = t; op = o } ∷ l) (invoked_parts xs ys)
+invoked_parts (event.Enter c t attempt a ∷ xs) ys = invoked_parts xs ys
+invoked_parts (event.Burst context c burst count end acts a failure ∷ xs) ys = invoked_parts xs ys
+invoked_parts (event.Stage s answers released ∷ xs) ys = invoked_parts xs ys
+invoked_parts (event.Arrive frame kept ∷ xs) ys = invoked_parts xs ys
+
+checked_behind : (blocks : ℕ) (xs ys : List Invocation) → AreChecked blocks (xs ++ ys) → AreChecked blocks ys
+checked_behind blocks [] ys h = h
+checked_behind blocks (x ∷ xs) ys h = checked_behind blocks xs ys h.1
+
+-- what is answered Gone behind is among the answers
+gone_behind : (xs ys : List Event) → has_gone (answers_given ys) ≡ true → has_gone (answers_given (xs ++ ys)) ≡ true
+gone_behind [] ys h = h
+gone_behind (event.Invoke c t o a ∷ xs) ys h = more_gone (first_answer c (event.Invoke c t o a ∷ (xs ++ ys))) (answers_given (xs ++ ys)) (gone_behind xs ys h)
+gone_behind (event.Enter c t attempt a ∷ xs) ys h = gone_behind xs ys h
+gone_behind (event.Burst context c burst count end acts a failure ∷ xs) ys h = gone_behind xs ys h
+gone_behind (event.Stage s answers released ∷ xs) ys h = gone_behind xs ys h
+gone_behind (event.Arrive frame kept ∷ xs) ys h = gone_behind xs ys h
+
+-- a Stop that answers nothing, and what is behind it, shows nothing
+stop_shows : (spec : PartSpec) → spec.class ≡ class.Block → (q : PartState) (behind : List Event) (ts : List Track) (e : Event)
+    → e ≡ event.Stage stage.Stop [] [] → IsRunFrom q (e ∷ behind) → AreChecked spec.blocks (invocations (e ∷ behind))
+    → has_gone (answers_given (e ∷ behind)) ≡ false → Gone (state_after q (step_of e)) → (state_after q (step_of e)).spec ≡ spec
+    → trace_from ts (e ∷ behind) ≡ []
+unfolding IsRunFrom trace_from
+stop_shows spec block q behind ts e h =
+    subst (λ (x : Event). IsRunFrom q (x ∷ behind) → AreChecked spec.blocks (invocations (x ∷ behind)) → has_gone (answers_given (x ∷ behind)) ≡ false
+    → Gone (state_after q (step_of x)) → (state_after q (step_of x)).spec ≡ spec → trace_from ts (x ∷ behind) ≡ [])
+    (sym h) (λ r c n g s. nothing_shown spec block behind (state_after q step.Stage) g s r.2 c n ts)
+
+pub one_run : (spec : PartSpec) (seen : List Event) → spec.class ≡ class.Block → IsRun spec seen → first_break spec.class spec.blocks seen ≡ None
+    → AreChecked spec.blocks (invocations seen) → has_gone (answers_given seen) ≡ false → IsClassRun spec.class spec.blocks (trace seen)
+unfolding first_break trace IsRunFrom
+one_run spec seen block run contract checked none = split (is_dead (state_of spec seen).mode)
+    (λ t. by_parts (given_up_in seen (opening spec) (opening_alive spec) t))
+    (λ t. sees_one_run spec seen (record { run = run; contract = contract; alive = t }))
+  where
+    by_parts : GivenUp (opening spec) seen → IsClassRun spec.class spec.blocks (trace seen)
+    by_parts k = by_pending q.log.pending refl
+      where
+        q : PartState
+        q = state_of spec k.before
+
+        parts : IsRun spec k.before × IsRunFrom q (k.event ∷ k.behind)
+        parts = run_parts (opening spec) k.before (k.event ∷ k.behind) (subst (IsRun spec) (sym k.parts) run)
+
+        stops : StopsAll q (turned q (step_of k.event))
+        stops = gives_up q (step_of k.event) k.alive k.dead
+
+        event_is : k.event ≡ event.Stage stage.Stop (gone_answers q.failures q.log.pending) []
+        event_is = sym parts.1.1 ∙ stops.0
+
+        before_run : IsClassRun spec.class spec.blocks (trace k.before)
+        before_run = sees_one_run spec k.before (record {
+          run = parts.0;
+          contract = unbroken_before 1 (first_watch spec.class spec.blocks) k.before (k.event ∷ k.behind)
+              (ap (λ (l : List Event). first_break spec.class spec.blocks l) k.parts ∙ contract);
+          alive = k.alive;
+        })
+
+        gone : Gone (state_after q (step_of k.event))
+        gone = (k.dead, stops.1)
+
+        same : (state_after q (step_of k.event)).spec ≡ spec
+        same = spec_after q (step_of k.event) ∙ run_spec spec k.before parts.0
+
+        checked_rest : AreChecked spec.blocks (invocations (k.event ∷ k.behind))
+        checked_rest = checked_behind spec.blocks (invocations k.before) (invocations (k.event ∷ k.behind))
+            (subst (AreChecked spec.blocks) (ap invocations (sym k.parts) ∙ invoked_parts k.before (k.event ∷ k.behind)) checked)
+
+        none_rest : has_gone (answers_given (k.event ∷ k.behind)) ≡ false
+        none_rest = split (has_gone (answers_given (k.event ∷ k.behind)))
+            (λ t. absurd (true≢false (sym (gone_behind k.before (k.event ∷ k.behind) t) ∙ ap (λ (l : List Event). has_gone (answers_given l)) k.parts ∙ none)))
+            (λ t. t)
+
+        nothing : q.log.pending ≡ [] → (ts : List Track) → trace_from ts (k.event ∷ k.behind) ≡ []
+        nothing h ts =
+            stop_shows spec block q k.behind ts k.event (event_is ∙ ap (λ (xs : List CallEntry). event.Stage stage.Stop (gone_answers q.failures xs) []) h)
+            parts.1 checked_rest none_rest gone same
+
+        by_pending : (xs : List CallEntry) → q.log.pending ≡ xs → IsClassRun spec.class spec.blocks (trace seen)
+        by_pending (c ∷ cs) h = absurd (true≢false (sym
+            (open_gone spec k.before k.behind k.event c cs q.failures parts.0 h (event_is ∙ ap (λ (xs : List CallEntry). event.Stage stage.Stop (gone_answers q.failures xs) []) h))
+            ∙ ap (λ (l : List Event). has_gone (answers_given l)) k.parts ∙ none))
+        by_pending [] h = subst (IsClassRun spec.class spec.blocks)
+            (sym (trace_ends k.before (k.event ∷ k.behind) [] (nothing h)) ∙ ap (trace_from []) k.parts) before_run

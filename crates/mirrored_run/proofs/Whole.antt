@@ -1,0 +1,260 @@
+-- The whole run of a mirror: its operations, and two parts that are left behind them.
+use Rattle.std.proofs.Common.{◌≡◌, inl, inr, ℕ, ◌≤◌, ◌==◌, ◌&&◌, ◌||◌, is_some, Bool, true, false, Option, Some, None, Result, Ok, Err, IfOk, List, [], ◌∷◌, ◌++◌, length, map, zip, refl, sym, ap, subst, ◌∙◌, arith, append-nil, eqb-true, get_or}
+use Rattle.std.specs.List.{All, list_any}
+use Rattle.std.proofs.lemmas.List.{length-map}
+use Rattle.std.proofs.lemmas.List.Elements.{All-head, All-tail}
+use Rattle.std.proofs.lemmas.Bool.{and_parts}
+use Rattle.nook_defs.specs.declared.data.Answer.{Answer}
+use Rattle.nook_defs.specs.declared.data.Break.{Break}
+use Rattle.nook_defs.specs.declared.data.Class.{Class}
+use Rattle.nook_defs.specs.declared.data.Class.TheVariants as class
+use Rattle.nook_defs.specs.declared.data.Event.{Event}
+use Rattle.nook_defs.specs.declared.data.MirrorAnswer.{MirrorAnswer}
+use Rattle.nook_defs.specs.declared.data.Op.{Op}
+use Rattle.nook_defs.specs.declared.data.PartSpec.{PartSpec}
+use Rattle.nook_defs.specs.declared.data.Scenario.{Scenario}
+use Rattle.nook_defs.specs.declared.data.ThreadSpec.{ThreadSpec}
+use Rattle.nook_defs.specs.Blocks.{blank_blocks}
+use Rattle.nook_defs.specs.Classes.{same_class}
+use Rattle.nook_defs.specs.Contract.{first_break}
+use Rattle.nook_defs.specs.ReportText.{has_break}
+use Rattle.nook_defs.specs.Runs.{next_any, state_of}
+use Rattle.nook_defs.specs.Valid.{IsValidPart, IsValidScenario, IsValidThread}
+use Rattle.desk_like.specs.Desks.{DeskView}
+use Rattle.mirror_block.specs.Disk.{ServesAll}
+use Rattle.mirror_block.specs.Mirrors.{MirrorView, new_mirror}
+use Rattle.mirror_block.specs.Rule.{both_present, mirrored}
+use Rattle.mirror_block.specs.Sides.{Invocation, IsNewSide, answers_given, invocations}
+use Rattle.mirror_block.proofs.NewMirror.{new_is_mirror}
+use Rattle.nook_defs.specs.Room.{Kept}
+use Rattle.part_server.specs.Turns.{opening_view}
+use Rattle.report_text.specs.declared.whole_report.PartEnd.{PartEnd}
+use Rattle.report_text.specs.Whole.{HaveEnds}
+use Rattle.sim_run.specs.Reached.{AreRuns}
+use Rattle.sim_run.specs.Whole.{events_in}
+use Rattle.mirrored_run.specs.declared.running.Unheard.{Unheard}
+use Rattle.mirrored_run.specs.Closing.{GoesOn, IsLeftBehind}
+use Rattle.mirrored_run.specs.Hearing.{HearAllOrNothing}
+use Rattle.nook_defs.specs.Listening.{Listening}
+use Rattle.request_taps.specs.Bus.{told_all}
+use Rattle.request_taps.specs.declared.tap.Tap.{Tap}
+use Rattle.mirrored_run.specs.Mirrors.{IsMirrorRun, IsSubsequence, is_lost, is_mirror, is_pair, is_single, ops_of_thread, size_of}
+use Rattle.threaded_run.specs.Threaded.{AreSettled, in_parts}
+use Rattle.mirrored_run.specs.Serving.{HasServed}
+use Rattle.mirrored_run.specs.Unheard.{IsWholeRun}
+use Rattle.mirrored_run.proofs.Adding.{AllAnswered, given_parts, others_given, others_invoke}
+use Rattle.mirrored_run.proofs.Behind.{Behind, behind, served_keeps}
+use Rattle.mirrored_run.proofs.ClassRuns.{invoked_parts}
+use Rattle.mirrored_run.proofs.Plain.{plain_answers}
+
+-- ---- the journal of one part
+
+-- the journal of a part that goes on behind what was added has the same answers and invocations
+record SameCalls (added journal : List Event) : Type 0 where
+  given : answers_given journal ≡ answers_given added
+  invoked : invocations journal ≡ invocations added
+
+same_calls : (added journal : List Event) → AllAnswered added → GoesOn added journal → SameCalls added journal
+same_calls added journal all g = record {
+  given = ap answers_given (sym g.begins) ∙ given_parts added g.rest all ∙ ap (λ (l : List Answer). answers_given added ++ l) (others_given g.rest g.others)
+      ∙ append-nil (answers_given added);
+  invoked = ap invocations (sym g.begins) ∙ invoked_parts added g.rest ∙ ap (λ (l : List Invocation). invocations added ++ l) (others_invoke g.rest g.others)
+      ∙ append-nil (invocations added);
+}
+
+-- ---- the contract of both
+
+none_broken : (o : Option Break) (b : Bool) → (is_some o || b) ≡ false → (o ≡ None) × (b ≡ false)
+none_broken None b h = (refl, h)
+none_broken (Some x) b h = absurd cc
+
+both_kept : (l r : PartSpec) (left right : List Event) → has_break (l ∷ r ∷ []) (left ∷ right ∷ []) ≡ false
+    → (first_break l.class l.blocks left ≡ None) × (first_break r.class r.blocks right ≡ None)
+unfolding has_break
+both_kept l r left right h =
+    let k = none_broken (first_break l.class l.blocks left) (is_some (first_break r.class r.blocks right) || false) h in
+    (k.0, (none_broken (first_break r.class r.blocks right) false k.1).0)
+
+-- ---- the whole
+
+module _ {D : Type 0} (spec : D → PartSpec) (scenario : Scenario) (l r : PartSpec) (ld rd : D) (ov ow lv rv : DeskView) (answers : List MirrorAnswer)
+    (left right : List Event) (parts : scenario.parts ≡ l ∷ r ∷ []) (left_is : spec ld ≡ l) (right_is : spec rd ≡ r) (no_left : ov.seen ≡ []) (no_right : ow.seen ≡ [])
+    (h : HasServed spec ld rd ov ow l.blocks (ops_of_thread scenario.threads) answers lv rv) (gl : GoesOn lv.seen left) (gr : GoesOn rv.seen right)
+    (sl : next_any (state_of l left) ≡ None) (sr : next_any (state_of r right) ≡ None) where
+  abbrev start : MirrorView D
+  start = new_mirror ld rd ov ow l.blocks
+
+  abbrev ops : List Op
+  ops = ops_of_thread scenario.threads
+
+  added : Behind ops answers start h.new
+  added = behind spec start ops answers h.new h.served
+
+  left_added : added.left ≡ lv.seen
+  left_added = ap (λ (x : List Event). x ++ added.left) (sym no_left) ∙ added.left_seen ∙ ap (λ (v : DeskView). v.seen) (sym h.left_is)
+
+  right_added : added.right ≡ rv.seen
+  right_added = ap (λ (x : List Event). x ++ added.right) (sym no_right) ∙ added.right_seen ∙ ap (λ (v : DeskView). v.seen) (sym h.right_is)
+
+  left_calls : SameCalls added.left left
+  left_calls = same_calls added.left left added.left_all (subst (λ (x : List Event). GoesOn x left) (sym left_added) gl)
+
+  right_calls : SameCalls added.right right
+  right_calls = same_calls added.right right added.right_all (subst (λ (x : List Event). GoesOn x right) (sym right_added) gr)
+
+  plain_so : has_break (l ∷ r ∷ []) (left ∷ right ∷ []) ≡ false → list_any is_lost answers ≡ false
+      → (after : List (List ℕ)) × ServesAll l.blocks (blank_blocks class.Block l.blocks) (zip ops answers) after
+  plain_so kept some =
+      let k = both_kept l r left right kept in
+      plain_answers spec start ops answers h.new left right h.served no_left no_right refl
+      (gl.rest, ap (λ (v : DeskView). v.seen ++ gl.rest) (sym h.left_is) ∙ gl.begins) (gr.rest, ap (λ (v : DeskView). v.seen ++ gr.rest) (sym h.right_is) ∙ gr.begins)
+      (ap (λ (s : PartSpec). first_break s.class s.blocks left) (ap spec added.same.left_desk ∙ left_is) ∙ k.0)
+      (ap (λ (s : PartSpec). first_break s.class s.blocks right) (ap spec added.same.right_desk ∙ right_is) ∙ k.1)
+      some
+
+  pub mirror_ran : IsMirrorRun scenario left right answers
+  mirror_ran = record {
+    rule = (
+      h.new.present,
+      ap (λ (specs : List PartSpec). mirrored (size_of specs) both_present ops (answers_given left) (answers_given right)) parts
+          ∙ ap (λ (xs : List Answer). mirrored l.blocks both_present ops xs (answers_given right)) left_calls.given
+          ∙ ap (λ (xs : List Answer). mirrored l.blocks both_present ops (answers_given added.left) xs) right_calls.given
+          ∙ added.rule,
+    );
+    left_calls = subst (IsSubsequence ops) (sym left_calls.invoked) added.left_calls;
+    right_calls = subst (IsSubsequence ops) (sym right_calls.invoked) added.right_calls;
+    settled = subst (λ (specs : List PartSpec). AreSettled specs (left ∷ right ∷ [])) (sym parts) (sl, (sr, tt));
+    plain = λ kept some.
+        subst (λ (specs : List PartSpec). (after : List (List ℕ)) × ServesAll (size_of specs) (blank_blocks class.Block (size_of specs)) (zip ops answers) after) (sym parts)
+        (plain_so (ap (λ (specs : List PartSpec). has_break specs (left ∷ right ∷ [])) (sym parts) ∙ kept) some);
+  }
+
+-- ---- which scenarios are served
+
+block_is : (c : Class) → same_class c class.Block ≡ true → c ≡ class.Block
+block_is class.Block h = refl
+block_is class.Net h = absurd cc
+block_is class.Sound h = absurd cc
+
+-- the two parts are disks of one size
+pub record IsPair (l r : PartSpec) : Type 0 where
+  pub left_class : l.class ≡ class.Block
+  pub right_class : r.class ≡ class.Block
+  pub size : r.blocks ≡ l.blocks
+
+pair_of : (l r : PartSpec) → is_pair (l ∷ r ∷ []) ≡ true → IsPair l r
+pair_of l r h =
+    let k = and_parts (same_class l.class class.Block) (same_class r.class class.Block && (l.blocks == r.blocks)) h in
+    let m = and_parts (same_class r.class class.Block) (l.blocks == r.blocks) k.1 in
+    record { left_class = block_is l.class k.0; right_class = block_is r.class m.0; size = sym (eqb-true l.blocks r.blocks m.1) }
+
+pub served_pair : (scenario : Scenario) (l r : PartSpec) → scenario.parts ≡ l ∷ r ∷ [] → is_mirror scenario ≡ true → IsPair l r
+unfolding is_mirror
+served_pair scenario l r e h = pair_of l r (ap is_pair (sym e) ∙ (and_parts (is_pair scenario.parts) (is_single scenario.threads) h).0)
+
+pub served_single : (scenario : Scenario) → is_mirror scenario ≡ true → is_single scenario.threads ≡ true
+unfolding is_mirror
+served_single scenario h = (and_parts (is_pair scenario.parts) (is_single scenario.threads) h).1
+
+two_in : (specs : List PartSpec) → is_pair specs ≡ true → length specs ≡ 2
+two_in [] h = absurd cc
+two_in (l ∷ []) h = absurd cc
+two_in (l ∷ r ∷ []) h = refl
+two_in (l ∷ r ∷ s ∷ specs) h = absurd cc
+
+pub served_two : (scenario : Scenario) → is_mirror scenario ≡ true → length scenario.parts ≡ 2
+unfolding is_mirror
+served_two scenario h = two_in scenario.parts (and_parts (is_pair scenario.parts) (is_single scenario.threads) h).0
+
+pub two_items : (specs : List PartSpec) (l r : PartSpec) → length specs ≡ 2 → l ≡ get_or specs 0 l → r ≡ get_or specs 1 r → specs ≡ l ∷ r ∷ []
+two_items [] l r n e f = absurd (omega arith)
+two_items (x ∷ []) l r n e f = absurd (omega arith)
+two_items (x ∷ y ∷ []) l r n e f = ap (λ (z : PartSpec). z ∷ y ∷ []) (sym e) ∙ ap (λ (z : PartSpec). l ∷ z ∷ []) (sym f)
+two_items (x ∷ y ∷ z ∷ specs) l r n e f = absurd (omega arith)
+
+few_of : (parts : ℕ) (threads : List ThreadSpec) → All (IsValidThread parts) threads → length (ops_of_thread threads) ≤ 256
+few_of parts [] h = omega arith
+few_of parts (t ∷ threads) h =
+    let few : length t.ops ≤ 256 = (All-head (IsValidThread parts) t threads h).op_count in
+    let same : length (map (λ o. o.1) t.ops) ≡ length t.ops = length-map t.ops (λ o. o.1) in
+    omega arith
+
+pub few_ops : (scenario : Scenario) → IsValidScenario scenario → length (ops_of_thread scenario.threads) ≤ 256
+few_ops scenario valid = few_of (length scenario.parts) scenario.threads valid.threads
+
+pub both_valid : (scenario : Scenario) (l r : PartSpec) → scenario.parts ≡ l ∷ r ∷ [] → IsValidScenario scenario → IsValidPart l × IsValidPart r
+both_valid scenario l r e valid =
+    let all : All IsValidPart (l ∷ r ∷ []) = subst (All IsValidPart) e valid.parts in
+    (All-head IsValidPart l (r ∷ []) all, All-head IsValidPart r [] (All-tail IsValidPart l (r ∷ []) all))
+
+-- ---- the sides
+
+pub new_side : (s t : PartSpec) (blocks : ℕ) (v : DeskView) → s ≡ t → t.class ≡ class.Block → t.blocks ≡ blocks → v ≡ opening_view → IsNewSide s blocks v
+new_side s t blocks v e c b o = record {
+  class = ap (λ (x : PartSpec). x.class) e ∙ c;
+  size = ap (λ (x : PartSpec). x.blocks) e ∙ b;
+  alone = ap (λ (x : DeskView). x.alone) o;
+  seen = ap (λ (x : DeskView). x.seen) o;
+}
+
+-- the seats are still alone
+pub served_alone : {D : Type 0} (spec : D → PartSpec) (ld rd : D) (ov ow : DeskView) (blocks : ℕ) (ops : List Op) (answers : List MirrorAnswer) (lv rv : DeskView)
+    → IsNewSide (spec ld) blocks ov → IsNewSide (spec rd) blocks ow → HasServed spec ld rd ov ow blocks ops answers lv rv → (lv.alone ≡ true) × (rv.alone ≡ true)
+served_alone spec ld rd ov ow blocks ops answers lv rv l r h =
+    let k = served_keeps spec (new_mirror ld rd ov ow blocks) ops answers h.new (new_is_mirror spec ld rd ov ow blocks l r) refl h.served in
+    (ap (λ (v : DeskView). v.alone) h.left_is ∙ k.0.left.alone, ap (λ (v : DeskView). v.alone) h.right_is ∙ k.0.right.alone)
+
+-- ---- what is left
+
+pub whole_run : {D : Type 0} (spec : D → PartSpec) (scenario : Scenario) (l r : PartSpec) (ld rd : D) (ov ow lv rv : DeskView) (answers : List MirrorAnswer)
+    (lj rj : Kept Event) (le re : PartEnd) (made : Unheard) → scenario.parts ≡ l ∷ r ∷ [] → spec ld ≡ l → spec rd ≡ r → ov ≡ opening_view → ow ≡ opening_view
+    → HasServed spec ld rd ov ow l.blocks (ops_of_thread scenario.threads) answers lv rv
+    → IsLeftBehind (spec ld) lv.seen lj le → IsLeftBehind (spec rd) rv.seen rj re
+    → made.journals ≡ lj ∷ rj ∷ [] → made.ends ≡ le ∷ re ∷ [] → made.answers ≡ answers → IsWholeRun scenario made
+whole_run spec scenario l r ld rd ov ow lv rv answers lj rj le re made parts left_is right_is old_left old_right h hl hr journals ends same =
+    let kl : IsLeftBehind l lv.seen lj le = subst (λ (s : PartSpec). IsLeftBehind s lv.seen lj le) left_is hl in
+    let kr : IsLeftBehind r rv.seen rj re = subst (λ (s : PartSpec). IsLeftBehind s rv.seen rj re) right_is hr in
+    record {
+      runs = subst (λ (specs : List PartSpec). AreRuns specs (map events_in made.journals)) (sym parts)
+          (subst (λ (js : List (Kept Event)). AreRuns (l ∷ r ∷ []) (map events_in js)) (sym journals) (kl.run, (kr.run, tt)));
+      ends = subst (λ (specs : List PartSpec). HaveEnds specs made.journals made.ends) (sym parts)
+          (subst (λ (js : List (Kept Event)). HaveEnds (l ∷ r ∷ []) js made.ends) (sym journals)
+          (subst (λ (es : List PartEnd). HaveEnds (l ∷ r ∷ []) (lj ∷ rj ∷ []) es) (sym ends) (kl.shows, (kr.shows, tt))));
+      mirrored = (
+        lj.list,
+        rj.list,
+        ap (map events_in) journals,
+        subst (IsMirrorRun scenario lj.list rj.list) (sym same)
+            (mirror_ran spec scenario l r ld rd ov ow lv rv answers lj.list rj.list parts left_is right_is
+            (ap (λ (v : DeskView). v.seen) old_left) (ap (λ (v : DeskView). v.seen) old_right) h kl.goes_on kr.goes_on kl.settled kr.settled),
+      );
+    }
+
+-- two journals are few
+pub few_journals : (scenario : Scenario) (made : Unheard) → IsWholeRun scenario made → length made.journals ≤ 8
+few_journals scenario made h =
+    let two : length (map events_in made.journals) ≡ 2 = ap (λ (l : List (List Event)). length l) h.mirrored.2 in
+    let same : length (map events_in made.journals) ≡ length made.journals = length-map made.journals events_in in
+    omega arith
+
+-- ---- what is heard of a run that is refused
+
+pub heard_nothing : (scenario : Scenario) (taps : List (Tap Listening)) → HearAllOrNothing scenario taps taps
+heard_nothing scenario taps = inl refl
+
+pub heard_all : (scenario : Scenario) (made : Unheard) (old new : List (Tap Listening)) → IsWholeRun scenario made
+    → new ≡ told_all (in_parts 0 (map events_in made.journals)) old → HearAllOrNothing scenario old new
+heard_all scenario made old new h heard =
+    let m = h.mirrored in
+    inr (record {
+      left = m.0;
+      right = m.1;
+      answers = made.answers;
+      runs = subst (AreRuns scenario.parts) m.2 h.runs;
+      mirrored = m.3;
+      heard = heard ∙ ap (λ (js : List (List Event)). told_all (in_parts 0 js) old) m.2;
+    })
+
+pub all_ok : {X E : Type 0} (r : Result X E) (P Q R S : X → Type 0) → ((x : X) → P x → Q x → R x → S x) → IfOk r P → IfOk r Q → IfOk r R → IfOk r S
+all_ok (Ok x) P Q R S f p q s = f x p q s
+all_ok (Err e) P Q R S f p q s = tt

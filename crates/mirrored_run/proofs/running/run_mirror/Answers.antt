@@ -1,0 +1,19 @@
+use Rattle.std.proofs.Common.{◌≤◌, length, map, rules, subst, sym}
+use Rattle.request_taps.specs.Bus.{seen}
+use Rattle.sim_run.proofs.Ending.{on_err}
+use Rattle.mirrored_run.proofs.Whole.{few_journals, heard_all, heard_nothing}
+use Rattle.mirrored_run.proofs.running.run_mirror.Goals as goal
+
+pub publish_all-requires : goal.publish_all-requires
+publish_all-requires g c =
+    subst (λ journals. length journals ≤ 8) (sym c.as_slice.ensures) (few_journals c.args.scenario.now c.in_ok-left.left c.in_ok-left.ensures)
+
+pub returns-in_err-left-clause-refused : goal.returns-in_err-left-clause-refused
+returns-in_err-left-clause-refused g c =
+    on_err c.from_residual.result (heard_nothing c.args.scenario.now (map (seen g.L.Listener.listening) c.args.taps.now))
+
+pub returns-in_err-totals-clause-refused : goal.returns-in_err-totals-clause-refused
+returns-in_err-totals-clause-refused g c =
+    on_err c.from_residual-in_err-totals.result
+    (heard_all c.args.scenario.now c.in_ok-left.left (map (seen g.L.Listener.listening) c.args.taps.now) (map (seen g.L.Listener.listening) c.publish_all.new.taps)
+    c.in_ok-left.ensures (search rules))

@@ -1,0 +1,5 @@
+pub mod Closing
+pub mod Hearing
+pub mod Mirrors
+pub mod Serving
+pub mod Unheard

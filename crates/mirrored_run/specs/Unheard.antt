@@ -1,0 +1,16 @@
+-- What the run of a mirror leaves before it is published.
+use Rattle.std.specs.Prelude.{◌≡◌, List, [], ◌∷◌, map}
+use Rattle.nook_defs.specs.declared.data.Event.{Event}
+use Rattle.nook_defs.specs.declared.data.Scenario.{Scenario}
+use Rattle.report_text.specs.Whole.{HaveEnds}
+use Rattle.sim_run.specs.Reached.{AreRuns}
+use Rattle.sim_run.specs.Whole.{events_in}
+use Rattle.mirrored_run.specs.declared.running.Unheard.{Unheard}
+use Rattle.mirrored_run.specs.Mirrors.{IsMirrorRun}
+
+-- the mirror of the scenario was run, and each part ends in what is told
+pub record IsWholeRun (scenario : Scenario) (made : Unheard) : Type 0 where
+  pub runs : AreRuns scenario.parts (map events_in made.journals)
+  pub ends : HaveEnds scenario.parts made.journals made.ends
+  pub mirrored : (left right : List Event) × (map events_in made.journals ≡ left ∷ right ∷ [])
+      × IsMirrorRun scenario left right made.answers

@@ -1,0 +1,12 @@
+//! The run of a mirror: a scenario's thread reads and writes one disk that two parts keep.
+#![tactic(auto)]
+
+mod closing;
+mod running;
+mod serving;
+#[cfg(test)]
+mod tests;
+mod which;
+
+pub use running::{Mirrored, run_mirror};
+pub use which::is_mirror;

@@ -1,0 +1,212 @@
+//! The run of a mirror.
+
+ghost use Rattle.std.specs.Prelude.{◌≡◌, ◌∷◌, ◌≤◌, IfOk, List, OnErr, [], length, map, true};
+ghost use Rattle.mirror_block.specs.Sides.{IsNewSide};
+ghost use Rattle.mirrored_run.specs.Hearing.{HearAllOrNothing};
+ghost use Rattle.mirrored_run.specs.Mirrors.{IsMirrorRun, is_mirror, is_single, ops_of_thread};
+ghost use Rattle.mirrored_run.specs.Serving.{HasServed};
+ghost use Rattle.mirrored_run.specs.Unheard.{IsWholeRun};
+ghost use Rattle.nook_defs.specs.Valid.{IsValidPart, IsValidScenario};
+ghost use Rattle.nook_defs.specs.declared.data.Event.{Event};
+ghost use Rattle.part_server.specs.Desk.{IsDeskSeat, desk_spec, desk_view};
+ghost use Rattle.part_server.specs.Turns.{opening_view};
+ghost use Rattle.report_text.specs.Whole.{HaveEnds};
+ghost use Rattle.request_taps.specs.Bus.{result_of, seen, told_all};
+ghost use Rattle.sim_run.specs.Reached.{AreRuns};
+ghost use Rattle.sim_run.specs.Whole.{events_in};
+ghost use Rattle.threaded_run.specs.Threaded.{in_parts};
+
+use crate::closing::{Left, leave};
+use crate::serving::serve_first;
+use mirror_block::Mirror;
+use nook_defs::data::{AnswerTable, MirrorAnswers, PartSpec, Scenario, ThreadSpec};
+use nook_defs::lists::TryCopy;
+use nook_defs::memory::NoMemory;
+use nook_defs::outside::Listener;
+use part_core::Part;
+use part_server::{DeskSeat, PartDesk};
+use report_text::report::{Journals, Run};
+use report_text::whole_report::PartEnds;
+use request_taps::Bus;
+use sim_run::Simulated;
+use std::alloc::Global;
+use std::sync::Wait;
+use threaded_run::publish_all;
+
+/// What the run of a mirror left: its journals, totals and ends (with no answers of threads), and the mirror's answers.
+#[derive(Drop)]
+pub struct Mirrored {
+    pub whole: Simulated,
+    pub answers: MirrorAnswers,
+}
+
+/// What the run of a mirror left that nobody has heard.
+#[derive(Drop)]
+pub struct Unheard {
+    pub journals: Journals,
+    pub ends: PartEnds,
+    pub answers: MirrorAnswers,
+}
+
+/// The answers of a mirror, and the seats at its sides.
+#[derive(Drop)]
+pub struct Served {
+    pub answers: MirrorAnswers,
+    pub left: DeskSeat,
+    pub right: DeskSeat,
+}
+
+/// Runs the mirror of a valid scenario that a mirror serves: its thread's operations one after the other, over a desk
+/// for each of the two parts. Then both parts take the steps that they have left, and the taps hear the journals, part
+/// by part. After `NoMemory` the taps have heard nothing, or all events of the journals of such a run.
+pub fn run_mirror<R: Wait, L: Listener>(
+    rt: &R,
+    alloc: Global,
+    scenario: &Scenario,
+    taps: &mut Bus<L>,
+) -> Result<Mirrored, NoMemory>
+    requires valid { IsValidScenario scenario.now }
+    requires served { is_mirror scenario.now ≡ true }
+    ensures runs { IfOk result (λ made. AreRuns scenario.now.parts (map events_in made.whole.run.journals)) }
+    ensures ends { IfOk result (λ made. HaveEnds scenario.now.parts made.whole.run.journals made.whole.ends) }
+    ensures mirrored { IfOk result (λ made. (left right : List Event)
+        × (map events_in made.whole.run.journals ≡ left ∷ right ∷ [])
+        × IsMirrorRun scenario.now left right made.answers) }
+    ensures heard { IfOk result (λ made. map (seen L.listening) taps.new
+        ≡ told_all (in_parts 0 (map events_in made.whole.run.journals)) (map (seen L.listening) taps.old)) }
+    ensures totals { IfOk result (λ made. made.whole.run.taps ≡ map result_of (map (seen L.listening) taps.new)) }
+    ensures refused { OnErr result (HearAllOrNothing scenario.now
+        (map (seen L.listening) taps.old) (map (seen L.listening) taps.new)) }
+{
+    let left = run_unheard(rt, alloc, scenario)?;
+    publish_all(taps, left.journals.as_slice());
+    let totals = taps.totals(alloc)?;
+    Ok(Mirrored {
+        whole: Simulated {
+            run: Run {
+                journals: left.journals,
+                answers: AnswerTable::new(alloc),
+                taps: totals,
+            },
+            ends: left.ends,
+        },
+        answers: left.answers,
+    })
+}
+
+/// Runs the mirror of a valid scenario that a mirror serves, and publishes nothing.
+fn run_unheard<R: Wait>(rt: &R, alloc: Global, scenario: &Scenario) -> Result<Unheard, NoMemory>
+    requires valid { IsValidScenario scenario.now }
+    requires served { is_mirror scenario.now ≡ true }
+    ensures { IfOk result (IsWholeRun scenario.now) }
+{
+    let (left, right) = both(scenario.parts.as_slice());
+    run_pair(rt, alloc, scenario, left, right)
+}
+
+/// The two of two parts.
+fn both(parts: &[PartSpec]) -> (&PartSpec, &PartSpec)
+    requires { length parts.now ≡ 2 }
+    ensures { parts.now ≡ result.0.now ∷ result.1.now ∷ [] }
+{
+    (&parts[0], &parts[1])
+}
+
+/// The same, of the scenario's two parts.
+fn run_pair<R: Wait>(
+    rt: &R,
+    alloc: Global,
+    scenario: &Scenario,
+    left: &PartSpec,
+    right: &PartSpec,
+) -> Result<Unheard, NoMemory>
+    requires valid { IsValidScenario scenario.now }
+    requires served { is_mirror scenario.now ≡ true }
+    requires parts { scenario.now.parts ≡ left.now ∷ right.now ∷ [] }
+    ensures { IfOk result (IsWholeRun scenario.now) }
+{
+    let (left_desk, left_seat) = open(alloc, left)?;
+    let (right_desk, right_seat) = open(alloc, right)?;
+    let threads = scenario.threads.as_slice();
+    let served = serve_over(
+        rt,
+        alloc,
+        threads,
+        &left_desk,
+        &right_desk,
+        left_seat,
+        right_seat,
+        left.blocks,
+    )?;
+    let left_part = leave(rt, alloc, left_desk, served.left)?;
+    let right_part = leave(rt, alloc, right_desk, served.right)?;
+    gather(alloc, left_part, right_part, served.answers)
+}
+
+/// A desk for a valid part, and the one seat at it.
+fn open(alloc: Global, spec: &PartSpec) -> Result<(PartDesk, DeskSeat), NoMemory>
+    requires { IsValidPart spec.now }
+    ensures seat { IfOk result (λ made. IsDeskSeat made.0 made.1) }
+    ensures spec { IfOk result (λ made. desk_spec made.0 ≡ spec.now) }
+    ensures view { IfOk result (λ made. desk_view made.1 ≡ opening_view) }
+{
+    let part = Part::new(alloc, spec.copy(alloc)?)?;
+    PartDesk::new(alloc, part)
+}
+
+/// Serves the operations of the first thread, at most 256, by a mirror of so many blocks over two desks.
+fn serve_over<R: Wait>(
+    rt: &R,
+    alloc: Global,
+    threads: &[ThreadSpec],
+    left: &PartDesk,
+    right: &PartDesk,
+    left_seat: DeskSeat,
+    right_seat: DeskSeat,
+    blocks: u32,
+) -> Result<Served, NoMemory>
+    requires single { is_single threads.now ≡ true }
+    requires few { length (ops_of_thread threads.now) ≤ 256 }
+    requires left_seat { IsDeskSeat left.now left_seat }
+    requires right_seat { IsDeskSeat right.now right_seat }
+    requires left { IsNewSide (desk_spec left.now) blocks (desk_view left_seat) }
+    requires right { IsNewSide (desk_spec right.now) blocks (desk_view right_seat) }
+    ensures left { IfOk result (λ served. IsDeskSeat left.now served.left) }
+    ensures right { IfOk result (λ served. IsDeskSeat right.now served.right) }
+    ensures served { IfOk result (λ served. HasServed desk_spec left.now right.now (desk_view left_seat)
+        (desk_view right_seat) blocks (ops_of_thread threads.now) served.answers (desk_view served.left)
+        (desk_view served.right)) }
+{
+    let mut mirror = Mirror::new(left, right, left_seat, right_seat, blocks);
+    let answers = serve_first(rt, alloc, &mut mirror, threads)?;
+    let (left, right) = mirror.seats();
+    Ok(Served {
+        answers,
+        left,
+        right,
+    })
+}
+
+/// What two parts left, and the answers, in one.
+fn gather(
+    alloc: Global,
+    left: Left,
+    right: Left,
+    answers: MirrorAnswers,
+) -> Result<Unheard, NoMemory>
+    ensures journals { IfOk result (λ made. made.journals ≡ left.journal ∷ right.journal ∷ []) }
+    ensures ends { IfOk result (λ made. made.ends ≡ left.end ∷ right.end ∷ []) }
+    ensures answers { IfOk result (λ made. made.answers ≡ answers) }
+{
+    let mut journals = Journals::new(alloc);
+    journals.push(left.journal)?;
+    journals.push(right.journal)?;
+    let mut ends = PartEnds::new(alloc);
+    ends.push(left.end)?;
+    ends.push(right.end)?;
+    Ok(Unheard {
+        journals,
+        ends,
+        answers,
+    })
+}

@@ -8,6 +8,8 @@ pub mod laws;
 mod script;
 mod seat;
 mod simulating;
+#[cfg(test)]
+mod tests;
 mod whole_run;
 
 pub use ends::end_of;

@@ -1,0 +1,5 @@
+use Rattle.part_server.specs.Desk.{IsDeskSeat}
+use Rattle.desk_cases.proofs.persisting.call_until_answered.Given as goal
+
+abbrev pub invariant-loop-attempt : goal.invariant-loop-attempt
+invariant-loop-attempt g l = IsDeskSeat l.desk l.seat

@@ -1,4 +1,6 @@
+pub mod Audits
 pub mod Campaigns
+pub mod Mirrors
 pub mod Numerals
 pub mod Reports
 pub mod Runs

@@ -1,9 +1,9 @@
 -- The number of a generated scenario and its text.
-use Rattle.std.proofs.Common.{◌≡◌, ℕ, ◌^◌, ◌<◌, ◌≤◌, ◌==◌, ◌&&◌, nat_le, not, if◌then◌else◌, Bool, true, false, Option, Some, None, Result, Ok, Err, List, [], ◌∷◌, IfNone, IfSome, get_or, refl, sym, ap, ◌∙◌, arith, true≢false, decimal, length}
+use Rattle.std.proofs.Common.{◌≡◌, ℕ, ◌^◌, ◌<◌, ◌≤◌, ◌==◌, ◌&&◌, nat_le, not, if◌then◌else◌, Bool, true, false, Option, Some, None, Result, Ok, Err, List, [], ◌∷◌, IfNone, IfSome, get_or, refl, sym, ap, ◌∙◌, arith, true≢false, decimal}
 use Rattle.std.proofs.lemmas.Bool.{and_parts, le-leb, leb-true}
 use Rattle.std.proofs.lemmas.Fmt.{decimal-digits_value, first_decimal, parse-decimal}
 use Rattle.std.proofs.lemmas.Str.Parse.{numerals_by_value, tells_digits}
-use Rattle.std.specs.Str.Parse.{ParsesUnsigned, AllDigits, IsNumeral, digits_value}
+use Rattle.std.specs.Str.Parse.{ParsesUnsigned, IsNumeral, digits_value}
 use Rattle.nooks.specs.Forms.{is_plain, within}
 use Rattle.part_laws.proofs.BurstKeeps.{split}
 

@@ -1,5 +1,5 @@
 -- The writing of reports and of summaries ends as the status tells.
-use Rattle.std.proofs.Common.{◌≡◌, ℕ, ◌+◌, ◌^◌, ◌<◌, ◌≤◌, ◌==◌, ◌||◌, Bool, true, false, if◌then◌else◌, List, [], ◌∷◌, ◌++◌, ◌⊎◌, inl, inr, length, map, Option, Result, Ok, Err, IfOk, OnOk, OnErr, refl, sym, ap, ◌∙◌, subst, arith, append_assoc}
+use Rattle.std.proofs.Common.{◌≡◌, ℕ, ◌^◌, ◌<◌, ◌≤◌, Bool, true, false, if◌then◌else◌, List, [], ◌∷◌, length, map, Result, Ok, Err, IfOk, refl, sym, ap, ◌∙◌, subst, arith, append_assoc}
 use Rattle.nook_defs.specs.declared.data.Event.{Event}
 use Rattle.nook_defs.specs.declared.data.PartSpec.{PartSpec}
 use Rattle.nook_defs.specs.declared.data.Scenario.{Scenario}
@@ -13,7 +13,6 @@ use Rattle.nook_defs.specs.Simulation.{begins, journals_of}
 use Rattle.nook_defs.specs.Valid.{IsValidScenario}
 use Rattle.report_text.specs.Whole.{HaveEnds, IsReport, summaries}
 use Rattle.report_text.specs.declared.whole_report.PartEnd.{PartEnd}
-use Rattle.report_text.specs.declared.whole_report.PartReport.{PartReport}
 use Rattle.report_text.specs.declared.whole_report.Report.{Report}
 use Rattle.report_text.specs.declared.report.Run.{Run}
 use Rattle.request_taps.specs.Bus.{result_of, settled, told_all}
@@ -28,7 +27,7 @@ use Rattle.nooks.specs.declared.words.Form.TheVariants as form
 use Rattle.threaded_run.specs.Threaded.{AreAnswered, IsThreaded, in_parts}
 use Rattle.nook_defs.specs.declared.data.Answer.{Answer}
 use Rattle.run_laws.proofs.Reached.{parts_answered}
-use Rattle.nooks.specs.Answers.{IsByThreads, IsReportStatus, IsReported, IsRunOf, IsScheduled, IsSummary, IsWhole, Left}
+use Rattle.nooks.specs.Answers.{IsByThreads, IsReportStatus, IsReported, IsRunOf, IsScheduled, IsSummary, IsWhole}
 use Rattle.nooks.specs.Endings.{IsBegun, IsWritten, Writes}
 use Rattle.nooks.specs.Making.{IsMade, TellsStatus, failures_in, left_of}
 use Rattle.nooks.specs.Streams.{Change, Gains, GainsFront}
@@ -73,6 +72,7 @@ told_status specs journals number ended.BadInput e tells = absurd tells
 told_status specs journals number ended.ReadFault e tells = absurd tells
 told_status specs journals number ended.WriteFault e tells = absurd tells
 told_status specs journals number ended.NoMemory e tells = absurd tells
+told_status specs journals number ended.AuditNo e tells = absurd tells
 told_status specs journals number ended.ContractBroken e tells =
     status_known specs journals (λ z. tells.0 (e ∙ z)) (λ o. tells.1 (e ∙ o))
 
@@ -86,6 +86,7 @@ told_writes Answer sink number ended.BadInput tells written = absurd tells
 told_writes Answer sink number ended.ReadFault tells written = absurd tells
 told_writes Answer sink number ended.WriteFault tells written = absurd tells
 told_writes Answer sink number ended.NoMemory tells written = absurd tells
+told_writes Answer sink number ended.AuditNo tells written = absurd tells
 told_writes Answer sink number ended.ContractBroken tells written = written
 
 -- ---- reports

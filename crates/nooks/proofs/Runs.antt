@@ -1,11 +1,11 @@
 -- The call over bytes in memory, where neither side fails.
-use Rattle.std.proofs.Common.{◌≡◌, ℕ, ◌<◌, ◌≤◌, nat_le, if◌then◌else◌, Bool, true, false, IsTrue, List, ◌⊎◌, inl, inr, length, Option, Some, None, refl, sym, subst, arith, true≢false}
+use Rattle.std.proofs.Common.{◌≡◌, ℕ, ◌<◌, ◌≤◌, nat_le, Bool, true, false, List, ◌⊎◌, inl, inr, length, Option, Some, None, refl, sym, subst, arith, true≢false}
 use Rattle.std.proofs.lemmas.Bool.{le-leb, leb-true}
-use Rattle.nook_defs.specs.Causes.{HoldsMore, ReadsAll, Rose}
+use Rattle.nook_defs.specs.Causes.{ReadsAll, Rose}
 use Rattle.nook_defs.specs.Listening.{Listening}
 use Rattle.nooks.specs.Answers.{Answers}
-use Rattle.nooks.specs.Endings.{AnswersBytes, AnswersWords, IsAnswered, IsAnswerTo, IsWritten, ReadsFor}
-use Rattle.nooks.specs.Forms.{Asks, is_reading}
+use Rattle.nooks.specs.Endings.{AnswersBytes, AnswersWords, IsAnswered, IsWritten, ReadsFor, input_for}
+use Rattle.nooks.specs.Forms.{is_reading, limit_of}
 use Rattle.nooks.specs.Streams.{Change, Input, Reads, TooLong, Whole, input_of}
 use Rattle.nooks.specs.declared.program.Status.{Status}
 use Rattle.nooks.specs.declared.program.Status.TheVariants as ended
@@ -46,45 +46,47 @@ any_input form.Run a b hearing text status e answer = absurd (true≢false e)
 any_input form.RunThreads a b hearing text status e answer = absurd (true≢false e)
 any_input form.Asm a b hearing text status e answer = absurd (true≢false e)
 any_input form.Dis a b hearing text status e answer = absurd (true≢false e)
+any_input form.Audit a b hearing text status e answer = absurd (true≢false e)
 any_input form.Campaign a b hearing text status e answer = absurd (true≢false e)
+any_input form.Mirror a b hearing text status e answer = absurd (true≢false e)
 any_input (form.Gen number) a b hearing text status e answer = answer
 any_input form.Help a b hearing text status e answer = answer
 any_input form.Version a b hearing text status e answer = answer
 
-by_reading : (asked : Form) (reading : Bool) (told : List ℕ) (rest : Option (List ℕ)) (faults after limit : ℕ) (input : Input)
+by_reading : (asked : Form) (reading : Bool) (told : List ℕ) (rest : Option (List ℕ)) (faults after : ℕ) (input : Input)
     (hearing : List Listening) (text : List ℕ) (status : Status) → is_reading asked ≡ reading
-    → ReadsFor (Some asked) (record { before = record { told = Some told; faults = faults }; after = record { told = rest; faults = after } }) limit input
-    → Answers (Some asked) input hearing text status → Answers (Some asked) (input_of limit told) hearing text status
-by_reading asked true told rest faults after limit input hearing text status e reads answer =
-    subst (λ i. Answers (Some asked) i hearing text status) (read_input told rest faults after limit input (reads e)) answer
-by_reading asked false told rest faults after limit input hearing text status e reads answer =
-    any_input asked input (input_of limit told) hearing text status e answer
+    → ReadsFor (Some asked) (record { before = record { told = Some told; faults = faults }; after = record { told = rest; faults = after } }) input
+    → Answers (Some asked) input hearing text status → Answers (Some asked) (input_for (Some asked) told) hearing text status
+by_reading asked true told rest faults after input hearing text status e reads answer =
+    subst (λ i. Answers (Some asked) i hearing text status) (read_input told rest faults after (limit_of asked) input (reads e)) answer
+by_reading asked false told rest faults after input hearing text status e reads answer =
+    any_input asked input (input_for (Some asked) told) hearing text status e answer
 
-of_asked : (asked : Option Form) (told : List ℕ) (rest : Option (List ℕ)) (faults after limit : ℕ) (input : Input) (hearing : List Listening)
+of_asked : (asked : Option Form) (told : List ℕ) (rest : Option (List ℕ)) (faults after : ℕ) (input : Input) (hearing : List Listening)
     (text : List ℕ) (status : Status)
-    → ReadsFor asked (record { before = record { told = Some told; faults = faults }; after = record { told = rest; faults = after } }) limit input
-    → Answers asked input hearing text status → Answers asked (input_of limit told) hearing text status
-of_asked None told rest faults after limit input hearing text status reads answer = answer
-of_asked (Some asked) told rest faults after limit input hearing text status reads answer =
-    by_reading asked (is_reading asked) told rest faults after limit input hearing text status refl reads answer
+    → ReadsFor asked (record { before = record { told = Some told; faults = faults }; after = record { told = rest; faults = after } }) input
+    → Answers asked input hearing text status → Answers asked (input_for asked told) hearing text status
+of_asked None told rest faults after input hearing text status reads answer = answer
+of_asked (Some asked) told rest faults after input hearing text status reads answer =
+    by_reading asked (is_reading asked) told rest faults after input hearing text status refl reads answer
 
-answered_bytes : (words : List (List ℕ)) (hearing : List Listening) (told : List ℕ) (rest : Option (List ℕ)) (faults after limit : ℕ) (text : List ℕ)
+answered_bytes : (words : List (List ℕ)) (hearing : List Listening) (told : List ℕ) (rest : Option (List ℕ)) (faults after : ℕ) (text : List ℕ)
     (status : Status)
-    → AnswersWords words hearing (record { before = record { told = Some told; faults = faults }; after = record { told = rest; faults = after } }) limit text status
-    → AnswersBytes words hearing told limit text status
-answered_bytes words hearing told rest faults after limit text status answer = record {
+    → AnswersWords words hearing (record { before = record { told = Some told; faults = faults }; after = record { told = rest; faults = after } }) text status
+    → AnswersBytes words hearing told text status
+answered_bytes words hearing told rest faults after text status answer = record {
   asked = answer.asked;
   asks = answer.asks;
-  answer = of_asked answer.asked told rest faults after limit answer.answer.input hearing text status answer.answer.read answer.answer.answer;
+  answer = of_asked answer.asked told rest faults after answer.answer.input hearing text status answer.answer.read answer.answer.answer;
 }
 
 -- where neither side failed
-pub plain_ends : (words : List (List ℕ)) (hearing : List Listening) (told : List ℕ) (rest : Option (List ℕ)) (faults after limit : ℕ) (sink : Change)
+pub plain_ends : (words : List (List ℕ)) (hearing : List Listening) (told : List ℕ) (rest : Option (List ℕ)) (faults after : ℕ) (sink : Change)
     (status : Status)
     → (IsAnswered status
-    → IsWritten (AnswersWords words hearing (record { before = record { told = Some told; faults = faults }; after = record { told = rest; faults = after } }) limit) sink status)
+    → IsWritten (AnswersWords words hearing (record { before = record { told = Some told; faults = faults }; after = record { told = rest; faults = after } })) sink status)
     → IsAnswered status ⊎ (status ≡ ended.NoMemory)
-    → (status ≡ ended.NoMemory) ⊎ ((text : List ℕ) × AnswersBytes words hearing told limit text status)
-plain_ends words hearing told rest faults after limit sink status written (inl is) =
-    let w = written is in inr (w.text, answered_bytes words hearing told rest faults after limit w.text status w.answer)
-plain_ends words hearing told rest faults after limit sink status written (inr wanting) = inl wanting
+    → (status ≡ ended.NoMemory) ⊎ ((text : List ℕ) × AnswersBytes words hearing told text status)
+plain_ends words hearing told rest faults after sink status written (inl is) =
+    let w = written is in inr (w.text, answered_bytes words hearing told rest faults after w.text status w.answer)
+plain_ends words hearing told rest faults after sink status written (inr wanting) = inl wanting

@@ -1,7 +1,6 @@
 -- What the writing of an answer leaves, from the texts up to the call.
-use Rattle.std.proofs.Common.{◌≡◌, ℕ, ◌<◌, ◌≤◌, Bool, true, false, IsTrue, List, [], ◌∷◌, map, ap, Result, Ok, IfOk, ◌⊎◌, inl, inr, length, Option, Some, None, refl, sym, ◌∙◌, subst, append-nil, arith, true≢false}
-use Rattle.std.specs.Io.KnownBytes.{Appends, Keeps}
-use Rattle.nook_defs.specs.Causes.{AppendsPrefix, HoldsMore, ReadsAll, Rose}
+use Rattle.std.proofs.Common.{◌≡◌, ℕ, true, List, [], ◌∷◌, map, ap, Result, Ok, IfOk, ◌⊎◌, inl, inr, Option, Some, None, refl, sym, ◌∙◌, subst, true≢false}
+use Rattle.std.specs.Io.KnownBytes.{Keeps}
 use Rattle.nook_defs.specs.Faults.{fault_line}
 use Rattle.nook_defs.specs.Listening.{Listening}
 use Rattle.nook_defs.specs.declared.input.InputFault.TheVariants as fault
@@ -13,10 +12,10 @@ use Rattle.scenario_read.specs.Gives.{Fails}
 use Rattle.scenario_read.specs.declared.stop.ScenarioFault.{ScenarioFault}
 use Rattle.scenario_read.specs.declared.stop.ScenarioFault.TheVariants as stops
 use Rattle.request_taps.specs.declared.tap.Tap.{Tap}
-use Rattle.nooks.specs.Answers.{Answers, AnswersForm, AnswersInput, IsReported, Says, fault_in, fault_of}
-use Rattle.nooks.specs.Endings.{AnswersBytes, AnswersWords, Ends, IsAnswerTo, IsAnswered, IsBegun, IsCut, IsWritten, ReadsFor, StopWrites, Writes}
-use Rattle.nooks.specs.Forms.{Asks, IsForm, IsNoForm, is_reading}
-use Rattle.nooks.specs.Streams.{Change, Gains, GainsFront, GainsNothing, HasFailed, Input, Reads, TooLong, Whole, input_of}
+use Rattle.nooks.specs.Answers.{Answers, AnswersInput, IsFaultOf, IsRefused, IsReported, Says}
+use Rattle.nooks.specs.Endings.{AnswersWords, Ends, IsAnswerTo, IsAnswered, IsBegun, IsCut, IsWritten, ReadsFor, StopWrites, Writes}
+use Rattle.nooks.specs.Forms.{Asks, is_reading, limit_of}
+use Rattle.nooks.specs.Streams.{Change, Gains, GainsFront, GainsNothing, HasFailed, Input, Reads, TooLong, Whole}
 use Rattle.nooks.specs.Texts.{at_root, usage_text}
 use Rattle.nooks.specs.declared.program.Status.{Status}
 use Rattle.nooks.specs.declared.program.Status.TheVariants as ended
@@ -35,6 +34,7 @@ says_written ended.ReadFault text sink is gained = absurd is
 says_written ended.WriteFault text sink is gained = absurd is
 says_written ended.NoMemory text sink is gained = absurd is
 says_written ended.ContractBroken text sink is gained = record { text = text; answer = (refl, refl); gained = gained }
+says_written ended.AuditNo text sink is gained = record { text = text; answer = (refl, refl); gained = gained }
 
 -- a text of which a front was written
 pub says_begun : (status : Status) (text : List ℕ) (sink : Change) → HasFailed sink → GainsFront sink text → Writes (Says text status) sink ended.WriteFault
@@ -77,6 +77,7 @@ writes_more A B sink ended.ReadFault more ends = absurd ends
 writes_more A B sink ended.WriteFault more ends = (ends.0, begun_more A B sink more ends.1)
 writes_more A B sink ended.NoMemory more ends = nothing_more A B sink more ends
 writes_more A B sink ended.ContractBroken more ends = written_more A B sink ended.ContractBroken more ends
+writes_more A B sink ended.AuditNo more ends = written_more A B sink ended.AuditNo more ends
 
 -- ---- what was read
 
@@ -87,99 +88,105 @@ answers_input form.Run input hearing text status reads answer = answer
 answers_input form.RunThreads input hearing text status reads answer = answer
 answers_input form.Asm input hearing text status reads answer = answer
 answers_input form.Dis input hearing text status reads answer = answer
+answers_input form.Audit input hearing text status reads answer = answer
 answers_input form.Campaign input hearing text status reads answer = answer
+answers_input form.Mirror input hearing text status reads answer = answer
 answers_input (form.Gen number) input hearing text status reads answer = absurd (true≢false (sym reads))
 answers_input form.Help input hearing text status reads answer = absurd (true≢false (sym reads))
 answers_input form.Version input hearing text status reads answer = absurd (true≢false (sym reads))
 
 -- the call ends as the writing of an answer
-writes_end : (asked : Option Form) (hearing : List Listening) (source : Change) (limit : ℕ) (sink : Change) (status : Status)
-    → Writes (IsAnswerTo asked hearing source limit) sink status → Ends asked hearing source limit sink status
-writes_end asked hearing source limit sink ended.Done ends = ends
-writes_end asked hearing source limit sink ended.GivenUp ends = ends
-writes_end asked hearing source limit sink ended.Usage ends = ends
-writes_end asked hearing source limit sink ended.BadInput ends = ends
-writes_end asked hearing source limit sink ended.ReadFault ends = absurd ends
-writes_end asked hearing source limit sink ended.WriteFault ends = ends
-writes_end asked hearing source limit sink ended.NoMemory ends = ends
-writes_end asked hearing source limit sink ended.ContractBroken ends = ends
+writes_end : (asked : Option Form) (hearing : List Listening) (source : Change) (sink : Change) (status : Status)
+    → Writes (IsAnswerTo asked hearing source) sink status → Ends asked hearing source sink status
+writes_end asked hearing source sink ended.Done ends = ends
+writes_end asked hearing source sink ended.GivenUp ends = ends
+writes_end asked hearing source sink ended.Usage ends = ends
+writes_end asked hearing source sink ended.BadInput ends = ends
+writes_end asked hearing source sink ended.ReadFault ends = absurd ends
+writes_end asked hearing source sink ended.WriteFault ends = ends
+writes_end asked hearing source sink ended.NoMemory ends = ends
+writes_end asked hearing source sink ended.ContractBroken ends = ends
+writes_end asked hearing source sink ended.AuditNo ends = ends
 
 -- an input that was read and answered
 pub input_ends : (asked : Form) (input : Input) (hearing : List Listening) (source : Change) (limit : ℕ) (sink : Change) (status : Status)
-    → is_reading asked ≡ true → Reads source limit input → Writes (AnswersInput asked input hearing) sink status
-    → Ends (Some asked) hearing source limit sink status
-input_ends asked input hearing source limit sink status reading reads ends =
-    writes_end (Some asked) hearing source limit sink status
-    (writes_more (AnswersInput asked input hearing) (IsAnswerTo (Some asked) hearing source limit) sink status
-    (λ text s answer. record { input = input; read = λ _. reads; answer = answers_input asked input hearing text s reading answer }) ends)
+    → is_reading asked ≡ true → limit ≡ limit_of asked → Reads source limit input → Writes (AnswersInput asked input hearing) sink status
+    → Ends (Some asked) hearing source sink status
+input_ends asked input hearing source limit sink status reading limited reads ends =
+    writes_end (Some asked) hearing source sink status
+    (writes_more (AnswersInput asked input hearing) (IsAnswerTo (Some asked) hearing source) sink status
+    (λ text s answer. record { input = input; read = λ _. subst (λ l. Reads source l input) limited reads; answer = answers_input asked input hearing text s reading answer }) ends)
 
 -- words that ask for no input, and were answered
-pub unread_ends : (asked : Option Form) (hearing : List Listening) (source : Change) (limit : ℕ) (sink : Change) (status : Status)
-    (Answer : List ℕ → Status → Type 0) → ReadsFor asked source limit TooLong
+pub unread_ends : (asked : Option Form) (hearing : List Listening) (source : Change) (sink : Change) (status : Status)
+    (Answer : List ℕ → Status → Type 0) → ReadsFor asked source TooLong
     → ((text : List ℕ) (s : Status) → Answer text s → Answers asked TooLong hearing text s) → Writes Answer sink status
-    → Ends asked hearing source limit sink status
-unread_ends asked hearing source limit sink status Answer reads more ends =
-    writes_end asked hearing source limit sink status
-    (writes_more Answer (IsAnswerTo asked hearing source limit) sink status
+    → Ends asked hearing source sink status
+unread_ends asked hearing source sink status Answer reads more ends =
+    writes_end asked hearing source sink status
+    (writes_more Answer (IsAnswerTo asked hearing source) sink status
     (λ text s answer. record { input = TooLong; read = reads; answer = more text s answer }) ends)
 
 -- words of no form
-pub no_form_ends : (text : List ℕ) (hearing : List Listening) (source : Change) (limit : ℕ) (sink : Change) (status : Status) → text ≡ usage_text
-    → Writes (Says text ended.Usage) sink status → Ends None hearing source limit sink status
-no_form_ends text hearing source limit sink status e ends =
-    unread_ends None hearing source limit sink status (Says text ended.Usage) tt (λ said s answer. (answer.0 ∙ e, answer.1)) ends
+pub no_form_ends : (text : List ℕ) (hearing : List Listening) (source : Change) (sink : Change) (status : Status) → text ≡ usage_text
+    → Writes (Says text ended.Usage) sink status → Ends None hearing source sink status
+no_form_ends text hearing source sink status e ends =
+    unread_ends None hearing source sink status (Says text ended.Usage) tt (λ said s answer. (answer.0 ∙ e, answer.1)) ends
 
 -- ---- the clauses of the call
 
-worded : (words : List (List ℕ)) (asked : Option Form) (hearing : List Listening) (source : Change) (limit : ℕ) → Asks words asked
-    → (text : List ℕ) (status : Status) → IsAnswerTo asked hearing source limit text status → AnswersWords words hearing source limit text status
-worded words asked hearing source limit asks text status answer = record { asked = asked; asks = asks; answer = answer }
+worded : (words : List (List ℕ)) (asked : Option Form) (hearing : List Listening) (source : Change) → Asks words asked
+    → (text : List ℕ) (status : Status) → IsAnswerTo asked hearing source text status → AnswersWords words hearing source text status
+worded words asked hearing source asks text status answer = record { asked = asked; asks = asks; answer = answer }
 
-pub ends_answered : (words : List (List ℕ)) (asked : Option Form) (hearing : List Listening) (source : Change) (limit : ℕ) (sink : Change)
-    (status : Status) → Asks words asked → Ends asked hearing source limit sink status → IsAnswered status
-    → IsWritten (AnswersWords words hearing source limit) sink status
-ends_answered words asked hearing source limit sink ended.Done asks ends is = written_more _ _ sink _ (worded words asked hearing source limit asks) ends
-ends_answered words asked hearing source limit sink ended.GivenUp asks ends is = written_more _ _ sink _ (worded words asked hearing source limit asks) ends
-ends_answered words asked hearing source limit sink ended.Usage asks ends is = written_more _ _ sink _ (worded words asked hearing source limit asks) ends
-ends_answered words asked hearing source limit sink ended.BadInput asks ends is = written_more _ _ sink _ (worded words asked hearing source limit asks) ends
-ends_answered words asked hearing source limit sink ended.ReadFault asks ends is = absurd is
-ends_answered words asked hearing source limit sink ended.WriteFault asks ends is = absurd is
-ends_answered words asked hearing source limit sink ended.NoMemory asks ends is = absurd is
-ends_answered words asked hearing source limit sink ended.ContractBroken asks ends is = written_more _ _ sink _ (worded words asked hearing source limit asks) ends
+pub ends_answered : (words : List (List ℕ)) (asked : Option Form) (hearing : List Listening) (source : Change) (sink : Change)
+    (status : Status) → Asks words asked → Ends asked hearing source sink status → IsAnswered status
+    → IsWritten (AnswersWords words hearing source) sink status
+ends_answered words asked hearing source sink ended.Done asks ends is = written_more _ _ sink _ (worded words asked hearing source asks) ends
+ends_answered words asked hearing source sink ended.GivenUp asks ends is = written_more _ _ sink _ (worded words asked hearing source asks) ends
+ends_answered words asked hearing source sink ended.Usage asks ends is = written_more _ _ sink _ (worded words asked hearing source asks) ends
+ends_answered words asked hearing source sink ended.BadInput asks ends is = written_more _ _ sink _ (worded words asked hearing source asks) ends
+ends_answered words asked hearing source sink ended.ReadFault asks ends is = absurd is
+ends_answered words asked hearing source sink ended.WriteFault asks ends is = absurd is
+ends_answered words asked hearing source sink ended.NoMemory asks ends is = absurd is
+ends_answered words asked hearing source sink ended.ContractBroken asks ends is = written_more _ _ sink _ (worded words asked hearing source asks) ends
+ends_answered words asked hearing source sink ended.AuditNo asks ends is = written_more _ _ sink _ (worded words asked hearing source asks) ends
 
-pub ends_cut : (words : List (List ℕ)) (asked : Option Form) (hearing : List Listening) (source : Change) (limit : ℕ) (sink : Change)
-    (status : Status) → Asks words asked → Ends asked hearing source limit sink status → IsCut status
-    → GainsNothing sink ⊎ IsBegun (AnswersWords words hearing source limit) sink
-ends_cut words asked hearing source limit sink ended.Done asks ends is = absurd is
-ends_cut words asked hearing source limit sink ended.GivenUp asks ends is = absurd is
-ends_cut words asked hearing source limit sink ended.Usage asks ends is = absurd is
-ends_cut words asked hearing source limit sink ended.BadInput asks ends is = absurd is
-ends_cut words asked hearing source limit sink ended.ReadFault asks ends is = absurd is
-ends_cut words asked hearing source limit sink ended.WriteFault asks ends is = inr (begun_more _ _ sink (worded words asked hearing source limit asks) ends.1)
-ends_cut words asked hearing source limit sink ended.NoMemory asks ends is = nothing_more _ _ sink (worded words asked hearing source limit asks) ends
-ends_cut words asked hearing source limit sink ended.ContractBroken asks ends is = absurd is
+pub ends_cut : (words : List (List ℕ)) (asked : Option Form) (hearing : List Listening) (source : Change) (sink : Change)
+    (status : Status) → Asks words asked → Ends asked hearing source sink status → IsCut status
+    → GainsNothing sink ⊎ IsBegun (AnswersWords words hearing source) sink
+ends_cut words asked hearing source sink ended.Done asks ends is = absurd is
+ends_cut words asked hearing source sink ended.GivenUp asks ends is = absurd is
+ends_cut words asked hearing source sink ended.Usage asks ends is = absurd is
+ends_cut words asked hearing source sink ended.BadInput asks ends is = absurd is
+ends_cut words asked hearing source sink ended.ReadFault asks ends is = absurd is
+ends_cut words asked hearing source sink ended.WriteFault asks ends is = inr (begun_more _ _ sink (worded words asked hearing source asks) ends.1)
+ends_cut words asked hearing source sink ended.NoMemory asks ends is = nothing_more _ _ sink (worded words asked hearing source asks) ends
+ends_cut words asked hearing source sink ended.ContractBroken asks ends is = absurd is
+ends_cut words asked hearing source sink ended.AuditNo asks ends is = absurd is
 
-pub ends_complete : (asked : Option Form) (hearing : List Listening) (source : Change) (limit : ℕ) (sink : Change) (status : Status)
-    → Ends asked hearing source limit sink status → (HasFailed source → ⊥) → (HasFailed sink → ⊥) → IsAnswered status ⊎ (status ≡ ended.NoMemory)
-ends_complete asked hearing source limit sink ended.Done ends read wrote = inl tt
-ends_complete asked hearing source limit sink ended.GivenUp ends read wrote = inl tt
-ends_complete asked hearing source limit sink ended.Usage ends read wrote = inl tt
-ends_complete asked hearing source limit sink ended.BadInput ends read wrote = inl tt
-ends_complete asked hearing source limit sink ended.ReadFault ends read wrote = absurd (read ends.0)
-ends_complete asked hearing source limit sink ended.WriteFault ends read wrote = absurd (wrote ends.0)
-ends_complete asked hearing source limit sink ended.NoMemory ends read wrote = inr refl
-ends_complete asked hearing source limit sink ended.ContractBroken ends read wrote = inl tt
+pub ends_complete : (asked : Option Form) (hearing : List Listening) (source : Change) (sink : Change) (status : Status)
+    → Ends asked hearing source sink status → (HasFailed source → ⊥) → (HasFailed sink → ⊥) → IsAnswered status ⊎ (status ≡ ended.NoMemory)
+ends_complete asked hearing source sink ended.Done ends read wrote = inl tt
+ends_complete asked hearing source sink ended.GivenUp ends read wrote = inl tt
+ends_complete asked hearing source sink ended.Usage ends read wrote = inl tt
+ends_complete asked hearing source sink ended.BadInput ends read wrote = inl tt
+ends_complete asked hearing source sink ended.ReadFault ends read wrote = absurd (read ends.0)
+ends_complete asked hearing source sink ended.WriteFault ends read wrote = absurd (wrote ends.0)
+ends_complete asked hearing source sink ended.NoMemory ends read wrote = inr refl
+ends_complete asked hearing source sink ended.ContractBroken ends read wrote = inl tt
+ends_complete asked hearing source sink ended.AuditNo ends read wrote = inl tt
 
-pub ends_read_fault : (asked : Option Form) (hearing : List Listening) (source : Change) (limit : ℕ) (sink : Change) (status : Status)
-    → Ends asked hearing source limit sink status → status ≡ ended.ReadFault → HasFailed source
-ends_read_fault asked hearing source limit sink status ends e =
-    let at : Ends asked hearing source limit sink ended.ReadFault = subst (λ s. Ends asked hearing source limit sink s) e ends in
+pub ends_read_fault : (asked : Option Form) (hearing : List Listening) (source : Change) (sink : Change) (status : Status)
+    → Ends asked hearing source sink status → status ≡ ended.ReadFault → HasFailed source
+ends_read_fault asked hearing source sink status ends e =
+    let at : Ends asked hearing source sink ended.ReadFault = subst (λ s. Ends asked hearing source sink s) e ends in
     at.0
 
-pub ends_write_fault : (asked : Option Form) (hearing : List Listening) (source : Change) (limit : ℕ) (sink : Change) (status : Status)
-    → Ends asked hearing source limit sink status → status ≡ ended.WriteFault → HasFailed sink
-ends_write_fault asked hearing source limit sink status ends e =
-    let at : Ends asked hearing source limit sink ended.WriteFault = subst (λ s. Ends asked hearing source limit sink s) e ends in
+pub ends_write_fault : (asked : Option Form) (hearing : List Listening) (source : Change) (sink : Change) (status : Status)
+    → Ends asked hearing source sink status → status ≡ ended.WriteFault → HasFailed sink
+ends_write_fault asked hearing source sink status ends e =
+    let at : Ends asked hearing source sink ended.WriteFault = subst (λ s. Ends asked hearing source sink s) e ends in
     at.0
 
 -- ---- listeners
@@ -217,11 +224,11 @@ scenario_answered_by_threads bytes scenario hearing sink status reading ends =
 
 -- bytes that are refused
 pub refused : (asked : Form) (bytes : List ℕ) (hearing : List Listening) (T : Type 0) (reading : Result T Refusal) (stop : ScenarioFault)
-    (sink : Change) (status : Status) → fault_of asked bytes ≡ fault_in reading → Fails stop reading → StopWrites stop sink status
-    → Writes (AnswersInput asked (Whole bytes) hearing) sink status
+    (sink : Change) (status : Status) → ((text : List ℕ) → IsRefused reading text → IsFaultOf asked bytes text) → Fails stop reading
+    → StopWrites stop sink status → Writes (AnswersInput asked (Whole bytes) hearing) sink status
 refused asked bytes hearing T reading (stops.Bad refusal) sink status same fails ends =
     writes_more (Says (fault_line refusal) ended.BadInput) (AnswersInput asked (Whole bytes) hearing) sink status
-    (λ text s said. inl (record { refusal = refusal; reading = same ∙ ap fault_in fails; text_is = said.0 }, said.1)) ends
+    (λ text s said. inl (same text (record { refusal = refusal; is = fails; text_is = said.0 }), said.1)) ends
 refused asked bytes hearing T reading stops.NoMemory sink status same fails ends =
     subst (λ s. Writes (AnswersInput asked (Whole bytes) hearing) sink s) (sym ends.0) (inl ends.1)
 

@@ -1,6 +1,6 @@
 -- What the program answers: for the form of the words, what was read and who listens, the text that is written and the
 -- status that it ends with. It is a relation, since the threads of `run threads` may take their turns in many orders.
-use Rattle.std.specs.Prelude.{◌≡◌, ℕ, List, [], ◌⊎◌, map, Bool, Option, Some, None, Result, Ok, Err}
+use Rattle.std.specs.Prelude.{◌≡◌, ℕ, ◌<◌, ◌≤◌, List, [], ◌∷◌, ◌⊎◌, length, map, Bool, true, false, Option, Some, None, Result, Ok, Err}
 use Rattle.std.specs.List.{AllZip}
 use Rattle.nook_defs.specs.CampaignReading.{campaign_from}
 use Rattle.nook_defs.specs.Campaigns.{member, row_of, table_text}
@@ -19,14 +19,21 @@ use Rattle.nook_defs.specs.declared.data.Campaign.{Campaign}
 use Rattle.nook_defs.specs.declared.data.Event.{Event}
 use Rattle.nook_defs.specs.declared.data.Image.{Image}
 use Rattle.nook_defs.specs.declared.data.MemberRow.{MemberRow}
+use Rattle.nook_defs.specs.declared.data.MirrorAnswer.{MirrorAnswer}
 use Rattle.nook_defs.specs.declared.data.Scenario.{Scenario}
 use Rattle.nook_defs.specs.declared.input.InputFault.TheVariants as fault
 use Rattle.nook_defs.specs.declared.input.Refusal.{Refusal}
+use Rattle.mirrored_run.specs.Mirrors.{IsMirrorRun, is_mirror, mirror_status}
+use Rattle.report_text.specs.Mirrored.{mirror_report_text}
 use Rattle.sim_run.specs.Published.{published}
 use Rattle.threaded_run.specs.Threaded.{AreAnswered, IsThreaded, in_parts}
 use Rattle.part_laws.specs.Headline.{AreSafe}
+use Rattle.audit_input.specs.Handed.{Hands, HandsNothing}
+use Rattle.audit_laws.specs.Audit.{audited}
+use Rattle.audit_laws.specs.Fitting.{AllFit, fitting_text}
 use Rattle.nooks.specs.Streams.{Input, TooLong, Whole}
-use Rattle.nooks.specs.Texts.{at_root, help_text, usage_text, version_text}
+use Rattle.nooks.specs.Forms.{limit_of}
+use Rattle.nooks.specs.Texts.{at_root, bad_header_text, help_text, not_mirror_text, usage_text, verdict_text, version_text}
 use Rattle.nooks.specs.declared.program.Status.{Status}
 use Rattle.nooks.specs.declared.program.Status.TheVariants as ended
 use Rattle.nooks.specs.declared.words.Form.{Form}
@@ -131,6 +138,60 @@ pub record IsTableOf (bytes text : List ℕ) : Type 0 where
   pub members : AreMembers campaign rows
   pub text_is : text ≡ table_text rows
 
+-- ---- audits
+
+-- a report is that of runs of which all that is promised of runs holds, of which each has just the scripts' invocations
+-- and the scenario's arrivals
+pub record IsSound (scenario : Scenario) (report : List ℕ) : Type 0 where
+  pub journals : List (List Event)
+  pub fit : AllFit scenario.threads 0 scenario.parts journals
+  pub safe : AreSafe scenario.parts journals
+  pub text_is : report ≡ fitting_text scenario journals
+
+-- the status of a verdict
+abbrev pub verdict_status : Option ℕ → Status
+verdict_status None = ended.Done
+verdict_status (Some number) = ended.AuditNo
+
+-- the verdict on a report of a scenario; where every line fits, the report is sound
+pub record IsVerdict (scenario : Scenario) (report text : List ℕ) (status : Status) : Type 0 where
+  pub text_is : text ≡ verdict_text (audited scenario report)
+  pub status_is : status ≡ verdict_status (audited scenario report)
+  pub sound : audited scenario report ≡ None → IsSound scenario report
+
+-- the verdict on the report that some bytes hand in behind its scenario
+pub record IsAuditOf (bytes text : List ℕ) (status : Status) : Type 0 where
+  pub handed : List ℕ
+  pub report : List ℕ
+  pub hands : Hands bytes handed report
+  pub short : length handed ≤ limit_of form.Run
+  pub scenario : Scenario
+  pub reading : scenario_from handed ≡ Ok scenario
+  pub verdict : IsVerdict scenario report text status
+
+-- ---- mirrors
+
+-- the report of a run of the mirror of a scenario, which the listeners count journal by journal, and its status; every part
+-- of it is safe, and the printed answers are the mirror's
+pub record IsMirrored (scenario : Scenario) (hearing : List Listening) (text : List ℕ) (status : Status) : Type 0 where
+  pub left : List Event
+  pub right : List Event
+  pub answers : List MirrorAnswer
+  pub taps : List (ℕ × Bool)
+  pub run : IsMirrorRun scenario left right answers
+  pub safe : AreSafe scenario.parts (left ∷ right ∷ [])
+  pub told : taps ≡ map (λ l. tap_result l (in_parts 0 (left ∷ right ∷ []))) hearing
+  pub status_is : IsReportStatus (mirror_status scenario left right answers) status
+  pub text_is : text
+      ≡ mirror_report_text scenario (left ∷ right ∷ []) answers taps (mirror_status scenario left right answers)
+
+-- the report of the mirror of the scenario that some bytes are
+pub record IsMirrorOf (bytes : List ℕ) (hearing : List Listening) (text : List ℕ) (status : Status) : Type 0 where
+  pub scenario : Scenario
+  pub reading : scenario_from bytes ≡ Ok scenario
+  pub served : is_mirror scenario ≡ true
+  pub mirrored : IsMirrored scenario hearing text status
+
 -- a text and a status are these two
 abbrev pub Says : List ℕ → Status → List ℕ → Status → Type 0
 Says line end text status = (text ≡ line) × (status ≡ end)
@@ -141,29 +202,49 @@ Does form.Run bytes hearing text status = IsReportOf form.Run bytes hearing text
 Does form.RunThreads bytes hearing text status = IsReportOf form.RunThreads bytes hearing text status
 Does form.Asm bytes hearing text status = IsImageOf bytes text × (status ≡ ended.Done)
 Does form.Dis bytes hearing text status = IsAsmOf bytes text × (status ≡ ended.Done)
+Does form.Audit bytes hearing text status = IsAuditOf bytes text status
 Does form.Campaign bytes hearing text status = IsTableOf bytes text × (status ≡ ended.Done)
+Does form.Mirror bytes hearing text status = IsMirrorOf bytes hearing text status
 Does asked bytes hearing text status = ⊥
 
 -- ---- faults of an input
 
-abbrev pub fault_in : {T : Type 0} → Result T Refusal → Option Refusal
-fault_in (Ok read) = None
-fault_in (Err refusal) = Some refusal
+-- the line of the fault for which a reading is refused
+pub record IsRefused {T : Type 0} (reading : Result T Refusal) (text : List ℕ) : Type 0 where
+  pub refusal : Refusal
+  pub is : reading ≡ Err refusal
+  pub text_is : text ≡ fault_line refusal
 
--- the first fault of some bytes, if there is one
-abbrev pub fault_of : Form → List ℕ → Option Refusal
-fault_of form.Run bytes = fault_in (scenario_from bytes)
-fault_of form.RunThreads bytes = fault_in (scenario_from bytes)
-fault_of form.Asm bytes = fault_in (image_from_asm bytes)
-fault_of form.Dis bytes = fault_in (image_from bytes)
-fault_of form.Campaign bytes = fault_in (campaign_from bytes)
-fault_of asked bytes = None
+-- the line of the first fault of the scenario that is handed in for an audit
+abbrev pub IsScenarioFault : List ℕ → List ℕ → Type 0
+IsScenarioFault scenario text =
+    ((limit_of form.Run < length scenario) × (text ≡ fault_line (at_root fault.TooMany)))
+    ⊎ ((length scenario ≤ limit_of form.Run) × IsRefused (scenario_from scenario) text)
+
+-- some bytes hand in a scenario with a fault
+pub record HandsFault (bytes text : List ℕ) : Type 0 where
+  pub scenario : List ℕ
+  pub report : List ℕ
+  pub hands : Hands bytes scenario report
+  pub fault : IsScenarioFault scenario text
+
+-- some bytes are a scenario that a mirror does not serve
+pub record IsUnserved (bytes text : List ℕ) : Type 0 where
+  pub scenario : Scenario
+  pub reading : scenario_from bytes ≡ Ok scenario
+  pub unserved : is_mirror scenario ≡ false
+  pub text_is : text ≡ not_mirror_text
 
 -- the line of the first fault of some bytes
-pub record IsFaultOf (asked : Form) (bytes text : List ℕ) : Type 0 where
-  pub refusal : Refusal
-  pub reading : fault_of asked bytes ≡ Some refusal
-  pub text_is : text ≡ fault_line refusal
+abbrev pub IsFaultOf : Form → List ℕ → List ℕ → Type 0
+IsFaultOf form.Run bytes text = IsRefused (scenario_from bytes) text
+IsFaultOf form.RunThreads bytes text = IsRefused (scenario_from bytes) text
+IsFaultOf form.Asm bytes text = IsRefused (image_from_asm bytes) text
+IsFaultOf form.Dis bytes text = IsRefused (image_from bytes) text
+IsFaultOf form.Audit bytes text = (HandsNothing bytes × (text ≡ bad_header_text)) ⊎ HandsFault bytes text
+IsFaultOf form.Campaign bytes text = IsRefused (campaign_from bytes) text
+IsFaultOf form.Mirror bytes text = IsRefused (scenario_from bytes) text ⊎ IsUnserved bytes text
+IsFaultOf asked bytes text = ⊥
 
 -- ---- the answer
 

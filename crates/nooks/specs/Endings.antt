@@ -5,8 +5,8 @@ use Rattle.nook_defs.specs.Faults.{fault_line}
 use Rattle.scenario_read.specs.declared.stop.ScenarioFault.{ScenarioFault}
 use Rattle.scenario_read.specs.declared.stop.ScenarioFault.TheVariants as stop
 use Rattle.nooks.specs.Answers.{Answers, Says}
-use Rattle.nooks.specs.Forms.{Asks, is_reading}
-use Rattle.nooks.specs.Streams.{Change, Gains, GainsFront, GainsNothing, HasFailed, Input, Reads, input_of}
+use Rattle.nooks.specs.Forms.{Asks, is_reading, limit_of}
+use Rattle.nooks.specs.Streams.{Change, Gains, GainsFront, GainsNothing, HasFailed, Input, Reads, TooLong, input_of}
 use Rattle.nooks.specs.declared.program.Status.{Status}
 use Rattle.nooks.specs.declared.program.Status.TheVariants as ended
 use Rattle.nooks.specs.declared.words.Form.{Form}
@@ -23,6 +23,7 @@ code_of ended.ReadFault = 4
 code_of ended.WriteFault = 5
 code_of ended.NoMemory = 6
 code_of ended.ContractBroken = 7
+code_of ended.AuditNo = 8
 
 -- the status of an answer that was written whole
 abbrev pub IsAnswered : Status → Type 0
@@ -40,30 +41,35 @@ IsCut status = ⊥
 -- ---- the answer to a call
 
 -- what was read for what the words ask
-abbrev pub ReadsFor : Option Form → Change → ℕ → Input → Type 0
-ReadsFor None source limit input = ⊤
-ReadsFor (Some asked) source limit input = is_reading asked ≡ true → Reads source limit input
+abbrev pub ReadsFor : Option Form → Change → Input → Type 0
+ReadsFor None source input = ⊤
+ReadsFor (Some asked) source input = is_reading asked ≡ true → Reads source (limit_of asked) input
+
+-- what is read of some bytes for what the words ask
+abbrev pub input_for : Option Form → List ℕ → Input
+input_for None bytes = TooLong
+input_for (Some asked) bytes = input_of (limit_of asked) bytes
 
 -- a text, with its status, is what the program answers to what is asked, over what was read of the source for it
-pub record IsAnswerTo (asked : Option Form) (hearing : List Listening) (source : Change) (limit : ℕ) (text : List ℕ)
+pub record IsAnswerTo (asked : Option Form) (hearing : List Listening) (source : Change) (text : List ℕ)
     (status : Status) : Type 0 where
   pub input : Input
-  pub read : ReadsFor asked source limit input
+  pub read : ReadsFor asked source input
   pub answer : Answers asked input hearing text status
 
 -- it is what the program answers to the words
-pub record AnswersWords (words : List (List ℕ)) (hearing : List Listening) (source : Change) (limit : ℕ) (text : List ℕ)
+pub record AnswersWords (words : List (List ℕ)) (hearing : List Listening) (source : Change) (text : List ℕ)
     (status : Status) : Type 0 where
   pub asked : Option Form
   pub asks : Asks words asked
-  pub answer : IsAnswerTo asked hearing source limit text status
+  pub answer : IsAnswerTo asked hearing source text status
 
--- it is what the program answers to the words over some bytes, of which it reads at most the limit
-pub record AnswersBytes (words : List (List ℕ)) (hearing : List Listening) (bytes : List ℕ) (limit : ℕ) (text : List ℕ)
+-- it is what the program answers to the words over some bytes
+pub record AnswersBytes (words : List (List ℕ)) (hearing : List Listening) (bytes : List ℕ) (text : List ℕ)
     (status : Status) : Type 0 where
   pub asked : Option Form
   pub asks : Asks words asked
-  pub answer : Answers asked (input_of limit bytes) hearing text status
+  pub answer : Answers asked (input_for asked bytes) hearing text status
 
 -- ---- what a sink gains of an answer, of which `Answer` says which texts it may be, and with which status
 
@@ -93,6 +99,6 @@ StopWrites (stop.Bad refusal) sink status = Writes (Says (fault_line refusal) en
 StopWrites stop.NoMemory sink status = (status ≡ ended.NoMemory) × GainsNothing sink
 
 -- how a call ended that read the source for what is asked: a fault of the source leaves the sink as it was
-abbrev pub Ends : Option Form → List Listening → Change → ℕ → Change → Status → Type 0
-Ends asked hearing source limit sink ended.ReadFault = HasFailed source × GainsNothing sink
-Ends asked hearing source limit sink status = Writes (IsAnswerTo asked hearing source limit) sink status
+abbrev pub Ends : Option Form → List Listening → Change → Change → Status → Type 0
+Ends asked hearing source sink ended.ReadFault = HasFailed source × GainsNothing sink
+Ends asked hearing source sink status = Writes (IsAnswerTo asked hearing source) sink status

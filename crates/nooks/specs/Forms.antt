@@ -10,7 +10,9 @@ IsForm words form.RunThreads = words ≡ codes "run" ∷ codes "threads" ∷ []
 IsForm words form.Asm = words ≡ codes "asm" ∷ []
 IsForm words form.Dis = words ≡ codes "dis" ∷ []
 IsForm words (form.Gen n) = (words ≡ codes "gen" ∷ decimal n ∷ []) × (1 ≤ n) × (n ≤ 256)
+IsForm words form.Audit = words ≡ codes "audit" ∷ []
 IsForm words form.Campaign = words ≡ codes "campaign" ∷ []
+IsForm words form.Mirror = words ≡ codes "mirror" ∷ []
 IsForm words form.Help = words ≡ codes "--help" ∷ []
 IsForm words form.Version = words ≡ codes "--version" ∷ []
 
@@ -30,9 +32,16 @@ is_reading form.RunThreads = true
 is_reading form.Asm = true
 is_reading form.Dis = true
 is_reading (form.Gen n) = false
+is_reading form.Audit = true
 is_reading form.Campaign = true
+is_reading form.Mirror = true
 is_reading form.Help = false
 is_reading form.Version = false
+
+-- the most bytes of an input
+abbrev pub limit_of : Form → ℕ
+limit_of form.Audit = 16777216
+limit_of asked = 1048576
 
 -- nothing is read for these words
 abbrev pub AskUnread : List (List ℕ) → Type 0

@@ -1,12 +1,18 @@
 -- A report in the making: what the program's own functions hand on to one another.
 use Rattle.std.specs.Prelude.{◌≡◌, ℕ, ◌+◌, List, [], ◌∷◌, map}
 use Rattle.nook_defs.specs.Listening.{Listening}
+use Rattle.nook_defs.specs.declared.data.Event.{Event}
+use Rattle.nook_defs.specs.declared.data.MirrorAnswer.{MirrorAnswer}
 use Rattle.nook_defs.specs.declared.data.Scenario.{Scenario}
+use Rattle.mirrored_run.specs.Mirrors.{IsMirrorRun, mirror_status}
+use Rattle.nook_defs.specs.Taps.{tap_result}
+use Rattle.part_laws.specs.Headline.{AreSafe}
 use Rattle.report_text.specs.Whole.{IsReport}
 use Rattle.report_text.specs.declared.report.Run.{Run}
 use Rattle.report_text.specs.declared.whole_report.PartReport.{PartReport}
 use Rattle.report_text.specs.declared.whole_report.Report.{Report}
 use Rattle.sim_run.specs.Whole.{events_in}
+use Rattle.threaded_run.specs.Threaded.{in_parts}
 use Rattle.nooks.specs.Answers.{IsRunOf, IsWhole, Left}
 use Rattle.nooks.specs.declared.program.Status.{Status}
 use Rattle.nooks.specs.declared.program.Status.TheVariants as ended
@@ -20,6 +26,18 @@ left_of run = record { journals = map events_in run.journals; answers = run.answ
 pub record IsMade (asked : Form) (scenario : Scenario) (hearing : List Listening) (report : Report) : Type 0 where
   pub run : IsRunOf asked scenario hearing (left_of report.run)
   pub whole : IsWhole scenario (left_of report.run)
+  pub is_report : IsReport scenario report
+
+-- a report of a run of the scenario's mirror, whose parts end as their journals lead, with these answers and this status
+pub record IsMirrorMade (scenario : Scenario) (hearing : List Listening) (report : Report) (answers : List MirrorAnswer)
+    (number : ℕ) : Type 0 where
+  pub left : List Event
+  pub right : List Event
+  pub journals : map events_in report.run.journals ≡ left ∷ right ∷ []
+  pub run : IsMirrorRun scenario left right answers
+  pub safe : AreSafe scenario.parts (left ∷ right ∷ [])
+  pub told : report.run.taps ≡ map (λ l. tap_result l (in_parts 0 (left ∷ right ∷ []))) hearing
+  pub status : number ≡ mirror_status scenario left right answers
   pub is_report : IsReport scenario report
 
 -- the failures of some parts

@@ -1,5 +1,5 @@
 -- The texts that are the same in every run.
-use Rattle.std.specs.Prelude.{ℕ, List, [], ◌∷◌, ◌++◌, codes}
+use Rattle.std.specs.Prelude.{ℕ, List, [], ◌∷◌, ◌++◌, Option, Some, None, codes, decimal}
 use Rattle.nook_defs.specs.declared.input.InputFault.{InputFault}
 use Rattle.nook_defs.specs.declared.input.Refusal.{Refusal}
 
@@ -9,7 +9,7 @@ line text = text ++ 10 ∷ []
 
 -- what words of no form are answered with
 abbrev pub usage_text : List ℕ
-usage_text = line (codes "usage: nooks run | run threads | asm | dis | gen N | campaign")
+usage_text = line (codes "usage: nooks run | run threads | asm | dis | gen N | audit | campaign | mirror")
 
 -- a fault of the whole input
 abbrev pub at_root : InputFault → Refusal
@@ -23,17 +23,33 @@ help_text =
     ++ (line (codes "nooks asm             read a driver as assembler text, write its image as JSON")
     ++ (line (codes "nooks dis             read an image as JSON, write assembler text")
     ++ (line (codes "nooks gen N           simulate generated scenario N (1 to 256), write the line that sums it up")
+    ++ (line (codes "nooks audit           read a scenario and a printed report, check the report line by line")
     ++ (line (codes "nooks campaign        read a scenario and a list of faults, simulate it once for each, write the table")
+    ++ (line (codes "nooks mirror          read a scenario of two disks, keep one disk on both, write the report")
     ++ (line (codes "nooks --help          write this")
     ++ (line (codes "nooks --version       write the program's version, and the kit that it is proved with")
     ++ (line (codes "status 0              done; no part was given up")
-    ++ (line (codes "status 1              a part was given up")
+    ++ (line (codes "status 1              a part was given up; for mirror: neither disk was left")
     ++ (line (codes "status 2              the words are of no form; nothing was read")
     ++ (line (codes "status 3              the input was refused; the line written says why and where")
     ++ (line (codes "status 4              reading failed; nothing was written")
     ++ (line (codes "status 5              writing failed; a front of the output was written")
     ++ (line (codes "status 6              memory was wanting; a front of the output was written, or nothing")
-    ++ line (codes "status 7              a driver broke its class's contract")))))))))))))))
+    ++ (line (codes "status 7              a driver broke its class's contract")
+    ++ line (codes "status 8              a line of the report does not fit the scenario"))))))))))))))))))
+
+-- what is said of the input of `audit` that does not begin with a length, or has fewer bytes
+abbrev pub bad_header_text : List ℕ
+bad_header_text = line (codes "fault 12 bad_header /")
+
+-- what is said of a scenario that a mirror does not serve
+abbrev pub not_mirror_text : List ℕ
+not_mirror_text = line (codes "fault 13 not_mirror /")
+
+-- the verdict on a report: every line fits, or this is the first that does not
+abbrev pub verdict_text : Option ℕ → List ℕ
+verdict_text None = line (codes "audit yes")
+verdict_text (Some number) = line (codes "audit no line " ++ decimal number)
 
 -- what `--version` writes: the program's name and version, and the kit that it is proved with
 abbrev pub version_text : List ℕ

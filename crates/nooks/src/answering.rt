@@ -11,14 +11,16 @@ ghost use Rattle.nook_defs.specs.declared.data.MemberRow.{MemberRow};
 ghost use Rattle.nook_defs.specs.Valid.{IsValidScenario};
 ghost use Rattle.nooks.specs.Answers.{AnswersInput, IsReported, Says};
 ghost use Rattle.nooks.specs.Endings.{Ends, StopWrites, Writes};
-ghost use Rattle.nooks.specs.Forms.{is_reading};
+ghost use Rattle.nooks.specs.Forms.{is_reading, limit_of};
 ghost use Rattle.nooks.specs.Streams.{Whole, change};
 ghost use Rattle.nooks.specs.Texts.{at_root as root_refusal};
 ghost use Rattle.request_taps.specs.Bus.{seen, settled};
 ghost use Rattle.scenario_read.specs.Gives.{Gives};
 
+use crate::auditing::run_audit;
 use crate::heard::{Heard, all_heard};
-use crate::program::{LIMIT, Status, finish};
+use crate::mirroring::serve_bytes;
+use crate::program::{AUDIT_LIMIT, LIMIT, Status, finish};
 use crate::simulated::{run_threads_and_report, simulate_and_report};
 use crate::words::Form;
 use driver_asm::{AsmError, assemble, disassemble, write_image};
@@ -51,16 +53,26 @@ where
     requires { IsTrue (is_reading asked) }
     ensures ends { Ends (Some asked)
         (map (λ v. ⟦<Heard<T> as Listener>⟧.listening (record { value = v })) listeners.items)
-        (change S.left S.count source.old source.new) LIMIT (change K.held K.count sink.old sink.new) result }
+        (change S.left S.count source.old source.new) (change K.held K.count sink.old sink.new) result }
     ensures unwritten { result ≡ Status.ReadFault → sink.new ≡ sink.old }
     ensures source_later { S.count source.old ≤ S.count source.new }
     ensures sink_later { K.count sink.old ≤ K.count sink.new }
 {
-    match read_all(alloc, source, LIMIT) {
+    match read_all(alloc, source, limit_of(asked)) {
         Ok(bytes) => answer(rt, alloc, asked, bytes.as_slice(), sink, listeners, gate),
         Err(ReadStop::TooLong) => refuse(alloc, sink, &at_root(alloc, InputFault::TooMany)),
         Err(ReadStop::Fault) => Status::ReadFault,
         Err(ReadStop::NoMemory) => Status::NoMemory,
+    }
+}
+
+/// The most bytes of a form's input.
+fn limit_of(asked: Form) -> u32
+    ensures { result ≡ limit_of asked }
+{
+    match asked {
+        Form::Audit => AUDIT_LIMIT,
+        _ => LIMIT,
     }
 }
 
@@ -87,7 +99,9 @@ where
         Form::RunThreads => run_scenario_by_threads(rt, alloc, bytes, sink, listeners, gate),
         Form::Asm => run_asm(alloc, bytes, sink),
         Form::Dis => run_dis(alloc, bytes, sink),
+        Form::Audit => run_audit(alloc, bytes, sink),
         Form::Campaign => run_campaign(rt, alloc, bytes, sink),
+        Form::Mirror => serve_bytes(rt, alloc, bytes, sink, listeners),
         Form::Gen { .. } | Form::Help | Form::Version => unreachable!(),
     }
 }
@@ -179,7 +193,7 @@ where
 }
 
 /// A bus of listeners.
-fn bus_of<T: Drop>(alloc: Global, listeners: Vec<T>) -> Result<Bus<Heard<T>>, NoMemory>
+pub fn bus_of<T: Drop>(alloc: Global, listeners: Vec<T>) -> Result<Bus<Heard<T>>, NoMemory>
 where
     Heard<T>: Listener,
     ensures { IfOk result (λ bus. map (seen ⟦<Heard<T> as Listener>⟧.listening) bus
@@ -250,7 +264,7 @@ fn give_table<R: Threads + Wait + Sync, K: Sink>(
 }
 
 /// Tells why some bytes are not read.
-fn refuse_for<K: Sink>(alloc: Global, sink: &mut K, stop: &ScenarioFault) -> Status
+pub fn refuse_for<K: Sink>(alloc: Global, sink: &mut K, stop: &ScenarioFault) -> Status
     ensures ends { StopWrites stop.now (change K.held K.count sink.old sink.new) result }
     ensures later { K.count sink.old ≤ K.count sink.new }
 {
@@ -276,7 +290,7 @@ fn read_asm(alloc: Global, bytes: &[u8]) -> Result<Image, ScenarioFault>
 }
 
 /// A fault of the whole input.
-fn at_root(alloc: Global, fault: InputFault) -> Refusal
+pub fn at_root(alloc: Global, fault: InputFault) -> Refusal
     ensures { result ≡ root_refusal fault }
 {
     Refusal {
@@ -286,7 +300,7 @@ fn at_root(alloc: Global, fault: InputFault) -> Refusal
 }
 
 /// Writes the line that tells why an input is refused.
-fn refuse<K: Sink>(alloc: Global, sink: &mut K, refusal: &Refusal) -> Status
+pub fn refuse<K: Sink>(alloc: Global, sink: &mut K, refusal: &Refusal) -> Status
     ensures ends { Writes (Says (line_of refusal.now) Status.BadInput) (change K.held K.count sink.old sink.new) result }
     ensures later { K.count sink.old ≤ K.count sink.new }
 {

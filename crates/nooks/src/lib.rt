@@ -5,7 +5,11 @@
 #![tactic(auto)]
 
 mod answering;
+mod auditing;
+#[cfg(test)]
+mod failing_tests;
 mod heard;
+mod mirroring;
 mod program;
 #[cfg(test)]
 mod running;
@@ -21,5 +25,5 @@ mod worked_runs;
 #[cfg(test)]
 mod worked_tests;
 
-pub use program::{LIMIT, OWN_LISTENERS, Status, run, run_plain};
+pub use program::{AUDIT_LIMIT, LIMIT, OWN_LISTENERS, Status, run, run_plain};
 pub use words::{Form, form_of};

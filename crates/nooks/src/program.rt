@@ -20,19 +20,22 @@ use std::alloc::Global;
 use std::sync::Wait;
 use std::thread::Threads;
 
-/// The most bytes of an input.
+/// The most bytes of an input, and of the scenario that is handed in for an audit.
 pub const LIMIT: u32 = 1_048_576;
+
+/// The most bytes of the input of `audit`: a scenario's length, the scenario and a report.
+pub const AUDIT_LIMIT: u32 = 16_777_216;
 
 /// The program's own listeners, of all parts: the kinds of event that each hears (failures, bursts, answers), and how many
 /// it hears at most.
 pub const OWN_LISTENERS: [(u8, u64); 3] = [(32, 1_000_000), (4, 1_000_000), (64, 1_000_000)];
 
-/// How the program ended. The exit codes are 0 to 7, in this order.
+/// How the program ended. The exit codes are 0 to 8, in this order.
 #[derive(Clone, Copy, Debug, PartialEq, Eq)]
 pub enum Status {
-    /// What the words ask for was written, and no part was given up.
+    /// What the words ask for was written, and no part was given up, or one of a mirror's two.
     Done,
-    /// A report was written, and a part was given up.
+    /// A report was written, and a part was given up; of a mirror: neither of its disks was left.
     GivenUp,
     /// The words are of no form.
     Usage,
@@ -46,6 +49,8 @@ pub enum Status {
     NoMemory,
     /// A report was written, and a part's driver broke its class's contract.
     ContractBroken,
+    /// A line of the report that was handed in does not fit its scenario; the line that was written says which.
+    AuditNo,
 }
 
 impl Status {
@@ -77,13 +82,13 @@ pub fn run<R: Threads + Wait + Sync, S: Source, K: Sink, G: Gate>(
     ensures answered { IsAnswered result → IsWritten
         (AnswersWords (map string_bytes words.now)
         (map (λ b. (⟦<dyn Listener as Listener>⟧ b.vtable).listening b.value) listeners.items)
-        (change S.left S.count source.old source.new) LIMIT)
+        (change S.left S.count source.old source.new))
         (change K.held K.count sink.old sink.new) result }
     // a fault of the sink, or want of memory, leaves a front of that, or nothing
     ensures cut { IsCut result → GainsNothing (change K.held K.count sink.old sink.new) ⊎ IsBegun
         (AnswersWords (map string_bytes words.now)
         (map (λ b. (⟦<dyn Listener as Listener>⟧ b.vtable).listening b.value) listeners.items)
-        (change S.left S.count source.old source.new) LIMIT)
+        (change S.left S.count source.old source.new))
         (change K.held K.count sink.old sink.new) }
     // a fault is told only where it was
     ensures read_fault { result ≡ Status.ReadFault
@@ -116,7 +121,7 @@ pub fn run_plain<R: Threads + Wait + Sync, G: Gate>(
 ) -> Status
     ensures { (result ≡ Status.NoMemory) ⊎ ((text : List ℕ) × AnswersBytes (map string_bytes words.now)
         (map (λ b. (⟦<dyn Listener as Listener>⟧ b.vtable).listening b.value) listeners.items)
-        bytes LIMIT text result) }
+        bytes text result) }
 {
     let mut source = PlainSource::new(bytes);
     let mut sink = PlainSink::new();
@@ -138,7 +143,7 @@ where
     requires { (number : ℕ) → asked ≡ Form.Gen number → number ≤ 256 }
     ensures ends { Ends (Some asked)
         (map (λ v. ⟦<Heard<T> as Listener>⟧.listening (record { value = v })) listeners.items)
-        (change S.left S.count source.old source.new) LIMIT (change K.held K.count sink.old sink.new) result }
+        (change S.left S.count source.old source.new) (change K.held K.count sink.old sink.new) result }
     ensures unwritten { result ≡ Status.ReadFault → sink.new ≡ sink.old }
     ensures unread { IsTrue (is_reading asked) ⊎ (source.new ≡ source.old) }
     ensures source_later { S.count source.old ≤ S.count source.new }
@@ -148,9 +153,13 @@ where
         Form::Gen { number } => run_generated(alloc, number, sink),
         Form::Help => finish(sink, HELP, Status::Done),
         Form::Version => finish(sink, VERSION, Status::Done),
-        Form::Run | Form::RunThreads | Form::Asm | Form::Dis | Form::Campaign => {
-            read_and_answer(rt, alloc, asked, source, sink, listeners, gate)
-        }
+        Form::Run
+        | Form::RunThreads
+        | Form::Asm
+        | Form::Dis
+        | Form::Audit
+        | Form::Campaign
+        | Form::Mirror => read_and_answer(rt, alloc, asked, source, sink, listeners, gate),
     }
 }
 

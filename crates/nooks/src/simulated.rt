@@ -76,7 +76,7 @@ fn give_report<K: Sink>(alloc: Global, scenario: &Scenario, report: &Report, sin
     ensures later { K.count sink.old ≤ K.count sink.new }
 {
     match write_report(alloc, scenario, report, sink) {
-        Ok(()) => status_of(report),
+        Ok(()) => status_of(report.status),
         Err(WriteStop::Fault) => Status::WriteFault,
         Err(WriteStop::NoMemory) => Status::NoMemory,
     }
@@ -112,11 +112,11 @@ fn judge_threads<R: Threads + Wait + Sync, L: Listener, G: Gate>(
     report_of(alloc, scenario, whole.run, whole.ends)
 }
 
-/// The status that a report ends with: 0, 1 or 7.
-fn status_of(report: &Report) -> Status
-    ensures { TellsStatus report.now.status result }
+/// The status of a report that ends with this number: 0, 1 or 7.
+pub fn status_of(number: u32) -> Status
+    ensures { TellsStatus number result }
 {
-    match report.status {
+    match number {
         0 => Status::Done,
         1 => Status::GivenUp,
         _ => Status::ContractBroken,
@@ -133,7 +133,7 @@ pub fn run_generated<K: Sink>(alloc: Global, number: u32, sink: &mut K) -> Statu
         return Status::NoMemory;
     };
     match write_summary(alloc, sink, sum_up(number, &report)) {
-        Ok(()) => status_of(&report),
+        Ok(()) => status_of(report.status),
         Err(WriteStop::Fault) => Status::WriteFault,
         Err(WriteStop::NoMemory) => Status::NoMemory,
     }

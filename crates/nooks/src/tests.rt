@@ -16,7 +16,8 @@ const NOT_JSON: &str = "fault 1 not_json /\n";
 
 const TOO_MANY: &str = "fault 6 too_many /\n";
 
-const USAGE: &str = "usage: nooks run | run threads | asm | dis | gen N | campaign\n";
+const USAGE: &str =
+    "usage: nooks run | run threads | asm | dis | gen N | audit | campaign | mirror\n";
 
 /// A case: the input, how many bytes a read gives, and the numbers of the reads and of the writes that fail.
 #[derive(Drop)]

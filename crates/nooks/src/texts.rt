@@ -1,7 +1,8 @@
 //! The texts that are the same in every run.
 
 /// What is written where the words are of no form.
-pub const USAGE: &[u8] = b"usage: nooks run | run threads | asm | dis | gen N | campaign\n";
+pub const USAGE: &[u8] =
+    b"usage: nooks run | run threads | asm | dis | gen N | audit | campaign | mirror\n";
 
 /// What `--help` writes: a line for each form of words, and one for each status.
 pub const HELP: &[u8] = b"\
@@ -10,17 +11,29 @@ nooks run threads     the same, each thread of the scenario as a thread of its o
 nooks asm             read a driver as assembler text, write its image as JSON\n\
 nooks dis             read an image as JSON, write assembler text\n\
 nooks gen N           simulate generated scenario N (1 to 256), write the line that sums it up\n\
+nooks audit           read a scenario and a printed report, check the report line by line\n\
 nooks campaign        read a scenario and a list of faults, simulate it once for each, write the table\n\
+nooks mirror          read a scenario of two disks, keep one disk on both, write the report\n\
 nooks --help          write this\n\
 nooks --version       write the program's version, and the kit that it is proved with\n\
 status 0              done; no part was given up\n\
-status 1              a part was given up\n\
+status 1              a part was given up; for mirror: neither disk was left\n\
 status 2              the words are of no form; nothing was read\n\
 status 3              the input was refused; the line written says why and where\n\
 status 4              reading failed; nothing was written\n\
 status 5              writing failed; a front of the output was written\n\
 status 6              memory was wanting; a front of the output was written, or nothing\n\
-status 7              a driver broke its class's contract\n";
+status 7              a driver broke its class's contract\n\
+status 8              a line of the report does not fit the scenario\n";
+
+/// What is said of the input of `audit` that does not begin with a length, or has fewer bytes.
+pub const BAD_HEADER: &[u8] = b"fault 12 bad_header /\n";
+
+/// What is said of a scenario that a mirror does not serve.
+pub const NOT_MIRROR: &[u8] = b"fault 13 not_mirror /\n";
+
+/// What is said of a report of which every line fits.
+pub const AUDIT_YES: &[u8] = b"audit yes\n";
 
 /// What `--version` writes: the program's name and version, and the kit that it is proved with.
 pub const VERSION: &[u8] = b"nooks 0.9.0, proved with rattle-kit-13f logic dac8208d650f15bf\n";

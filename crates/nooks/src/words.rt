@@ -16,8 +16,12 @@ pub enum Form {
     Dis,
     /// `gen` N: simulate the generated scenario of a number from 1 to 256, write the line that sums it up.
     Gen { number: u32 },
+    /// `audit`: read a scenario and a printed report, write whether every line of the report fits.
+    Audit,
     /// `campaign`: read a scenario and faults, simulate it once for each fault, write the table of what became of it.
     Campaign,
+    /// `mirror`: read a scenario of two disks, keep one disk on both, write the report.
+    Mirror,
     /// `--help`: write a line for each form and for each status.
     Help,
     /// `--version`: write the program's version.
@@ -50,8 +54,12 @@ fn form_of_word(word: &str) -> Option<Form>
         Some(Form::Asm)
     } else if word == "dis" {
         Some(Form::Dis)
+    } else if word == "audit" {
+        Some(Form::Audit)
     } else if word == "campaign" {
         Some(Form::Campaign)
+    } else if word == "mirror" {
+        Some(Form::Mirror)
     } else if word == "--help" {
         Some(Form::Help)
     } else if word == "--version" {

@@ -3,6 +3,7 @@
 mod disks;
 mod drivers;
 mod links;
+mod mirrors;
 mod small_drivers;
 mod streams;
 mod three_parts;
@@ -11,6 +12,7 @@ use disks::DISK_RUNS;
 pub use disks::WRITE_AND_READ;
 use drivers::DRIVERS;
 use links::LINK_RUNS;
+pub use mirrors::MIRROR_RUNS;
 use small_drivers::SMALL_DRIVER_RUNS;
 use std::alloc::Global;
 use std::test::Fail;

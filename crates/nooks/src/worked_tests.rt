@@ -2,7 +2,7 @@
 
 use crate::program::OWN_LISTENERS;
 use crate::running::{Audience, Outcome, plain_outcome};
-use crate::worked_runs::{WorkedRun, worked_run, worked_runs};
+use crate::worked_runs::{MIRROR_RUNS, WorkedRun, worked_run, worked_runs};
 use nook_defs::data::Event;
 use nook_defs::listeners::{CountListener, FreeGate};
 use nook_defs::outside::Listener;
@@ -12,23 +12,25 @@ use std::sync::{Arc, Wait};
 use std::test::Fail;
 use std::thread::Threads;
 
-/// Simulates a scenario with listeners.
+/// Runs a form over a scenario, with listeners.
 fn outcome_with<R: Threads + Wait + Sync>(
     rt: &R,
     alloc: Global,
+    form: &str,
     worked: WorkedRun,
     listeners: Vec<Box<dyn Listener>>,
 ) -> Result<Outcome, Fail> {
     let input = worked.input(alloc)?;
     let gate = &FreeGate;
     let audience = Audience { listeners, gate };
-    plain_outcome(rt, alloc, &["run"], input.as_str(), audience)
+    plain_outcome(rt, alloc, &[form], input.as_str(), audience)
 }
 
 /// The same with listeners of all parts, each of some kinds of event and with a limit.
 fn outcome_of<R: Threads + Wait + Sync>(
     rt: &R,
     alloc: Global,
+    form: &str,
     worked: WorkedRun,
     counting: &[(u8, u64)],
 ) -> Result<Outcome, Fail> {
@@ -37,18 +39,19 @@ fn outcome_of<R: Threads + Wait + Sync>(
         let listener = CountListener::new(u8::MAX, *kinds, *limit);
         listeners.push(Box::new(alloc, listener)?)?;
     }
-    outcome_with(rt, alloc, worked, listeners)
+    outcome_with(rt, alloc, form, worked, listeners)
 }
 
 /// The run writes its report with some lines of listeners, and ends with its code.
 fn writes<R: Threads + Wait + Sync>(
     rt: &R,
     alloc: Global,
+    form: &str,
     worked: WorkedRun,
     counting: &[(u8, u64)],
     lines: &str,
 ) -> Result<(), Fail> {
-    let (status, written) = outcome_of(rt, alloc, worked, counting)?;
+    let (status, written) = outcome_of(rt, alloc, form, worked, counting)?;
     let want = format!(in alloc; "{}{lines}status {}\n", worked.report, worked.code)?;
     if written.as_str() != want.as_str() || status.code() != worked.code {
         return Err(Fail::from(worked.shows));
@@ -61,13 +64,13 @@ fn writes<R: Threads + Wait + Sync>(
 fn worked_runs_write_their_reports(rt: HostRuntime) -> Result<(), Fail> {
     let alloc = rt.alloc();
     for worked in &worked_runs(alloc)? {
-        writes(&rt, alloc, *worked, &[], "")?;
+        writes(&rt, alloc, "run", *worked, &[], "")?;
     }
     Ok(())
 }
 
 /// The lines of the program's own listeners.
-fn own_lines(alloc: Global, totals: [u64; 3]) -> Result<String, Fail> {
+pub fn own_lines(alloc: Global, totals: [u64; 3]) -> Result<String, Fail> {
     let [failures, bursts, answers] = totals;
     let lines = format!(in alloc;
         "tap 0 total {failures} kept\ntap 1 total {bursts} kept\ntap 2 total {answers} kept\n"
@@ -84,10 +87,24 @@ fn worked_runs_tell_the_totals(rt: HostRuntime) -> Result<(), Fail> {
         writes(
             &rt,
             alloc,
+            "run",
             *worked,
             OWN_LISTENERS.as_slice(),
             lines.as_str(),
         )?;
+    }
+    Ok(())
+}
+
+/// Mirrors write their reports, without listeners and with the program's own.
+#[test]
+fn mirrors_write_their_reports(rt: HostRuntime) -> Result<(), Fail> {
+    let alloc = rt.alloc();
+    for worked in MIRROR_RUNS {
+        writes(&rt, alloc, "mirror", worked, &[], "")?;
+        let lines = own_lines(alloc, worked.totals)?;
+        let counting = OWN_LISTENERS.as_slice();
+        writes(&rt, alloc, "mirror", worked, counting, lines.as_str())?;
     }
     Ok(())
 }
@@ -97,8 +114,8 @@ fn worked_runs_tell_the_totals(rt: HostRuntime) -> Result<(), Fail> {
 fn drawn_schedules_repeat_themselves(rt: HostRuntime) -> Result<(), Fail> {
     let alloc = rt.alloc();
     let worked = worked_run(alloc, "three parts under a drawn schedule")?;
-    let (_, first) = outcome_of(&rt, alloc, worked, &[])?;
-    let (_, second) = outcome_of(&rt, alloc, worked, &[])?;
+    let (_, first) = outcome_of(&rt, alloc, "run", worked, &[])?;
+    let (_, second) = outcome_of(&rt, alloc, "run", worked, &[])?;
     assert_eq!(rt; first.as_str(), second.as_str());
     assert!(rt; first.as_str().starts_with(worked.report));
     Ok(())
@@ -124,6 +141,7 @@ fn listeners_are_dropped_at_their_limits(rt: HostRuntime) -> Result<(), Fail> {
         writes(
             &rt,
             alloc,
+            "run",
             worked_run(alloc, shows)?,
             each.as_slice(),
             lines,
@@ -177,7 +195,7 @@ fn calls_as_often<R: Threads + Wait + Sync>(
     };
     let mut listeners: Vec<Box<dyn Listener>> = Vec::new(alloc);
     listeners.push(Box::new(alloc, watched)?)?;
-    let (_, written) = outcome_with(rt, alloc, worked, listeners)?;
+    let (_, written) = outcome_with(rt, alloc, "run", worked, listeners)?;
     let total = calls.load(Ordering::SeqCst);
     let line = format!(in alloc; "tap 0 total {total} kept\n")?;
     if !written.as_str().contains(line.as_str()) {

@@ -19,6 +19,7 @@ pub fn message_of(status: Status) -> Option<&'static str>
         Status::Done
         | Status::GivenUp
         | Status::ContractBroken
+        | Status::AuditNo
         | Status::Usage
         | Status::BadInput => None,
     }

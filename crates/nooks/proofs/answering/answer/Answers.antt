@@ -7,13 +7,19 @@ returns-in-Run-clause-ends g c = rw (c.in-Run.is) c.run_scenario.ensures.ends
 pub returns-in-RunThreads-clause-ends : goal.returns-in-RunThreads-clause-ends
 returns-in-RunThreads-clause-ends g c = rw (c.in-RunThreads.is) c.run_scenario_by_threads.ensures.ends
 
--- whoever listens, images and assembler texts are not run
+pub returns-in-Mirror-clause-ends : goal.returns-in-Mirror-clause-ends
+returns-in-Mirror-clause-ends g c = rw (c.in-Mirror.is) c.serve_bytes.ensures.ends
+
+-- whoever listens, these hear nothing
 
 pub returns-in-Asm-clause-ends : goal.returns-in-Asm-clause-ends
 returns-in-Asm-clause-ends g c = rw (c.in-Asm.is) (c.run_asm.ensures.ends [])
 
 pub returns-in-Dis-clause-ends : goal.returns-in-Dis-clause-ends
 returns-in-Dis-clause-ends g c = rw (c.in-Dis.is) (c.run_dis.ensures.ends [])
+
+pub returns-in-Audit-clause-ends : goal.returns-in-Audit-clause-ends
+returns-in-Audit-clause-ends g c = rw (c.in-Audit.is) (c.run_audit.ensures.ends [])
 
 pub returns-in-Campaign-clause-ends : goal.returns-in-Campaign-clause-ends
 returns-in-Campaign-clause-ends g c = rw (c.in-Campaign.is) (c.run_campaign.ensures.ends [])

@@ -1,4 +1,4 @@
-use Rattle.std.proofs.Common.{Err, ap, inr, refl}
+use Rattle.std.proofs.Common.{Err, ap}
 use Rattle.fault_campaign.proofs.Tables.{table_exists}
 use Rattle.nook_defs.specs.Campaigns.{table_text}
 use Rattle.nooks.specs.declared.program.Status.TheVariants as ended

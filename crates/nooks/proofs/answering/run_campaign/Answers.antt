@@ -1,4 +1,3 @@
-use Rattle.std.proofs.Common.{refl}
 use Rattle.nook_defs.specs.CampaignReading.{campaign_from}
 use Rattle.nooks.proofs.Campaigns.{campaign_answered}
 use Rattle.nooks.proofs.Written.{refused}
@@ -11,4 +10,4 @@ returns-in-Ok-clause-ends g c hearing = campaign_answered c.args.bytes.now c.in-
 
 pub returns-in-Err-clause-ends : goal.returns-in-Err-clause-ends
 returns-in-Err-clause-ends g c hearing = refused form.Campaign c.args.bytes.now hearing _ (campaign_from c.args.bytes.now) c.in-Err.stop _
-    c.refuse_for.result refl c.in-Err.ensures.gives c.refuse_for.ensures.ends
+    c.refuse_for.result (λ text is. is) c.in-Err.ensures.gives c.refuse_for.ensures.ends

@@ -1,4 +1,3 @@
-use Rattle.std.proofs.Common.{refl}
 use Rattle.nook_defs.specs.ScenarioReading.{scenario_from}
 use Rattle.nooks.specs.declared.words.Form.TheVariants as form
 use Rattle.nooks.proofs.Written.{refused, scenario_answered}
@@ -8,5 +7,5 @@ pub returns-in-Ok-clause-ends : goal.returns-in-Ok-clause-ends
 returns-in-Ok-clause-ends g c = scenario_answered c.args.bytes.now c.in-Ok.scenario _ _ c.report_run.result c.in-Ok.ensures.gives c.report_run.ensures.ends
 
 pub returns-in-Err-clause-ends : goal.returns-in-Err-clause-ends
-returns-in-Err-clause-ends g c = refused form.Run c.args.bytes.now _ _ (scenario_from c.args.bytes.now) c.in-Err.stop _ c.refuse_for.result refl
+returns-in-Err-clause-ends g c = refused form.Run c.args.bytes.now _ _ (scenario_from c.args.bytes.now) c.in-Err.stop _ c.refuse_for.result (λ text is. is)
     c.in-Err.ensures.gives c.refuse_for.ensures.ends

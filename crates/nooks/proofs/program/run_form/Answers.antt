@@ -1,18 +1,17 @@
-use Rattle.std.proofs.Common.{◌∙◌, Some, refl, sym, true≢false}
-use Rattle.nooks.specs.Answers.{IsSummary, Says}
-use Rattle.nooks.specs.declared.program.Status.TheVariants as ended
+use Rattle.std.proofs.Common.{Some, sym, true≢false}
+use Rattle.nooks.specs.Answers.{IsSummary}
 use Rattle.nooks.specs.declared.words.Form.TheVariants as form
 use Rattle.nooks.proofs.Written.{unread_ends}
 use Rattle.nooks.proofs.program.run_form.Goals as goal
 
 pub returns-in-Gen-clause-ends : goal.returns-in-Gen-clause-ends
-returns-in-Gen-clause-ends g c = rw (c.in-Gen.is) (unread_ends (Some (form.Gen c.in-Gen.number)) _ _ _ _ c.run_generated.result (IsSummary c.in-Gen.number)
+returns-in-Gen-clause-ends g c = rw (c.in-Gen.is) (unread_ends (Some (form.Gen c.in-Gen.number)) _ _ _ c.run_generated.result (IsSummary c.in-Gen.number)
     (λ e. absurd (true≢false (sym e))) (λ text s answer. answer) c.run_generated.ensures.ends)
 
 pub returns-in-Help-clause-ends : goal.returns-in-Help-clause-ends
-returns-in-Help-clause-ends g c = rw (c.in-Help.is) (unread_ends (Some form.Help) _ _ _ _ c.finish.result _
+returns-in-Help-clause-ends g c = rw (c.in-Help.is) (unread_ends (Some form.Help) _ _ _ c.finish.result _
     (λ e. absurd (true≢false (sym e))) (λ text s answer. answer) c.finish.ensures.ends)
 
 pub returns-in-Version-clause-ends : goal.returns-in-Version-clause-ends
-returns-in-Version-clause-ends g c = rw (c.in-Version.is) (unread_ends (Some form.Version) _ _ _ _ c.finish-in-Version.result _
+returns-in-Version-clause-ends g c = rw (c.in-Version.is) (unread_ends (Some form.Version) _ _ _ c.finish-in-Version.result _
     (λ e. absurd (true≢false (sym e))) (λ text s answer. answer) c.finish-in-Version.ensures.ends)

@@ -308,6 +308,28 @@ def scenario(random):
     return given
 
 
+def disk(random, place, version):
+    """A part that is a disk."""
+    while True:
+        given = part(random, place, version)
+        if given["class"] == "block":
+            return given
+
+
+def pair(random):
+    """A scenario of two disks with a thread that reads and writes the first; now and then one that no mirror serves."""
+    parts = [disk(random, place, 2) for place in range(2)]
+    if random.random() < 0.95:
+        parts[1]["blocks"] = parts[0]["blocks"]
+    for given in parts:
+        blocks = [bad for bad in given.get("bad", []) if bad["block"] < given["blocks"]]
+        given["bad"] = blocks
+    ops = [op for op in (operation(random, parts[:1]) for _ in range(random.choice([3, 9, 24]))) if op["op"] in ["read", "write"]]
+    if random.random() < 0.05:
+        ops.append({"part": random.randrange(2), "op": "get", "key": 1})
+    return {"version": 2, "parts": parts, "threads": [{"name": "t", "ops": ops}]}
+
+
 def json_text(random, value):
     """A value as JSON, in one of several layouts."""
     layout = random.choice([{"separators": (",", ":")}, {}, {"indent": 1}])

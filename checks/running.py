@@ -1,5 +1,8 @@
 """What the scripts of this folder share: runs of a program, the tally of what passed, and the plain program."""
 
+import importlib.machinery
+import importlib.util
+import json
 import os
 import shutil
 import subprocess
@@ -70,6 +73,19 @@ def run(program, words, given=b"", **how):
     except subprocess.TimeoutExpired:
         return Ended(-999, b"", b"it did not end in time")
     return Ended(ended.returncode, ended.stdout or b"", ended.stderr)
+
+
+def generated(size):
+    """The generated scenario of a size, as the timing script makes it."""
+    loader = importlib.machinery.SourceFileLoader("bench_run", os.path.join(TOP, "bench/run"))
+    module = importlib.util.module_from_spec(importlib.util.spec_from_loader("bench_run", loader))
+    loader.exec_module(module)
+    return json.dumps(module.generated(size)).encode()
+
+
+def handed(scenario, report):
+    """The input of `audit`: the scenario's length, a line feed, the scenario, and the report."""
+    return b"%d\n" % len(scenario) + scenario + report
 
 
 def program_from(words):

@@ -1,6 +1,6 @@
 //! The simulator of driver domains as an ordinary Rust program, with nothing proved: what the proved program's time and
 //! memory are measured against. `plain run` reads a scenario from standard input and writes its report, `plain campaign`
-//! a campaign and its table.
+//! a campaign and its table, `plain mirror` a scenario of two disks, which it simulates as one.
 
 mod assembler;
 mod campaign;
@@ -12,6 +12,7 @@ mod journal;
 mod json;
 mod machine;
 mod memory;
+mod mirror;
 mod operation;
 mod part;
 mod report;
@@ -48,8 +49,9 @@ fn main() -> ExitCode {
     let form = match words.as_slice() {
         [word] if word == "run" => run,
         [word] if word == "campaign" => run_campaign,
+        [word] if word == "mirror" => run_mirror,
         _ => {
-            eprintln!("usage: plain run | campaign");
+            eprintln!("usage: plain run | campaign | mirror");
             return ExitCode::from(2);
         }
     };
@@ -85,6 +87,19 @@ fn run() -> Result<u8, Stop> {
     let run = simulation::simulate(&scenario);
     let mut out = BufWriter::new(io::stdout().lock());
     let status = report::write(&scenario, &run, &mut out)?;
+    out.flush()?;
+    Ok(status)
+}
+
+/// Reads a scenario of two disks, simulates them as one and writes the report.
+fn run_mirror() -> Result<u8, Stop> {
+    let scenario = scenario::read(&read_input()?)?;
+    if let Some(reason) = mirror::refusal(&scenario) {
+        return Err(reason.to_string().into());
+    }
+    let mirrored = mirror::simulate(&scenario);
+    let mut out = BufWriter::new(io::stdout().lock());
+    let status = report::write_mirrored(&scenario, &mirrored, &mut out)?;
     out.flush()?;
     Ok(status)
 }

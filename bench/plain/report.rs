@@ -4,6 +4,7 @@ use crate::class::Class;
 use crate::contract::Verdict;
 use crate::journal::{Act, Answer, Burst, End, Event, Failure, Released, Stage, Trap};
 use crate::memory::OBJECTS;
+use crate::mirror::{self, Mirrored, Told};
 use crate::operation::Operation;
 use crate::part::Part;
 use crate::scenario::Scenario;
@@ -17,7 +18,37 @@ const MOST_HEARD: u64 = 1_000_000;
 /// Writes the report, and gives its status.
 pub fn write(scenario: &Scenario, run: &Run, out: &mut impl Write) -> io::Result<u8> {
     let verdicts = run.verdicts();
-    for (place, (part, verdict)) in run.parts.iter().zip(&verdicts).enumerate() {
+    write_parts(run, &verdicts, out)?;
+    for (place, (spec, answers)) in scenario.threads.iter().zip(&run.answers).enumerate() {
+        writeln!(out, "thread {place} {}", spec.name)?;
+        for (place, (part, answer)) in answers.iter().enumerate() {
+            writeln!(out, "{} p{part} {answer}", place + 1)?;
+        }
+    }
+    write_last(run, run.status(&verdicts), out)
+}
+
+/// The report of a mirror: that of its parts, with the mirror's answers in the thread's lines.
+pub fn write_mirrored(
+    scenario: &Scenario,
+    mirrored: &Mirrored,
+    out: &mut impl Write,
+) -> io::Result<u8> {
+    write_parts(&mirrored.run, &mirrored.run.verdicts(), out)?;
+    for (place, spec) in scenario.threads.iter().enumerate() {
+        writeln!(out, "thread {place} {}", spec.name)?;
+        for (place, told) in mirrored.told.iter().enumerate() {
+            match told {
+                Told::Answer(answer) => writeln!(out, "{} p0 {answer}", place + 1)?,
+                Told::BothLost => writeln!(out, "{} p0 both_lost", place + 1)?,
+            }
+        }
+    }
+    write_last(&mirrored.run, mirror::status(mirrored), out)
+}
+
+fn write_parts(run: &Run, verdicts: &[Verdict], out: &mut impl Write) -> io::Result<()> {
+    for (place, (part, verdict)) in run.parts.iter().zip(verdicts).enumerate() {
         let spec = part.spec();
         writeln!(
             out,
@@ -31,16 +62,13 @@ pub fn write(scenario: &Scenario, run: &Run, out: &mut impl Write) -> io::Result
         }
         write_ends(part, verdict, out)?;
     }
-    for (place, (spec, answers)) in scenario.threads.iter().zip(&run.answers).enumerate() {
-        writeln!(out, "thread {place} {}", spec.name)?;
-        for (place, (part, answer)) in answers.iter().enumerate() {
-            writeln!(out, "{} p{part} {answer}", place + 1)?;
-        }
-    }
-    for (place, heard) in [run.heard.failures, run.heard.bursts, run.heard.answers]
-        .into_iter()
-        .enumerate()
-    {
+    Ok(())
+}
+
+/// The listeners and the status, which is given back.
+fn write_last(run: &Run, status: u8, out: &mut impl Write) -> io::Result<u8> {
+    let totals = [run.heard.failures, run.heard.bursts, run.heard.answers];
+    for (place, heard) in totals.into_iter().enumerate() {
         let fate = if heard < MOST_HEARD {
             "kept"
         } else {
@@ -48,12 +76,10 @@ pub fn write(scenario: &Scenario, run: &Run, out: &mut impl Write) -> io::Result
         };
         writeln!(out, "tap {place} total {} {fate}", heard.min(MOST_HEARD))?;
     }
-    let status = run.status(&verdicts);
     writeln!(out, "status {status}")?;
     Ok(status)
 }
 
-/// What stands behind the events of a part.
 fn write_ends(part: &Part, verdict: &Verdict, out: &mut impl Write) -> io::Result<()> {
     for object in (1..OBJECTS).filter(|object| !part.memory().is_untouched(*object)) {
         writeln!(

@@ -43,7 +43,7 @@ pub struct Heard {
 }
 
 impl Heard {
-    fn hear(&mut self, event: &Event) {
+    pub fn hear(&mut self, event: &Event) {
         if let Event::Burst(burst) = event {
             self.bursts += 1;
             self.failures += u64::from(burst.failure.is_some());

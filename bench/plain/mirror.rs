@@ -1,0 +1,167 @@
+//! Mirrors: one plain disk on two parts, which outlives a part that is given up.
+
+use crate::class::Class;
+use crate::journal::Answer;
+use crate::operation::Operation;
+use crate::part::Part;
+use crate::scenario::Scenario;
+use crate::simulation::{Heard, Run};
+
+/// What the mirror tells its thread.
+pub enum Told {
+    /// What a side, or the check of the operation, answers.
+    Answer(Answer),
+    BothLost,
+}
+
+/// The mirror's run. The threads' answers in it are none: the mirror's stand beside it.
+pub struct Mirrored<'s> {
+    pub run: Run<'s>,
+    pub told: Vec<Told>,
+}
+
+/// A part of the mirror, and whether it is still asked.
+struct Side<'s> {
+    part: Part<'s>,
+    present: bool,
+}
+
+/// Why a mirror does not serve a scenario, if it does not.
+pub fn refusal(scenario: &Scenario) -> Option<&'static str> {
+    let [left, right] = scenario.parts.as_slice() else {
+        return Some("a mirror has two parts");
+    };
+    if left.class != Class::Block || right.class != Class::Block || left.blocks != right.blocks {
+        return Some("a mirror has two disks with as many blocks");
+    }
+    if scenario.threads.len() > 1 {
+        return Some("a mirror has one thread");
+    }
+    let mut operations = scenario
+        .threads
+        .iter()
+        .flat_map(|thread| &thread.operations);
+    let is_served = |(part, operation): &(usize, Operation)| {
+        *part == 0 && matches!(operation, Operation::Read { .. } | Operation::Write { .. })
+    };
+    (!operations.all(is_served)).then_some("the thread of a mirror reads and writes part 0")
+}
+
+/// Serves the operations of a scenario that a mirror serves, one after the other. Then both parts take the steps that they
+/// have left.
+pub fn simulate(scenario: &Scenario) -> Mirrored<'_> {
+    let new_side = |spec| Side {
+        part: Part::new(spec),
+        present: true,
+    };
+    let mut sides: Vec<Side> = scenario.parts.iter().map(new_side).collect();
+    let operations = scenario
+        .threads
+        .iter()
+        .flat_map(|thread| &thread.operations);
+    let told = operations
+        .map(|(_, operation)| serve(&mut sides, operation))
+        .collect();
+    let parts: Vec<Part> = sides.into_iter().map(Side::settled).collect();
+    let mut heard = Heard::default();
+    for event in parts.iter().flat_map(|part| part.journal()) {
+        heard.hear(event);
+    }
+    Mirrored {
+        run: Run {
+            parts,
+            answers: Vec::new(),
+            heard,
+        },
+        told,
+    }
+}
+
+/// 7 where a driver broke its class's contract, else 1 where both sides were lost, else 0.
+pub fn status(mirrored: &Mirrored) -> u8 {
+    match mirrored.run.status(&mirrored.run.verdicts()) {
+        7 => 7,
+        _ => u8::from(
+            mirrored
+                .told
+                .iter()
+                .any(|told| matches!(told, Told::BothLost)),
+        ),
+    }
+}
+
+fn serve<'s>(sides: &mut [Side<'s>], operation: &'s Operation) -> Told {
+    let spec = sides[0].part.spec();
+    if let Some(refusal) = operation.refusal(spec.class, spec.blocks) {
+        return Told::Answer(refusal);
+    }
+    match operation {
+        Operation::Read { .. } => read(sides, operation),
+        _ => write(sides, operation),
+    }
+}
+
+/// Asks one side after the other until one has the blocks.
+fn read<'s>(sides: &mut [Side<'s>], operation: &'s Operation) -> Told {
+    let mut failed = None;
+    for side in sides.iter_mut().filter(|side| side.present) {
+        match side.ask(operation) {
+            answer @ Answer::Blocks(_) => return Told::Answer(answer),
+            answer @ Answer::IoError(_) => failed = failed.or(Some(answer)),
+            _ => side.present = false,
+        }
+    }
+    failed.map_or(Told::BothLost, Told::Answer)
+}
+
+/// Asks both sides. Those that did it stay; where none did, the first whose medium failed stays.
+fn write<'s>(sides: &mut [Side<'s>], operation: &'s Operation) -> Told {
+    let answers: Vec<Option<Answer>> = sides
+        .iter_mut()
+        .map(|side| side.present.then(|| side.ask(operation)))
+        .collect();
+    let done = |answer: &Option<Answer>| matches!(answer, Some(Answer::Done));
+    if answers.iter().any(done) {
+        for (side, answer) in sides.iter_mut().zip(&answers) {
+            side.present = done(answer);
+        }
+        return Told::Answer(Answer::Done);
+    }
+    let failed = answers
+        .iter()
+        .position(|answer| matches!(answer, Some(Answer::IoError(_))));
+    for (place, side) in sides.iter_mut().enumerate() {
+        side.present = failed == Some(place);
+    }
+    let answer = failed.and_then(|place| answers.into_iter().nth(place).flatten());
+    answer.map_or(Told::BothLost, Told::Answer)
+}
+
+impl<'s> Side<'s> {
+    /// The answer to a call of thread 0, which takes the part's steps until it comes.
+    fn ask(&mut self, operation: &'s Operation) -> Answer {
+        self.part.invoke(0, operation);
+        loop {
+            if let Some((_, answer)) = self.part.take_answers().next() {
+                return answer;
+            }
+            self.step();
+        }
+    }
+
+    /// Takes the next step, and tells whether there was one.
+    fn step(&mut self) -> bool {
+        let next = self.part.next_recovery().or_else(|| self.part.next_for(0));
+        let has_step = next.is_some();
+        if let Some(step) = next {
+            self.part.take(step);
+        }
+        has_step
+    }
+
+    /// The part behind its last step.
+    fn settled(mut self) -> Part<'s> {
+        while self.step() {}
+        self.part
+    }
+}

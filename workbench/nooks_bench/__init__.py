@@ -1,0 +1,1 @@
+"""The workbench around the program `nooks`: it makes its inputs and draws its outputs."""

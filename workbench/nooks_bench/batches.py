@@ -1,0 +1,73 @@
+"""The work of a sweep, in batches: each a campaign over some faults, and a run of each member of which the row does not
+tell all. A batch is all that a worker gets, here or on another machine."""
+
+from __future__ import annotations
+
+import json
+from dataclasses import dataclass
+
+from .outcomes import Judge, Outcome, Row, judge_of, parse_row
+from .program import Mistake, Program
+from .report import Report, parse_report
+from .scenario import Fault, Scenario, operations, with_faults
+
+# A campaign takes a base of at most so many operations, and a part with at most so many faults of its own.
+MOST_OPERATIONS = 64
+MOST_OWN_FAULTS = 63
+
+
+@dataclass(frozen=True)
+class Batch:
+    """Some faults of one sweep. `order` is the place of the first of them in the whole."""
+
+    base: Scenario
+    part: int
+    faults: tuple[Fault, ...]
+    order: int
+
+
+def rows_of(program: Program, batch: Batch) -> list[Row | None]:
+    """The campaign's rows, or none where the base is too large for a campaign."""
+    own = batch.base["parts"][batch.part].get("faults", [])
+    if operations(batch.base) > MOST_OPERATIONS or len(own) > MOST_OWN_FAULTS:
+        return [None] * len(batch.faults)
+    campaign = {"base": batch.base, "part": batch.part, "faults": list(batch.faults)}
+    lines = program.answer(["campaign"], json.dumps(campaign)).out.split("\n")
+    rows = [parse_row(line) for line in lines if line and not line.startswith("campaign")]
+    if len(rows) != len(batch.faults):
+        raise Mistake(f"{len(batch.faults)} faults, and {len(rows)} rows")
+    return list(rows)
+
+
+def member_outcome(program: Program, judge: Judge, batch: Batch, fault: Fault) -> Outcome:
+    """The outcome of one fault by the report of its run."""
+    report = program.report(with_faults(batch.base, batch.part, [fault]))
+    return judge.by_report(fault, parse_report(report))
+
+
+def outcomes_of(program: Program, base: Report, batch: Batch) -> list[Outcome]:
+    """The outcomes of a batch's faults, in order. Equal faults are run once."""
+    judge = judge_of(base, batch.base, batch.part)
+    looked: dict[str, Outcome] = {}
+    found: list[Outcome] = []
+    for fault, row in zip(batch.faults, rows_of(program, batch)):
+        outcome = judge.by_row(fault, row) if row else None
+        if outcome is None:
+            key = json.dumps(fault)
+            if key not in looked:
+                looked[key] = member_outcome(program, judge, batch, fault)
+            outcome = looked[key]
+        found.append(outcome)
+    return found
+
+
+def run_batch(path: str, batch: Batch) -> list[tuple[str, str]]:
+    """A batch from nothing but a path and the batch, as a worker on another machine runs it: names and causes."""
+    program = Program(path)
+    base = parse_report(program.report(batch.base))
+    return [(outcome.name, outcome.cause) for outcome in outcomes_of(program, base, batch)]
+
+
+def batches_of(base: Scenario, part: int, faults: list[Fault], size: int) -> list[Batch]:
+    """The faults in batches of at most a size."""
+    return [Batch(base, part, tuple(faults[at : at + size]), at) for at in range(0, len(faults), size)]

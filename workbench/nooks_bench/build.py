@@ -1,0 +1,113 @@
+"""build: a scenario as people like to write it, to the program's exact JSON."""
+
+from __future__ import annotations
+
+import argparse
+import os
+import sys
+from dataclasses import dataclass
+
+from .jsontext import json_text
+from .program import Mistake, Program, find_program
+from .refused import explain_fault, parse_fault
+from .source import Misplaced, Node, read_source, read_text
+
+# A repetition has at most so many items: more than any list of a scenario may have.
+MOST_REPEATED = 65_536
+
+ABOUT = """Writes the scenario of FILE (- is standard input) as the program reads it. FILE is JSON that may also
+have: comments from // to the line's end; a comma behind a last item; "notes" in any object, which are left out;
+"asm_file": "PATH" in a driver, from the folder of FILE on; "drivers": {NAME: DRIVER} at the top, which a part
+names by "driver": "NAME"; {"repeat": 16, "of": 7} in any list. A mistake is told with file, line and column."""
+
+
+@dataclass(frozen=True)
+class Builder:
+    """Builds one file: its folder, and its table of drivers."""
+
+    folder: str
+    drivers: dict[str, Node]
+
+    def value(self, node: Node, key: str = "") -> Node:
+        """A value as the program reads it, with the place where it was written."""
+        if key == "driver":
+            node = self.driver(node)
+        if isinstance(node.value, dict):
+            return self.object(node)
+        if isinstance(node.value, list):
+            return Node([item for each in node.value for item in self.items(each)], node.place)
+        return node
+
+    def object(self, node: Node) -> Node:
+        kept = {key: self.value(each, key) for key, each in node.value.items() if key != "notes"}
+        return Node(kept, node.place, node.keys)
+
+    def driver(self, node: Node) -> Node:
+        """A driver: by its name in the table, and with its text where a file has it."""
+        if isinstance(node.value, str):
+            if node.value not in self.drivers:
+                names = ", ".join(self.drivers) or "none"
+                about = f"there is no driver {node.value!r} in the table of drivers; it has {names}"
+                raise Misplaced(node.place, about)
+            node = self.drivers[node.value]
+        named = node.get("asm_file")
+        if named is None:
+            return node
+        if not isinstance(named.value, str):
+            raise Misplaced(named.place, "the path of a file is wanted here")
+        path = os.path.normpath(os.path.join(self.folder, named.value))
+        try:
+            text = read_text(path)
+        except Mistake as error:
+            raise Misplaced(named.place, str(error)) from error
+        others = {key: each for key, each in node.value.items() if key != "asm_file"}
+        return Node({**others, "asm": Node(text, named.place, origin=path)}, node.place, node.keys)
+
+    def items(self, node: Node) -> list[Node]:
+        """What an item of a list stands for: itself, or a value so many times."""
+        if node.get("repeat") is None and node.get("of") is None:
+            return [self.value(node)]
+        times, each = node.get("repeat"), node.get("of")
+        if times is None or each is None or len(node.value) != 2:
+            raise Misplaced(node.place, 'a repetition is {"repeat": COUNT, "of": VALUE}, and nothing else')
+        if type(times.value) is not int or not 0 <= times.value <= MOST_REPEATED:
+            raise Misplaced(times.place, f"a count from 0 to {MOST_REPEATED} is wanted here")
+        return [self.value(each)] * times.value
+
+
+def built(file: str, text: str | None = None) -> Node:
+    """The scenario of a file, each value with its place."""
+    whole = read_source(file, text)
+    if not isinstance(whole.value, dict):
+        raise Misplaced(whole.place, "a scenario is an object")
+    table = whole.get("drivers")
+    if table is not None and not isinstance(table.value, dict):
+        raise Misplaced(table.place, 'the table of drivers is {"NAME": DRIVER}')
+    folder = os.path.dirname(file) if file != "-" else ""
+    builder = Builder(folder, table.value if table else {})
+    kept = {key: each for key, each in whole.value.items() if key != "drivers"}
+    return builder.value(Node(kept, whole.place, whole.keys))
+
+
+def check(program: Program, node: Node, text: str) -> None:
+    """Ends with a mistake at its place where the program would refuse the scenario."""
+    line = program.fault_of(text)
+    if line is not None:
+        explained = explain_fault(parse_fault(line), node)
+        raise Misplaced(explained.place, str(explained)[len(f"{explained.place}: ") :])
+
+
+def run(args: argparse.Namespace) -> int:
+    node = built(args.file)
+    text = json_text(node.plain()) + "\n"
+    if not args.no_check:
+        check(find_program(args.program), node, text)
+    sys.stdout.write(text)
+    return 0
+
+
+def add_to(commands: argparse._SubParsersAction) -> None:
+    parser = commands.add_parser("build", help="write a scenario's exact JSON", description=ABOUT)
+    parser.add_argument("file", metavar="FILE")
+    parser.add_argument("--no-check", action="store_true", help="do not ask the program whether it takes the scenario")
+    parser.set_defaults(run=run)

@@ -1,0 +1,100 @@
+"""What happens at a turn of a burst, asked of the program by runs with faults of the workbench's own: where the counter
+stands, and which turns are acts on the device."""
+
+from __future__ import annotations
+
+from concurrent.futures import ProcessPoolExecutor
+from dataclasses import dataclass, field
+
+from .program import Program
+from .report import Event, parse_report
+from .scenario import MOST_FAULTS, Scenario, with_faults
+
+# A word that stops the driver and tells where it stands: IN r0 from a port that no device has, the address behind
+# this number. So the trap `bad_port` names the address.
+TELLTALE = 0x14000000
+FIRST_PORT = 0x8000
+
+
+@dataclass
+class Probe:
+    """Asks about one part of one scenario. `listing` has the instructions of the part's driver by address."""
+
+    program: Program
+    scenario: Scenario
+    part: int
+    listing: list[str]
+    near: int = 0
+    counts: dict[tuple[int, int], int] = field(default_factory=dict)
+
+    def burst_under(self, burst: int, faults: list[dict[str, int | str]]) -> Event | None:
+        """The event of a burst in the run with some faults more."""
+        text = self.program.report(with_faults(self.scenario, self.part, faults))
+        found = [event for event in parse_report(text).parts[self.part].bursts() if event.burst == burst]
+        return found[0] if found else None
+
+    def address(self, burst: int, after: int) -> int | None:
+        """The address of the instruction that a burst comes to behind so many turns; None where it is none of the
+        image's. Every word of the text is made one that tells its address, as many at a time as there may be faults."""
+        room = MOST_FAULTS - len(self.scenario["parts"][self.part].get("faults", []))
+        if room <= 0:
+            return None
+        chunks = [range(first, min(first + room, len(self.listing))) for first in range(0, len(self.listing), room)]
+        chunks.sort(key=lambda chunk: self.near not in chunk)
+        for chunk in chunks:
+            words = [{"address": at, "value": TELLTALE + FIRST_PORT + at} for at in chunk]
+            place = {"burst": burst, "after": after, "kind": "code"}
+            event = self.burst_under(burst, [{**place, **word} for word in words])
+            if event is None or event.turns != after + 1 or not (event.cause or "").startswith("trap bad_port "):
+                continue
+            port = int((event.cause or "").split(" ")[2])
+            if port - FIRST_PORT in chunk:
+                self.near = port - FIRST_PORT
+                return self.near
+        return None
+
+    def instruction(self, burst: int, after: int) -> str:
+        """The address and the instruction there; empty where it is not known."""
+        address = self.address(burst, after)
+        return "" if address is None else f"{address}: {self.listing[address]}"
+
+    def acts_before(self, burst: int, after: int) -> int:
+        """How many acts a burst has made behind so many turns: those that a trap there leaves."""
+        if (burst, after) not in self.counts:
+            event = self.burst_under(burst, [{"burst": burst, "after": after, "kind": "trap"}])
+            self.counts[burst, after] = len(event.acts) if event else 0
+        return self.counts[burst, after]
+
+    def act_turns(self, event: Event) -> list[int]:
+        """For each act of a burst the turns before it, by halving."""
+        found: list[int] = []
+        for act in range(1, len(event.acts) + 1):
+            low, high = (found[-1] + 1 if found else 0), event.turns - 1
+            while low < high:
+                middle = (low + high) // 2
+                if self.acts_before(event.burst, middle + 1) >= act:
+                    high = middle
+                else:
+                    low = middle + 1
+            found.append(low)
+        return found
+
+
+def probe_of(program: Program, scenario: Scenario, part: int) -> Probe:
+    return Probe(program, scenario, part, program.listing(scenario["parts"][part]["driver"]))
+
+
+def instructions_of(probe: Probe, places: list[tuple[int, int]]) -> list[str]:
+    return [probe.instruction(*place) for place in places]
+
+
+def instructions(probe: Probe, places: list[tuple[int, int]], jobs: int) -> dict[tuple[int, int], str]:
+    """The instructions at some places, each a burst and the turns before it. They are asked for in pieces, so that one
+    begins its search near where the one before it ended."""
+    size = max(8, -(-len(places) // jobs))
+    pieces = [places[at : at + size] for at in range(0, len(places), size)]
+    if len(pieces) < 2:
+        return dict(zip(places, instructions_of(probe, places)))
+    with ProcessPoolExecutor(jobs) as pool:
+        found = list(pool.map(instructions_of, [probe] * len(pieces), pieces))
+    return {place: text for piece, texts in zip(pieces, found) for place, text in zip(piece, texts)}

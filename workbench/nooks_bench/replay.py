@@ -1,0 +1,111 @@
+"""replay: from a report, the listed schedule under which `run` gives the same journals and answers."""
+
+from __future__ import annotations
+
+import argparse
+import json
+import sys
+from dataclasses import dataclass, field
+
+from .calls import calls_of_threads
+from .jsontext import json_text
+from .program import Mistake, Program, find_program
+from .report import SHADOW, Event, Report, parse_report
+from .scenario import Scenario, read_scenario, with_schedule
+from .source import read_text
+
+# A listed schedule has at most so many picks.
+MOST_PICKS = 65_536
+
+ABOUT = """From a scenario and a report of it, of `run threads` or of `run`, the scenario with a listed schedule
+of which `run` gives the same journals and answers. The program is asked for both: that the report is one of the
+scenario's, and that the new one gives the same."""
+
+
+def actor_of(event: Event, part: int, threads: int) -> int:
+    """The number of whose step an event is (docs/SCENARIO.md, schedules)."""
+    if event.kind == "arrive":
+        return threads + 2 * part + 1
+    if event.kind == "stage" or event.context == SHADOW:
+        return threads + 2 * part
+    return event.context
+
+
+@dataclass
+class Merge:
+    """Merges the journals of the parts into one order of steps: a thread invokes an operation only when the one before,
+    on whatever part, is answered."""
+
+    report: Report
+    picks: list[int] = field(default_factory=list)
+
+    def __post_init__(self) -> None:
+        self.done = [0] * len(self.report.parts)
+        self.begun = [0] * len(self.report.threads)
+        self.calls = calls_of_threads(self.report)
+
+    def may_invoke(self, event: Event, part: int) -> bool:
+        """Whether a thread's next operation is this one, and the one before is answered by now."""
+        calls, next_one = self.calls[event.context], self.begun[event.context]
+        if next_one >= len(calls) or (calls[next_one].part, calls[next_one].number) != (part, event.call):
+            return False
+        before = calls[next_one - 1] if next_one else None
+        return before is None or 0 < before.answered <= self.done[before.part]
+
+    def advance(self, part: int) -> bool:
+        """Takes as many events of a part as may come next; whether there was one."""
+        events = self.report.parts[part].events
+        start = self.done[part]
+        while self.done[part] < len(events):
+            event = events[self.done[part]]
+            if event.kind == "invoke":
+                if not self.may_invoke(event, part):
+                    break
+                self.begun[event.context] += 1
+            self.picks.append(actor_of(event, part, len(self.report.threads)))
+            self.done[part] += 1
+        return self.done[part] > start
+
+    def whole(self) -> list[int]:
+        """The picks of all events."""
+        while any([self.advance(part) for part in range(len(self.done))]):
+            pass
+        if any(done < len(part.events) for done, part in zip(self.done, self.report.parts)):
+            raise Mistake("the journals of this report have no common order")
+        return self.picks
+
+
+def journals_and_answers(report: str) -> list[str]:
+    """A report without the lines of its listeners."""
+    return [line for line in report.split("\n") if not line.startswith("tap ")]
+
+
+def replayed(program: Program, scenario: Scenario, report: str) -> Scenario:
+    """The scenario with the schedule of a report; a mistake where there is none."""
+    text = json.dumps(scenario)
+    refused = program.fault_of(text)
+    if refused:
+        raise Mistake(f"the program refuses the scenario: {refused}")
+    if not program.fits(text, report):
+        raise Mistake("the report is none of this scenario's: the program's audit says no")
+    picks = Merge(parse_report(report)).whole()
+    made = with_schedule(scenario, {"kind": "listed", "picks": picks[:MOST_PICKS]})
+    if journals_and_answers(program.report(made)) != journals_and_answers(report):
+        if len(picks) > MOST_PICKS:
+            raise Mistake(f"the report has {len(picks)} events, and a schedule lists at most {MOST_PICKS} picks: "
+                          "what comes behind them is another order")
+        raise Mistake("the program gives another report under the listed schedule")
+    return made
+
+
+def run(args: argparse.Namespace) -> int:
+    made = replayed(find_program(args.program), read_scenario(args.file), read_text(args.report))
+    sys.stdout.write(json_text(made) + "\n")
+    return 0
+
+
+def add_to(commands: argparse._SubParsersAction) -> None:
+    parser = commands.add_parser("replay", help="the schedule that gives a report of threads again", description=ABOUT)
+    parser.add_argument("file", metavar="SCENARIO")
+    parser.add_argument("report", metavar="REPORT", help="- is standard input")
+    parser.set_defaults(run=run)

@@ -1,0 +1,181 @@
+"""A report of the program, line by line (docs/REPORT.md; the grammar is in docs/AUDIT.md)."""
+
+from __future__ import annotations
+
+import re
+from dataclasses import dataclass, field
+
+from .program import Mistake
+
+# The context in which the shadow's own calls run.
+SHADOW = 16
+
+PART = re.compile(r"part (\d+) (\w+) (block|net|sound) limit (\d+)")
+EVENT = re.compile(r"(\d+) (invoke|enter|burst|stage|arrive) (.*)")
+INVOKE = re.compile(r"c(\d+) t(\d+) (.*?)(?: -> (.*))?")
+ENTER = re.compile(r"c(\d+) x(\d+) try (\d+)(?: -> (.*))?")
+BURST = re.compile(r"x(\d+) c(\d+) b(\d+) n(\d+) (.*?)(?: -> (.*?))?(?: ! (.*))?")
+STAGE = re.compile(r"(stop|collect|reset|load|init|replay_set \d+ \d+|replay_open|resume)(.*)")
+REPLY = re.compile(r" -> c(\d+) ((?:\w+)(?: \[[^]]*\]| \w+)?)")
+ARRIVE = re.compile(r"(\[[^]]*\]) (kept|lost)")
+CONTRACT = re.compile(r"contract (?:kept|broken event (\d+) clause (\d+))")
+ANSWER = re.compile(r"(\d+) p(\d+) (.*)")
+
+
+@dataclass(frozen=True)
+class Event:
+    """One event of a part. What a kind does not have is 0, empty or None."""
+
+    number: int
+    kind: str
+    line: str
+    call: int = 0
+    context: int = -1
+    attempt: int = 0
+    text: str = ""
+    answer: str | None = None
+    burst: int = 0
+    turns: int = 0
+    acts: tuple[str, ...] = ()
+    cause: str | None = None
+    replies: tuple[tuple[int, str], ...] = ()
+
+    @property
+    def failed(self) -> bool:
+        return self.cause is not None
+
+
+@dataclass
+class Part:
+    """A part's section. `left` has the lines of objects and of the device, `losses` those of losses and frames."""
+
+    place: int
+    name: str
+    kind: str
+    limit: int
+    events: list[Event] = field(default_factory=list)
+    left: list[str] = field(default_factory=list)
+    config: str = ""
+    losses: list[str] = field(default_factory=list)
+    failures: int = 0
+    broken: tuple[int, int] | None = None
+
+    @property
+    def given_up(self) -> bool:
+        return self.failures > self.limit
+
+    def bursts(self) -> list[Event]:
+        return [event for event in self.events if event.kind == "burst"]
+
+    def event(self, number: int) -> Event:
+        return self.events[number - 1]
+
+
+@dataclass
+class Thread:
+    """A thread's section: the part and the answer of each operation."""
+
+    place: int
+    name: str
+    answers: list[tuple[int, str]] = field(default_factory=list)
+
+
+@dataclass
+class Report:
+    parts: list[Part] = field(default_factory=list)
+    threads: list[Thread] = field(default_factory=list)
+    taps: list[str] = field(default_factory=list)
+    status: int = -1
+
+
+def parse_event(line: str) -> Event | None:
+    """The event of a line, None where it is none."""
+    found = EVENT.fullmatch(line)
+    if not found:
+        return None
+    number, kind, rest = int(found[1]), found[2], found[3]
+    if kind == "invoke" and (told := INVOKE.fullmatch(rest)):
+        return Event(number, kind, line, call=int(told[1]), context=int(told[2]), text=told[3], answer=told[4])
+    if kind == "enter" and (told := ENTER.fullmatch(rest)):
+        return Event(number, kind, line, call=int(told[1]), context=int(told[2]), attempt=int(told[3]), answer=told[4])
+    if kind == "burst" and (told := BURST.fullmatch(rest)):
+        end, *acts = told[5].split(" | ")
+        x, c, b, n = (int(told[place]) for place in (1, 2, 3, 4))
+        return Event(number, kind, line, c, x, 0, end, told[6], b, n, tuple(acts), told[7])
+    if kind == "stage" and (told := STAGE.fullmatch(rest)):
+        replies = tuple((int(call), answer) for call, answer in REPLY.findall(told[2]))
+        return Event(number, kind, line, text=told[1], replies=replies)
+    if kind == "arrive" and (told := ARRIVE.fullmatch(rest)):
+        return Event(number, kind, line, text=told[1], answer=told[2])
+    return None
+
+
+class Lines:
+    """Takes a report's lines, one after the other."""
+
+    def __init__(self) -> None:
+        self.report = Report()
+
+    def take(self, line: str) -> None:
+        """Puts a line where it belongs; one that is none of a report is a mistake."""
+        words = line.split(" ")
+        if found := PART.fullmatch(line):
+            self.report.parts.append(Part(int(found[1]), found[2], found[3], int(found[4])))
+        elif words[0] == "thread" and len(words) == 3:
+            self.report.threads.append(Thread(int(words[1]), words[2]))
+        elif words[0] == "tap":
+            self.report.taps.append(line)
+        elif words[0] == "status":
+            self.report.status = int(words[1])
+        elif self.report.threads:
+            self.answer(line)
+        elif self.report.parts:
+            self.of_part(self.report.parts[-1], line, words)
+        else:
+            raise Mistake(f"no line of a report: {line[:80]!r}")
+
+    def answer(self, line: str) -> None:
+        found = ANSWER.fullmatch(line)
+        if not found:
+            raise Mistake(f"no answer of a thread: {line[:80]!r}")
+        self.report.threads[-1].answers.append((int(found[2]), found[3]))
+
+    def of_part(self, part: Part, line: str, words: list[str]) -> None:
+        if event := parse_event(line):
+            if event.number != len(part.events) + 1:
+                raise Mistake(f"an event is missing before {line[:80]!r}")
+            part.events.append(event)
+        elif words[0] in ("object", "disk", "wire", "played"):
+            part.left.append(line)
+        elif words[0] == "config":
+            part.config = line[7:]
+        elif words[0] in ("losses", "frames"):
+            part.losses.append(line)
+        elif words[0] == "failures":
+            part.failures = int(words[1])
+        elif found := CONTRACT.fullmatch(line):
+            part.broken = (int(found[1]), int(found[2])) if found[1] else None
+        else:
+            raise Mistake(f"no line of a report: {line[:80]!r}")
+
+
+def parse_report(text: str) -> Report:
+    """The report of a text; a mistake where it is none."""
+    lines = Lines()
+    for line in text.split("\n"):
+        if line:
+            lines.take(line)
+    if lines.report.status < 0:
+        raise Mistake("the report has no line of its status: it is not whole")
+    return lines.report
+
+
+def lost_of(part: Part) -> int:
+    """The sum of a part's losses: sends, samples, busy answers, and frames lost on their way in."""
+    total = 0
+    for line in part.losses:
+        words = line.split(" ")
+        named = dict(zip(words[1::2], words[2::2]))
+        wanted = ("sends", "samples", "busy", "reset", "full_ring", "full_queue")
+        total += sum(int(number) for name, number in named.items() if name in wanted)
+    return total

@@ -1,0 +1,152 @@
+"""shrink: of a scenario of which a predicate holds, a smaller one of which it still holds."""
+
+from __future__ import annotations
+
+import argparse
+import json
+import sys
+from dataclasses import dataclass
+from typing import Any, Callable
+
+from .jsontext import json_text
+from .program import Mistake, Program, find_program
+from .scenario import Scenario, operations, read_scenario
+from .smaller import Change, lists_of, replaced, simpler_values, without_part, without_thread
+
+ABOUT = """Makes a scenario smaller for as long as what is asked still holds of its run: fewer parts, threads,
+operations, faults, arrivals and picks, shorter data. What is asked is a status, or a text in the report, or
+both."""
+
+
+@dataclass
+class Shrinker:
+    """Tries smaller scenarios; `best` is the smallest so far of which the predicate holds."""
+
+    best: Scenario
+    holds: Callable[[Scenario], bool]
+    tries: int = 0
+
+    def take(self, smaller: Scenario) -> bool:
+        """Tries one; it is the best from now on where the predicate holds of it."""
+        self.tries += 1
+        if not self.holds(smaller):
+            return False
+        self.best = smaller
+        return True
+
+    def shorten(self, path: tuple[Any, ...], least: int, unit: int) -> bool:
+        """Takes pieces out of a list, large ones first; whether one could go. Its length stays a multiple of a unit."""
+        changed = False
+        size = max(len(at(self.best, path)) // unit // 2, 1) * unit
+        while size >= unit:
+            start = 0
+            while start < len(at(self.best, path)):
+                items = at(self.best, path)
+                left = items[:start] + items[start + size :]
+                if len(left) >= least and self.take(replaced(self.best, path, left)):
+                    changed = True
+                else:
+                    start += size
+            size = size // unit // 2 * unit
+        return changed
+
+    def drop(self, count: Callable[[Scenario], int], without: Callable[[Scenario, int], Scenario]) -> bool:
+        """Takes out parts or threads, one by one from the last on; whether one could go."""
+        changed = False
+        for number in reversed(range(count(self.best))):
+            changed |= self.take(without(self.best, number))
+        return changed
+
+    def simplify(self) -> bool:
+        """Tries other values that are simpler."""
+        changed = False
+        for change in list(simpler_values(self.best)):
+            changed |= self.take_change(change)
+        return changed
+
+    def take_change(self, change: Change) -> bool:
+        path, value = change
+        try:
+            now = at(self.best, path)
+        except (KeyError, IndexError):
+            return False
+        if value is not None and not is_smaller(value, now):
+            return False
+        return self.take(replaced(self.best, path, value))
+
+    def once(self) -> bool:
+        """All ways once; whether one made it smaller."""
+        changed = len(self.best["parts"]) > 1 and self.drop(lambda each: len(each["parts"]), without_part)
+        changed |= self.drop(lambda each: len(each["threads"]), without_thread)
+        for path, least, unit in list(lists_of(self.best)):
+            changed |= self.shorten(path, least, unit)
+        return changed | self.simplify()
+
+    def whole(self, told: Callable[[Shrinker], None]) -> Scenario:
+        """Until nothing makes it smaller."""
+        while self.once():
+            told(self)
+        return self.best
+
+
+def at(value: Any, path: tuple[Any, ...]) -> Any:
+    """What stands at a path."""
+    for step in path:
+        value = value[step]
+    return value
+
+
+def is_smaller(value: Any, now: Any) -> bool:
+    """Whether a number is less, or a list or a text shorter, than what stands there by now."""
+    return value < now if isinstance(value, int) else len(value) < len(now)
+
+
+@dataclass(frozen=True)
+class Predicate:
+    """What has to hold of a scenario's run."""
+
+    program: Program
+    status: int | None
+    texts: tuple[str, ...]
+
+    def __call__(self, scenario: Scenario) -> bool:
+        ended = self.program.ask(["run"], json.dumps(scenario))
+        is_status = self.status is None or ended.status == self.status
+        return is_status and all(text in ended.out for text in self.texts)
+
+
+def size_text(scenario: Scenario) -> str:
+    """How large a scenario is, on one line."""
+    faults = sum(len(part.get("faults", [])) for part in scenario["parts"])
+    return (f"{len(scenario['parts'])} parts, {len(scenario['threads'])} threads, {operations(scenario)} operations, "
+            f"{faults} faults, {len(json.dumps(scenario))} bytes")
+
+
+def shrunk(scenario: Scenario, holds: Callable[[Scenario], bool], quiet: bool) -> Scenario:
+    """The smallest scenario that was found; a mistake where the predicate does not hold of the whole."""
+    if not holds(scenario):
+        raise Mistake("what is asked does not hold of the scenario itself")
+
+    def told(shrinker: Shrinker) -> None:
+        if not quiet:
+            print(f"{shrinker.tries} tries: {size_text(shrinker.best)}", file=sys.stderr)
+
+    return Shrinker(scenario, holds).whole(told)
+
+
+def run(args: argparse.Namespace) -> int:
+    if args.status is None and not args.text:
+        raise Mistake("what is asked? --status, --text, or both")
+    holds = Predicate(find_program(args.program), args.status, tuple(args.text or ()))
+    made = shrunk(read_scenario(args.file), holds, args.quiet)
+    sys.stdout.write(json_text(made) + "\n")
+    return 0
+
+
+def add_to(commands: argparse._SubParsersAction) -> None:
+    parser = commands.add_parser("shrink", help="a smaller scenario of which the same holds", description=ABOUT)
+    parser.add_argument("file", metavar="SCENARIO")
+    parser.add_argument("--status", type=int, metavar="S", help="the run's status: 7 where a contract is broken")
+    parser.add_argument("--text", action="append", metavar="TEXT", help="a text in the report; may come again")
+    parser.add_argument("--quiet", action="store_true", help="no progress on standard error")
+    parser.set_defaults(run=run)

@@ -1,0 +1,205 @@
+"""JSON as people write it: comments, trailing commas, and each value with the place where it stands."""
+
+from __future__ import annotations
+
+import json
+import re
+from dataclasses import dataclass, field
+from typing import Any, Iterator
+
+from .program import Mistake
+
+# How deep lists and objects may stand in each other, so that a bad file ends in a mistake with a place.
+DEEPEST = 200
+
+BLANK = re.compile(r"(?:[ \t\r\n]+|//[^\n]*)*")
+NUMBER = re.compile(r"-?(?:0|[1-9][0-9]*)(?:\.[0-9]+)?(?:[eE][+-]?[0-9]+)?")
+STRING = re.compile(r'"(?:[^"\\\x00-\x1f]|\\.)*"')
+WORDS = {"true": True, "false": False, "null": None}
+
+
+@dataclass(frozen=True)
+class Place:
+    """A place in a file: lines and columns count from 1."""
+
+    file: str
+    line: int
+    column: int
+
+    def __str__(self) -> str:
+        return f"{self.file}:{self.line}:{self.column}"
+
+
+class Misplaced(Mistake):
+    """A mistake at a place of a file."""
+
+    def __init__(self, place: Place, text: str) -> None:
+        super().__init__(f"{place}: {text}")
+        self.place = place
+
+
+@dataclass
+class Node:
+    """A value with its place: `value` is a dict of nodes, a list of nodes, or a plain value. Of a dict, `keys` has the
+    places of the keys. `origin` is a file of lines from which a text was taken."""
+
+    value: Any
+    place: Place
+    keys: dict[str, Place] = field(default_factory=dict)
+    origin: str | None = None
+
+    def plain(self) -> Any:
+        """The value without places."""
+        if isinstance(self.value, dict):
+            return {key: node.plain() for key, node in self.value.items()}
+        if isinstance(self.value, list):
+            return [node.plain() for node in self.value]
+        return self.value
+
+    def get(self, key: str) -> Node | None:
+        """The node under a key, where this is an object that has it."""
+        return self.value.get(key) if isinstance(self.value, dict) else None
+
+
+def steps_of(path: str) -> list[str]:
+    """The steps of a path as the program writes it: `/parts/0/blocks`; `/` has none."""
+    return [step for step in path.split("/") if step]
+
+
+def deepest(node: Node, path: str) -> tuple[Node, list[str]]:
+    """The deepest value on a path, and the steps that are not there."""
+    steps = steps_of(path)
+    for done, step in enumerate(steps):
+        if isinstance(node.value, dict) and step in node.value:
+            node = node.value[step]
+        elif isinstance(node.value, list) and step.isdigit() and int(step) < len(node.value):
+            node = node.value[int(step)]
+        else:
+            return node, steps[done:]
+    return node, []
+
+
+class Reader:
+    """Reads one text from its front to its end."""
+
+    def __init__(self, text: str, file: str) -> None:
+        self.text = text
+        self.file = file
+        self.at = 0
+        self.starts = [0] + [place + 1 for place, letter in enumerate(text) if letter == "\n"]
+
+    def place(self, at: int | None = None) -> Place:
+        """The place of an offset, or of where the reader stands."""
+        at = self.at if at is None else at
+        low, high = 0, len(self.starts)
+        while high - low > 1:
+            middle = (low + high) // 2
+            low, high = (middle, high) if self.starts[middle] <= at else (low, middle)
+        return Place(self.file, low + 1, at - self.starts[low] + 1)
+
+    def fail(self, text: str) -> Misplaced:
+        return Misplaced(self.place(), text)
+
+    def skip(self) -> None:
+        found = BLANK.match(self.text, self.at)
+        self.at = found.end() if found else self.at
+
+    def peek(self) -> str:
+        self.skip()
+        return self.text[self.at : self.at + 1]
+
+    def take(self, letter: str, where: str) -> None:
+        if self.peek() != letter:
+            found = repr(self.text[self.at]) if self.at < len(self.text) else "the end of the file"
+            raise self.fail(f"{letter!r} is wanted {where}, and here is {found}")
+        self.at += 1
+
+    def whole(self) -> Node:
+        node = self.node(0)
+        if self.peek():
+            raise self.fail("something stands behind the value")
+        return node
+
+    def node(self, depth: int) -> Node:
+        first = self.peek()
+        if depth > DEEPEST:
+            raise self.fail("lists and objects stand too deep in each other")
+        if first == "{":
+            return self.object(depth)
+        if first == "[":
+            return self.list(depth)
+        place = self.place()
+        if first == '"':
+            return Node(self.string(), place)
+        for word, value in WORDS.items():
+            if self.text.startswith(word, self.at):
+                self.at += len(word)
+                return Node(value, place)
+        return Node(self.number(), place)
+
+    def number(self) -> int | float:
+        found = NUMBER.match(self.text, self.at)
+        if not found:
+            raise self.fail("a value is wanted here")
+        self.at = found.end()
+        return json.loads(found.group())
+
+    def string(self) -> str:
+        found = STRING.match(self.text, self.at)
+        if not found:
+            raise self.fail("this text does not end on its line")
+        try:
+            value = json.loads(found.group())
+        except ValueError as error:
+            raise self.fail(f"this text is not well-formed: {error}") from error
+        self.at = found.end()
+        return value
+
+    def items(self, closing: str, where: str) -> Iterator[None]:
+        """Stops at each item of a list or an object; a comma may stand behind the last one."""
+        self.at += 1
+        while self.peek() != closing:
+            yield
+            if self.peek() == closing:
+                break
+            self.take(",", where)
+        self.at += 1
+
+    def list(self, depth: int) -> Node:
+        place = self.place()
+        found: list[Node] = []
+        for _ in self.items("]", "between the items of the list"):
+            found.append(self.node(depth + 1))
+        return Node(found, place)
+
+    def object(self, depth: int) -> Node:
+        place = self.place()
+        found: dict[str, Node] = {}
+        keys: dict[str, Place] = {}
+        for _ in self.items("}", "between the keys of the object"):
+            key_place = self.place()
+            if self.peek() != '"':
+                raise self.fail("a key in double quotes is wanted here")
+            key = self.string()
+            if key in found:
+                raise Misplaced(key_place, f"the key {key!r} stands here a second time")
+            self.take(":", "behind a key")
+            found[key] = self.node(depth + 1)
+            keys[key] = key_place
+        return Node(found, place, keys)
+
+
+def read_text(file: str) -> str:
+    """The text of a file; `-` is standard input."""
+    try:
+        with open(0 if file == "-" else file, encoding="utf-8", closefd=file != "-") as opened:
+            return opened.read()
+    except OSError as error:
+        raise Mistake(f"{file}: {error.strerror}") from error
+    except UnicodeDecodeError as error:
+        raise Mistake(f"{file}: byte {error.start} is not UTF-8") from error
+
+
+def read_source(file: str, text: str | None = None) -> Node:
+    """The value of a file with the places in it."""
+    return Reader(read_text(file) if text is None else text, file).whole()

@@ -1,0 +1,111 @@
+"""SVG texts: a canvas, and colours that can be told apart without colour vision."""
+
+from __future__ import annotations
+
+from dataclasses import dataclass, field
+from xml.sax.saxutils import escape, quoteattr
+
+# A palette of eight that stay apart for all kinds of colour vision, and in grey by their lightness.
+BLACK, GREY, PALE = "#1a1a1a", "#8c8c8c", "#e8e8e8"
+BLUE, SKY, GREEN, YELLOW = "#0072b2", "#56b4e9", "#009e73", "#f0e442"
+ORANGE, RED, PURPLE = "#e69f00", "#d55e00", "#cc79a7"
+WHITE = "#ffffff"
+
+FONT = "font-family:'DejaVu Sans','Helvetica',sans-serif"
+LETTER = 0.62
+
+
+def text_width(text: str, size: float) -> float:
+    """About how wide a text is; the fonts differ."""
+    return len(text) * size * LETTER
+
+
+@dataclass
+class Canvas:
+    """A drawing that grows by elements. Coordinates are in pixels."""
+
+    parts: list[str] = field(default_factory=list)
+    definitions: list[str] = field(default_factory=list)
+    width: float = 0
+    height: float = 0
+
+    def reach(self, x: float, y: float) -> None:
+        self.width, self.height = max(self.width, x), max(self.height, y)
+
+    def add(self, tag: str, title: str = "", inner: str = "", **attributes: object) -> None:
+        """An element; a title is what is shown under the pointer."""
+        told = told_of(attributes)
+        body = (f"<title>{escape(title)}</title>" if title else "") + escape(inner)
+        self.parts.append(f"<{tag}{told}>{body}</{tag}>" if body else f"<{tag}{told}/>")
+
+    def box(self, x: float, y: float, wide: float, high: float, fill: str, title: str = "", **more: object) -> None:
+        self.reach(x + wide, y + high)
+        self.add("rect", title, x=x, y=y, width=wide, height=high, fill=fill, **more)
+
+    def group(self, **attributes: object) -> None:
+        """Begins a group, whose elements share what is named; `end_group` ends it."""
+        told = told_of(attributes)
+        self.parts.append(f"<g{told}>")
+
+    def end_group(self) -> None:
+        self.parts.append("</g>")
+
+    def line(self, x: float, y: float, to_x: float, to_y: float, stroke: str, title: str = "", **more: object) -> None:
+        self.reach(max(x, to_x), max(y, to_y))
+        self.add("line", title, x1=x, y1=y, x2=to_x, y2=to_y, stroke=stroke, **more)
+
+    def words(
+        self, x: float, y: float, text: str, size: float = 11, fill: str = BLACK, title: str = "", **more: object
+    ) -> None:
+        anchor = more.get("text_anchor", "start")
+        self.reach(x + (text_width(text, size) if anchor == "start" else 0), y + 3)
+        self.add("text", title, text, x=x, y=y, font_size=size, fill=fill, **more)
+
+    def shape(self, path: str, fill: str, title: str = "", **more: object) -> None:
+        self.add("path", title, d=path, fill=fill, **more)
+
+    def stripes(self, name: str, back: str, front: str, step: int = 6) -> str:
+        """A fill of stripes, so that a state is told by more than its colour."""
+        ground = f'<rect width="{step}" height="{step}" fill="{back}"/>'
+        inner = f'{ground}<path d="M0,0 L0,{step}" stroke="{front}" stroke-width="2"/>'
+        self.definitions.append(
+            f'<pattern id="{name}" width="{step}" height="{step}" patternUnits="userSpaceOnUse" '
+            f'patternTransform="rotate(45)">{inner}</pattern>'
+        )
+        return f"url(#{name})"
+
+    def text(self, title: str) -> str:
+        """The whole drawing."""
+        wide, high = shown(self.width + 12), shown(self.height + 12)
+        size = f'width="{wide}" height="{high}" viewBox="0 0 {wide} {high}"'
+        head = f'<svg xmlns="http://www.w3.org/2000/svg" {size} style="{FONT}">'
+        ground = f'<rect width="{wide}" height="{high}" fill="{WHITE}"/>'
+        definitions = f"<defs>{''.join(self.definitions)}</defs>" if self.definitions else ""
+        return "\n".join([head, f"<title>{escape(title)}</title>", definitions, ground, *self.parts, "</svg>"]) + "\n"
+
+
+def told_of(attributes: dict[str, object]) -> str:
+    """Attributes as SVG writes them."""
+    return "".join(f" {name.replace('_', '-')}={quoteattr(shown(value))}" for name, value in attributes.items())
+
+
+def shown(value: object) -> str:
+    """A number with at most one decimal, or a text."""
+    if isinstance(value, float):
+        return f"{value:.1f}".rstrip("0").rstrip(".")
+    return str(value)
+
+
+def diamond(x: float, y: float, r: float) -> str:
+    corners = [(x, y - r), (x + r, y), (x, y + r), (x - r, y)]
+    return "M" + " L".join(f"{shown(at)},{shown(down)}" for at, down in corners) + " Z"
+
+
+def triangle(x: float, y: float, r: float) -> str:
+    """A triangle that points down."""
+    return f"M{shown(x - r)},{shown(y - r)} L{shown(x + r)},{shown(y - r)} L{shown(x)},{shown(y + r)} Z"
+
+
+def cross(x: float, y: float, r: float) -> str:
+    left, right, top, low = shown(x - r), shown(x + r), shown(y - r), shown(y + r)
+    return f"M{left},{top} L{right},{low} M{left},{low} L{right},{top}"

@@ -1,0 +1,103 @@
+"""Words of the workbench's texts: ranges, shortened lists, and the clauses of the contracts."""
+
+from __future__ import annotations
+
+import re
+from typing import Iterable
+
+from .program import Mistake
+
+# docs/REPORT.md has these: what the driver did that broke its class's contract.
+CLAUSES = {
+    1: "stored a block that no write inside it covers",
+    2: "stored other words in a block than that write's",
+    3: "replied that a write is done, and a block of it does not hold its words",
+    4: "replied that a read is done, with other words than the disk's",
+    5: "sent a frame in another call than a send, or another frame than that send's",
+    6: "sent a second frame in one send",
+    7: "replied that a send is done, and sent nothing in it",
+    8: "handed a frame up that is not the next of those that it took out of the ring since it was loaded",
+    9: "replied to a recv with nothing handed up, while frames wait in the ring",
+    10: "played a sample that is not the next one of the play inside it",
+    11: "replied that a play is done, and did not play it to its end",
+    12: "changed a register to a value that no set inside it asks for",
+    13: "replied that a set is done, and the register does not hold its value",
+    14: "replied to a get with another value than the register's",
+    15: "replied that a block failed, and no command on that block failed in this attempt",
+}
+
+LIST = re.compile(r"\[([0-9,]*)\]")
+
+
+def parse_ranges(text: str) -> list[int]:
+    """The numbers of `3`, `4-9` or `1,5-7`, in that order."""
+    found: list[int] = []
+    for piece in text.split(","):
+        ends = re.fullmatch(r"(0x[0-9a-fA-F]+|\d+)(?:-(0x[0-9a-fA-F]+|\d+))?", piece)
+        if not ends:
+            raise Mistake(f"{text!r} is no list of numbers: 3, 4-9 or 1,5-7")
+        first = int(ends[1], 0)
+        last = int(ends[2], 0) if ends[2] else first
+        if last < first or last - first > 100_000:
+            raise Mistake(f"{piece!r} is no range")
+        found.extend(range(first, last + 1))
+    return found
+
+
+def ranges_text(numbers: Iterable[int]) -> str:
+    """Numbers as `0-23, 30`; the inverse of parse_ranges, with each number once and in order. Three or more numbers of
+    one step are `0-170 by 5`."""
+    rest = sorted(set(numbers))
+    pieces: list[str] = []
+    while rest:
+        step = rest[1] - rest[0] if len(rest) > 1 else 1
+        length = 1
+        while length < len(rest) and rest[length] - rest[length - 1] == step:
+            length += 1
+        if length == 2 and step > 1:
+            length = 1
+        run, rest = rest[:length], rest[length:]
+        if length == 1:
+            pieces.append(str(run[0]))
+        else:
+            pieces.append(f"{run[0]}-{run[-1]}" + (f" by {step}" if step > 1 else ""))
+    return ", ".join(pieces)
+
+
+def folded(words: list[str]) -> list[str]:
+    """Equal words beside each other as one: `7 x16`. Rising ones are left out in the middle: `1 to 16`."""
+    pieces: list[str] = []
+    at = 0
+    while at < len(words):
+        equal = rising = at + 1
+        while equal < len(words) and words[equal] == words[at]:
+            equal += 1
+        while rising < len(words) and int(words[rising]) == int(words[rising - 1]) + 1:
+            rising += 1
+        if equal - at >= 3:
+            pieces.append(f"{words[at]} x{equal - at}")
+            at = equal
+        elif rising - at >= 4:
+            pieces.append(f"{words[at]} to {words[rising - 1]}")
+            at = rising
+        else:
+            pieces.append(words[at])
+            at += 1
+    return pieces
+
+
+def short_list(words: list[str]) -> str:
+    """A list of words on few characters."""
+    pieces = folded(words)
+    if len(pieces) > 8:
+        pieces = pieces[:3] + [f".. {len(words)} words"]
+    return "[" + ", ".join(pieces) + "]"
+
+
+def short(text: str) -> str:
+    """A text of a report with its lists shortened."""
+    return LIST.sub(lambda found: short_list(found[1].split(",") if found[1] else []), text)
+
+
+def counted(number: int, noun: str) -> str:
+    return f"{number} {noun}" + ("" if number == 1 else "s")

@@ -1,0 +1,80 @@
+"""build: what it writes is what the program takes, and mistakes are told at their places."""
+
+import json
+import os
+import unittest
+
+from common import DATA, TOP, bench, example, example_path, example_text, file_of, program
+
+HAND = os.path.join(DATA, "handmade.jsonc")
+
+
+def handmade() -> str:
+    with open(HAND, encoding="utf-8") as file:
+        return file.read()
+
+
+def mistake(text: str) -> str:
+    """The line that is told of a text, without its file."""
+    with file_of(text) as path:
+        status, out, err = bench("build", path)
+        assert status == 2 and out == "", (status, out)
+        return err.replace(f"nooks-bench: {path}:", "").strip()
+
+
+class Build(unittest.TestCase):
+    def test_all_that_people_write(self):
+        status, out, err = bench("build", HAND)
+        self.assertEqual((status, err), (0, ""))
+        made = json.loads(out)
+        self.assertEqual(made["parts"][0]["driver"], {"asm": example_text("block.asm")})
+        self.assertEqual(made["parts"][1]["arrivals"], [[5, 5, 5], [1, 2]])
+        self.assertEqual(made["threads"][0]["ops"][0]["data"], [7] * 16)
+        self.assertNotIn("notes", out)
+        self.assertNotIn("drivers", made)
+        self.assertIn("2 p0 data [7,7,", program().report(made))
+
+    def test_a_plain_scenario_stays(self):
+        for name in ["write-cut.json", "media-errors.json", "write-and-read.json"]:
+            status, out, _ = bench("build", example_path(name))
+            self.assertEqual((status, json.loads(out)), (0, example(name)))
+
+    def test_mistakes_of_the_file(self):
+        cases = [
+            ('{"version": 1,\n "parts": [,]}', "2:12: a value is wanted here"),
+            ('{"version": 1 "parts": []}', "1:15: ',' is wanted between the keys of the object, and here is '\"'"),
+            ('{"version": 1', "1:14: ',' is wanted between the keys of the object, and here is the end of the file"),
+            ('{"a": 1, "a": 2}', "1:10: the key 'a' stands here a second time"),
+            ('{"a": "x\ny"}', "1:7: this text does not end on its line"),
+            ('{} {}', "1:4: something stands behind the value"),
+            ('[]', "1:1: a scenario is an object"),
+            ("[" * 300, "1:202: lists and objects stand too deep in each other"),
+        ]
+        for text, told in cases:
+            self.assertEqual(mistake(text), told)
+
+    def test_mistakes_that_the_program_tells(self):
+        cases = [
+            ('"limit": 2', '"limit": 22', "10:60: /parts/0/limit: a number out of its range"),
+            ('"blocks": 8, ', "", '10:5: the key "blocks" is not there; allowed is a whole number from 1 to 256'),
+            ('"limit"', '"limmit"', '10:51: a key that this kind of object does not have: "limmit"'),
+            ('"driver": "link"', '"driver": "lonk"', "11:46: there is no driver 'lonk' in the table"),
+            ("block.asm", "nowhere.asm", "6:26: "),
+            ('"repeat": 3', '"repeat": -3', "11:79: a count from 0 to 65536 is wanted here"),
+            ('"op": "recv"', '"op": "receive"', "19:27: /threads/0/ops/2/op: a value of the wrong kind"),
+            ('"part": 1', '"part": 2', "19:18: /threads/0/ops/2/part: a number out of its range"),
+        ]
+        for old, new, told in cases:
+            self.assertEqual(mistake(handmade().replace("../../..", TOP).replace(old, new))[: len(told)], told)
+
+    def test_a_fault_of_an_assembler_file_is_told_there(self):
+        with file_of(".class block\n.entry init init\ninit: LI r1\n", ".asm") as asm:
+            text = handmade().replace("../../../examples/block.asm", asm).replace("../../..", TOP)
+            with file_of(text) as path:
+                _, _, err = bench("build", path)
+        self.assertIn(f"{asm}:3:1: wrong operands", err)
+        self.assertIn("'init: LI r1'", err)
+
+
+if __name__ == "__main__":
+    unittest.main()

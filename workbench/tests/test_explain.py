@@ -1,0 +1,92 @@
+"""explain: reports and lines of refused inputs, for people."""
+
+import json
+import unittest
+
+from common import bench, example, example_path, example_text, file_of, program
+
+from nooks_bench.words import folded, parse_ranges, ranges_text, short
+
+
+def told(scenario: str, words: list[str]) -> str:
+    """What is explained of an input that the program refuses, without the file."""
+    line = program().ask(words, scenario).out
+    with file_of(scenario) as path, file_of(line, ".line") as told_path:
+        status, out, err = bench("explain", told_path, "--input", path)
+        assert (status, err) == (0, ""), err
+        return out.replace(f"{path}:", "").strip()
+
+
+class Explains(unittest.TestCase):
+    def test_calls_and_where_they_were_answered(self):
+        status, out, _ = bench("explain", example_path("write-cut.report"))
+        self.assertEqual(status, 0)
+        for line in [
+            "status 0: no part was given up, and every driver kept its class's contract",
+            "    2  p0 write 9 [11 x16, 12 x16, 13 x16]  done  c3 answered by the driver at event 29, cut by a failure at event 15",
+            "    2  p0 get 1      value 6        c4 answered by the shadow at event 16",
+            "    3  p0 get 1      value 6        c5 answered at once, at event 17",
+            "  6 calls, answered: 4 by the driver, 1 by the shadow, 1 at once",
+            "  failed at event 15, burst 5, turn 205, in c3 write 9 [11 x16, 12 x16, 13 x16]: trap injected",
+            "  recovered from event 16 to 27",
+        ]:
+            self.assertIn(line, out.split("\n"))
+
+    def test_a_broken_clause_in_words(self):
+        _, out, _ = bench("explain", example_path("contract-broken.report"))
+        self.assertIn("CONTRACT BROKEN at event 8, clause 3: the driver replied that a write is done, and a block", out)
+        self.assertIn("    8 burst x0 c1 b3 n175 reply 0 | store 1 [51 x16] -> done", out)
+
+    def test_every_example_and_a_generated_one(self):
+        for name in ["given-up", "link-loses", "media-errors", "borrowed-object", "sound-skips"]:
+            status, out, _ = bench("explain", example_path(name + ".report"))
+            self.assertEqual((status, "not answered" in out), (0, False))
+
+    def test_faults_at_their_places(self):
+        text = json.dumps(example("write-cut.json"), indent=1)
+        cases = [
+            ('"limit": 2', '"limit": null', '/parts/0/limit: a value of the wrong kind: null; allowed is a whole number from 0 to 16'),
+            ('"limit": 2', '"limit": 2,', "this is no JSON: "),
+            ('"key": 1', '"kee": 1', 'a key that this kind of object does not have: "kee"; allowed is an object with part, op, key'),
+            ('"blocks": 16,', "", 'the key "blocks" is not there; allowed is a whole number from 1 to 256'),
+            ("LI r5 16", "LI r5", "line 11 of this assembler text: wrong operands"),
+        ]
+        for old, new, words in cases:
+            changed = text.replace(old, new, 1)
+            line, column, rest = told(changed, ["run"]).split(":", 2)
+            self.assertTrue(rest.strip().startswith(words), rest)
+            spot = changed.split("\n")[int(line) - 1][int(column) - 1 :]
+            self.assertTrue(spot, (line, column))
+
+    def test_campaigns_images_and_texts(self):
+        campaign = example("campaign-block.json")
+        campaign["faults"][2]["kind"] = "trip"
+        self.assertIn('/faults/2/kind: a value of the wrong kind: "trip"; allowed is "trap"', told(json.dumps(campaign), ["campaign"]))
+        campaign = example("campaign-block.json")
+        campaign["base"]["parts"][0]["blocks"] = 0
+        self.assertIn("/parts/0/blocks: a number out of its range", told(json.dumps(campaign), ["campaign"]))
+        image = json.loads(example_text("block.image"))
+        image["text"][1] = "1600003"
+        self.assertIn('/text/1: no eight hexadecimal digits', told(json.dumps(image), ["dis"]))
+        self.assertIn("5:1: a name that is no mnemonic", told(".class block\n\n\n\nnope r1\n", ["asm"]))
+
+    def test_a_fault_line_wants_its_input(self):
+        with file_of("fault 1 not_json /\n", ".line") as path:
+            self.assertEqual(bench("explain", path)[0], 2)
+
+
+class Words(unittest.TestCase):
+    def test_lists_are_shortened(self):
+        self.assertEqual(folded("7 7 7 7 1 2".split()), ["7 x4", "1", "2"])
+        self.assertEqual(short("write 5 [1,2,3,4,5] -> done"), "write 5 [1 to 5] -> done")
+        self.assertEqual(short("data [" + ",".join(str(word * word) for word in range(32)) + "]"), "data [0, 1, 4, .. 32 words]")
+        self.assertEqual(short("data []"), "data []")
+
+    def test_ranges(self):
+        self.assertEqual(parse_ranges("1,5-7,0x10"), [1, 5, 6, 7, 16])
+        self.assertEqual(ranges_text([1, 2, 3, 9, 12, 15, 40]), "1-3, 9-15 by 3, 40")
+        self.assertEqual(ranges_text([4, 8]), "4, 8")
+
+
+if __name__ == "__main__":
+    unittest.main()

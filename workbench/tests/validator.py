@@ -1,0 +1,66 @@
+"""As much of JSON Schema 2020-12 as scenario.schema.json uses."""
+
+from __future__ import annotations
+
+import re
+from typing import Any
+
+KNOWN = {
+    "$schema", "$id", "$defs", "$ref", "$comment", "title", "description", "type", "const", "enum", "minimum", "maximum",
+    "minItems", "maxItems", "items", "properties", "required", "additionalProperties", "oneOf", "pattern", "if", "then",
+}
+TYPES = {"object": dict, "array": list, "string": str}
+
+
+def is_type(value: Any, name: str) -> bool:
+    if name == "integer":
+        return isinstance(value, int) and not isinstance(value, bool)
+    return isinstance(value, TYPES[name])
+
+
+def of_object(schema: dict[str, Any], value: dict[str, Any], whole: dict[str, Any]) -> bool:
+    properties = schema.get("properties", {})
+    if any(key not in value for key in schema.get("required", [])):
+        return False
+    if schema.get("additionalProperties") is False and any(key not in properties for key in value):
+        return False
+    return all(valid(properties[key], each, whole) for key, each in value.items() if key in properties)
+
+
+def of_list(schema: dict[str, Any], value: list[Any], whole: dict[str, Any]) -> bool:
+    if not schema.get("minItems", 0) <= len(value) <= schema.get("maxItems", len(value)):
+        return False
+    return all(valid(schema.get("items", True), each, whole) for each in value)
+
+
+def plain(schema: dict[str, Any], value: Any) -> bool:
+    """The keywords that look at the value alone."""
+    if "type" in schema and not is_type(value, schema["type"]):
+        return False
+    if "const" in schema and (value != schema["const"] or type(value) is not type(schema["const"])):
+        return False
+    if "enum" in schema and not any(value == each and type(value) is type(each) for each in schema["enum"]):
+        return False
+    if "pattern" in schema and isinstance(value, str) and not re.search(schema["pattern"], value):
+        return False
+    if isinstance(value, int) and not schema.get("minimum", value) <= value <= schema.get("maximum", value):
+        return False
+    return True
+
+
+def valid(schema: Any, value: Any, whole: dict[str, Any]) -> bool:
+    """Whether a value is one of a schema's."""
+    if isinstance(schema, bool):
+        return schema
+    assert set(schema) <= KNOWN, set(schema) - KNOWN
+    if "$ref" in schema and not valid(whole["$defs"][schema["$ref"].split("/")[-1]], value, whole):
+        return False
+    if "oneOf" in schema and sum(valid(each, value, whole) for each in schema["oneOf"]) != 1:
+        return False
+    if "if" in schema and valid(schema["if"], value, whole) and not valid(schema["then"], value, whole):
+        return False
+    if isinstance(value, dict) and not of_object(schema, value, whole):
+        return False
+    if isinstance(value, list) and not of_list(schema, value, whole):
+        return False
+    return plain(schema, value)

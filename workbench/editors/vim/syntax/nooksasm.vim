@@ -5,8 +5,7 @@ endif
 
 syntax case match
 
-syntax match nooksasmComment /;.*$/ contains=nooksasmTodo
-syntax keyword nooksasmTodo TODO FIXME contained
+syntax match nooksasmComment /;.*$/
 
 " A definition is a name and a colon with nothing between.
 syntax match nooksasmLabel /\<[A-Za-z_][A-Za-z0-9_]\{0,31}:/
@@ -24,7 +23,6 @@ syntax match nooksasmNumber /\<[0-9]\+\>/
 syntax match nooksasmNumber /\<0x[0-9A-Fa-f]\+\>/
 
 highlight default link nooksasmComment Comment
-highlight default link nooksasmTodo Todo
 highlight default link nooksasmLabel Label
 highlight default link nooksasmDirective PreProc
 highlight default link nooksasmClass Type

@@ -14,13 +14,24 @@ use Rattle.nook_defs.specs.Log.{call_of_thread}
 use Rattle.nook_defs.specs.Places.{at_number}
 use Rattle.nook_defs.specs.Runs.{answer_at, state_of}
 use Rattle.nook_defs.specs.State.{PartState}
+use Rattle.shares.specs.Shares.{IsWhole, Share, half}
 
 -- What a seat knows: a beginning of its part's journal, the places in the journal of the events that were added through
--- it (counted from 1), and whether it is the only seat.
+-- it (counted from 1), and its share of the desk: the first seat has the whole, and no two seats share a point.
 pub record DeskView : Type 0 where
   pub seen : List Event
   pub made : List ℕ
-  pub alone : Bool
+  pub share : Share
+
+-- the seat is the only one
+abbrev pub IsAlone : DeskView → Type 0
+IsAlone v = IsWhole v.share
+
+-- what is so of every seat between two calls: what was added through it lies in what it has seen, and a seat that is the
+-- only one added all of that, itself or by the seats that it took in
+pub record Accounts (v : DeskView) : Type 0 where
+  pub within : All (λ place. (0 < place) × (place ≤ length v.seen)) v.made
+  pub all : IsAlone v → (place : ℕ) → 0 < place → place ≤ length v.seen → Contains v.made place
 
 -- ---- events and their places
 
@@ -63,8 +74,8 @@ pub record Adds (old new : DeskView) (places : List ℕ) : Type 0 where
   pub seen : IsPrefix old.seen new.seen
   pub made : new.made ≡ old.made ++ places
   pub rising : IsRisingFrom (length old.seen) places
-  pub alone : new.alone ≡ old.alone
-  pub own : old.alone ≡ true → (place : ℕ) → length old.seen < place → place ≤ length new.seen → Contains places place
+  pub share : new.share ≡ old.share
+  pub own : IsAlone old → (place : ℕ) → length old.seen < place → place ≤ length new.seen → Contains places place
 
 -- only events that are neither an invocation nor an arrival were added
 pub record Waits (old new : DeskView) : Type 0 where
@@ -144,18 +155,19 @@ ArriveEnds spec old new frame (Err _) = ⊥
 
 -- ---- seats that are made and taken in
 
--- a seat is not the only one any more
-abbrev pub shared_view : DeskView → DeskView
-shared_view v = record v { alone = false }
+-- a seat that gave half of its share to a new one
+abbrev pub halved_view : DeskView → DeskView
+halved_view v = record v { share = half false v.share }
 
--- a new seat beside another: it has seen the same, and nothing was added through it
+-- a new seat beside another: it has seen the same, nothing was added through it, and it has the other half of the share
 abbrev pub new_view : DeskView → DeskView
-new_view v = record { seen = v.seen; made = []; alone = false }
+new_view v = record { seen = v.seen; made = []; share = half true v.share }
 
--- a seat took another in: it has seen the longer of the two lists, which both begin, and the places are those of both
+-- a seat took another in: it has seen the longer of the two lists, which both begin, and the places and shares are those
+-- of both
 pub record Joins (old other new : DeskView) : Type 0 where
   pub seen : IsPrefix old.seen new.seen
   pub other_seen : IsPrefix other.seen new.seen
   pub longer : (new.seen ≡ old.seen) ⊎ (new.seen ≡ other.seen)
   pub made : new.made ≡ old.made ++ other.made
-  pub alone : new.alone ≡ old.alone
+  pub share : new.share ≡ old.share ++ other.share

@@ -1,10 +1,10 @@
 //! What a desk promises its callers: the trait over which workers run.
 //!
 //! A desk is where threads call a part. Each caller has a seat, and contracts see what the seat knows: a beginning of
-//! the part's journal, and the places of the events that were added through the seat.
+//! the part's journal, the places of the events that were added through the seat, and its share of the desk.
 #![tactic(auto)]
 
-ghost use Rattle.desk_like.specs.Desks.{ArriveEnds, CallEnds, DeskView, Joins, new_view, shared_view};
+ghost use Rattle.desk_like.specs.Desks.{Accounts, ArriveEnds, CallEnds, DeskView, Joins, halved_view, new_view};
 ghost use Rattle.nook_defs.specs.Classes.{same_class};
 ghost use Rattle.nook_defs.specs.Runs.{IsRun};
 ghost use Rattle.nook_defs.specs.declared.data.Class.TheVariants as class;
@@ -48,6 +48,7 @@ pub trait DeskLike: Sync {
         requires thread { thread < 16 }
         ensures seat { is_seat self.now seat.new }
         ensures run { IsRun (spec self.now) (view seat.new).seen }
+        ensures accounts { Accounts (view seat.new) }
         ensures ends { CallEnds (spec self.now) (view seat.old) (view seat.new) thread op.now result };
 
     /// Hands a frame of 1 to 64 words to a network part. Tells whether the device's ring kept it.
@@ -66,22 +67,26 @@ pub trait DeskLike: Sync {
         requires fits { length frame.now ≤ 64 }
         ensures seat { is_seat self.now seat.new }
         ensures run { IsRun (spec self.now) (view seat.new).seen }
+        ensures accounts { Accounts (view seat.new) }
         ensures ends { ArriveEnds (spec self.now) (view seat.old) (view seat.new) frame.now result };
 
-    /// Makes another seat, which has seen the same. It takes no memory.
+    /// Makes another seat, which has seen the same and has half of this one's share. It takes no memory.
     fn split(&self, seat: &mut Self::Seat) -> Self::Seat
         requires { is_seat self.now seat.old }
         ensures seat { is_seat self.now seat.new }
         ensures other { is_seat self.now result }
-        ensures view { view seat.new ≡ shared_view (view seat.old) }
+        ensures view { view seat.new ≡ halved_view (view seat.old) }
         ensures other_view { view result ≡ new_view (view seat.old) }
-        ensures run { IsRun (spec self.now) (view seat.new).seen };
+        ensures run { IsRun (spec self.now) (view seat.new).seen }
+        ensures accounts { Accounts (view seat.new) };
 
-    /// Takes another seat in: the seat has then seen the longer of the two lists, and the places of both are its own.
+    /// Takes another seat in: the seat has then seen the longer of the two lists, and the places and shares of both are its
+    /// own. A seat into which all that was split from it came back is alone again.
     fn join(&self, seat: &mut Self::Seat, other: Self::Seat)
         requires seat { is_seat self.now seat.old }
         requires other { is_seat self.now other }
         ensures seat { is_seat self.now seat.new }
         ensures joins { Joins (view seat.old) (view other) (view seat.new) }
-        ensures run { IsRun (spec self.now) (view seat.new).seen };
+        ensures run { IsRun (spec self.now) (view seat.new).seen }
+        ensures accounts { Accounts (view seat.new) };
 }

@@ -18,6 +18,7 @@ use Rattle.desk_like.specs.Desks.{IsAt, IsInvoke, IsArrive, IsOther, Answers, Ad
 use Rattle.part_laws.proofs.RunSmall.{run_small}
 use Rattle.part_laws.proofs.ValidFits.{valid_fits}
 use Rattle.turn_lock.specs.declared.view.View.{View}
+use Rattle.turn_lock.specs.Seats.{IsAlone}
 use Rattle.turn_lock.specs.Views.{took, committed, gave}
 use Rattle.turn_lock.proofs.Prefixes.{prefix_trans, prefix_length, prefix_snoc}
 use Rattle.part_server.specs.declared.waiting.Progress.{Progress}
@@ -56,7 +57,7 @@ grown_at r q Is g = record {
 
 -- ---- a turn that commits
 
-module _ (spec : PartSpec) (v : Vw) (r q : PartRun) (pre : IsPrefix v.seen r.journal) (alone : v.alone ≡ true → r.journal ≡ v.seen)
+module _ (spec : PartSpec) (v : Vw) (r q : PartRun) (pre : IsPrefix v.seen r.journal) (alone : IsAlone v → r.journal ≡ v.seen)
     (home : r.state.spec ≡ spec) (at : q.state ≡ state_of q.state.spec q.journal) where
   abbrev given : Vw
   given = gave (committed (took v r.journal) q.journal)
@@ -69,7 +70,7 @@ module _ (spec : PartSpec) (v : Vw) (r q : PartRun) (pre : IsPrefix v.seen r.jou
         seen = prefix_trans v.seen r.journal q.journal pre (prefix_snoc r.journal q.journal g.event g.journal);
         made = refl;
         rising = (omega arith, tt);
-        alone = refl;
+        share = refl;
         own = λ a place past within.
             let same : length r.journal ≡ length v.seen = ap length (alone a) in
             subst (λ (n : ℕ). Contains (n ∷ []) place) (last (length v.seen) place (length q.journal) past within (omega arith)) (Contains-push [] place);
@@ -128,7 +129,7 @@ module _ (spec : PartSpec) (v : Vw) (r q : PartRun) (pre : IsPrefix v.seen r.jou
 
 -- ---- a turn that gives back what it took
 
-module _ (spec : PartSpec) (v : Vw) (r : PartRun) (pre : IsPrefix v.seen r.journal) (alone : v.alone ≡ true → r.journal ≡ v.seen)
+module _ (spec : PartSpec) (v : Vw) (r : PartRun) (pre : IsPrefix v.seen r.journal) (alone : IsAlone v → r.journal ≡ v.seen)
     (home : r.state.spec ≡ spec) (at : r.state ≡ state_of r.state.spec r.journal) where
   abbrev returned : Vw
   returned = gave (took v r.journal)
@@ -138,7 +139,7 @@ module _ (spec : PartSpec) (v : Vw) (r : PartRun) (pre : IsPrefix v.seen r.journ
     seen = pre;
     made = sym (append-nil v.made);
     rising = tt;
-    alone = refl;
+    share = refl;
     own = λ a place past within.
         let same : length r.journal ≡ length v.seen = ap length (alone a) in
         absurd (none (length v.seen) place (length r.journal) past within same);

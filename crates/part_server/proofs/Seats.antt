@@ -12,6 +12,7 @@ use Rattle.nook_defs.specs.State.{PartState}
 use Rattle.nook_defs.specs.Valid.{IsValidPart}
 use Rattle.desk_like.specs.Desks.{DeskView, IsAt, Answers, HasOpen, ArriveEnds}
 use Rattle.part_core.specs.Kept.{IsKept}
+use Rattle.turn_lock.specs.Seats.{IsAlone}
 use Rattle.turn_lock.specs.Views.{took, committed, gave}
 use Rattle.part_server.specs.declared.waiting.Progress.{Progress}
 use Rattle.part_server.specs.declared.waiting.Progress.TheVariants as progress
@@ -24,7 +25,7 @@ use Rattle.part_server.proofs.Opens.{still_open}
 pub record IsTaken (spec : PartSpec) (old v : Vw) (r : PartRun) : Type 0 where
   pub same : v ≡ old
   pub begins : IsPrefix v.seen r.journal
-  pub alone : v.alone ≡ true → r.journal ≡ v.seen
+  pub alone : IsAlone v → r.journal ≡ v.seen
   pub home : r.state.spec ≡ spec
 
 pub short_of : (q : PartRun) → IsKept q → length q.journal < 2 ^ 62

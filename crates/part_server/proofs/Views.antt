@@ -1,5 +1,5 @@
 -- What turns add to what a seat knows, one after another.
-use Rattle.std.proofs.Common.{◌≡◌, ◌⊎◌, inl, inr, ℕ, zero, suc, ◌<◌, ◌≤◌, true, Some, List, [], ◌∷◌, ◌++◌, length, refl, sym, ap, ◌∙◌, arith, append_assoc, append-nil}
+use Rattle.std.proofs.Common.{◌≡◌, ◌⊎◌, inl, inr, ℕ, zero, suc, ◌<◌, ◌≤◌, Some, List, [], ◌∷◌, ◌++◌, length, refl, sym, ap, ◌∙◌, subst, arith, append_assoc, append-nil}
 use Rattle.std.specs.List.{Contains, AllByRecursion}
 use Rattle.std.proofs.lemmas.List.Elements.{All-nil, All-cons, All-append, Contains-append_left, Contains-append_right, recursion_from_All, All-from_recursion}
 use Rattle.std.proofs.lemmas.Bool.{cases_lt}
@@ -7,7 +7,8 @@ use mathlib.Core.List.{IsPrefix}
 use Rattle.nook_defs.specs.declared.data.Event.{Event}
 use Rattle.nook_defs.specs.declared.data.Op.{Op}
 use Rattle.nook_defs.specs.Places.{at_number}
-use Rattle.desk_like.specs.Desks.{DeskView, IsAt, IsInvoke, IsOther, IsRisingFrom, Adds, AddsNothing, Waits, Invokes}
+use Rattle.desk_like.specs.Desks.{DeskView, IsAlone, IsAt, IsInvoke, IsOther, IsRisingFrom, Adds, AddsNothing, Waits, Invokes}
+use Rattle.shares.specs.Shares.{IsWhole}
 use Rattle.part_laws.proofs.Places.{get_keep}
 use Rattle.turn_lock.proofs.Prefixes.{prefix_refl, prefix_trans, prefix_length}
 
@@ -63,7 +64,7 @@ adds_nothing v = record {
   seen = prefix_refl v.seen;
   made = sym (append-nil v.made);
   rising = tt;
-  alone = refl;
+  share = refl;
   own = λ alone place past low. absurd (none (length v.seen) place past low);
 }
   where
@@ -75,13 +76,13 @@ adds_more u v w ps qs low a b = record {
   seen = prefix_trans u.seen v.seen w.seen a.seen b.seen;
   made = b.made ∙ ap (λ (xs : List ℕ). xs ++ qs) a.made ∙ append_assoc u.made ps qs;
   rising = rising_more (length u.seen) (length v.seen) ps qs (prefix_length u.seen v.seen a.seen) a.rising low b.rising;
-  alone = b.alone ∙ a.alone;
+  share = b.share ∙ a.share;
   own = λ alone place past within. by_seen alone place past within (cases_lt (length v.seen) place);
 }
   where
-    by_seen : u.alone ≡ true → (place : ℕ) → length u.seen < place → place ≤ length w.seen → (length v.seen < place) ⊎ (place ≤ length v.seen)
+    by_seen : IsAlone u → (place : ℕ) → length u.seen < place → place ≤ length w.seen → (length v.seen < place) ⊎ (place ≤ length v.seen)
         → Contains (ps ++ qs) place
-    by_seen alone place past within (inl h) = Contains-append_right ps qs place (b.own (a.alone ∙ alone) place h within)
+    by_seen alone place past within (inl h) = Contains-append_right ps qs place (b.own (subst IsWhole (sym a.share) alone) place h within)
     by_seen alone place past within (inr h) = Contains-append_left ps qs place (a.own alone place past h)
 
 -- ---- waiting

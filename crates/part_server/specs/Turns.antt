@@ -12,6 +12,7 @@ use Rattle.nook_defs.specs.declared.data.Step.TheVariants as step
 use Rattle.nook_defs.specs.declared.memory.NoMemory.{NoMemory}
 use Rattle.nook_defs.specs.Runs.{PartRun, IsRun, answer_at, answered_from, next_any}
 use Rattle.desk_like.specs.Desks.{DeskView, IsAt, IsInvoke, IsArrive, IsOther, Answers, Adds, AddsNothing, Waits, HasOpen, HasNoneOpen, CallEnds, ResumeEnds, state_seen}
+use Rattle.shares.specs.Shares.{whole}
 use Rattle.turn_lock.specs.declared.view.View.{View}
 use Rattle.part_server.specs.Answers.{InvokesCall, Numbers}
 use Rattle.part_server.specs.declared.waiting.Progress.{Progress}
@@ -125,7 +126,7 @@ SeatValue = Seat (Option PartRun) (View Event PartSpec)
 
 -- of what a seat of a turn knows, what callers of a desk see
 abbrev pub seen_view : View Event PartSpec → DeskView
-seen_view v = record { seen = v.seen; made = v.made; alone = v.alone }
+seen_view v = record { seen = v.seen; made = v.made; share = v.share }
 
 -- what was seen is a run of the part that the seat knows of
 abbrev pub IsSeen : Option PartSpec → List Event → Type 0
@@ -171,6 +172,6 @@ SettlesOnce spec old new (Ok true) = Waits old new
 SettlesOnce spec old new (Ok false) = AddsNothing old new × (next_any (state_seen spec new) ≡ None)
 SettlesOnce spec old new (Err e) = AddsNothing old new
 
--- the seat of a new desk is the only one, and has seen and made nothing
+-- the seat of a new desk is the only one, with the whole share, and has seen and made nothing
 abbrev pub opening_view : DeskView
-opening_view = record { seen = []; made = []; alone = true }
+opening_view = record { seen = []; made = []; share = whole }

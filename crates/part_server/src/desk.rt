@@ -2,7 +2,7 @@
 
 ghost use Rattle.std.specs.Prelude.{◌≡◌, ◌<◌, ◌≤◌, None, [], length, true, IfOk, OnOk};
 ghost use mathlib.Core.List.{IsPrefix};
-ghost use Rattle.desk_like.specs.Desks.{ArriveEnds, CallEnds, Joins, ResumeEnds, Waits, new_view, shared_view, state_seen};
+ghost use Rattle.desk_like.specs.Desks.{Accounts, ArriveEnds, CallEnds, IsAlone, Joins, ResumeEnds, Waits, halved_view, new_view, state_seen};
 ghost use Rattle.nook_defs.specs.Classes.{same_class};
 ghost use Rattle.nook_defs.specs.Runs.{IsRun, next_any};
 ghost use Rattle.nook_defs.specs.declared.data.Class.TheVariants as class;
@@ -34,7 +34,8 @@ pub struct PartDesk {
 }
 
 impl PartDesk {
-    /// Makes a desk for a part that has taken no step, and its first seat, which is alone until it is split.
+    /// Makes a desk for a part that has taken no step, and its first seat. The seat is alone: until it is split, and again
+    /// once all that was split from it came back.
     ///
     /// At `NoMemory` the part is dropped.
     pub fn new(alloc: Global, part: Part) -> Result<(PartDesk, DeskSeat), NoMemory>
@@ -61,9 +62,10 @@ impl PartDesk {
         requires { IsDeskSeat self.now seat.old }
         ensures seat { IsDeskSeat self.now seat.new }
         ensures run { IsRun (desk_spec self.now) (desk_view seat.new).seen }
+        ensures accounts { Accounts (desk_view seat.new) }
         ensures ends { ResumeEnds (desk_spec self.now) (desk_view seat.old) (desk_view seat.new) thread result }
     {
-        // What the seat has seen is a run, also where nothing is done.
+        // What is so of a seat between two calls is so also where nothing is done.
         let _ = &seat.seat;
         let Ok(room) = Room::new(alloc, ANSWER_WORDS) else {
             return Err(DeskRefused::NoMemory { call: None });
@@ -77,6 +79,7 @@ impl PartDesk {
         requires { IsDeskSeat self.now seat.old }
         ensures seat { IsDeskSeat self.now seat.new }
         ensures run { IsRun (desk_spec self.now) (desk_view seat.new).seen }
+        ensures accounts { Accounts (desk_view seat.new) }
         ensures waits { Waits (desk_view seat.old) (desk_view seat.new) }
         ensures settled { OnOk result (next_any (state_seen (desk_spec self.now) (desk_view seat.new)) ≡ None) }
     {
@@ -96,7 +99,8 @@ impl PartDesk {
         requires { IsDeskSeat self seat }
         ensures spec { result.state.spec ≡ desk_spec self }
         ensures begins { IsPrefix (desk_view seat).seen result.journal }
-        ensures alone { (desk_view seat).alone ≡ true → result.journal ≡ (desk_view seat).seen }
+        ensures alone { IsAlone (desk_view seat) → result.journal ≡ (desk_view seat).seen }
+        ensures accounts { Accounts (desk_view seat) }
         ensures kept { IsKept result }
     {
         self.turn.close(rt, seat.seat).into_part()
@@ -116,6 +120,7 @@ impl PartDesk {
         requires room { 128 ≤ room }
         ensures seat { IsDeskSeat self.now seat.new }
         ensures run { IsRun (desk_spec self.now) (desk_view seat.new).seen }
+        ensures accounts { Accounts (desk_view seat.new) }
         ensures ends { InvokeEnds (desk_spec self.now) (desk_view seat.old) (desk_view seat.new) thread op result }
     {
         let mut held = self.turn.take(rt, &mut seat.seat);
@@ -142,6 +147,7 @@ impl PartDesk {
         requires waiting { IsWaitingIn (desk_spec self.now) (desk_view seat.old) waiting }
         ensures seat { IsDeskSeat self.now seat.new }
         ensures run { IsRun (desk_spec self.now) (desk_view seat.new).seen }
+        ensures accounts { Accounts (desk_view seat.new) }
         ensures ends { AdvanceEnds (desk_spec self.now) (desk_view seat.old) (desk_view seat.new) waiting result }
     {
         let mut held = self.turn.take(rt, &mut seat.seat);
@@ -175,6 +181,7 @@ impl PartDesk {
         requires waiting { IsWaitingIn (desk_spec self.now) (desk_view seat.old) waiting }
         ensures seat { IsDeskSeat self.now seat.new }
         ensures run { IsRun (desk_spec self.now) (desk_view seat.new).seen }
+        ensures accounts { Accounts (desk_view seat.new) }
         ensures ends { FinishEnds (desk_spec self.now) (desk_view seat.old) (desk_view seat.new) waiting result }
     {
         for _ in rt.forever() {
@@ -199,6 +206,7 @@ impl PartDesk {
         requires room { 128 ≤ room }
         ensures seat { IsDeskSeat self.now seat.new }
         ensures run { IsRun (desk_spec self.now) (desk_view seat.new).seen }
+        ensures accounts { Accounts (desk_view seat.new) }
         ensures ends { FindEnds (desk_spec self.now) (desk_view seat.old) (desk_view seat.new) thread result }
     {
         let held = self.turn.take(rt, &mut seat.seat);
@@ -212,6 +220,7 @@ impl PartDesk {
         requires { IsDeskSeat self.now seat.old }
         ensures seat { IsDeskSeat self.now seat.new }
         ensures run { IsRun (desk_spec self.now) (desk_view seat.new).seen }
+        ensures accounts { Accounts (desk_view seat.new) }
         ensures ends { SettlesOnce (desk_spec self.now) (desk_view seat.old) (desk_view seat.new) result }
     {
         let mut held = self.turn.take(rt, &mut seat.seat);
@@ -244,6 +253,7 @@ impl PartDesk {
         requires fits { length frame ≤ 64 }
         ensures seat { IsDeskSeat self.now seat.new }
         ensures run { IsRun (desk_spec self.now) (desk_view seat.new).seen }
+        ensures accounts { Accounts (desk_view seat.new) }
         ensures ends { ArriveEnds (desk_spec self.now) (desk_view seat.old) (desk_view seat.new) frame result }
     {
         let mut held = self.turn.take(rt, &mut seat.seat);
@@ -277,7 +287,7 @@ impl DeskLike for PartDesk {
         thread: u8,
         op: &Op,
     ) -> Result<Receipt, DeskRefused> {
-        // What the seat has seen is a run, also where nothing is done.
+        // What is so of a seat between two calls is so also where nothing is done.
         let _ = &seat.seat;
         let Ok(room) = Room::new(alloc, ANSWER_WORDS) else {
             return Err(DeskRefused::NoMemory { call: None });
@@ -298,7 +308,7 @@ impl DeskLike for PartDesk {
         seat: &mut DeskSeat,
         frame: &Words,
     ) -> Result<bool, DeskRefused> {
-        // What the seat has seen is a run, also where nothing is done.
+        // What is so of a seat between two calls is so also where nothing is done.
         let _ = &seat.seat;
         let Ok(frame) = frame.copy(alloc) else {
             return Err(DeskRefused::NoMemory { call: None });

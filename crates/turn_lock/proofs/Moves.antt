@@ -1,8 +1,8 @@
 -- Each step of a turn keeps its rule.
 use Rattle.std.proofs.Common.{◌≡◌, ◌≢◌, ℕ, ◌+◌, ◌-◌, ◌*◌, ◌/◌, ◌%◌, ◌^◌, ◌<◌, ◌≤◌, eqb, Bool, true, false, List, [], ◌∷◌, ◌++◌, length, get_or, set, Option, Some, None, All, Contains, sym, refl, ap, ◌∙◌, subst, ⊎_elim, arith, append-nil, length-append, length-set}
-use Rattle.std.proofs.lemmas.List.Elements.{All-append, All-push, All-contains, Contains-append_cases, Contains-push_cases}
+use Rattle.std.proofs.lemmas.List.Elements.{All-append, All-push, All-contains, Contains-append_cases, Contains-append_left, Contains-push, Contains-push_cases}
 use mathlib.Core.List.{IsPrefix}
-use mathlib.Core.Option.{none, some, some-injective}
+use mathlib.Core.Option.{none, some}
 use mathlib.Core.Option.{Option as Slot}
 use lib.ListN.{get_elem?}
 use lib.Seq.{set-get_or, set_comm}
@@ -10,12 +10,15 @@ use mathlib.Core.Logic.{dite}
 use native.Mathlib.Decide.{ℕ_discrete}
 use prog.Atomic.{either}
 use Rattle.atomic_table.specs.Table.{State, Me, Act, put_back, step, keeps, takes, gives, stepped, opening, Valid, carried_after, Allows, Splits, Joins}
-use Rattle.atomic_table.proofs.Lists.{at_set, set_again, set_here, set_else, at_longer, exchanged}
+use Rattle.atomic_table.proofs.Lists.{at_set, set_here, set_else, at_longer, exchanged}
+use Rattle.shares.specs.Shares.{owns}
+use Rattle.shares.proofs.Shares.{half_in, half_has, halves_apart, in_left, in_one}
 use Rattle.turn_lock.specs.declared.view.View.{View}
-use Rattle.turn_lock.specs.Views.{longer, opener, took, committed, gave, marked, newcomer, spent, joined, learnt}
-use Rattle.turn_lock.specs.Turns.{bit, carried_list, Fits, AreViews, IsTurn, Takes, Commits, Gives, Looks, Marks, Learns}
+use Rattle.turn_lock.specs.Views.{longer, opener, took, committed, gave, halved, newcomer, spent, joined, learnt}
+use Rattle.turn_lock.specs.Seats.{IsAlone, Tally}
+use Rattle.turn_lock.specs.Turns.{bit, carried_list, Fits, Apart, AreViews, AreMade, IsTurn, Takes, Commits, Gives, Looks, Learns}
 use Rattle.turn_lock.proofs.Prefixes.{prefix_refl, prefix_nil, prefix_trans, prefix_snoc, prefix_length, longer_begins, shorter_begins, longer_long}
-use Rattle.turn_lock.proofs.ViewLists.{never, set_there, only, none_in, views_set, views_more, holds_set, same_far, spent_fits, spent_apart}
+use Rattle.turn_lock.proofs.ViewLists.{never, set_there, only, none_in, views_set, views_more, holds_set, same_far, spent_fits, spent_apart, all_seen, tally_of, made_set, made_more, made_join}
 
 one_bit : (b : Bool) → bit b ≤ 1
 one_bit true = omega arith
@@ -26,10 +29,10 @@ even_in : (n : ℕ) (b : Bool) → (2 * n + bit b) % 2 ≡ 0 → b ≡ false
 even_in n true e = absurd (omega arith)
 even_in n false e = refl
 
-All-more : (m n : ℕ) (ps : List ℕ) → m ≤ n → All (λ p. p ≤ m) ps → All (λ p. p ≤ n) ps
-All-more m n ps le h k d lt = let here = h k d lt in omega arith
+All-more : (l m n : ℕ) (ps : List ℕ) → m ≤ n → All (λ p. (l < p) × (p ≤ m)) ps → All (λ p. (l < p) × (p ≤ n)) ps
+All-more l m n ps le h k d lt = let here = h k d lt in (here.0, let up = here.1 in omega arith)
 
-module _ {T E O : Type 0} (list : T → List E) (origin : T → O) (home : O) where
+module _ {T E O : Type 0} (list : T → List E) (origin : T → O) (home : O) (start : ℕ) where
   abbrev V : Type 0
   V = View E O
 
@@ -40,7 +43,17 @@ module _ {T E O : Type 0} (list : T → List E) (origin : T → O) (home : O) wh
   M = Me (Option T) V
 
   abbrev Rule : St → Type 0
-  Rule = IsTurn list origin home
+  Rule = IsTurn list origin home start
+
+  not_gone : (v u : V) (o : O) → v.origin ≡ Some o → v.origin ≡ None → u ≡ spent
+  not_gone v u o own lost = absurd (cc)
+
+  -- what every seat may claim
+  tally : (s : St) (k : Rule s) (id : ℕ) (v : V) (o : O) → get_elem? s.views id ≡ some v → v.origin ≡ Some o → Tally v
+  tally s k id v o at own = tally_of k.all home start k.out k.holder s.views k.views k.made id v o at own
+
+  sees : (s : St) (k : Rule s) (id : ℕ) (v : V) (o : O) → get_elem? s.views id ≡ some v → v.origin ≡ Some o → IsAlone v → v.seen ≡ k.all
+  sees s k id v o at own alone = all_seen k.all home start k.out k.holder s.views k.views k.made id v o at own alone
 
   word_at : (s : St) (k : Rule s) → get_or s.words 0 0 ≡ 2 * length k.all + bit k.out
   word_at s k = ap (λ (ws : List ℕ). get_or ws 0 0) k.word
@@ -48,8 +61,8 @@ module _ {T E O : Type 0} (list : T → List E) (origin : T → O) (home : O) wh
   word_set : (s : St) (k : Rule s) (n m : ℕ) → n ≡ m → set s.words 0 n ≡ m ∷ []
   word_set s k n m e = ap (λ (ws : List ℕ). set ws 0 n) k.word ∙ ap (λ (z : ℕ). z ∷ []) e
 
-  pub opens : (n : ℕ) (x : T) (items : List (Option T)) → n ≡ length (list x) → length (list x) < 2 ^ 62 → origin x ≡ home → items ≡ Some x ∷ [] → Rule (opening (2 * n ∷ []) items (opener (list x) home))
-  opens n x items is short own here = subst (λ (l : List (Option T)). Rule (opening (2 * n ∷ []) l (opener (list x) home))) (sym here) record {
+  pub opens : (n : ℕ) (x : T) (items : List (Option T)) → n ≡ length (list x) → length (list x) < 2 ^ 62 → origin x ≡ home → length (list x) ≡ start → items ≡ Some x ∷ [] → Rule (opening (2 * n ∷ []) items (opener (list x) home))
+  opens n x items is short own begun here = subst (λ (l : List (Option T)). Rule (opening (2 * n ∷ []) l (opener (list x) home))) (sym here) record {
     all = list x;
     out = false;
     holder = 0;
@@ -59,22 +72,28 @@ module _ {T E O : Type 0} (list : T → List E) (origin : T → O) (home : O) wh
     slot = λ _. (x, refl, refl, own);
     held = λ e. never e;
     views = record {
-      fits = λ j v e. subst (λ (z : V). Fits (list x) home false 0 j z) (only (opener (list x) home) v j e).1 record {
+      fits = λ j v e. subst (λ (z : V). Fits (list x) home start false 0 j z) (only (opener (list x) home) v j e).1 record {
         seen = prefix_refl (list x);
         told = prefix_nil (list x);
         made = λ k d lt. absurd (omega arith);
         origin = λ o e. cc;
+        begins = λ o e. (begun, omega arith);
+        owner = λ o e. ((λ _. true), refl);
+        gone = λ e. absurd (cc);
         turn = λ e. never e;
-        alone = λ _. refl;
       };
       apart = λ i j v w ne a b. absurd (ne ((only (opener (list x) home) v i a).0 ∙ sym (only (opener (list x) home) w j b).0));
     };
+    made = λ p past le. absurd (omega arith);
   }
 
+  still_made : (s : St) (k : Rule s) (id : ℕ) (v w : V) → get_elem? s.views id ≡ some v → w.made ≡ v.made → AreMade start (length k.all) (set s.views id w)
+  still_made s k id v w at same = made_set start (length k.all) s.views id v w at (λ p h. subst (λ (l : List ℕ). Contains l p) (sym same) h) k.made
+
   -- a step that changes neither the word nor a slot
-  unmoved : (s : St) (k : Rule s) (id : ℕ) (c : List (ℕ × Option T)) (v w : V) → get_elem? s.views id ≡ some v → (v.has ≡ true → w.has ≡ true) → AreViews k.all home k.out k.holder (set s.views id w)
+  unmoved : (s : St) (k : Rule s) (id : ℕ) (c : List (ℕ × Option T)) (v w : V) → get_elem? s.views id ≡ some v → (v.has ≡ true → w.has ≡ true) → w.made ≡ v.made → AreViews k.all home start k.out k.holder (set s.views id w)
       → Rule (stepped s 0 (get_or s.words 0 0) id c w keeps)
-  unmoved s k id c v w at has views = record {
+  unmoved s k id c v w at has same views = record {
     all = k.all;
     out = k.out;
     holder = k.holder;
@@ -84,13 +103,14 @@ module _ {T E O : Type 0} (list : T → List E) (origin : T → O) (home : O) wh
     slot = k.slot;
     held = λ o. holds_set s.views id k.holder v w at has (k.held o);
     views = views;
+    made = still_made s k id v w at same;
   }
 
-  -- one view changes, and makes no place
-  kept_views : (s : St) (k : Rule s) (id : ℕ) (v w : V) (o : O) → get_elem? s.views id ≡ some v → v.origin ≡ Some o → w.made ≡ v.made → (w.alone ≡ true → v.alone ≡ true)
-      → Fits k.all home k.out k.holder id w → AreViews k.all home k.out k.holder (set s.views id w)
-  kept_views s k id v w o at own made alone mine = views_set k.all k.all home k.out k.out k.holder k.holder id s.views w k.views mine (λ j u _ e. k.views.fits j u e)
-      (λ j u ne e. same_far v w u o own made alone (k.views.apart id j v u (λ z. ne (sym z)) at e) (k.views.apart j id u v ne e at))
+  -- one view changes, makes no place and gains no point
+  kept_views : (s : St) (k : Rule s) (id : ℕ) (v w : V) → get_elem? s.views id ≡ some v → w.made ≡ v.made → ((point : ℕ → Bool) → owns w.share point ≡ true → owns v.share point ≡ true)
+      → Fits k.all home start k.out k.holder id w → AreViews k.all home start k.out k.holder (set s.views id w)
+  kept_views s k id v w at made less mine = views_set k.all k.all home start k.out k.out k.holder k.holder id s.views w k.views mine (λ j u _ e. k.views.fits j u e)
+      (λ j u ne e. same_far v w u made less (k.views.apart id j v u (λ z. ne (sym z)) at e) (k.views.apart j id u v ne e at))
 
   pub looks : (slots id : ℕ) (m : M) (o : O) → m.0.origin ≡ Some o → Allows Rule slots id m 0 (λ n. n) (Looks (step slots 0 0 0 none) m)
   looks slots id m o own s k _ at _ =
@@ -101,31 +121,14 @@ module _ {T E O : Type 0} (list : T → List E) (origin : T → O) (home : O) wh
         m.0,
         keeps,
         tt,
-        unmoved s k id m.1 m.0 m.0 at (λ h. h) (kept_views s k id m.0 m.0 o at own refl (λ a. a) f),
+        unmoved s k id m.1 m.0 m.0 at (λ h. h) refl (kept_views s k id m.0 m.0 at refl (λ _ a. a) f),
         record {
           same = refl;
           seen = let long = prefix_length m.0.seen k.all f.seen in omega arith;
           taken = λ h. half ∙ sym (ap length (f.turn h).2);
-          alone = λ h. half ∙ sym (ap length (f.alone h));
+          alone = λ h. half ∙ sym (ap length (sees s k id m.0 o at own h));
+          tally = tally s k id m.0 o at own;
         },
-      )
-
-  pub marks : (slots id : ℕ) (m : M) (o : O) → m.0.origin ≡ Some o → Allows Rule slots id m 0 (λ n. n) (Marks (step slots 0 0 0 none) m)
-  marks slots id m o own s k _ at _ =
-      let f = k.views.fits id m.0 at in
-      let w : V = marked m.0 in (
-        w,
-        keeps,
-        tt,
-        unmoved s k id m.1 m.0 w at (λ h. h) (kept_views s k id m.0 w o at own refl (λ a. never a) record {
-          seen = f.seen;
-          told = f.told;
-          made = f.made;
-          origin = f.origin;
-          turn = f.turn;
-          alone = λ a. never a;
-        }),
-        refl,
       )
 
   pub learns : (slots id : ℕ) (m : M) (o : O) → m.0.origin ≡ Some o → Allows Rule slots id m 0 (λ n. n) (Learns (step slots 0 0 0 none) m)
@@ -135,15 +138,17 @@ module _ {T E O : Type 0} (list : T → List E) (origin : T → O) (home : O) wh
         w,
         keeps,
         tt,
-        unmoved s k id m.1 m.0 w at (λ h. h) (kept_views s k id m.0 w o at own refl (λ a. a) record {
+        unmoved s k id m.1 m.0 w at (λ h. h) refl (kept_views s k id m.0 w at refl (λ _ a. a) record {
           seen = f.seen;
           told = prefix_nil m.0.seen;
           made = f.made;
           origin = f.origin;
+          begins = f.begins;
+          owner = f.owner;
+          gone = λ lost. not_gone m.0 w o own lost;
           turn = f.turn;
-          alone = f.alone;
         }),
-        (refl, f.told),
+        (refl, f.told, let t = tally s k id m.0 o at own in record { within = t.within; all = t.all }),
       )
 
   -- the seat can pick a view and an act at a step that makes the word n
@@ -171,21 +176,26 @@ module _ {T E O : Type 0} (list : T → List E) (origin : T → O) (home : O) wh
           slots = let many = k.slots in omega (arith, length-set s.homes 0 none);
           slot = λ e. never (sym e);
           held = λ _. (w, set_there s.views id m.0 w at, refl);
-          views = views_set k.all k.all home k.out true k.holder id id s.views w k.views record {
+          views = views_set k.all k.all home start k.out true k.holder id id s.views w k.views record {
             seen = f.seen;
             told = f.told;
             made = f.made;
             origin = f.origin;
+            begins = f.begins;
+            owner = f.owner;
+            gone = λ lost. not_gone m.0 w o own lost;
             turn = λ _. (refl, refl, is);
-            alone = f.alone;
           } (λ j u ne e. let g = k.views.fits j u e in record {
             seen = g.seen;
             told = g.told;
             made = g.made;
             origin = g.origin;
+            begins = g.begins;
+            owner = g.owner;
+            gone = g.gone;
             turn = λ h. never (sym isin ∙ (g.turn h).1);
-            alone = g.alone;
-          }) (λ j u ne e. same_far m.0 w u o own refl (λ a. a) (k.views.apart id j m.0 u (λ z. ne (sym z)) at e) (k.views.apart j id u m.0 ne e at));
+          }) (λ j u ne e. same_far m.0 w u refl (λ _ a. a) (k.views.apart id j m.0 u (λ z. ne (sym z)) at e) (k.views.apart j id u m.0 ne e at));
+          made = still_made s k id m.0 w at refl;
         },
         (
           (λ _. record {
@@ -194,8 +204,9 @@ module _ {T E O : Type 0} (list : T → List E) (origin : T → O) (home : O) wh
             view = refl;
             begins = subst (IsPrefix m.0.seen) (sym is) f.seen;
             home = λ h e. (k.slot isin).3 ∙ sym (f.origin h e);
-            alone = λ a. is ∙ sym (f.alone a);
+            alone = λ a. is ∙ sym (sees s k id m.0 o at own a);
             short = let small = k.short in omega (arith, ap length is);
+            tally = let t = tally s k id m.0 o at own in record { within = t.within; all = t.all };
           }),
           λ miss. absurd (miss hit),
         ),
@@ -204,7 +215,7 @@ module _ {T E O : Type 0} (list : T → List E) (origin : T → O) (home : O) wh
   misses : (slots id old : ℕ) (m : M) (o : O) → m.0.origin ≡ Some o → (s : St) (k : Rule s) → get_elem? s.views id ≡ some m.0 → get_or s.words 0 0 ≢ old
       → Goes s id m (get_or s.words 0 0) (Takes list origin (step slots 0 old (old + 1) none) m (get_or s.words 0 0))
   misses slots id old m o own s k at miss =
-      (m.0, keeps, tt, unmoved s k id m.1 m.0 m.0 at (λ h. h) (kept_views s k id m.0 m.0 o at own refl (λ a. a) (k.views.fits id m.0 at)), ((λ hit. absurd (miss hit)), λ _. refl))
+      (m.0, keeps, tt, unmoved s k id m.1 m.0 m.0 at (λ h. h) refl (kept_views s k id m.0 m.0 at refl (λ _ a. a) (k.views.fits id m.0 at)), ((λ hit. absurd (miss hit)), λ _. refl))
 
   pub takes_turn : (slots id old : ℕ) (m : M) (o : O) → old % 2 ≡ 0 → m.1 ≡ [] → m.0.origin ≡ Some o
       → Allows Rule slots id m 0 (λ n. either (eqb n old) (old + 1) n) (Takes list origin (step slots 0 old (old + 1) none) m)
@@ -213,16 +224,13 @@ module _ {T E O : Type 0} (list : T → List E) (origin : T → O) (home : O) wh
       (λ hit. wins slots id old m o empty own s k at hit (even_in (length k.all) k.out (ap (λ (z : ℕ). z % 2) (sym (word_at s k) ∙ hit) ∙ even)))
       (λ miss. misses slots id old m o own s k at miss)
 
-  -- beside a seat that has the turn, no other has it, and none is alone
-  not_alone : (s : St) (k : Rule s) (id j : ℕ) (v u : V) (o : O) → v.origin ≡ Some o → get_elem? s.views id ≡ some v → j ≢ id → get_elem? s.views j ≡ some u → u.alone ≡ true → ⊥
-  not_alone s k id j v u o own at ne e a = let none : v.origin ≡ None = ap (λ (z : V). z.origin) ((k.views.apart j id u v ne e at).alone a) in cc
-
+  -- beside a seat that has the turn, no other has it
   no_turn : (s : St) (k : Rule s) (id j : ℕ) (v u : V) → v.has ≡ true → get_elem? s.views id ≡ some v → j ≢ id → get_elem? s.views j ≡ some u → u.has ≡ true → ⊥
   no_turn s k id j v u has at ne e h = ne (((k.views.fits j u e).turn h).0 ∙ sym ((k.views.fits id v at).turn has).0)
 
   -- the views after a commit that makes the list `all`
   commit_views : (s : St) (k : Rule s) (id : ℕ) (v : V) (o : O) (x : E) (all : List E) → v.has ≡ true → all ≡ v.taken ++ x ∷ [] → v.origin ≡ Some o → get_elem? s.views id ≡ some v
-      → AreViews all home k.out k.holder (set s.views id (committed v all))
+      → AreViews all home start k.out k.holder (set s.views id (committed v all))
   commit_views s k id v o x all has is own at =
       let f = k.views.fits id v at in
       let t = f.turn has in
@@ -231,31 +239,42 @@ module _ {T E O : Type 0} (list : T → List E) (origin : T → O) (home : O) wh
       let one_more : length all ≡ length k.all + 1 = omega (arith, ap length more, length-append k.all (x ∷ [])) in
       let told : IsPrefix v.told all = prefix_trans v.told v.seen all f.told (prefix_trans v.seen k.all all f.seen grows) in
       let long : length v.seen ≤ length k.all = prefix_length v.seen k.all f.seen in
-      views_set k.all all home k.out k.out k.holder k.holder id s.views (committed v all) k.views record {
+      let begun : start ≤ length v.seen = (f.begins o own).1 in
+      views_set k.all all home start k.out k.out k.holder k.holder id s.views (committed v all) k.views record {
         seen = prefix_refl all;
         told = told;
-        made = All-push (λ p. p ≤ length all) v.made (length all) (All-more (length v.seen) (length all) v.made (omega arith) f.made) (omega arith);
+        made = All-push (λ p. (start < p) × (p ≤ length all)) v.made (length all) (All-more start (length v.seen) (length all) v.made (omega arith) f.made) (omega arith, omega arith);
         origin = f.origin;
+        begins = λ h e. ((f.begins h e).0, omega arith);
+        owner = f.owner;
+        gone = λ lost. not_gone v (committed v all) o own lost;
         turn = λ _. (t.0, t.1, refl);
-        alone = λ _. refl;
       } (λ j u ne e. let g = k.views.fits j u e in record {
         seen = prefix_trans u.seen k.all all g.seen grows;
         told = g.told;
         made = g.made;
         origin = g.origin;
+        begins = g.begins;
+        owner = g.owner;
+        gone = g.gone;
         turn = λ h. absurd (no_turn s k id j v u has at ne e h);
-        alone = λ a. absurd (not_alone s k id j v u o own at ne e a);
       }) (λ j u ne e.
       let g = k.views.fits j u e in
       let far = k.views.apart id j v u (λ z. ne (sym z)) at e in
       let fresh : (p : ℕ) → Contains (v.made ++ length all ∷ []) p → Contains u.made p → ⊥ = λ p a b.
       ⊎_elim (λ old. far.made p old b)
-      (λ (new : length all ≡ p). let low = All-contains (λ q. q ≤ length u.seen) u.made p g.made b in let less = prefix_length u.seen k.all g.seen in omega arith)
+      (λ (new : length all ≡ p). let low = (All-contains (λ q. (start < q) × (q ≤ length u.seen)) u.made p g.made b).1 in let less = prefix_length u.seen k.all g.seen in omega arith)
       (Contains-push_cases v.made (length all) p a)
       in (
-        record { alone = far.alone; made = fresh },
-        record { alone = λ a. absurd (not_alone s k id j v u o own at ne e a); made = λ p a b. fresh p b a },
+        record { share = far.share; made = fresh },
+        record { share = λ point a b. far.share point b a; made = λ p a b. fresh p b a },
       ))
+
+  -- and the new place was made too
+  commit_made : (s : St) (k : Rule s) (id : ℕ) (v : V) (all : List E) → length all ≡ length k.all + 1 → get_elem? s.views id ≡ some v → AreMade start (length all) (set s.views id (committed v all))
+  commit_made s k id v all more at p past le = dite (ℕ_discrete (length all) p)
+      (λ (e : length all ≡ p). (id, committed v all, set_there s.views id v (committed v all) at, subst (Contains (v.made ++ length all ∷ [])) e (Contains-push v.made (length all))))
+      (λ (ne : length all ≢ p). made_set start (length k.all) s.views id v (committed v all) at (λ q h. Contains-append_left v.made (length all ∷ []) q h) k.made p past (grind arith))
 
   pub commits : (slots id : ℕ) (m : M) (o : O) (x : E) (y : T) → m.1 ≡ (0, Some y) ∷ [] → m.0.has ≡ true → list y ≡ m.0.taken ++ x ∷ [] → m.0.origin ≡ Some o → length (list y) < 2 ^ 62
       → Allows Rule slots id m 0 (λ n. (n + 2) % 2 ^ 64) (Commits list (step slots 0 2 0 none) m)
@@ -281,30 +300,35 @@ module _ {T E O : Type 0} (list : T → List E) (origin : T → O) (home : O) wh
           slot = λ e. never (sym e ∙ t.1);
           held = λ e. holds_set s.views id k.holder v w at (λ h. h) (k.held e);
           views = commit_views s k id v o x all has is own at;
+          made = commit_made s k id v all one_more at;
         },
         ap (λ (z : List E). (committed v z, m.1)) (sym (ap (carried_list list) slot)),
       )
 
-  give_views : (s : St) (k : Rule s) (id : ℕ) (v : V) (o : O) → v.has ≡ true → v.origin ≡ Some o → get_elem? s.views id ≡ some v → AreViews k.all home false k.holder (set s.views id (gave v))
+  give_views : (s : St) (k : Rule s) (id : ℕ) (v : V) (o : O) → v.has ≡ true → v.origin ≡ Some o → get_elem? s.views id ≡ some v → AreViews k.all home start false k.holder (set s.views id (gave v))
   give_views s k id v o has own at =
       let f = k.views.fits id v at in
       let t = f.turn has in
       let grows : IsPrefix v.seen v.taken = subst (IsPrefix v.seen) (sym t.2) f.seen in
-      views_set k.all k.all home k.out false k.holder k.holder id s.views (gave v) k.views record {
+      views_set k.all k.all home start k.out false k.holder k.holder id s.views (gave v) k.views record {
         seen = ([], append-nil v.taken ∙ t.2);
         told = prefix_trans v.told v.seen v.taken f.told grows;
-        made = All-more (length v.seen) (length v.taken) v.made (prefix_length v.seen v.taken grows) f.made;
+        made = All-more start (length v.seen) (length v.taken) v.made (prefix_length v.seen v.taken grows) f.made;
         origin = f.origin;
+        begins = λ h e. let b = f.begins h e in (b.0, let begun = b.1 in let long = prefix_length v.seen v.taken grows in omega arith);
+        owner = f.owner;
+        gone = λ lost. not_gone v (gave v) o own lost;
         turn = λ h. never h;
-        alone = λ _. t.2;
       } (λ j u ne e. let g = k.views.fits j u e in record {
         seen = g.seen;
         told = g.told;
         made = g.made;
         origin = g.origin;
+        begins = g.begins;
+        owner = g.owner;
+        gone = g.gone;
         turn = λ h. absurd (no_turn s k id j v u has at ne e h);
-        alone = g.alone;
-      }) (λ j u ne e. same_far v (gave v) u o own refl (λ a. a) (k.views.apart id j v u (λ z. ne (sym z)) at e) (k.views.apart j id u v ne e at))
+      }) (λ j u ne e. same_far v (gave v) u refl (λ _ a. a) (k.views.apart id j v u (λ z. ne (sym z)) at e) (k.views.apart j id u v ne e at))
 
   pub gives_turn : (slots id : ℕ) (m : M) (o : O) (y : T) → m.1 ≡ (0, Some y) ∷ [] → m.0.has ≡ true → list y ≡ m.0.taken → m.0.origin ≡ Some o → origin y ≡ home
       → Allows Rule slots id m 0 (λ n. (n + (2 ^ 64 - 1)) % 2 ^ 64) (Gives (step slots 0 1 0 none) m)
@@ -329,77 +353,95 @@ module _ {T E O : Type 0} (list : T → List E) (origin : T → O) (home : O) wh
           slot = λ _. (y, ap (λ (l : List (Slot (Option T))). get_elem? l 0) back ∙ set_here s.homes 0 (some (Some y)) k.slots, is ∙ t.2, from);
           held = λ e. never e;
           views = give_views s k id v o has own at;
+          made = still_made s k id v (gave v) at refl;
         },
-        refl,
+        (refl, tally_of k.all home start false k.holder (set s.views id (gave v)) (give_views s k id v o has own at) (still_made s k id v (gave v) at refl) id (gave v) o (set_there s.views id v (gave v) at) own),
       )
 
-  -- where some seat is not alone, no seat is
-  others_alone : (s : St) (k : Rule s) (id : ℕ) (v : V) (o : O) → v.alone ≡ false → v.origin ≡ Some o → get_elem? s.views id ≡ some v → (j : ℕ) (u : V) → get_elem? s.views j ≡ some u → u.alone ≡ true → ⊥
-  others_alone s k id v o alone own at j u e h = dite (ℕ_discrete j id)
-      (λ (z : j ≡ id). let same : v ≡ u = some-injective v u (sym at ∙ (sym (ap (get_elem? s.views) z) ∙ e)) in never (sym alone ∙ (ap (λ (x : V). x.alone) same ∙ h)))
-      (λ (ne : j ≢ id). not_alone s k id j v u o own at ne e h)
-
-  pub splits : (id : ℕ) (v : V) (o : O) → v.alone ≡ false → v.origin ≡ Some o → Splits Rule id v v (newcomer v)
-  splits id v o alone own s k at =
+  -- the views after a split
+  split_views : (s : St) (k : Rule s) (id : ℕ) (v : V) (o : O) → v.origin ≡ Some o → get_elem? s.views id ≡ some v → AreViews k.all home start k.out k.holder (set s.views id (halved v) ++ newcomer v ∷ [])
+  split_views s k id v o own at =
       let f = k.views.fits id v at in
-      let same : set s.views id v ≡ s.views = set_again s.views id v at in
-      let w : V = newcomer v in
-      subst (λ (l : List V). Rule record { words = s.words; homes = s.homes; views = l ++ w ∷ [] }) (sym same) record {
-        all = k.all;
-        out = k.out;
-        holder = k.holder;
-        word = k.word;
-        short = k.short;
-        slots = k.slots;
-        slot = k.slot;
-        held = λ e. let h = k.held e in (h.0, at_longer s.views (w ∷ []) k.holder h.0 h.1, h.2);
-        views = views_more k.all home k.out k.holder s.views w k.views (λ j. record {
-          seen = f.seen;
-          told = prefix_nil v.seen;
-          made = λ i d lt. absurd (omega arith);
-          origin = f.origin;
-          turn = λ h. never h;
-          alone = λ h. never h;
-        }) record { alone = λ h. never h; made = λ p a b. none_in p a } (λ j u e. (
-          record { alone = λ h. never h; made = λ p a b. none_in p a },
-          record { alone = λ h. absurd (others_alone s k id v o alone own at j u e h); made = λ p a b. none_in p b },
-        ));
-      }
+      let left : V = halved v in
+      let right : V = newcomer v in
+      let first : AreViews k.all home start k.out k.holder (set s.views id left) = kept_views s k id v left at refl (half_in false v.share) record {
+        seen = f.seen;
+        told = f.told;
+        made = f.made;
+        origin = f.origin;
+        begins = f.begins;
+        owner = λ h e. let point = f.owner h e in half_has false v.share point.0 point.1;
+        gone = λ lost. not_gone v left o own lost;
+        turn = f.turn;
+      } in
+      views_more k.all home start k.out k.holder (set s.views id left) right first (λ j. record {
+        seen = f.seen;
+        told = prefix_nil v.seen;
+        made = λ i d lt. absurd (omega arith);
+        origin = f.origin;
+        begins = f.begins;
+        owner = λ h e. let point = f.owner h e in half_has true v.share point.0 point.1;
+        gone = λ lost. not_gone v right o own lost;
+        turn = λ h. never h;
+      }) (λ j u e.
+      let no_both : (point : ℕ → Bool) → owns u.share point ≡ true → owns right.share point ≡ true → ⊥ = λ point a b. ⊎_elim
+      (λ (t : (j ≡ id) × (left ≡ u)). halves_apart v.share point (subst (λ (z : V). owns z.share point ≡ true) (sym t.1) a) b)
+      (λ (t : (j ≢ id) × (get_elem? s.views j ≡ some u)). (k.views.apart j id u v t.0 t.1 at).share point a (half_in true v.share point b))
+      (at_set s.views id j left u e) in (
+        record { share = λ point a b. no_both point b a; made = λ p a b. none_in p a },
+        record { share = no_both; made = λ p a b. none_in p b },
+      ))
+
+  pub splits : (id : ℕ) (v : V) (o : O) → v.origin ≡ Some o → Splits Rule id v (halved v) (newcomer v)
+  splits id v o own s k at = record {
+    all = k.all;
+    out = k.out;
+    holder = k.holder;
+    word = k.word;
+    short = k.short;
+    slots = k.slots;
+    slot = k.slot;
+    held = λ e. let h = holds_set s.views id k.holder v (halved v) at (λ z. z) (k.held e) in (h.0, at_longer (set s.views id (halved v)) (newcomer v ∷ []) k.holder h.0 h.1, h.2);
+    views = split_views s k id v o own at;
+    made = made_more start (length k.all) (set s.views id (halved v)) (newcomer v ∷ []) (still_made s k id v (halved v) at refl);
+  }
 
   -- the views after a join
-  join_views : (s : St) (k : Rule s) (id other : ℕ) (v w : V) (o : O) → other ≢ id → v.origin ≡ Some o → w.origin ≡ Some o → get_elem? s.views id ≡ some v → get_elem? s.views other ≡ some w
-      → w.has ≡ false → AreViews k.all home k.out k.holder (set (set s.views other spent) id (joined v w))
-  join_views s k id other v w o ne own own' at at' free =
+  join_views : (s : St) (k : Rule s) (id other : ℕ) (v w : V) (o : O) → other ≢ id → v.origin ≡ Some o → get_elem? s.views id ≡ some v → get_elem? s.views other ≡ some w
+      → AreViews k.all home start k.out k.holder (set (set s.views other spent) id (joined v w))
+  join_views s k id other v w o ne own at at' =
       let f = k.views.fits id v at in
       let g = k.views.fits other w at' in
       let id_ne : id ≢ other = λ e. ne (sym e) in
-      let first : AreViews k.all home k.out k.holder (set s.views other spent) = views_set k.all k.all home k.out k.out k.holder k.holder other s.views spent k.views
-      (spent_fits k.all home k.out k.holder other) (λ j u _ e. k.views.fits j u e) (λ j u _ _. spent_apart u) in
+      let first : AreViews k.all home start k.out k.holder (set s.views other spent) = views_set k.all k.all home start k.out k.out k.holder k.holder other s.views spent k.views
+      (spent_fits k.all home start k.out k.holder other) (λ j u _ e. k.views.fits j u e) (λ j u _ _. spent_apart u) in
       let there : get_elem? (set s.views other spent) id ≡ some v = set_else s.views other id spent id_ne ∙ at in
       let long = longer_long v.seen w.seen in
       let J : V = joined v w in
       let L : ℕ = length (longer v.seen w.seen) in
-      views_set k.all k.all home k.out k.out k.holder k.holder id (set s.views other spent) J first record {
+      views_set k.all k.all home start k.out k.out k.holder k.holder id (set s.views other spent) J first record {
         seen = longer_begins v.seen w.seen k.all f.seen g.seen;
         told = shorter_begins v.seen w.seen k.all f.seen g.seen;
-        made = All-append (λ p. p ≤ L) v.made w.made (All-more (length v.seen) L v.made long.0 f.made) (All-more (length w.seen) L w.made long.1 g.made);
+        made = All-append (λ p. (start < p) × (p ≤ L)) v.made w.made (All-more start (length v.seen) L v.made long.0 f.made) (All-more start (length w.seen) L w.made long.1 g.made);
         origin = f.origin;
+        begins = λ h e. let b = f.begins h e in (b.0, let begun = b.1 in let longer = long.0 in omega arith);
+        owner = λ h e. let point = f.owner h e in (point.0, in_left v.share w.share point.0 point.1);
+        gone = λ lost. not_gone v J o own lost;
         turn = f.turn;
-        alone = λ a. let none : w.origin ≡ None = ap (λ (z : V). z.origin) ((k.views.apart id other v w id_ne at at').alone a) in absurd (cc);
       } (λ j u _ e. first.fits j u e) (λ j u far e.
       let vu = first.apart id j v u (λ z. far (sym z)) there e in
-      let uv = first.apart j id u v far e there in
-      let wu : (p : ℕ) → Contains w.made p → Contains u.made p → ⊥ = λ p a b. ⊎_elim
-      (λ (t : (j ≡ other) × (spent ≡ u)). none_in p (subst (λ (z : V). Contains z.made p) (sym t.1) b))
-      (λ (t : (j ≢ other) × (get_elem? s.views j ≡ some u)). (k.views.apart other j w u (λ z. t.0 (sym z)) at' t.1).made p a b)
+      let wu : Apart w u = ⊎_elim
+      (λ (t : (j ≡ other) × (spent ≡ u)). subst (Apart w) t.1 (spent_apart w).1)
+      (λ (t : (j ≢ other) × (get_elem? s.views j ≡ some u)). k.views.apart other j w u (λ z. t.0 (sym z)) at' t.1)
       (at_set s.views other j spent u e) in
-      let both : (p : ℕ) → Contains (v.made ++ w.made) p → Contains u.made p → ⊥ = λ p a b. ⊎_elim (λ c. vu.made p c b) (λ c. wu p c b) (Contains-append_cases v.made w.made p a) in (
-        record { alone = vu.alone; made = both },
-        record { alone = λ a. let none : v.origin ≡ None = ap (λ (z : V). z.origin) (uv.alone a) in absurd (cc); made = λ p a b. both p b a },
+      let no_both : (point : ℕ → Bool) → owns (v.share ++ w.share) point ≡ true → owns u.share point ≡ true → ⊥ = λ point a b. ⊎_elim (λ c. vu.share point c b) (λ c. wu.share point c b) (in_one v.share w.share point a) in
+      let both : (p : ℕ) → Contains (v.made ++ w.made) p → Contains u.made p → ⊥ = λ p a b. ⊎_elim (λ c. vu.made p c b) (λ c. wu.made p c b) (Contains-append_cases v.made w.made p a) in (
+        record { share = no_both; made = both },
+        record { share = λ point a b. no_both point b a; made = λ p a b. both p b a },
       ))
 
-  pub joins : (id other : ℕ) (v w : V) (o : O) → v.origin ≡ Some o → w.origin ≡ Some o → w.has ≡ false → Joins Rule id v other w (joined v w) spent
-  joins id other v w o own own' free s k at ne there =
+  pub joins : (id other : ℕ) (v w : V) (o : O) → v.origin ≡ Some o → w.has ≡ false → Joins Rule id v other w (joined v w) spent
+  joins id other v w o own free s k at ne there =
       let at' : get_elem? s.views other ≡ some w = sym (set_else s.views id other (joined v w) ne) ∙ there in
       let turned : set (set s.views id (joined v w)) other spent ≡ set (set s.views other spent) id (joined v w) = set_comm s.views id other (joined v w) spent (λ e. ne (sym e)) in
       subst (λ (l : List V). Rule record { words = s.words; homes = s.homes; views = l }) (sym turned) record {
@@ -412,8 +454,9 @@ module _ {T E O : Type 0} (list : T → List E) (origin : T → O) (home : O) wh
         slot = k.slot;
         held = λ e. holds_set (set s.views other spent) id k.holder v (joined v w) (set_else s.views other id spent (λ z. ne (sym z)) ∙ at) (λ h. h)
             (holds_set s.views other k.holder w spent at' (λ h. sym free ∙ h) (k.held e));
-        views = join_views s k id other v w o ne own own' at at' free;
+        views = join_views s k id other v w o ne own at at';
+        made = made_join start (length k.all) s.views id other v w ne at at' k.made;
       }
 
 -- the steps that only load the word
-pub ruleset loads = (looks, marks, learns)
+pub ruleset loads = (looks, learns)

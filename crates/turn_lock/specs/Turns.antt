@@ -5,8 +5,10 @@ use mathlib.Core.List.{IsPrefix}
 use mathlib.Core.Option.{some}
 use lib.ListN.{get_elem?}
 use Rattle.atomic_table.specs.Table.{State, Step, Me, rest}
+use Rattle.shares.specs.Shares.{owns}
 use Rattle.turn_lock.specs.declared.view.View.{View}
-use Rattle.turn_lock.specs.Views.{took, committed, gave, marked, learnt, spent}
+use Rattle.turn_lock.specs.Seats.{IsAlone, Tally}
+use Rattle.turn_lock.specs.Views.{took, committed, gave, learnt, spent}
 
 abbrev pub bit : Bool → ℕ
 bit true = 1
@@ -23,26 +25,37 @@ carried_list list [] = []
 carried_list list (x ∷ xs) = list_of list x.1
 
 module _ {E O : Type 0} where
-  -- what holds of the view v of the seat numbered j, where these are all entries, and `holder` has the turn if it is out
-  pub record Fits (all : List E) (home : O) (out : Bool) (holder j : ℕ) (v : View E O) : Type 0 where
+  -- what holds of the view v of the seat numbered j, where these are all entries, `start` of which were there when the turn
+  -- was made, and `holder` has the turn if it is out
+  pub record Fits (all : List E) (home : O) (start : ℕ) (out : Bool) (holder j : ℕ) (v : View E O) : Type 0 where
     pub seen : IsPrefix v.seen all
     pub told : IsPrefix v.told v.seen
-    pub made : All (λ p. p ≤ length v.seen) v.made
+    pub made : All (λ p. (start < p) × (p ≤ length v.seen)) v.made
     pub origin : (o : O) → v.origin ≡ Some o → o ≡ home
+    pub begins : (o : O) → v.origin ≡ Some o → (v.start ≡ start) × (start ≤ length v.seen)
+    pub owner : (o : O) → v.origin ≡ Some o → (point : ℕ → Bool) × (owns v.share point ≡ true)
+    pub gone : v.origin ≡ None → v ≡ spent
     pub turn : v.has ≡ true → (j ≡ holder) × (out ≡ true) × (v.taken ≡ all)
-    pub alone : v.alone ≡ true → v.seen ≡ all
 
-  -- what holds of the views of two seats: beside a seat that is alone each other one is spent, and no place was made by both
+  -- what holds of the views of two seats: no point is in the shares of both, and no place was made by both
   pub record Apart (v w : View E O) : Type 0 where
-    pub alone : v.alone ≡ true → w ≡ spent
+    pub share : (point : ℕ → Bool) → owns v.share point ≡ true → owns w.share point ≡ true → ⊥
     pub made : (p : ℕ) → Contains v.made p → Contains w.made p → ⊥
 
-  pub record AreViews (all : List E) (home : O) (out : Bool) (holder : ℕ) (views : List (View E O)) : Type 0 where
-    pub fits : (j : ℕ) (v : View E O) → get_elem? views j ≡ some v → Fits all home out holder j v
+  pub record AreViews (all : List E) (home : O) (start : ℕ) (out : Bool) (holder : ℕ) (views : List (View E O)) : Type 0 where
+    pub fits : (j : ℕ) (v : View E O) → get_elem? views j ≡ some v → Fits all home start out holder j v
     pub apart : (i j : ℕ) (v w : View E O) → i ≢ j → get_elem? views i ≡ some v → get_elem? views j ≡ some w → Apart v w
 
+  -- some seat made this place
+  abbrev pub IsMade : List (View E O) → ℕ → Type 0
+  IsMade views p = (j : ℕ) × (v : View E O) × (get_elem? views j ≡ some v) × Contains v.made p
+
+  -- each entry that was not there when the turn was made was committed through some seat
+  abbrev pub AreMade : ℕ → ℕ → List (View E O) → Type 0
+  AreMade start last views = (p : ℕ) → start < p → p ≤ last → IsMade views p
+
 module _ {T E O : Type 0} (list : T → List E) (origin : T → O) where
-  pub record IsTurn (home : O) (s : State (Option T) (View E O)) : Type 0 where
+  pub record IsTurn (home : O) (start : ℕ) (s : State (Option T) (View E O)) : Type 0 where
     pub all : List E
     pub out : Bool
     pub holder : ℕ
@@ -51,7 +64,8 @@ module _ {T E O : Type 0} (list : T → List E) (origin : T → O) where
     pub slots : 0 < length s.homes
     pub slot : out ≡ false → (x : T) × (get_elem? s.homes 0 ≡ some (some (Some x))) × (list x ≡ all) × (origin x ≡ home)
     pub held : out ≡ true → (v : View E O) × (get_elem? s.views holder ≡ some v) × (v.has ≡ true)
-    pub views : AreViews all home out holder s.views
+    pub views : AreViews all home start out holder s.views
+    pub made : AreMade start (length all) s.views
 
   abbrev M : Type 0
   M = Me (Option T) (View E O)
@@ -63,8 +77,9 @@ module _ {T E O : Type 0} (list : T → List E) (origin : T → O) where
     pub view : m'.0 ≡ took m.0 (list value)
     pub begins : IsPrefix m.0.seen (list value)
     pub home : (o : O) → m.0.origin ≡ Some o → origin value ≡ o
-    pub alone : m.0.alone ≡ true → list value ≡ m.0.seen
+    pub alone : IsAlone m.0 → list value ≡ m.0.seen
     pub short : length (list value) < 2 ^ 62
+    pub tally : Tally m'.0
 
   abbrev pub Takes : Step (Option T) → M → ℕ → M → Type 0
   Takes st m found m' = (found ≡ st.first → Wins m m') × (found ≢ st.first → m' ≡ m)
@@ -74,17 +89,15 @@ module _ {T E O : Type 0} where
   Commits list st m found m' = m' ≡ (committed m.0 (carried_list list m.1), m.1)
 
   abbrev pub Gives : Step (Option T) → Me (Option T) (View E O) → ℕ → Me (Option T) (View E O) → Type 0
-  Gives st m found m' = m' ≡ (gave m.0, rest m.1)
-
-  abbrev pub Marks : Step (Option T) → Me (Option T) (View E O) → ℕ → Me (Option T) (View E O) → Type 0
-  Marks st m found m' = m' ≡ (marked m.0, m.1)
+  Gives st m found m' = (m' ≡ (gave m.0, rest m.1)) × Tally m'.0
 
   abbrev pub Learns : Step (Option T) → Me (Option T) (View E O) → ℕ → Me (Option T) (View E O) → Type 0
-  Learns st m found m' = (m' ≡ (learnt m.0, m.1)) × IsPrefix m.0.told m.0.seen
+  Learns st m found m' = (m' ≡ (learnt m.0, m.1)) × IsPrefix m.0.told m.0.seen × Tally m'.0
 
   -- half the word is the number of entries
   pub record Looks (st : Step (Option T)) (m : Me (Option T) (View E O)) (found : ℕ) (m' : Me (Option T) (View E O)) : Type 0 where
     pub same : m' ≡ m
     pub seen : length m.0.seen ≤ found / 2
     pub taken : m.0.has ≡ true → found / 2 ≡ length m.0.taken
-    pub alone : m.0.alone ≡ true → found / 2 ≡ length m.0.seen
+    pub alone : IsAlone m.0 → found / 2 ≡ length m.0.seen
+    pub tally : Tally m'.0

@@ -1,5 +1,6 @@
 -- How a step changes the view of the seat that makes it. What is not named stays.
 use Rattle.std.specs.Prelude.{List, [], ◌∷◌, ◌++◌, length, true, false, cond, nat_lt, Some, None}
+use Rattle.shares.specs.Shares.{half, whole}
 use Rattle.turn_lock.specs.declared.view.View.{View}
 
 -- the longer of two lists; the first where they are as long
@@ -11,9 +12,9 @@ abbrev pub shorter : {E : Type 0} → List E → List E → List E
 shorter xs ys = cond (nat_lt (length xs) (length ys)) xs ys
 
 module _ {E O : Type 0} where
-  -- the first seat of a turn whose value has these entries and this origin
+  -- the first seat of a turn whose value has these entries and this origin: it has the whole share
   abbrev pub opener : List E → O → View E O
-  opener all home = record { origin = Some home; seen = all; told = []; made = []; alone = true; has = false; taken = [] }
+  opener all home = record { origin = Some home; seen = all; told = []; made = []; start = length all; share = whole; has = false; taken = [] }
 
   -- it took a value with these entries
   abbrev pub took : View E O → List E → View E O
@@ -27,21 +28,21 @@ module _ {E O : Type 0} where
   abbrev pub gave : View E O → View E O
   gave v = record v { seen = v.taken; has = false; taken = [] }
 
-  -- it is not the only seat any more
-  abbrev pub marked : View E O → View E O
-  marked v = record v { alone = false }
+  -- it gave half of its share to a new seat
+  abbrev pub halved : View E O → View E O
+  halved v = record v { share = half false v.share }
 
-  -- a new seat, split from one with the view v: it has seen the same, and made nothing
+  -- a new seat, split from one with the view v: it has seen the same, made nothing, and has the other half of the share
   abbrev pub newcomer : View E O → View E O
-  newcomer v = record { origin = v.origin; seen = v.seen; told = []; made = []; alone = false; has = false; taken = [] }
+  newcomer v = record { origin = v.origin; seen = v.seen; told = []; made = []; start = v.start; share = half true v.share; has = false; taken = [] }
 
-  -- a seat that was joined into another
+  -- a seat that was joined into another: it has no share left
   abbrev pub spent : View E O
-  spent = record { origin = None; seen = []; told = []; made = []; alone = false; has = false; taken = [] }
+  spent = record { origin = None; seen = []; told = []; made = []; start = 0; share = []; has = false; taken = [] }
 
-  -- it took in a seat with the view w: the longer list is seen, and the places are those of both
+  -- it took in a seat with the view w: the longer list is seen, and the places and the shares are those of both
   abbrev pub joined : View E O → View E O → View E O
-  joined v w = record v { seen = longer v.seen w.seen; told = shorter v.seen w.seen; made = v.made ++ w.made }
+  joined v w = record v { seen = longer v.seen w.seen; told = shorter v.seen w.seen; made = v.made ++ w.made; share = v.share ++ w.share }
 
   -- it knows that what it was told begins what it has seen
   abbrev pub learnt : View E O → View E O

@@ -1,6 +1,6 @@
 //! What each step on the word tells the seat that makes it.
-ghost use Rattle.turn_lock.specs.Turns.{Takes, Commits, Gives, Looks, Marks, Learns};
-ghost use Rattle.turn_lock.specs.Views.{newcomer, joined, spent};
+ghost use Rattle.turn_lock.specs.Turns.{Takes, Commits, Gives, Looks, Learns};
+ghost use Rattle.turn_lock.specs.Views.{halved, newcomer, joined, spent};
 
 use crate::kept::Kept;
 use crate::view::View;
@@ -34,13 +34,6 @@ impl<T, E, O> Play<Option<T>, View<E, O>> for Look {
     ghost then = { Looks };
 }
 
-// A load, after which the seat does not count as alone.
-pub(crate) struct Mark;
-
-impl<T, E, O> Play<Option<T>, View<E, O>> for Mark {
-    ghost then = { Marks };
-}
-
 // A load, at which the seat learns that what it was told begins what it has seen.
 pub(crate) struct Learn;
 
@@ -48,11 +41,11 @@ impl<T, E, O> Play<Option<T>, View<E, O>> for Learn {
     ghost then = { Learns };
 }
 
-// A new seat that has seen the same.
+// A new seat that has seen the same; each of the two has half of the share.
 pub(crate) struct Cut;
 
 impl<E, O> Split<View<E, O>> for Cut {
-    ghost left = { λ v. v };
+    ghost left = { halved };
 
     ghost right = { newcomer };
 }

@@ -1,6 +1,6 @@
 //! What no clause says: that the calls succeed, that threads get their turns, and that a list grows by all commits.
 ghost use Rattle.std.specs.Prelude.{◌≡◌, false};
-ghost use Rattle.turn_lock.specs.Seats.{seat_view, IsSeatOf};
+ghost use Rattle.turn_lock.specs.Seats.{seat_view, IsAlone, IsSeatOf};
 
 use crate::{Kept, Turn, TurnSeat};
 use std::alloc::{AllocError, Global};
@@ -54,11 +54,31 @@ fn commit<R: Wait + Abort>(rt: &R, turn: &Turn<Numbers>, seat: &mut TurnSeat<Num
     requires free { (seat_view seat.old).has ≡ false }
     ensures seat { IsSeatOf turn.now seat.new }
     ensures free { (seat_view seat.new).has ≡ false }
+    ensures share { (seat_view seat.new).share ≡ (seat_view seat.old).share }
 {
     let mut value = turn.take(rt, seat);
     assert!(rt; value.items.len() < MOST);
     value.items.push(number).expect(rt, "memory");
     turn.commit_and_give(seat, value);
+}
+
+// Commits a number through another seat, which it makes and takes in again: a seat that was alone is alone again.
+fn there_and_back<R: Wait + Abort>(
+    rt: &R,
+    turn: &Turn<Numbers>,
+    seat: &mut TurnSeat<Numbers>,
+    number: u64,
+)
+    requires seat { IsSeatOf turn.now seat.old }
+    requires free { (seat_view seat.old).has ≡ false }
+    requires alone { IsAlone (seat_view seat.old) }
+    ensures seat { IsSeatOf turn.now seat.new }
+    ensures free { (seat_view seat.new).has ≡ false }
+    ensures alone { IsAlone (seat_view seat.new) }
+{
+    let mut other = turn.split(seat);
+    commit(rt, turn, &mut other, number);
+    turn.join(seat, other);
 }
 
 // Commits the numbers from `first` on.
@@ -139,6 +159,17 @@ fn one_seat_and_another(rt: HostRuntime) -> Result<(), Fail> {
     commit(&rt, &turn, &mut other, 7);
     assert_eq!(rt; turn.look(&mut seat), 3);
     turn.join(&mut seat, other);
+    let value = turn.close(&rt, seat);
+    assert_eq!(rt; value.items.as_slice(), [5, 6, 7].as_slice());
+    Ok(())
+}
+
+#[test]
+fn alone_again(rt: HostRuntime) -> Result<(), Fail> {
+    let (turn, mut seat) = Turn::new(rt.alloc(), numbers_of(rt.alloc(), &[5])?)?;
+    there_and_back(&rt, &turn, &mut seat, 6);
+    there_and_back(&rt, &turn, &mut seat, 7);
+    assert_eq!(rt; turn.look(&mut seat), 3);
     let value = turn.close(&rt, seat);
     assert_eq!(rt; value.items.as_slice(), [5, 6, 7].as_slice());
     Ok(())

@@ -1,11 +1,12 @@
 //! The turn and its calls.
-ghost use Rattle.std.specs.Prelude.{◌≡◌, ◌+◌, ◌*◌, ◌/◌, ◌^◌, ◌<◌, ◌≤◌, true, false, [], ◌∷◌, ◌++◌, length, IfOk};
+ghost use Rattle.std.specs.Prelude.{◌≡◌, ℕ, ◌+◌, ◌*◌, ◌/◌, ◌^◌, ◌<◌, ◌≤◌, Bool, true, false, ◌||◌, [], ◌∷◌, ◌++◌, length, IfOk};
 ghost use mathlib.Core.List.{IsPrefix};
-ghost use Rattle.turn_lock.specs.Seats.{seat_view, IsSeatOf};
-ghost use Rattle.turn_lock.specs.Views.{opener, took, committed, gave, marked, newcomer, joined, learnt};
+ghost use Rattle.shares.specs.Shares.{owns};
+ghost use Rattle.turn_lock.specs.Seats.{seat_view, IsAlone, IsSeatOf, Tally};
+ghost use Rattle.turn_lock.specs.Views.{opener, took, committed, gave, halved, newcomer, joined, learnt};
 
 use crate::kept::Kept;
-use crate::plays::{Commit, Cut, Give, Learn, Look, Mark, Merge, Take};
+use crate::plays::{Commit, Cut, Give, Learn, Look, Merge, Take};
 use crate::view::View;
 use atomic_table::{Seat, Table, TableRule};
 use nook_defs::memory::NoMemory;
@@ -20,9 +21,10 @@ pub struct OneTurn<T> {
 }
 
 impl<T: Kept> TableRule<Option<T>, View<T::Entry, T::Origin>, Snapshot<T>> for OneTurn<T> {
+    ghost use Rattle.std.specs.Prelude.{length};
     ghost use Rattle.turn_lock.specs.Turns.{IsTurn};
 
-    ghost holds = { λ k. IsTurn T.list T.origin (T.origin k.value) };
+    ghost holds = { λ k. IsTurn T.list T.origin (T.origin k.value) (length (T.list k.value)) };
 
     ghost first = { λ k. opener (T.list k.value) (T.origin k.value) };
 }
@@ -47,12 +49,12 @@ pub struct Turn<T: Kept> {
 }
 
 impl<T: Kept> Model for Turn<T> {
-    ghost use Rattle.std.specs.Prelude.{◌≡◌};
+    ghost use Rattle.std.specs.Prelude.{length, ◌≡◌};
     ghost use Rattle.turn_lock.specs.Seats.{Lock};
 
     ghost Value = { Lock T.Origin };
 
-    ghost view = { λ t. record { table = t.table.shared.table_id; home = T.origin t.table.shared.key.value } };
+    ghost view = { λ t. record { table = t.table.shared.table_id; home = T.origin t.table.shared.key.value; start = length (T.list t.table.shared.key.value) } };
 
     ghost invariant = { λ t. t.table.shared.table_id.words ≡ 1 };
 }
@@ -65,6 +67,7 @@ impl<T: Kept> Turn<T> {
         requires short { length (T.list value) < 2 ^ 62 }
         ensures seat { IfOk result (λ r. IsSeatOf r.0 r.1) }
         ensures home { IfOk result (λ r. r.0.home ≡ T.origin value) }
+        ensures start { IfOk result (λ r. r.0.start ≡ length (T.list value)) }
         ensures view { IfOk result (λ r. seat_view r.1 ≡ opener (T.list value) (T.origin value)) }
     {
         let word = 2 * value.count();
@@ -89,8 +92,9 @@ impl<T: Kept> Turn<T> {
         ensures view { seat_view seat.new ≡ took (seat_view seat.old) (T.list result) }
         ensures begins { IsPrefix (seat_view seat.old).seen (T.list result) }
         ensures origin { T.origin result ≡ self.now.home }
-        ensures alone { (seat_view seat.old).alone ≡ true → T.list result ≡ (seat_view seat.old).seen }
+        ensures alone { IsAlone (seat_view seat.old) → T.list result ≡ (seat_view seat.old).seen }
         ensures short { length (T.list result) < 2 ^ 62 }
+        ensures made { Tally (seat_view seat.new) }
     {
         let shared = &self.table.shared;
         for _ in rt.forever() {
@@ -119,6 +123,7 @@ impl<T: Kept> Turn<T> {
         requires short { length (T.list value) < 2 ^ 62 }
         ensures seat { IsSeatOf self.now seat.new }
         ensures view { seat_view seat.new ≡ gave (committed (seat_view seat.old) (T.list value)) }
+        ensures made { Tally (seat_view seat.new) }
     {
         let shared = &self.table.shared;
         let _empty = shared.exchange(seat, 0, Some(value));
@@ -135,6 +140,7 @@ impl<T: Kept> Turn<T> {
         requires origin { T.origin value ≡ self.now.home }
         ensures seat { IsSeatOf self.now seat.new }
         ensures view { seat_view seat.new ≡ gave (seat_view seat.old) }
+        ensures made { Tally (seat_view seat.new) }
     {
         let shared = &self.table.shared;
         let _none = shared.exchange(seat, 0, Some(value));
@@ -149,24 +155,29 @@ impl<T: Kept> Turn<T> {
         ensures view { seat_view seat.new ≡ seat_view seat.old }
         ensures seen { length (seat_view seat.old).seen ≤ result }
         ensures taken { (seat_view seat.old).has ≡ true → result ≡ length (seat_view seat.old).taken }
-        ensures alone { (seat_view seat.old).alone ≡ true → result ≡ length (seat_view seat.old).seen }
+        ensures alone { IsAlone (seat_view seat.old) → result ≡ length (seat_view seat.old).seen }
+        ensures made { Tally (seat_view seat.new) }
     {
         self.table.shared.load::<Look>(seat, 0) / 2
     }
 
-    /// Makes another seat, which has seen the same and made nothing. Neither counts as alone from then on.
+    /// Makes another seat, which has seen the same and made nothing. Each of the two has half of the share.
+    #[tactic(auto, using(shares::proofs::Shares::owns_halves))]
     pub fn split(&self, seat: &mut TurnSeat<T>) -> TurnSeat<T>
         requires seat { IsSeatOf self.now seat.old }
         ensures seat { IsSeatOf self.now seat.new }
         ensures other { IsSeatOf self.now result }
-        ensures view { seat_view seat.new ≡ marked (seat_view seat.old) }
+        ensures view { seat_view seat.new ≡ halved (seat_view seat.old) }
         ensures other_view { seat_view result ≡ newcomer (seat_view seat.old) }
+        ensures shares { (point : ℕ → Bool) → owns (seat_view seat.old).share point ≡ (owns (seat_view seat.new).share point || owns (seat_view result).share point) }
     {
-        self.table.shared.load::<Mark>(seat, 0);
         self.table.shared.split_seat::<Cut>(seat)
     }
 
     /// Takes another seat in. The seat has then seen the longer of the two lists, which both begin, and made the places of both.
+    ///
+    /// A seat into which all that was split from it came back is alone again, in whatever order it came.
+    #[tactic(auto, using(shares::proofs::Shares::owns_append))]
     pub fn join(&self, seat: &mut TurnSeat<T>, other: TurnSeat<T>)
         requires seat { IsSeatOf self.now seat.old }
         requires other { IsSeatOf self.now other }
@@ -176,6 +187,8 @@ impl<T: Kept> Turn<T> {
         ensures view { seat_view seat.new ≡ learnt (joined (seat_view seat.old) (seat_view other)) }
         ensures begins { IsPrefix (seat_view seat.old).seen (seat_view seat.new).seen }
         ensures other_begins { IsPrefix (seat_view other).seen (seat_view seat.new).seen }
+        ensures shares { (point : ℕ → Bool) → owns (seat_view seat.new).share point ≡ (owns (seat_view seat.old).share point || owns (seat_view other).share point) }
+        ensures made { Tally (seat_view seat.new) }
     {
         self.table.shared.join_seat::<Merge>(seat, other);
         self.table.shared.load::<Learn>(seat, 0);
@@ -189,8 +202,9 @@ impl<T: Kept> Turn<T> {
         requires free { (seat_view seat).has ≡ false }
         ensures begins { IsPrefix (seat_view seat).seen (T.list result) }
         ensures origin { T.origin result ≡ self.home }
-        ensures alone { (seat_view seat).alone ≡ true → T.list result ≡ (seat_view seat).seen }
+        ensures alone { IsAlone (seat_view seat) → T.list result ≡ (seat_view seat).seen }
         ensures short { length (T.list result) < 2 ^ 62 }
+        ensures made { Tally (seat_view seat) }
     {
         self.take(rt, &mut seat)
     }

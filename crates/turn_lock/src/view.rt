@@ -11,8 +11,10 @@ pub struct View<E, O> {
     pub told: LinkedList<E>,
     /// The places of the entries that the seat committed, counted from 1.
     pub made: LinkedList<u64>,
-    /// There is no other seat.
-    pub alone: bool,
+    /// How many entries the list had when the turn was made.
+    pub start: u64,
+    /// The seat's share of the turn: the first seat has the whole, and no two seats share a point.
+    pub share: LinkedList<LinkedList<(u64, bool)>>,
     /// The seat has the turn.
     pub has: bool,
     /// The list of the value that the seat took, and what it committed since; empty without the turn.

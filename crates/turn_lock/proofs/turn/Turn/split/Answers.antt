@@ -1,9 +1,6 @@
 use Rattle.std.proofs.Common.{rules}
-use Rattle.turn_lock.proofs.Moves.{loads, splits}
+use Rattle.turn_lock.proofs.Moves.{splits}
 use Rattle.turn_lock.proofs.turn.Turn.split.Goals as goal
 
-pub load-requires : goal.load-requires
-load-requires g c = let own = c.requires.seat.1 in (search rules, search rules, search (rules, loads))
-
 pub split_seat-requires : goal.split_seat-requires
-split_seat-requires g c = (search rules, search rules, splits _ _ _ _ _ c.args.self.now.home (search rules) (search rules))
+split_seat-requires g c = (search rules, search rules, splits _ _ _ _ _ _ c.args.self.now.home (search rules))

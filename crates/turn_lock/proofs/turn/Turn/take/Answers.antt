@@ -4,7 +4,7 @@ use Rattle.turn_lock.proofs.Moves.{takes_turn}
 use Rattle.turn_lock.proofs.turn.Turn.take.Goals as goal
 
 pub compare_exchange-requires : goal.compare_exchange-requires
-compare_exchange-requires g c = (search rules, search rules, takes_turn _ _ _ _ _ _ _ c.args.self.now.home (search rules) (search rules) (search rules))
+compare_exchange-requires g c = (search rules, search rules, takes_turn _ _ _ _ _ _ _ _ c.args.self.now.home (search rules) (search rules) (search rules))
 
 pub exchange-requires : goal.exchange-requires
 exchange-requires g c =

@@ -1,0 +1,54 @@
+-- What a desk's seat may claim, from what a turn's seat may.
+use Rattle.std.proofs.Common.{◌≡◌, ℕ, ◌<◌, ◌≤◌, Bool, true, false, List, length, All, sym, ap, ◌∙◌, subst, arith}
+use Rattle.nook_defs.specs.declared.data.Event.{Event}
+use Rattle.desk_like.specs.Desks.{Accounts}
+use Rattle.shares.specs.Shares.{Share, half, IsWhole}
+use Rattle.shares.proofs.Shares.{half_in, half_has, halves_apart}
+use Rattle.turn_lock.specs.Seats.{Tally}
+use Rattle.turn_lock.specs.Views.{took, committed, gave, halved, newcomer}
+use Rattle.part_server.specs.Turns.{seen_view}
+use Rattle.part_server.proofs.Ends.{Vw}
+
+-- a desk's list begins empty
+pub accounts_of : (v : Vw) → v.start ≡ 0 → Tally v → Accounts (seen_view v)
+accounts_of v none t = record {
+  within = subst (λ (n : ℕ). All (λ place. (n < place) × (place ≤ length v.seen)) v.made) none t.within;
+  all = λ alone place past low. t.all alone place (let begun = none in omega arith) low;
+}
+
+-- a seat that gave the turn back as it took it, or with a commit
+pub given_accounts : (v z w : Vw) (all : List Event) → v.start ≡ 0 → z ≡ took v all → w ≡ gave z → Tally w → (w.start ≡ 0) × Accounts (seen_view w)
+given_accounts v z w all none taken given t =
+    let start : w.start ≡ 0 = ap (λ (x : Vw). x.start) given ∙ (ap (λ (x : Vw). x.start) taken ∙ none) in
+    (start, accounts_of w start t)
+
+pub committed_accounts : (v z w : Vw) (all more : List Event) → v.start ≡ 0 → z ≡ took v all → w ≡ gave (committed z more) → Tally w
+    → (w.start ≡ 0) × Accounts (seen_view w)
+committed_accounts v z w all more none taken given t =
+    let start : w.start ≡ 0 = ap (λ (x : Vw). x.start) given ∙ (ap (λ (x : Vw). x.start) taken ∙ none) in
+    (start, accounts_of w start t)
+
+left_not_whole : (s : Share) → IsWhole (half false s) → ⊥
+left_not_whole s all =
+    let point : ℕ → Bool = λ _. true in
+    let other = half_has true s point (half_in false s point (all point)) in
+    halves_apart s other.0 (all other.0) other.1
+
+right_not_whole : (s : Share) → IsWhole (half true s) → ⊥
+right_not_whole s all =
+    let point : ℕ → Bool = λ _. true in
+    let other = half_has false s point (half_in true s point (all point)) in
+    halves_apart s other.0 other.1 (all other.0)
+
+-- a seat that was split, and the one that was split from it: neither is alone
+pub halved_accounts : (v w : Vw) → w ≡ halved v → Accounts (seen_view v) → Accounts (seen_view w)
+halved_accounts v w same a = subst (λ (z : Vw). Accounts (seen_view z)) (sym same) record {
+  within = a.within;
+  all = λ alone. absurd (left_not_whole v.share alone);
+}
+
+pub newcomer_accounts : (v w : Vw) → w ≡ newcomer v → Accounts (seen_view w)
+newcomer_accounts v w same = subst (λ (z : Vw). Accounts (seen_view z)) (sym same) record {
+  within = λ k d lt. absurd (omega arith);
+  all = λ alone. absurd (right_not_whole v.share alone);
+}

@@ -9,7 +9,7 @@ use Rattle.nook_defs.specs.declared.data.PartSpec.{PartSpec}
 use Rattle.nook_defs.specs.declared.data.Receipt.{Receipt}
 use Rattle.nook_defs.specs.declared.data.ThreadSpec.{ThreadSpec}
 use Rattle.nook_defs.specs.State.{PartState}
-use Rattle.desk_like.specs.Desks.{DeskView, IsAt, IsRisingFrom, new_view}
+use Rattle.desk_like.specs.Desks.{DeskView, IsAt, IsRisingFrom}
 use Rattle.std.specs.List.{AllByRecursion}
 use Rattle.std.proofs.lemmas.List.Elements.{All-append, All-nil, All-weaker}
 use Rattle.nook_defs.specs.declared.data.Event.{Event}
@@ -23,15 +23,19 @@ use Rattle.app_threads.specs.declared.work.Work.{Work}
 use Rattle.app_threads.specs.declared.work.Work.TheVariants as work
 use Rattle.app_threads.specs.declared.work.Worker.{Worker}
 use Rattle.app_threads.specs.declared.work.Done.{Done}
-use Rattle.app_threads.specs.Ends.{AreFinished, HasArrived, HasRow, IsPartRefused, IsThreadRefused, WorkersEnd}
+use Rattle.app_threads.specs.Ends.{AreFinished, AtMost, HasArrived, HasRow, IsPartRefused, IsThreadRefused, WorkersEnd}
 use Rattle.app_threads.specs.Hired.{Each, IsDone, IsHired, IsReady, RowsEnd}
-use Rattle.app_threads.specs.Steps.{Same, TakeAllIn, TakesIn, TakesInOne}
-use Rattle.app_threads.specs.Workers.{AreReceipts, AreRising, AreRuns, AreSeats, ArriveCause, AtDesks, CallCause, Does, Gains, Grew, GrewBy, IsAnsweredIn, IsBy, IsNoInvoke, IsNotOwn, IsOpenFor, IsRefusedAt, KnowsOpen, MadeBy, invokes_at, invokes_of, invokes_of_all}
+use Rattle.app_threads.specs.Steps.{Same, Spread, TakeAllIn, TakesIn, TakesInOne}
+use Rattle.app_threads.specs.Workers.{AreReceipts, AreRising, AreRuns, AreSeats, ArriveCause, AtDesks, CallCause, Does, Gains, GainsAtMost, GrewBy, IsAnsweredIn, IsBy, IsNoInvoke, IsNotOwn, IsOpenFor, IsRefusedAt, KeepAccounts, KeepShares, KeepsAccounts, KnowsOpen, MadeBy, StayAlone, count_on, invokes_at, invokes_of, invokes_of_all}
 use Rattle.app_threads.specs.Works.{IsWork, WorkEnds, all_works, arrival_works, frames_for, ops_for, ops_of, script_works, thread_of}
-use Rattle.app_threads.proofs.Grown.{at_grows, frames_grow, gains_more, gains_none, grew_more, joins_gains, joins_grew, rising_filter, grows_none}
+use Rattle.app_threads.proofs.Counted.{Counts, at_most_weaker, counts_more, counts_none, counts_same, gains_at_most, invokes_few, joins_counts, only_of}
+use Rattle.app_threads.proofs.Grown.{at_grows, frames_grow, gains_more, gains_none, joins_gains, rising_filter}
 use Rattle.app_threads.proofs.Listed.{get_map, get_append, if_same, map_get, prefix_refl, prefix_trans, same_at, same_or_other, some_at, take_get}
-use Rattle.app_threads.proofs.Scripts.{SeesMore, all_by_grow, at_desks_more, at_desks_refl, at_desks_weaker, is_at_weaker, receipts_grow}
-use Rattle.app_threads.proofs.WorkPlaces.{arrivals_are, arrivals_before, arrivals_behind, arrivals_there, behind_scripts, frames_are, invokes_are, script_is, script_there, works_frames, works_invokes, works_long}
+use Rattle.app_threads.proofs.Points.{all_back_alone, spread_done}
+use Rattle.app_threads.proofs.Scripts.{SeesMore, all_by_grow, at_desks_both, at_desks_more, at_desks_refl, at_desks_weaker, is_at_weaker, receipts_grow}
+use Rattle.app_threads.proofs.Splitting.{accounts_twice}
+use Rattle.app_threads.proofs.Starting.{gains_same, start_same, start_view, work_same}
+use Rattle.app_threads.proofs.WorkPlaces.{calls_are, calls_by, calls_by_are, calls_in, arrivals_are, arrivals_before, arrivals_behind, arrivals_there, behind_scripts, frames_are, invokes_are, script_is, script_there, works_frames, works_invokes, works_long}
 
 -- ---- seats that were taken in
 
@@ -45,6 +49,11 @@ takes_each R specs olds others news f t = (
       let o = some_at others d (let n = t.0 in omega arith) in
       f d s.0 v o.0 w s.1 o.1 (t.3 d s.0 v o.0 w s.1 i o.1 j),
 )
+
+-- seats that took others in have their accounts
+pub accounts_joined : (specs : List PartSpec) (olds mids others news : List DeskView) → KeepAccounts olds mids → TakesIn specs mids others news → KeepAccounts olds news
+accounts_joined specs olds mids others news h t =
+    accounts_twice olds mids news h (takes_each (λ d v w. KeepsAccounts v w) specs mids others news (λ d spec v o w a b k. record { still = λ a. k.2 }) t)
 
 take_sees : (specs : List PartSpec) (olds others news : List DeskView) → TakesIn specs olds others news → AtDesks SeesMore olds news
 take_sees specs olds others news t = takes_each SeesMore specs olds others news (λ d spec v o w a b k. k.0.seen) t
@@ -112,17 +121,25 @@ module _ (specs : List PartSpec) (scripts : List ThreadSpec) (arrivals : List (L
   ended_length (x ∷ works) (o ∷ others) [] h = absurd h
   ended_length (x ∷ works) (o ∷ others) (y ∷ ends) h = let r = ended_length works others ends h.1 in (ap suc r.0, ap suc r.1)
 
-  work_grew : (k : Work) (o : List DeskView) (e : Result (List Receipt) WorkerStop) → WorkEnds specs scripts arrivals starts k o e → AtDesks (λ d v w. Grew v w) starts o
+  abbrev WorkGrew : Work → ℕ → DeskView → DeskView → Type 0
+  WorkGrew k d v w = GrewBy (thread_of k) (count_on d (ops_for scripts k)) (length (frames_for d arrivals k)) v w
+
+  -- a worker gained at most what its work is
+  work_grew : (k : Work) (o : List DeskView) (e : Result (List Receipt) WorkerStop) → WorkEnds specs scripts arrivals starts k o e
+      → AtDesks (λ d v w. GainsAtMost v w (count_on d (ops_for scripts k)) (length (frames_for d arrivals k))) starts o
   work_grew k o (Ok row) h =
-      at_desks_weaker (λ d v w. Does v w (invokes_of d (ops_for scripts k) row) (frames_for d arrivals k)) (λ d v w. Grew v w) starts o (λ d v w x. (x.gains.places, x.gains.grows)) h.1
-  work_grew k o (Err (stop.Refused thread place part refusal)) h = at_desks_weaker (λ d v w. GrewBy (thread_of k) v w) (λ d v w. Grew v w) starts o (λ d v w x. x.0) h.0
-  work_grew k o (Err stop.NoMemory) h = at_desks_weaker (λ d v w. GrewBy (thread_of k) v w) (λ d v w. Grew v w) starts o (λ d v w x. x.0) h
+      at_desks_weaker (λ d v w. Does v w (invokes_of d (ops_for scripts k) row) (frames_for d arrivals k)) (λ d v w. GainsAtMost v w (count_on d (ops_for scripts k)) (length (frames_for d arrivals k))) starts o
+      (λ d v w x.
+      at_most_weaker v w (length (invokes_of d (ops_for scripts k) row)) (count_on d (ops_for scripts k)) (length (frames_for d arrivals k)) (length (frames_for d arrivals k)) (invokes_few d (ops_for scripts k) row) (omega arith)
+      (gains_at_most v w (invokes_of d (ops_for scripts k) row) (frames_for d arrivals k) x.gains)) h.1
+  work_grew k o (Err (stop.Refused thread place part refusal)) h = at_desks_weaker (WorkGrew k) (λ d v w. GainsAtMost v w (count_on d (ops_for scripts k)) (length (frames_for d arrivals k))) starts o (λ d v w x. x.0) h.0
+  work_grew k o (Err stop.NoMemory) h = at_desks_weaker (WorkGrew k) (λ d v w. GainsAtMost v w (count_on d (ops_for scripts k)) (length (frames_for d arrivals k))) starts o (λ d v w x. x.0) h
 
   -- whatever a worker answers, what it invoked was invoked by its thread
   pub work_made : (k : Work) (o : List DeskView) (e : Result (List Receipt) WorkerStop) → WorkEnds specs scripts arrivals starts k o e → AtDesks (λ d v w. MadeBy (thread_of k) v w) starts o
   work_made k o (Ok row) h = h.2
-  work_made k o (Err (stop.Refused thread place part refusal)) h = at_desks_weaker (λ d v w. GrewBy (thread_of k) v w) (λ d v w. MadeBy (thread_of k) v w) starts o (λ d v w x. x.1) h.0
-  work_made k o (Err stop.NoMemory) h = at_desks_weaker (λ d v w. GrewBy (thread_of k) v w) (λ d v w. MadeBy (thread_of k) v w) starts o (λ d v w x. x.1) h
+  work_made k o (Err (stop.Refused thread place part refusal)) h = at_desks_weaker (WorkGrew k) (λ d v w. MadeBy (thread_of k) v w) starts o (λ d v w x. x.1) h.0
+  work_made k o (Err stop.NoMemory) h = at_desks_weaker (WorkGrew k) (λ d v w. MadeBy (thread_of k) v w) starts o (λ d v w x. x.1) h
 
   module _ (none : (d : ℕ) (s : DeskView) → slice_get starts d ≡ Some s → s.made ≡ []) where
     -- what was done at a worker's seat comes to the seat that takes it in
@@ -136,16 +153,26 @@ module _ (specs : List PartSpec) (scripts : List ThreadSpec) (arrivals : List (L
         f d s.0 o v w (none d s.0 s.1) spec k (h.1 d s.0 o s.1 b))
         t
 
-    pub all_grew : (works : List Work) (others : List (List DeskView)) (ends : List (Result (List Receipt) WorkerStop)) (olds news : List DeskView) → AllEnded works others ends → TakeAllIn specs olds others news → AtDesks (λ d v w. Grew v w) olds news
-    all_grew [] [] [] olds news h t = subst (λ (l : List DeskView). AtDesks (λ d v w. Grew v w) olds l) (sym t) (at_desks_refl (λ d v w. Grew v w) olds (λ d v. ([], grows_none v)))
-    all_grew [] [] (x ∷ ends) olds news h t = absurd h
-    all_grew [] (o ∷ others) ends olds news h t = absurd h
-    all_grew (x ∷ works) [] ends olds news h t = absurd h
-    all_grew (x ∷ works) (o ∷ others) [] olds news h t = absurd h
-    all_grew (x ∷ works) (o ∷ others) (y ∷ ends) olds news h t =
-        at_desks_more (λ d v w. Grew v w) (λ d v w. Grew v w) (λ d v w. Grew v w) olds t.0 news (λ d u v w a b. grew_more u v w a b)
-        (take_with (λ d v w. Grew v w) (λ d v w. Grew v w) olds o t.0 (λ d s p v w m spec k g. joins_grew s p v w m k.0 g) (work_grew x o y h.0) t.1)
-        (all_grew works others ends t.0 news h.1 t.2)
+    pub all_count : (works : List Work) (others : List (List DeskView)) (ends : List (Result (List Receipt) WorkerStop)) (olds news : List DeskView) → AllEnded works others ends → TakeAllIn specs olds others news
+        → AtDesks (λ d v w. Counts v w (calls_by d scripts works) (calls_in d scripts works) (length (works_frames d arrivals works))) olds news
+    all_count [] [] [] olds news h t =
+        subst (λ (l : List DeskView). AtDesks (λ d v w. Counts v w (λ t. 0) 0 0) olds l) (sym t) (at_desks_refl (λ d v w. Counts v w (λ t. 0) 0 0) olds (λ d v. counts_none v))
+    all_count [] [] (x ∷ ends) olds news h t = absurd h
+    all_count [] (o ∷ others) ends olds news h t = absurd h
+    all_count (x ∷ works) [] ends olds news h t = absurd h
+    all_count (x ∷ works) (o ∷ others) [] olds news h t = absurd h
+    all_count (x ∷ works) (o ∷ others) (y ∷ ends) olds news h t =
+        let P : ℕ → DeskView → DeskView → Type 0 = λ d v w. Counts v w (only_of (thread_of x) (count_on d (ops_for scripts x))) (count_on d (ops_for scripts x)) (length (frames_for d arrivals x)) in
+        let Q : ℕ → DeskView → DeskView → Type 0 = λ d v w. Counts v w (calls_by d scripts works) (calls_in d scripts works) (length (works_frames d arrivals works)) in
+        let grew = work_grew x o y h.0 in
+        let made = work_made x o y h.0 in
+        at_desks_more P Q (λ d v w. Counts v w (calls_by d scripts (x ∷ works)) (calls_in d scripts (x ∷ works)) (length (works_frames d arrivals (x ∷ works)))) olds t.0 news
+        (λ d u v w a b.
+        subst (λ n. Counts u w (calls_by d scripts (x ∷ works)) (calls_in d scripts (x ∷ works)) n) (sym (length-append (frames_for d arrivals x) (works_frames d arrivals works)))
+        (counts_more u v w (only_of (thread_of x) (count_on d (ops_for scripts x))) (calls_by d scripts works) (count_on d (ops_for scripts x)) (calls_in d scripts works) (length (frames_for d arrivals x)) (length (works_frames d arrivals works)) a b))
+        (take_with (λ d v w. GainsAtMost v w (count_on d (ops_for scripts x)) (length (frames_for d arrivals x)) × MadeBy (thread_of x) v w) P olds o t.0
+        (λ d s p v w m spec k g. joins_counts s p v w (thread_of x) (count_on d (ops_for scripts x)) (length (frames_for d arrivals x)) m k.0 g.0 (g.1 m)) (at_desks_both _ _ starts o grew made) t.1)
+        (all_count works others ends t.0 news h.1 t.2)
 
     pub all_gain : (works : List Work) (others : List (List DeskView)) (rows : List (List Receipt)) (olds news : List DeskView) → AllEnded works others (map (λ row. Ok row) rows) → TakeAllIn specs olds others news
         → AtDesks (λ d v w. Gains v w (works_invokes d scripts works rows) (works_frames d arrivals works)) olds news
@@ -209,7 +236,7 @@ not_other call thread other (event.Arrive frame kept) n law h = tt
 pub all_ended : {D S : Type 0} (is_seat : D → S → Type 0) (spec : D → PartSpec) (view : S → DeskView) (desks : List D) (scripts : List ThreadSpec) (arrivals : List (List (List ℕ))) (olds : List DeskView)
     (works : List Work) (workers : List (Worker S)) (dones : List (Done S))
     → Each (IsHired is_seat spec view desks olds) works workers → Each (IsDone is_seat spec view desks scripts arrivals) workers dones
-    → AllEnded (map spec desks) scripts arrivals (map new_view olds) works (map (λ d. map view d.seats.items) dones) (map (λ d. d.end) dones)
+    → AllEnded (map spec desks) scripts arrivals (map start_view olds) works (map (λ d. map view d.seats.items) dones) (map (λ d. d.end) dones)
 all_ended is_seat spec view desks scripts arrivals olds [] [] [] h k = tt
 all_ended is_seat spec view desks scripts arrivals olds [] [] (d ∷ dones) h k = absurd (let n = k.0 in omega arith)
 all_ended is_seat spec view desks scripts arrivals olds [] (w ∷ workers) dones h k = absurd (let n = h.0 in omega arith)
@@ -218,7 +245,7 @@ all_ended is_seat spec view desks scripts arrivals olds (x ∷ works) (w ∷ wor
 all_ended is_seat spec view desks scripts arrivals olds (x ∷ works) (w ∷ workers) (d ∷ dones) h k =
     let hired = h.1 0 x w refl refl in
     let done = k.1 0 w d refl refl in (
-      subst (λ (l : List DeskView). WorkEnds (map spec desks) scripts arrivals l x (map view d.seats.items) d.end) hired.views
+      work_same (map spec desks) scripts arrivals (map start_view olds) (map view w.seats.items) (map view d.seats.items) x d.end (start_same olds (map view w.seats.items) hired.starts)
           (subst (λ z. WorkEnds (map spec desks) scripts arrivals (map view w.seats.items) z (map view d.seats.items) d.end) hired.is done.ends),
       all_ended is_seat spec view desks scripts arrivals olds works workers dones
           (let n = h.0 in omega arith, λ i a b p q. h.1 (suc i) a b p q) (let n = k.0 in omega arith, λ i a b p q. k.1 (suc i) a b p q),
@@ -226,30 +253,8 @@ all_ended is_seat spec view desks scripts arrivals olds (x ∷ works) (w ∷ wor
 
 -- ---- how all end
 
-gains_same : (v u w : DeskView) (is : List ℕ) (fs : List (List ℕ)) → Same 0 v u → Gains u w is fs → Gains v w is fs
-gains_same v u w is fs s g = record {
-  places = g.places;
-  grows = record {
-    seen = subst (λ seen. IsPrefix seen w.seen) s.0 g.grows.seen;
-    made = g.grows.made ∙ ap (λ (m : List ℕ). m ++ g.places) s.1;
-    there = g.grows.there;
-  };
-  invoked = g.invoked;
-  arrived = g.arrived;
-}
-
-grew_same : (v u w : DeskView) → Same 0 v u → Grew u w → Grew v w
-grew_same v u w s g = (
-  g.0,
-  record {
-    seen = subst (λ seen. IsPrefix seen w.seen) s.0 g.1.seen;
-    made = g.1.made ∙ ap (λ (m : List ℕ). m ++ g.0) s.1;
-    there = g.1.there;
-  },
-)
-
-new_at : (olds : List DeskView) (d : ℕ) (s : DeskView) → slice_get (map new_view olds) d ≡ Some s → (v : DeskView) × (slice_get olds d ≡ Some v) × (s ≡ new_view v)
-new_at olds d s h = map_get new_view olds d s h
+new_at : (olds : List DeskView) (d : ℕ) (s : DeskView) → slice_get (map start_view olds) d ≡ Some s → (v : DeskView) × (slice_get olds d ≡ Some v) × (s ≡ start_view v)
+new_at olds d s h = map_get start_view olds d s h
 
 list_there : (lists : List (List (List ℕ))) (d : ℕ) (f : List ℕ) (fs : List (List ℕ)) → slice_index_or lists d [] ≡ f ∷ fs → slice_get lists d ≡ Some (f ∷ fs)
 list_there [] d f fs h = absurd cc
@@ -257,24 +262,24 @@ list_there (list ∷ lists) zero f fs h = ap (λ x. Some x) h
 list_there (list ∷ lists) (suc d) f fs h = list_there lists d f fs h
 
 module _ (specs : List PartSpec) (scripts : List ThreadSpec) (arrivals : List (List (List ℕ))) (olds mids news : List DeskView) (others : List (List DeskView)) (ends : List (Result (List Receipt) WorkerStop))
-    (same : AtDesks Same olds mids) (taken : TakeAllIn specs mids others news)
-    (ended : AllEnded specs scripts arrivals (map new_view olds) (all_works scripts arrivals) others ends) where
-  no_made : (d : ℕ) (s : DeskView) → slice_get (map new_view olds) d ≡ Some s → s.made ≡ []
+    (same : AtDesks Same olds mids) (spread : Spread olds mids others) (taken : TakeAllIn specs mids others news)
+    (ended : AllEnded specs scripts arrivals (map start_view olds) (all_works scripts arrivals) others ends) where
+  no_made : (d : ℕ) (s : DeskView) → slice_get (map start_view olds) d ≡ Some s → s.made ≡ []
   no_made d s h = ap (λ (v : DeskView). v.made) (new_at olds d s h).2
 
   -- a row that a thread's worker made
   row_there : (t : ℕ) (s : ThreadSpec) (row : List Receipt) → slice_get scripts t ≡ Some s → slice_get ends t ≡ Some (Ok row) → AreReceipts news t s.ops row × AreRising olds s.ops row
   row_there t s row a b =
-      let e = ended_at specs scripts arrivals (map new_view olds) (all_works scripts arrivals) others ends t (work.Script t) (Ok row) ended (script_there scripts (arrival_works 0 arrivals) t s a) b in
+      let e = ended_at specs scripts arrivals (map start_view olds) (all_works scripts arrivals) others ends t (work.Script t) (Ok row) ended (script_there scripts (arrival_works 0 arrivals) t s a) b in
       let sees = worker_sees specs mids others news t e.0 taken e.1 in
       let ops : ops_of (slice_get scripts t) ≡ s.ops = ap ops_of a in (
         subst (λ o. AreReceipts news t o row) ops (receipts_grow e.0 news t (ops_of (slice_get scripts t)) row sees e.2.0),
         λ d v k.
             let l = slice_get_within olds d v k in
             let does = e.2.1 in
-            let n : length e.0 ≡ length olds = does.0 ∙ length-map olds new_view in
+            let n : length e.0 ≡ length olds = does.0 ∙ length-map olds start_view in
             let w = some_at e.0 d (omega arith) in
-            let g = does.1 d (new_view v) w.0 (get_map new_view olds d v k) w.1 in
+            let g = does.1 d (start_view v) w.0 (get_map start_view olds d v k) w.1 in
             let rising : IsRisingFrom (length v.seen) (invokes_at w.0.seen g.gains.places) = rising_filter _ (length v.seen) g.gains.places g.rising in
             subst (λ o. IsRisingFrom (length v.seen) (invokes_of d o row)) ops (subst (IsRisingFrom (length v.seen)) g.gains.invoked rising),
       )
@@ -283,13 +288,13 @@ module _ (specs : List PartSpec) (scripts : List ThreadSpec) (arrivals : List (L
   arrived_there : (p i : ℕ) (row : List Receipt) (v w : DeskView) → slice_get (all_works scripts arrivals) i ≡ Some (work.Arrivals p) → slice_get ends i ≡ Some (Ok row) → slice_get olds p ≡ Some v → slice_get news p ≡ Some w
       → HasArrived v w (slice_index_or arrivals p [])
   arrived_there p i row v w a b k j =
-      let e = ended_at specs scripts arrivals (map new_view olds) (all_works scripts arrivals) others ends i (work.Arrivals p) (Ok row) ended a b in
+      let e = ended_at specs scripts arrivals (map start_view olds) (all_works scripts arrivals) others ends i (work.Arrivals p) (Ok row) ended a b in
       let sees = worker_sees specs mids others news i e.0 taken e.1 in
       let l = slice_get_within olds p v k in
       let does = e.2.1 in
-      let n : length e.0 ≡ length olds = does.0 ∙ length-map olds new_view in
+      let n : length e.0 ≡ length olds = does.0 ∙ length-map olds start_view in
       let o = some_at e.0 p (omega arith) in
-      let g = does.1 p (new_view v) o.0 (get_map new_view olds p v k) o.1 in
+      let g = does.1 p (start_view v) o.0 (get_map start_view olds p v k) o.1 in
       record {
         places = g.gains.places;
         rising = g.rising;
@@ -311,9 +316,9 @@ module _ (specs : List PartSpec) (scripts : List ThreadSpec) (arrivals : List (L
 
   pub all_finished : (rows : List (List Receipt)) → ends ≡ map (λ row. Ok row) rows → AreFinished specs scripts arrivals olds news (take (length scripts) rows)
   all_finished rows is =
-      let lengths = ended_length specs scripts arrivals (map new_view olds) (all_works scripts arrivals) others ends ended in
+      let lengths = ended_length specs scripts arrivals (map start_view olds) (all_works scripts arrivals) others ends ended in
       let count : length rows ≡ length (all_works scripts arrivals) = sym (lengths.0 ∙ (ap length is ∙ length-map rows (λ row. Ok row))) in
-      let gains = all_gain specs scripts arrivals (map new_view olds) no_made (all_works scripts arrivals) others rows mids news (subst (AllEnded specs scripts arrivals (map new_view olds) (all_works scripts arrivals) others) is ended) taken in
+      let gains = all_gain specs scripts arrivals (map start_view olds) no_made (all_works scripts arrivals) others rows mids news (subst (AllEnded specs scripts arrivals (map start_view olds) (all_works scripts arrivals) others) is ended) taken in
       let at_row : (t : ℕ) (row : List Receipt) → slice_get (take (length scripts) rows) t ≡ Some row → slice_get ends t ≡ Some (Ok row) =
       λ t row h. ap (λ (l : List (Result (List Receipt) WorkerStop)). slice_get l t) is ∙ get_map (λ r. Ok r) rows t row (take_get rows t (length scripts) row h) in
       record {
@@ -333,18 +338,28 @@ module _ (specs : List PartSpec) (scripts : List ThreadSpec) (arrivals : List (L
         );
       }
 
-  pub all_grown : AtDesks (λ d v w. Grew v w) olds news
+  pub all_grown : AtDesks (λ d v w. AtMost scripts (slice_index_or arrivals d []) d v w) olds news
   all_grown =
-      at_desks_more Same (λ d v w. Grew v w) (λ d v w. Grew v w) olds mids news (λ d v u w s g. grew_same v u w s g) same
-      (all_grew specs scripts arrivals (map new_view olds) no_made (all_works scripts arrivals) others ends mids news ended taken)
+      at_desks_more Same (λ d v w. Counts v w (calls_by d scripts (all_works scripts arrivals)) (calls_in d scripts (all_works scripts arrivals)) (length (works_frames d arrivals (all_works scripts arrivals))))
+      (λ d v w. AtMost scripts (slice_index_or arrivals d []) d v w) olds mids news
+      (λ d v u w s c.
+      let k = counts_same v u w (calls_by d scripts (all_works scripts arrivals)) (calls_in d scripts (all_works scripts arrivals)) (length (works_frames d arrivals (all_works scripts arrivals))) s c in
+      record {
+        places = k.places;
+        grows = k.grows;
+        invoked = λ t. let few = k.invoked t in omega (arith, calls_by_are t d scripts arrivals);
+        invoked_in_all = let few = k.invoked_in_all in omega (arith, calls_are d scripts arrivals);
+        arrived = let few = k.arrived in omega (arith, ap length (frames_are d scripts arrivals));
+      })
+      same (all_count specs scripts arrivals (map start_view olds) no_made (all_works scripts arrivals) others ends mids news ended taken)
 
   pub all_seen_runs : 0 < length (all_works scripts arrivals) → AreRuns specs news
   all_seen_runs l =
-      let lengths = ended_length specs scripts arrivals (map new_view olds) (all_works scripts arrivals) others ends ended in
+      let lengths = ended_length specs scripts arrivals (map start_view olds) (all_works scripts arrivals) others ends ended in
       all_runs specs mids others news taken (let a = lengths.0 in let b = lengths.1 in omega arith)
 
   -- a cause that a worker met
-  cause_there : (part : ℕ) (o : List DeskView) (Cause : PartState → Type 0) → AtDesks SeesMore o news → IsRefusedAt specs (map new_view olds) o part Cause → IsRefusedAt specs olds news part Cause
+  cause_there : (part : ℕ) (o : List DeskView) (Cause : PartState → Type 0) → AtDesks SeesMore o news → IsRefusedAt specs (map start_view olds) o part Cause → IsRefusedAt specs olds news part Cause
   cause_there part o Cause sees r =
       let v = new_at olds part r.old r.old_there in
       let l = slice_get_within o part r.new r.new_there in
@@ -388,7 +403,7 @@ module _ (specs : List PartSpec) (scripts : List ThreadSpec) (arrivals : List (L
     other_thread t i (work.Arrivals p) there n e l same_thread = absurd (omega arith)
 
     -- no worker invoked an open call: the refused one's were answered, and the others' are of other threads
-    none_invoked : (t call : ℕ) (o : List DeskView) (w : DeskView) (f : IsOpenFor specs (map new_view olds) o t part call) → slice_get others (length rows) ≡ Some o → t ≡ length rows → t < 16 → slice_get news part ≡ Some w
+    none_invoked : (t call : ℕ) (o : List DeskView) (w : DeskView) (f : IsOpenFor specs (map start_view olds) o t part call) → slice_get others (length rows) ≡ Some o → t ≡ length rows → t < 16 → slice_get news part ≡ Some w
         → AllByRecursion (λ e. answer_at call e ≡ None) f.new.seen → AllByRecursion (InvokesBy call t) w.seen
         → (i : ℕ) (p : List DeskView) (x : DeskView) → slice_get others i ≡ Some p → slice_get p part ≡ Some x → All (λ place. IsAt x.seen place (IsNoInvoke call)) x.made
     none_invoked t call o w f here e l there answers invokes i p x a b = by_place (same_or_other i (length rows))
@@ -401,13 +416,13 @@ module _ (specs : List PartSpec) (scripts : List ThreadSpec) (arrivals : List (L
             (All-weaker (λ place. IsAt f.new.seen place (IsAnsweredIn f.new.seen)) (λ place. IsAt f.new.seen place (IsNoInvoke call))
             (λ place k. is_at_weaker f.new.seen place (IsAnsweredIn f.new.seen) (IsNoInvoke call) (λ e m. not_answered call f.new.seen e answers m) k) f.new.made (f.answered (no_made part f.old f.old_there)))
         by_place (inr n) =
-            let lengths = ended_length specs scripts arrivals (map new_view olds) (all_works scripts arrivals) others ends ended in
+            let lengths = ended_length specs scripts arrivals (map start_view olds) (all_works scripts arrivals) others ends ended in
             let m = slice_get_within others i p a in
             let k = some_at (all_works scripts arrivals) i (let g = lengths.0 in let h = lengths.1 in omega arith) in
             let end = some_at ends i (let h = lengths.1 in omega arith) in
-            let r = ended_at specs scripts arrivals (map new_view olds) (all_works scripts arrivals) others ends i k.0 end.0 ended k.1 end.1 in
+            let r = ended_at specs scripts arrivals (map start_view olds) (all_works scripts arrivals) others ends i k.0 end.0 ended k.1 end.1 in
             let r_is : r.0 ≡ p = same_at others i r.0 p r.1 a in
-            let made = (work_made specs scripts arrivals (map new_view olds) k.0 r.0 end.0 r.2).1 part f.old x f.old_there (subst (λ (l : List DeskView). slice_get l part ≡ Some x) (sym r_is) b) (no_made part f.old f.old_there) in
+            let made = (work_made specs scripts arrivals (map start_view olds) k.0 r.0 end.0 r.2).1 part f.old x f.old_there (subst (λ (l : List DeskView). slice_get l part ≡ Some x) (sym r_is) b) (no_made part f.old f.old_there) in
             let sees = (worker_sees specs mids others news i p taken a).1 part x w b there in
             All-weaker (λ place. IsAt x.seen place (IsBy (thread_of k.0))) (λ place. IsAt x.seen place (IsNoInvoke call))
             (λ place q. record {
@@ -417,7 +432,7 @@ module _ (specs : List PartSpec) (scripts : List ThreadSpec) (arrivals : List (L
             }) x.made made
 
     foreign_call : (t : ℕ) (o : List DeskView) (call : ℕ) (v w : DeskView) → slice_get (all_works scripts arrivals) (length rows) ≡ Some (work.Script t) → slice_get others (length rows) ≡ Some o → AtDesks SeesMore o news → t ≡ length rows → t < 16
-        → IsOpenFor specs (map new_view olds) o t part call → slice_get olds part ≡ Some v → slice_get news part ≡ Some w → IsNotOwn call v w
+        → IsOpenFor specs (map start_view olds) o t part call → slice_get olds part ≡ Some v → slice_get news part ≡ Some w → IsNotOwn call v w
     foreign_call t o call v w there here sees e l f a b =
         let u = some_at mids part (let m = slice_get_within olds part v a in let n = same.0 in omega arith) in
         let k = same.1 part v u.0 a u.1 in
@@ -427,7 +442,7 @@ module _ (specs : List PartSpec) (scripts : List ThreadSpec) (arrivals : List (L
         (not.0, not.1 ∙ ap (λ (m : List ℕ). m ++ not.0) k.1, not.2)
 
     thread_refused : (t : ℕ) (o : List DeskView) → slice_get (all_works scripts arrivals) (length rows) ≡ Some (work.Script t) → slice_get others (length rows) ≡ Some o → AtDesks SeesMore o news
-        → WorkEnds specs scripts arrivals (map new_view olds) (work.Script t) o (Err (stop.Refused thread place part refusal)) → IsThreadRefused specs scripts arrivals olds news thread place part refusal
+        → WorkEnds specs scripts arrivals (map start_view olds) (work.Script t) o (Err (stop.Refused thread place part refusal)) → IsThreadRefused specs scripts arrivals olds news thread place part refusal
     thread_refused t o there here sees h =
         let at = script_is scripts arrivals (length rows) t there in
         let t_is : t ≡ thread = sym h.1 in
@@ -443,12 +458,12 @@ module _ (specs : List PartSpec) (scripts : List ThreadSpec) (arrivals : List (L
             operation = subst (λ l. slice_get l place ≡ Some (part, r.op)) ops r.operation;
             cause = subst (λ k. IsRefusedAt specs olds news part (CallCause k refusal)) t_is (cause_there part o (CallCause t refusal) sees r.cause);
           };
-          foreign = λ call v w e a b. foreign_call t o call v w there here sees at.0 (let l = slice_get_within scripts (length rows) at.1.0 at.1.1 in let q = at.0 in omega (arith, small)) (subst (λ x. KnowsOpen specs (map new_view olds) o t part x) e h.2.1) a b;
+          foreign = λ call v w e a b. foreign_call t o call v w there here sees at.0 (let l = slice_get_within scripts (length rows) at.1.0 at.1.1 in let q = at.0 in omega (arith, small)) (subst (λ x. KnowsOpen specs (map start_view olds) o t part x) e h.2.1) a b;
           sooner = λ k s l a. has_row k s (omega arith) a;
         }
 
     part_refused : (p : ℕ) (o : List DeskView) → slice_get (all_works scripts arrivals) (length rows) ≡ Some (work.Arrivals p) → AtDesks SeesMore o news
-        → WorkEnds specs scripts arrivals (map new_view olds) (work.Arrivals p) o (Err (stop.Refused thread place part refusal)) → IsPartRefused specs scripts arrivals olds news thread place part refusal
+        → WorkEnds specs scripts arrivals (map start_view olds) (work.Arrivals p) o (Err (stop.Refused thread place part refusal)) → IsPartRefused specs scripts arrivals olds news thread place part refusal
     part_refused p o there sees h =
         let at = arrivals_behind 0 scripts (arrival_works 0 arrivals) (length rows) p there in
         let list = arrivals_are 0 arrivals at.0 p at.2 in
@@ -484,22 +499,38 @@ module _ (specs : List PartSpec) (scripts : List ThreadSpec) (arrivals : List (L
 
     pub all_refused : IsThreadRefused specs scripts arrivals olds news thread place part refusal ⊎ IsPartRefused specs scripts arrivals olds news thread place part refusal
     all_refused =
-        let lengths = ended_length specs scripts arrivals (map new_view olds) (all_works scripts arrivals) others ends ended in
+        let lengths = ended_length specs scripts arrivals (map start_view olds) (all_works scripts arrivals) others ends ended in
         let l = slice_get_within ends (length rows) _ stop_there in
         let k = some_at (all_works scripts arrivals) (length rows) (let n = lengths.0 in omega arith) in
-        let e = ended_at specs scripts arrivals (map new_view olds) (all_works scripts arrivals) others ends (length rows) k.0 (Err (stop.Refused thread place part refusal)) ended k.1 stop_there in
+        let e = ended_at specs scripts arrivals (map start_view olds) (all_works scripts arrivals) others ends (length rows) k.0 (Err (stop.Refused thread place part refusal)) ended k.1 stop_there in
         by_work k.0 e.0 k.1 e.1 (worker_sees specs mids others news (length rows) e.0 taken e.1) e.2
       where
         by_work : (k : Work) (o : List DeskView) → slice_get (all_works scripts arrivals) (length rows) ≡ Some k → slice_get others (length rows) ≡ Some o → AtDesks SeesMore o news
-            → WorkEnds specs scripts arrivals (map new_view olds) k o (Err (stop.Refused thread place part refusal)) → IsThreadRefused specs scripts arrivals olds news thread place part refusal ⊎ IsPartRefused specs scripts arrivals olds news thread place part refusal
+            → WorkEnds specs scripts arrivals (map start_view olds) k o (Err (stop.Refused thread place part refusal)) → IsThreadRefused specs scripts arrivals olds news thread place part refusal ⊎ IsPartRefused specs scripts arrivals olds news thread place part refusal
         by_work (work.Script t) o there here sees h = inl (thread_refused t o there here sees h)
         by_work (work.Arrivals p) o there here sees h = inr (part_refused p o there sees h)
 
+  pub all_alone : StayAlone olds news
+  all_alone = all_back_alone specs olds mids others news (all_grown.0) spread taken
+
   pub all_stopped : (why : WorkerStop) (small : length scripts ≤ 16) (r : RowsEnd ends (Err why)) → WorkersEnd specs scripts arrivals olds news (Err why)
-  all_stopped (stop.Refused thread place part refusal) small r = (all_grown, all_refused r.0 thread place part refusal r.1 r.2 small, all_seen_runs)
+  all_stopped (stop.Refused thread place part refusal) small r = (all_grown, all_refused r.0 thread place part refusal r.1 r.2 small, all_seen_runs, all_alone)
   all_stopped stop.NoMemory small r = tt
 
 -- ---- what the steps between need
+
+-- the points that were spread over the workers' seats are there when these have done their work
+pub spread_worked : {D S : Type 0} (is_seat : D → S → Type 0) (spec : D → PartSpec) (view : S → DeskView) (desks : List D) (scripts : List ThreadSpec) (arrivals : List (List (List ℕ))) (olds news : List DeskView)
+    (workers : List (Worker S)) (dones : List (Done S)) → Each (IsDone is_seat spec view desks scripts arrivals) workers dones → Spread olds news (map (λ w. map view w.seats.items) workers)
+    → Spread olds news (map (λ d. map view d.seats.items) dones)
+spread_worked {D} {S} is_seat spec view desks scripts arrivals olds news workers dones h s =
+    spread_done olds news (map (λ w. map view w.seats.items) workers) (map (λ d. map view d.seats.items) dones) (
+      length-map dones (λ d. map view d.seats.items) ∙ (h.0 ∙ sym (length-map workers (λ w. map view w.seats.items))),
+      λ i x y a b.
+          let w = map_get (λ (w : Worker S). map view w.seats.items) workers i x a in
+          let d = map_get (λ (d : Done S). map view d.seats.items) dones i y b in
+          subst (KeepShares x) (sym d.2) (subst (λ (l : List DeskView). KeepShares l (map view d.0.seats.items)) (sym w.2) (h.1 i w.0 d.0 w.1 d.1).shares),
+    ) s
 
 pub is_work : (scripts : List ThreadSpec) (arrivals : List (List (List ℕ))) (i : ℕ) (k : Work) → slice_get (all_works scripts arrivals) i ≡ Some k → IsWork scripts arrivals k
 is_work scripts arrivals i (work.Script t) h =

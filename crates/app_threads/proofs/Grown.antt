@@ -11,7 +11,7 @@ use Rattle.nook_defs.specs.declared.data.Op.{Op}
 use Rattle.nook_defs.specs.declared.data.Receipt.{Receipt}
 use Rattle.nook_defs.specs.Places.{at_number}
 use Rattle.desk_like.specs.Desks.{Adds, AddsNothing, AreOthers, DeskView, Invokes, IsArrive, IsAt, IsInvoke, IsOther, IsReceipt, IsRisingFrom, Joins, Answers}
-use Rattle.app_threads.specs.Workers.{Does, Gains, Grew, Grows, frame_of, frames_at, invokes_at, is_invoke}
+use Rattle.app_threads.specs.Workers.{Does, Gains, Grows, frame_of, frames_at, invokes_at, is_invoke}
 use Rattle.app_threads.proofs.Listed.{filter_map_none, filter_map_same, filter_none, filter_same, get_append, prefix_length, prefix_refl, prefix_trans}
 
 -- ---- one place
@@ -237,16 +237,3 @@ joins_gains s o v w is fs none j g = record {
   invoked = invokes_grow o.seen w.seen g.places j.other_seen g.grows.there ∙ g.invoked;
   arrived = frames_grow o.seen w.seen g.places j.other_seen g.grows.there ∙ g.arrived;
 }
-
-pub joins_grew : (s o v w : DeskView) → s.made ≡ [] → Joins v o w → Grew s o → Grew v w
-joins_grew s o v w none j g = (
-  g.0,
-  record {
-    seen = j.seen;
-    made = j.made ∙ ap (λ (m : List ℕ). v.made ++ m) (g.1.made ∙ ap (λ (m : List ℕ). m ++ g.0) none);
-    there = all_there_grow o.seen w.seen g.0 j.other_seen g.1.there;
-  },
-)
-
-pub grew_more : (u v w : DeskView) → Grew u v → Grew v w → Grew u w
-grew_more u v w g h = (g.0 ++ h.0, grows_more u v w g.0 h.0 g.1 h.1)

@@ -1,10 +1,13 @@
 pub mod CallNumbers
+pub mod Counted
 pub mod Ending
 pub mod Grown
 pub mod Listed
 pub mod OpenCalls
+pub mod Points
 pub mod Scripts
 pub mod SeatLists
 pub mod Splitting
+pub mod Starting
 pub mod WorkPlaces
 pub mod Working

@@ -104,6 +104,11 @@ module _ {X : Type 0} where
   pub drop_next : (xs : List X) (i : ℕ) (x : X) → slice_get xs i ≡ Some x → drop i xs ≡ x ∷ drop (i + 1) xs
   drop_next xs i x h = drop_more xs i x (slice_get_within xs i x h) ∙ ap (λ z. z ∷ drop (i + 1) xs) (get_or_from_slice_get xs i x x h)
 
+  pub take_few : (xs : List X) (n : ℕ) → length (take n xs) ≤ length xs
+  take_few xs zero = omega arith
+  take_few [] (suc n) = omega arith
+  take_few (x ∷ xs) (suc n) = let k = take_few xs n in omega arith
+
   -- an item of a beginning is one of the list
   pub take_get : (xs : List X) (i n : ℕ) (x : X) → slice_get (take n xs) i ≡ Some x → slice_get xs i ≡ Some x
   take_get xs i zero x h = absurd cc

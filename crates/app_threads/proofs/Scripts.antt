@@ -1,6 +1,6 @@
 -- A worker's next step, over what it did so far.
-use Rattle.std.proofs.Common.{◌≡◌, ◌⊎◌, ℕ, Bool, true, false, cond, Some, None, List, [], ◌∷◌, ◌++◌, length, get_or, slice_get, subst, sym, refl, ap, ◌∙◌, inl, inr, arith, append-nil, length-set}
-use Rattle.std.specs.Prelude.{All, if◌then◌else◌, ◌==◌, Ok, Err}
+use Rattle.std.proofs.Common.{◌≡◌, ◌⊎◌, ℕ, Bool, true, false, cond, Some, None, List, [], ◌∷◌, ◌++◌, ◌+◌, ◌≤◌, take, length, get_or, slice_get, subst, sym, refl, ap, ◌∙◌, inl, inr, arith, append-nil, length-set}
+use Rattle.std.specs.Prelude.{All, if◌then◌else◌, ◌==◌, Result, Ok, Err}
 use Rattle.std.specs.List.{filter}
 use Rattle.std.proofs.lemmas.List.Elements.{All-append, All-cons, All-nil, All-weaker}
 use mathlib.Core.List.{IsPrefix}
@@ -18,9 +18,10 @@ use Rattle.desk_like.specs.Desks.{AddsNothing, Answers, ArriveEnds, CallEnds, De
 use Rattle.app_threads.specs.Steps.{IsStepAt, NextArrivalEnds, NextCallEnds}
 use Rattle.app_threads.specs.declared.stop.WorkerStop.{WorkerStop}
 use Rattle.app_threads.specs.declared.stop.WorkerStop.TheVariants as stop
-use Rattle.app_threads.specs.Workers.{AreReceipts, ArrivalsEnd, ArriveCause, AtDesks, CallCause, Does, DoesFrames, DoesOps, Grew, GrewBy, IsAnswered, IsAnsweredIn, IsArrivalRefused, IsBy, IsCallRefused, IsReceiptAt, IsRefusedAt, KnowsOpen, MadeBy, Owns, ScriptEnds, invokes_of, is_invoke}
-use Rattle.app_threads.proofs.Grown.{arrives_does, does_more, does_none, event_there, grew_more, invokes_does, is_at_grows, nothing_does, receipt_grows}
-use Rattle.app_threads.proofs.Listed.{get_set_other, get_set_same, if_other, if_same, prefix_refl, prefix_trans, same_at, same_or_other, some_at}
+use Rattle.app_threads.specs.Workers.{AreReceipts, ArrivalsEnd, ArriveCause, AtDesks, CallCause, Does, DoesFrames, DoesOps, GainsAtMost, GrewBy, IsAnswered, IsAnsweredIn, IsArrivalRefused, IsBy, IsCallRefused, IsReceiptAt, IsRefusedAt, KeepShares, KeepsShare, KnowsOpen, MadeBy, Owns, ScriptEnds, count_on, invokes_of, is_invoke}
+use Rattle.app_threads.proofs.Grown.{arrives_does, does_more, does_none, event_there, invokes_does, is_at_grows, receipt_grows}
+use Rattle.app_threads.proofs.Counted.{at_most_more, at_most_weaker, count_next, count_take, gains_at_most, invokes_at_most, invokes_few, nothing_at_most}
+use Rattle.app_threads.proofs.Listed.{get_set_other, get_set_same, if_other, if_same, prefix_refl, prefix_trans, same_at, same_or_other, some_at, take_next}
 use Rattle.std.proofs.lemmas.Option.{slice_get_within}
 
 -- ---- each desk
@@ -202,7 +203,7 @@ frames_made_by thread v w fs h none =
     record { event = e.0; there = e.1; is = not_invoke_by thread e.0 (ap is_invoke (sym e.1) ∙ quiet k d l) } in
     subst (λ (l : List ℕ). All (λ place. IsAt w.seen place (IsBy thread)) l) (sym (h.gains.grows.made ∙ ap (λ (m : List ℕ). m ++ places) none)) all
 
-at_desks_both : (P Q : ℕ → DeskView → DeskView → Type 0) (olds news : List DeskView) → AtDesks P olds news → AtDesks Q olds news → AtDesks (λ d v w. P d v w × Q d v w) olds news
+pub at_desks_both : (P Q : ℕ → DeskView → DeskView → Type 0) (olds news : List DeskView) → AtDesks P olds news → AtDesks Q olds news → AtDesks (λ d v w. P d v w × Q d v w) olds news
 at_desks_both P Q olds news h k = (h.0, λ d v w i j. (h.1 d v w i j, k.1 d v w i j))
 
 -- ---- a script's next call
@@ -236,30 +237,44 @@ pub ops_made : (olds news : List DeskView) (thread : ℕ) (ops : List (ℕ × Op
 ops_made olds news thread ops rs h =
     at_desks_weaker (λ d v w. Owns thread v w) (λ d v w. MadeBy thread v w) olds news (λ d v w k. owns_made thread v w k) h.own
 
-ops_grew : (olds news : List DeskView) (thread : ℕ) (ops : List (ℕ × Op)) (rs : List Receipt) → DoesOps olds news thread ops rs → AtDesks (λ d v w. GrewBy thread v w) olds news
-ops_grew olds news thread ops rs h =
-    at_desks_both (λ d v w. Grew v w) (λ d v w. MadeBy thread v w) olds news
-    (at_desks_weaker (λ d v w. Does v w (invokes_of d ops rs) []) (λ d v w. Grew v w) olds news (λ d v w k. (k.gains.places, k.gains.grows)) h.does) (ops_made olds news thread ops rs h)
+-- a worker that did some operations of a script gained at most what they are
+ops_grew : (olds news : List DeskView) (thread : ℕ) (most : ℕ → ℕ) (ops : List (ℕ × Op)) (rs : List Receipt) → ((d : ℕ) → count_on d ops ≤ most d) → DoesOps olds news thread ops rs
+    → AtDesks (λ d v w. GrewBy thread (most d) 0 v w) olds news
+ops_grew olds news thread most ops rs few h =
+    at_desks_both (λ d v w. GainsAtMost v w (most d) 0) (λ d v w. MadeBy thread v w) olds news
+    (at_desks_weaker (λ d v w. Does v w (invokes_of d ops rs) []) (λ d v w. GainsAtMost v w (most d) 0) olds news
+    (λ d v w k.
+    at_most_weaker v w (length (invokes_of d ops rs)) (most d) 0 0 (let l = few d in omega (arith, invokes_few d ops rs)) (omega arith)
+    (gains_at_most v w (invokes_of d ops rs) [] k.gains)) h.does) (ops_made olds news thread ops rs h)
+
+nothing_of_one : (v w : DeskView) → AddsNothing v w → GainsAtMost v w 1 0
+nothing_of_one v w a = at_most_weaker v w 0 1 0 0 (omega arith) (omega arith) (nothing_at_most v w a)
 
 refused_call : (spec : PartSpec) (v w : DeskView) (thread : ℕ) (op : Op) (refusal : DeskRefused) → CallEnds spec v w thread op (Err refusal)
-    → Grew v w × CallCause thread refusal (state_of spec w.seen) × ((u : DeskView) → MadeBy thread u v → MadeBy thread u w)
-refused_call spec v w thread op (refused.NoMemory None) h = (let k = nothing_does v w h in (k.gains.places, k.gains.grows), tt, λ u m. made_nothing thread u v w h m)
+    → GainsAtMost v w 1 0 × CallCause thread refusal (state_of spec w.seen) × ((u : DeskView) → MadeBy thread u v → MadeBy thread u w)
+refused_call spec v w thread op (refused.NoMemory None) h = (nothing_of_one v w h, tt, λ u m. made_nothing thread u v w h m)
 refused_call spec v w thread op (refused.NoMemory (Some call)) h =
-    (let k = invokes_does v w call thread op h.1.0 h.1.1 in (k.gains.places, k.gains.grows), h.0, λ u m. made_call thread u v w call op h.1.0 h.1.1 m)
-refused_call spec v w thread op refused.TooManyCalls h = (let k = nothing_does v w h.0 in (k.gains.places, k.gains.grows), (h.1, h.2), λ u m. made_nothing thread u v w h.0 m)
-refused_call spec v w thread op (refused.OpenCall call) h = (let k = nothing_does v w h.0 in (k.gains.places, k.gains.grows), h.1, λ u m. made_nothing thread u v w h.0 m)
+    (invokes_at_most v w call thread op h.1.0 h.1.1, h.0, λ u m. made_call thread u v w call op h.1.0 h.1.1 m)
+refused_call spec v w thread op refused.TooManyCalls h = (nothing_of_one v w h.0, (h.1, h.2), λ u m. made_nothing thread u v w h.0 m)
+refused_call spec v w thread op (refused.OpenCall call) h = (nothing_of_one v w h.0, h.1, λ u m. made_nothing thread u v w h.0 m)
 refused_call spec v w thread op refused.NoOpenCall h = absurd h
 refused_call spec v w thread op refused.TooManyArrivals h = absurd h
 
--- a step that is refused, after what all did
-refused_at : (thread : ℕ) (specs : List PartSpec) (olds mids news : List DeskView) (part : ℕ) (Ends : PartSpec → DeskView → DeskView → Type 0) (Cause : PartState → Type 0) (s : IsStepAt specs mids news part Ends)
-    → AtDesks (λ d v w. GrewBy thread v w) olds mids → Grew s.old s.new → ((u : DeskView) → MadeBy thread u s.old → MadeBy thread u s.new) → Cause (state_of s.spec s.new.seen)
-    → AtDesks (λ d v w. GrewBy thread v w) olds news × IsRefusedAt specs olds news part Cause
-refused_at thread specs olds mids news part Ends Cause s h g made cause =
+-- a step that is refused, after what all did: one part may have had one more call
+refused_at : (thread one : ℕ) (calls most frames : ℕ → ℕ) (specs : List PartSpec) (olds mids news : List DeskView) (part : ℕ) (Ends : PartSpec → DeskView → DeskView → Type 0) (Cause : PartState → Type 0) (s : IsStepAt specs mids news part Ends)
+    → ((d : ℕ) → calls d ≤ most d) → calls part + one ≤ most part → AtDesks (λ d v w. GrewBy thread (calls d) (frames d) v w) olds mids → GainsAtMost s.old s.new one 0
+    → ((u : DeskView) → MadeBy thread u s.old → MadeBy thread u s.new) → Cause (state_of s.spec s.new.seen)
+    → AtDesks (λ d v w. GrewBy thread (most d) (frames d) v w) olds news × IsRefusedAt specs olds news part Cause
+refused_at thread one calls most frames specs olds mids news part Ends Cause s few last h g made cause =
     let l = slice_get_within mids part s.old s.old_there in
     let u = some_at olds part (let n = h.0 in omega arith) in
     let k = h.1 part u.0 s.old u.1 s.old_there in (
-      step_more (λ d v w. GrewBy thread v w) (λ d v w. GrewBy thread v w) specs olds mids news part Ends s (λ d v w n e. e) (λ v e. (grew_more v s.old s.new e.0 g, made v e.1)) h,
+      step_more (λ d v w. GrewBy thread (calls d) (frames d) v w) (λ d v w. GrewBy thread (most d) (frames d) v w) specs olds mids news part Ends s
+          (λ d v w n e. (at_most_weaker v w (calls d) (most d) (frames d) (frames d) (few d) (omega arith) e.0, e.1))
+          (λ v e. (
+            at_most_weaker v s.new (calls part + one) (most part) (frames part + 0) (frames part) last (omega arith) (at_most_more v s.old s.new (calls part) one (frames part) 0 e.0 g),
+            made v e.1,
+          )) h,
       record {
         spec = s.spec;
         old = u.0;
@@ -268,7 +283,7 @@ refused_at thread specs olds mids news part Ends Cause s h g made cause =
         old_there = u.1;
         new_there = step_there specs mids news part Ends s;
         between = s.new.seen;
-        from = prefix_trans u.0.seen s.old.seen s.new.seen k.0.1.seen g.1.seen;
+        from = prefix_trans u.0.seen s.old.seen s.new.seen k.0.grows.seen g.grows.seen;
         to = prefix_refl s.new.seen;
         cause = cause;
       },
@@ -300,12 +315,14 @@ knows_open specs olds mids news thread part op refused.TooManyCalls h s = tt
 knows_open specs olds mids news thread part op refused.NoOpenCall h s = tt
 knows_open specs olds mids news thread part op refused.TooManyArrivals h s = tt
 
-ops_refused : (specs : List PartSpec) (olds mids news : List DeskView) (thread place part : ℕ) (op : Op) (refusal : DeskRefused) (all ops : List (ℕ × Op)) (rs : List Receipt)
-    → DoesOps olds mids thread ops rs → slice_get all place ≡ Some (part, op) → IsStepAt specs mids news part (λ spec v w. CallEnds spec v w thread op (Err refusal))
-    → AtDesks (λ d v w. GrewBy thread v w) olds news × IsCallRefused specs olds news all thread place part refusal × KnowsOpen specs olds news thread part refusal
-ops_refused specs olds mids news thread place part op refusal all ops rs h at s =
+ops_refused : (specs : List PartSpec) (olds mids news : List DeskView) (thread place part : ℕ) (op : Op) (refusal : DeskRefused) (all : List (ℕ × Op)) (rs : List Receipt)
+    → DoesOps olds mids thread (take place all) rs → slice_get all place ≡ Some (part, op) → IsStepAt specs mids news part (λ spec v w. CallEnds spec v w thread op (Err refusal))
+    → AtDesks (λ d v w. GrewBy thread (count_on d all) 0 v w) olds news × IsCallRefused specs olds news all thread place part refusal × KnowsOpen specs olds news thread part refusal
+ops_refused specs olds mids news thread place part op refusal all rs h at s =
     let k = refused_call s.spec s.old s.new thread op refusal s.ends in
-    let r = refused_at thread specs olds mids news part _ (CallCause thread refusal) s (ops_grew olds mids thread ops rs h) k.0 k.2 k.1 in
+    let sofar : ℕ → ℕ = λ d. count_on d (take place all) in
+    let r = refused_at thread 1 sofar (λ d. count_on d all) (λ d. 0) specs olds mids news part _ (CallCause thread refusal) s (λ d. count_take d place all) (count_next all place part op at)
+    (ops_grew olds mids thread sofar (take place all) rs (λ d. omega arith) h) k.0 k.2 k.1 in
     (r.0, record { op = op; operation = at; cause = r.1 }, knows_open specs olds mids news thread part op refusal h.own s)
 
 -- ---- the next arrival
@@ -332,26 +349,34 @@ frames_made : (olds news : List DeskView) (part : ℕ) (fs : List (List ℕ)) �
 frames_made olds news part fs h =
     at_desks_weaker (λ d v w. Does v w [] (if part == d then fs else [])) (λ d v w. MadeBy 255 v w) olds news (λ d v w k. frames_made_by 255 v w (if part == d then fs else []) k) h
 
-frames_grew : (olds news : List DeskView) (part : ℕ) (fs : List (List ℕ)) → DoesFrames olds news part fs → AtDesks (λ d v w. GrewBy 255 v w) olds news
-frames_grew olds news part fs h =
-    at_desks_both (λ d v w. Grew v w) (λ d v w. MadeBy 255 v w) olds news
-    (at_desks_weaker (λ d v w. Does v w [] (if part == d then fs else [])) (λ d v w. Grew v w) olds news (λ d v w k. (k.gains.places, k.gains.grows)) h) (frames_made olds news part fs h)
+fewer_frames : (b : Bool) (fs all : List (List ℕ)) → length fs ≤ length all → length (if b then fs else []) ≤ length (if b then all else [])
+fewer_frames true fs all l = l
+fewer_frames false fs all l = omega arith
+
+frames_grew : (olds news : List DeskView) (part : ℕ) (fs all : List (List ℕ)) → length fs ≤ length all → DoesFrames olds news part fs → AtDesks (λ d v w. GrewBy 255 0 (length (if part == d then all else [])) v w) olds news
+frames_grew olds news part fs all few h =
+    at_desks_both (λ d v w. GainsAtMost v w 0 (length (if part == d then all else []))) (λ d v w. MadeBy 255 v w) olds news
+    (at_desks_weaker (λ d v w. Does v w [] (if part == d then fs else [])) (λ d v w. GainsAtMost v w 0 (length (if part == d then all else []))) olds news
+    (λ d v w k.
+    at_most_weaker v w 0 0 (length (if part == d then fs else [])) (length (if part == d then all else [])) (omega arith) (fewer_frames (part == d) fs all few)
+    (gains_at_most v w [] (if part == d then fs else []) k.gains)) h) (frames_made olds news part fs h)
 
 refused_arrival : (spec : PartSpec) (v w : DeskView) (frame : List ℕ) (refusal : DeskRefused) → ArriveEnds spec v w frame (Err refusal)
-    → Grew v w × ArriveCause refusal (state_of spec w.seen) × ((u : DeskView) → MadeBy 255 u v → MadeBy 255 u w)
-refused_arrival spec v w frame (refused.NoMemory None) h = (let k = nothing_does v w h in (k.gains.places, k.gains.grows), tt, λ u m. made_nothing 255 u v w h m)
+    → GainsAtMost v w 0 0 × ArriveCause refusal (state_of spec w.seen) × ((u : DeskView) → MadeBy 255 u v → MadeBy 255 u w)
+refused_arrival spec v w frame (refused.NoMemory None) h = (nothing_at_most v w h, tt, λ u m. made_nothing 255 u v w h m)
 refused_arrival spec v w frame (refused.NoMemory (Some call)) h = absurd h
 refused_arrival spec v w frame refused.TooManyCalls h = absurd h
 refused_arrival spec v w frame (refused.OpenCall call) h = absurd h
 refused_arrival spec v w frame refused.NoOpenCall h = absurd h
-refused_arrival spec v w frame refused.TooManyArrivals h = (let k = nothing_does v w h.0 in (k.gains.places, k.gains.grows), h.1, λ u m. made_nothing 255 u v w h.0 m)
+refused_arrival spec v w frame refused.TooManyArrivals h = (nothing_at_most v w h.0, h.1, λ u m. made_nothing 255 u v w h.0 m)
 
 frames_refused : (specs : List PartSpec) (olds mids news : List DeskView) (place part : ℕ) (frame : List ℕ) (refusal : DeskRefused) (all fs : List (List ℕ))
-    → DoesFrames olds mids part fs → slice_get all place ≡ Some frame → IsStepAt specs mids news part (λ spec v w. ArriveEnds spec v w frame (Err refusal))
-    → AtDesks (λ d v w. GrewBy 255 v w) olds news × IsArrivalRefused specs olds news all place part refusal
-frames_refused specs olds mids news place part frame refusal all fs h at s =
+    → length fs ≤ length all → DoesFrames olds mids part fs → slice_get all place ≡ Some frame → IsStepAt specs mids news part (λ spec v w. ArriveEnds spec v w frame (Err refusal))
+    → AtDesks (λ d v w. GrewBy 255 0 (length (if part == d then all else [])) v w) olds news × IsArrivalRefused specs olds news all place part refusal
+frames_refused specs olds mids news place part frame refusal all fs few h at s =
     let k = refused_arrival s.spec s.old s.new frame refusal s.ends in
-    let r = refused_at 255 specs olds mids news part _ (ArriveCause refusal) s (frames_grew olds mids part fs h) k.0 k.2 k.1 in
+    let r = refused_at 255 0 (λ d. 0) (λ d. 0) (λ d. length (if part == d then all else [])) specs olds mids news part _ (ArriveCause refusal) s (λ d. omega arith) (omega arith)
+    (frames_grew olds mids part fs all few h) k.0 k.2 k.1 in
     (r.0, record { frame = slice_get_within all place frame at; cause = r.1 })
 
 -- ---- how workers end
@@ -359,30 +384,79 @@ frames_refused specs olds mids news place part frame refusal all fs h at s =
 pub ops_ended : (specs : List PartSpec) (olds news : List DeskView) (thread : ℕ) (ops : List (ℕ × Op)) (rs : List Receipt) → DoesOps olds news thread ops rs → ScriptEnds specs olds news thread ops (Ok rs)
 ops_ended specs olds news thread ops rs h = (h, ops_made olds news thread ops rs h)
 
-pub ops_stopped : (specs : List PartSpec) (olds mids news : List DeskView) (thread place part : ℕ) (op : Op) (all ops : List (ℕ × Op)) (rs : List Receipt) (why : WorkerStop)
-    → DoesOps olds mids thread ops rs → slice_get all place ≡ Some (part, op) → IsStepAt specs mids news part (λ spec v w. NextCallEnds spec v w thread place part op (Err why))
+pub ops_stopped : (specs : List PartSpec) (olds mids news : List DeskView) (thread place part : ℕ) (op : Op) (all : List (ℕ × Op)) (rs : List Receipt) (why : WorkerStop)
+    → DoesOps olds mids thread (take place all) rs → slice_get all place ≡ Some (part, op) → IsStepAt specs mids news part (λ spec v w. NextCallEnds spec v w thread place part op (Err why))
     → ScriptEnds specs olds news thread all (Err why)
-ops_stopped specs olds mids news thread place part op all ops rs (stop.Refused t k p refusal) h at s =
-    let r = ops_refused specs olds mids news thread place part op refusal all ops rs h at (record { spec = s.spec; old = s.old; new = s.new; spec_there = s.spec_there; old_there = s.old_there; news_are = s.news_are; ends = s.ends.3 }) in (
+ops_stopped specs olds mids news thread place part op all rs (stop.Refused t k p refusal) h at s =
+    let r = ops_refused specs olds mids news thread place part op refusal all rs h at (record { spec = s.spec; old = s.old; new = s.new; spec_there = s.spec_there; old_there = s.old_there; news_are = s.news_are; ends = s.ends.3 }) in (
       r.0,
       s.ends.0,
       subst (λ q. IsCallRefused specs olds news all thread k q refusal) (sym s.ends.2) (subst (λ j. IsCallRefused specs olds news all thread j part refusal) (sym s.ends.1) r.1),
       subst (λ q. KnowsOpen specs olds news thread q refusal) (sym s.ends.2) r.2,
     )
-ops_stopped specs olds mids news thread place part op all ops rs stop.NoMemory h at s = absurd s.ends
+ops_stopped specs olds mids news thread place part op all rs stop.NoMemory h at s = absurd s.ends
 
-pub ops_unkept : (specs : List PartSpec) (olds mids news : List DeskView) (thread place part : ℕ) (op : Op) (r : Receipt) (all ops : List (ℕ × Op)) (rs : List Receipt)
-    → DoesOps olds mids thread ops rs → IsStepAt specs mids news part (λ spec v w. NextCallEnds spec v w thread place part op (Ok r)) → ScriptEnds specs olds news thread all (Err stop.NoMemory)
-ops_unkept specs olds mids news thread place part op r all ops rs h s =
-    ops_grew olds news thread (ops ++ (part, op) ∷ []) (rs ++ r ∷ []) (ops_more specs olds mids news thread place part op r ops rs h s)
+pub ops_unkept : (specs : List PartSpec) (olds mids news : List DeskView) (thread place part : ℕ) (op : Op) (r : Receipt) (all : List (ℕ × Op)) (rs : List Receipt)
+    → DoesOps olds mids thread (take place all) rs → slice_get all place ≡ Some (part, op) → IsStepAt specs mids news part (λ spec v w. NextCallEnds spec v w thread place part op (Ok r))
+    → ScriptEnds specs olds news thread all (Err stop.NoMemory)
+ops_unkept specs olds mids news thread place part op r all rs h at s =
+    ops_grew olds news thread (λ d. count_on d all) (take place all ++ (part, op) ∷ []) (rs ++ r ∷ [])
+    (λ d. let few = count_take d (place + 1) all in omega (arith, few, ap (count_on d) (take_next all place (part, op) at)))
+    (ops_more specs olds mids news thread place part op r (take place all) rs h s)
 
 pub frames_ended : (specs : List PartSpec) (olds news : List DeskView) (part : ℕ) (fs : List (List ℕ)) (rs : List Receipt) → rs ≡ [] → DoesFrames olds news part fs → ArrivalsEnd specs olds news part fs (Ok rs)
 frames_ended specs olds news part fs rs e h = (e, h, frames_made olds news part fs h)
 
 pub frames_stopped : (specs : List PartSpec) (olds mids news : List DeskView) (place part : ℕ) (frame : List ℕ) (all fs : List (List ℕ)) (why : WorkerStop)
-    → DoesFrames olds mids part fs → slice_get all place ≡ Some frame → IsStepAt specs mids news part (λ spec v w. NextArrivalEnds spec v w place part frame (Err why))
+    → length fs ≤ length all → DoesFrames olds mids part fs → slice_get all place ≡ Some frame → IsStepAt specs mids news part (λ spec v w. NextArrivalEnds spec v w place part frame (Err why))
     → ArrivalsEnd specs olds news part all (Err why)
-frames_stopped specs olds mids news place part frame all fs (stop.Refused t k p refusal) h at s =
-    let r = frames_refused specs olds mids news place part frame refusal all fs h at (record { spec = s.spec; old = s.old; new = s.new; spec_there = s.spec_there; old_there = s.old_there; news_are = s.news_are; ends = s.ends.3 }) in
+frames_stopped specs olds mids news place part frame all fs (stop.Refused t k p refusal) few h at s =
+    let r = frames_refused specs olds mids news place part frame refusal all fs few h at (record { spec = s.spec; old = s.old; new = s.new; spec_there = s.spec_there; old_there = s.old_there; news_are = s.news_are; ends = s.ends.3 }) in
     (r.0, s.ends.0, s.ends.2, subst (λ j. IsArrivalRefused specs olds news all j part refusal) (sym s.ends.1) r.1)
-frames_stopped specs olds mids news place part frame all fs stop.NoMemory h at s = absurd s.ends
+frames_stopped specs olds mids news place part frame all fs stop.NoMemory few h at s = absurd s.ends
+
+-- ---- shares
+
+call_share : (spec : PartSpec) (v w : DeskView) (thread : ℕ) (op : Op) (e : Result Receipt DeskRefused) → CallEnds spec v w thread op e → KeepsShare v w
+call_share spec v w thread op (Ok r) h = h.0.adds.share
+call_share spec v w thread op (Err (refused.NoMemory None)) h = h.share
+call_share spec v w thread op (Err (refused.NoMemory (Some call))) h = h.1.1.adds.share
+call_share spec v w thread op (Err refused.TooManyCalls) h = h.0.share
+call_share spec v w thread op (Err (refused.OpenCall call)) h = h.0.share
+call_share spec v w thread op (Err refused.NoOpenCall) h = absurd h
+call_share spec v w thread op (Err refused.TooManyArrivals) h = absurd h
+
+next_share : (spec : PartSpec) (v w : DeskView) (thread place part : ℕ) (op : Op) (e : Result Receipt WorkerStop) → NextCallEnds spec v w thread place part op e → KeepsShare v w
+next_share spec v w thread place part op (Ok r) h = call_share spec v w thread op (Ok r) h
+next_share spec v w thread place part op (Err (stop.Refused t k p refusal)) h = call_share spec v w thread op (Err refusal) h.3
+next_share spec v w thread place part op (Err stop.NoMemory) h = absurd h
+
+arrive_share : (spec : PartSpec) (v w : DeskView) (frame : List ℕ) (e : Result Bool DeskRefused) → ArriveEnds spec v w frame e → KeepsShare v w
+arrive_share spec v w frame (Ok kept) h = h.1.share
+arrive_share spec v w frame (Err (refused.NoMemory None)) h = h.share
+arrive_share spec v w frame (Err (refused.NoMemory (Some call))) h = absurd h
+arrive_share spec v w frame (Err refused.TooManyCalls) h = absurd h
+arrive_share spec v w frame (Err (refused.OpenCall call)) h = absurd h
+arrive_share spec v w frame (Err refused.NoOpenCall) h = absurd h
+arrive_share spec v w frame (Err refused.TooManyArrivals) h = h.0.share
+
+next_arrival_share : (spec : PartSpec) (v w : DeskView) (place part : ℕ) (frame : List ℕ) (e : Result Bool WorkerStop) → NextArrivalEnds spec v w place part frame e → KeepsShare v w
+next_arrival_share spec v w place part frame (Ok kept) h = arrive_share spec v w frame (Ok kept) h
+next_arrival_share spec v w place part frame (Err (stop.Refused t k p refusal)) h = arrive_share spec v w frame (Err refusal) h.3
+next_arrival_share spec v w place part frame (Err stop.NoMemory) h = absurd h
+
+share_step : (specs : List PartSpec) (olds mids news : List DeskView) (part : ℕ) (Ends : PartSpec → DeskView → DeskView → Type 0) (s : IsStepAt specs mids news part Ends)
+    → KeepsShare s.old s.new → KeepShares olds mids → KeepShares olds news
+share_step specs olds mids news part Ends s k h =
+    step_more (λ d v w. KeepsShare v w) (λ d v w. KeepsShare v w) specs olds mids news part Ends s (λ d v w n e. e) (λ v e. k ∙ e) h
+
+pub shares_none : (views : List DeskView) → KeepShares views views
+shares_none views = at_desks_refl (λ d v w. KeepsShare v w) views (λ d v. refl)
+
+pub call_shares : (specs : List PartSpec) (olds mids news : List DeskView) (thread place part : ℕ) (op : Op) (e : Result Receipt WorkerStop)
+    → IsStepAt specs mids news part (λ spec v w. NextCallEnds spec v w thread place part op e) → KeepShares olds mids → KeepShares olds news
+call_shares specs olds mids news thread place part op e s h = share_step specs olds mids news part _ s (next_share s.spec s.old s.new thread place part op e s.ends) h
+
+pub arrival_shares : (specs : List PartSpec) (olds mids news : List DeskView) (place part : ℕ) (frame : List ℕ) (e : Result Bool WorkerStop)
+    → IsStepAt specs mids news part (λ spec v w. NextArrivalEnds spec v w place part frame e) → KeepShares olds mids → KeepShares olds news
+arrival_shares specs olds mids news place part frame e s h = share_step specs olds mids news part _ s (next_arrival_share s.spec s.old s.new place part frame e s.ends) h

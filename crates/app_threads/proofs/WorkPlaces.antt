@@ -1,13 +1,15 @@
 -- Which workers there are, by their places.
-use Rattle.std.proofs.Common.{◌≡◌, ℕ, zero, suc, ◌+◌, ◌<◌, Some, List, [], ◌∷◌, ◌++◌, take, length, get_or, slice_get, subst, refl, ap, ◌∙◌, arith, append-nil}
+use Rattle.std.proofs.Common.{◌≡◌, ℕ, zero, suc, ◌+◌, ◌<◌, true, false, Some, List, [], ◌∷◌, ◌++◌, take, length, get_or, slice_get, subst, refl, ap, ◌∙◌, arith, append-nil}
 use Rattle.std.specs.Prelude.{if◌then◌else◌, ◌==◌, slice_index_or}
 use Rattle.std.proofs.lemmas.Option.{get_or_from_slice_get}
 use Rattle.nook_defs.specs.declared.data.Receipt.{Receipt}
 use Rattle.nook_defs.specs.declared.data.ThreadSpec.{ThreadSpec}
 use Rattle.app_threads.specs.declared.work.Work.{Work}
 use Rattle.app_threads.specs.declared.work.Work.TheVariants as work
-use Rattle.app_threads.specs.Workers.{invokes_of, invokes_of_all}
-use Rattle.app_threads.specs.Works.{arrival_works, frames_for, ops_for, ops_of, script_works}
+use Rattle.app_threads.specs.Ends.{count_on_all}
+use Rattle.app_threads.specs.Workers.{count_on, invokes_of, invokes_of_all}
+use Rattle.app_threads.specs.Works.{arrival_works, frames_for, ops_for, ops_of, script_works, thread_of}
+use Rattle.app_threads.proofs.Counted.{only_of}
 use Rattle.app_threads.proofs.Listed.{if_other, if_same, some_same}
 
 -- ---- all that works add
@@ -82,6 +84,66 @@ pub frames_are : (d : ℕ) (scripts : List ThreadSpec) (arrivals : List (List (L
 frames_are d scripts arrivals =
     scripts_no_frames d arrivals 0 scripts (arrival_works 0 arrivals)
     ∙ frames_from d d arrivals 0 arrivals (λ i x e. subst (λ k. slice_get arrivals k ≡ Some x) (omega arith) e) (omega arith)
+
+-- ---- how many operations on one part the works have
+
+-- in all
+abbrev pub calls_in : ℕ → List ThreadSpec → List Work → ℕ
+calls_in d scripts [] = 0
+calls_in d scripts (k ∷ works) = count_on d (ops_for scripts k) + calls_in d scripts works
+
+-- those of one thread
+abbrev pub calls_by : ℕ → List ThreadSpec → List Work → ℕ → ℕ
+calls_by d scripts [] t = 0
+calls_by d scripts (k ∷ works) t = only_of (thread_of k) (count_on d (ops_for scripts k)) t + calls_by d scripts works t
+
+no_calls : (d : ℕ) (scripts : List ThreadSpec) (q : ℕ) (arrivals : List (List (List ℕ))) → calls_in d scripts (arrival_works q arrivals) ≡ 0
+no_calls d scripts q [] = refl
+no_calls d scripts q ([] ∷ arrivals) = no_calls d scripts (q + 1) arrivals
+no_calls d scripts q ((f ∷ fs) ∷ arrivals) = let rest = no_calls d scripts (q + 1) arrivals in omega arith
+
+calls_from : (d : ℕ) (all : List ThreadSpec) (from : ℕ) (scripts : List ThreadSpec) (q : ℕ) (arrivals : List (List (List ℕ))) → StandFrom from scripts all
+    → calls_in d all (script_works from scripts ++ arrival_works q arrivals) ≡ count_on_all d scripts
+calls_from d all from [] q arrivals h = no_calls d all q arrivals
+calls_from d all from (s ∷ scripts) q arrivals h =
+    let first : ops_of (slice_get all from) ≡ s.ops = ap ops_of (stand_first from s scripts all h) in
+    let rest = calls_from d all (from + 1) scripts q arrivals (stand_next from s scripts all h) in
+    ap (λ ops. count_on d ops + calls_in d all (script_works (from + 1) scripts ++ arrival_works q arrivals)) first ∙ ap (λ n. count_on d s.ops + n) rest
+
+pub calls_are : (d : ℕ) (scripts : List ThreadSpec) (arrivals : List (List (List ℕ))) → calls_in d scripts (script_works 0 scripts ++ arrival_works 0 arrivals) ≡ count_on_all d scripts
+calls_are d scripts arrivals = calls_from d scripts 0 scripts 0 arrivals (λ i x e. subst (λ k. slice_get scripts k ≡ Some x) (omega arith) e)
+
+-- nobody has any of no operations
+only_none : (t u : ℕ) → only_of t 0 u ≡ 0
+only_none t u = elim (t == u) as (λ b. ◌≡◌ {A = ℕ} (if b then 0 else 0) 0) [ true ↦ refl | false ↦ refl ]
+
+none_by : (t d : ℕ) (scripts : List ThreadSpec) (q : ℕ) (arrivals : List (List (List ℕ))) → calls_by d scripts (arrival_works q arrivals) t ≡ 0
+none_by t d scripts q [] = refl
+none_by t d scripts q ([] ∷ arrivals) = none_by t d scripts (q + 1) arrivals
+none_by t d scripts q ((f ∷ fs) ∷ arrivals) = let rest = none_by t d scripts (q + 1) arrivals in omega (arith, only_none 255 t)
+
+-- scripts of threads with larger numbers have none
+later_by : (t d : ℕ) (all : List ThreadSpec) (from : ℕ) (scripts : List ThreadSpec) (q : ℕ) (arrivals : List (List (List ℕ))) → t < from → calls_by d all (script_works from scripts ++ arrival_works q arrivals) t ≡ 0
+later_by t d all from [] q arrivals l = none_by t d all q arrivals
+later_by t d all from (s ∷ scripts) q arrivals l =
+    let rest = later_by t d all (from + 1) scripts q arrivals (omega arith) in
+    omega (arith, if_other from t (count_on d (ops_of (slice_get all from))) 0 (λ e. absurd (omega arith)))
+
+by_from : (m t d : ℕ) (all : List ThreadSpec) (from : ℕ) (scripts : List ThreadSpec) (q : ℕ) (arrivals : List (List (List ℕ))) → StandFrom from scripts all → t ≡ from + m
+    → calls_by d all (script_works from scripts ++ arrival_works q arrivals) t ≡ count_on d (ops_of (slice_get scripts m))
+by_from m t d all from [] q arrivals h e = none_by t d all q arrivals
+by_from zero t d all from (s ∷ scripts) q arrivals h e =
+    let first : ops_of (slice_get all from) ≡ s.ops = ap ops_of (stand_first from s scripts all h) in
+    let is : from ≡ t = omega arith in
+    let own : only_of from (count_on d (ops_of (slice_get all from))) t ≡ count_on d (ops_of (slice_get all from)) =
+    subst (λ k. only_of from (count_on d (ops_of (slice_get all from))) k ≡ count_on d (ops_of (slice_get all from))) is (if_same from (count_on d (ops_of (slice_get all from))) 0) in
+    omega (arith, own, later_by t d all (from + 1) scripts q arrivals (omega arith), ap (count_on d) first)
+by_from (suc m) t d all from (s ∷ scripts) q arrivals h e =
+    let rest = by_from m t d all (from + 1) scripts q arrivals (stand_next from s scripts all h) (omega arith) in
+    omega (arith, rest, if_other from t (count_on d (ops_of (slice_get all from))) 0 (λ k. absurd (omega arith)))
+
+pub calls_by_are : (t d : ℕ) (scripts : List ThreadSpec) (arrivals : List (List (List ℕ))) → calls_by d scripts (script_works 0 scripts ++ arrival_works 0 arrivals) t ≡ count_on d (ops_of (slice_get scripts t))
+calls_by_are t d scripts arrivals = by_from t t d scripts 0 scripts 0 arrivals (λ i x e. subst (λ k. slice_get scripts k ≡ Some x) (omega arith) e) (omega arith)
 
 -- ---- which work stands where
 

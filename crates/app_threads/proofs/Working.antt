@@ -1,5 +1,5 @@
 -- The end of a script and of arrivals as the end of a work.
-use Rattle.std.proofs.Common.{◌≡◌, ℕ, List, [], slice_get, subst, sym, ap, Some}
+use Rattle.std.proofs.Common.{◌≡◌, ℕ, List, [], length, slice_get, subst, sym, ap, Some}
 use Rattle.std.specs.Prelude.{if◌then◌else◌, ◌==◌, slice_index_or, Result, Ok, Err}
 use Rattle.nook_defs.specs.declared.data.PartSpec.{PartSpec}
 use Rattle.nook_defs.specs.declared.data.Receipt.{Receipt}
@@ -8,7 +8,7 @@ use Rattle.desk_like.specs.Desks.{DeskView}
 use Rattle.app_threads.specs.declared.stop.WorkerStop.{WorkerStop}
 use Rattle.app_threads.specs.declared.stop.WorkerStop.TheVariants as stop
 use Rattle.app_threads.specs.declared.work.Work.TheVariants as work
-use Rattle.app_threads.specs.Workers.{AreReceipts, ArrivalsEnd, AtDesks, Does, IsArrivalRefused, IsCallRefused, ScriptEnds, invokes_of}
+use Rattle.app_threads.specs.Workers.{AreReceipts, ArrivalsEnd, AtDesks, Does, GrewBy, IsArrivalRefused, IsCallRefused, ScriptEnds, count_on, invokes_of}
 use Rattle.app_threads.specs.Works.{WorkEnds, ops_of}
 
 pub script_work : (specs : List PartSpec) (scripts : List ThreadSpec) (arrivals : List (List (List ℕ))) (olds news : List DeskView) (t : ℕ) (script : ThreadSpec) (e : Result (List Receipt) WorkerStop)
@@ -21,8 +21,10 @@ script_work specs scripts arrivals olds news t script (Ok rs) a h =
     )
 script_work specs scripts arrivals olds news t script (Err (stop.Refused thread place part refusal)) a h =
     let ops : ops_of (slice_get scripts t) ≡ script.ops = ap ops_of a in
-    (h.0, h.1, (subst (λ o. IsCallRefused specs olds news o t place part refusal) (sym ops) h.2, h.3))
-script_work specs scripts arrivals olds news t script (Err stop.NoMemory) a h = h
+    (subst (λ o. AtDesks (λ d v w. GrewBy t (count_on d o) 0 v w) olds news) (sym ops) h.0, h.1, (subst (λ o. IsCallRefused specs olds news o t place part refusal) (sym ops) h.2, h.3))
+script_work specs scripts arrivals olds news t script (Err stop.NoMemory) a h =
+    let ops : ops_of (slice_get scripts t) ≡ script.ops = ap ops_of a in
+    subst (λ o. AtDesks (λ d v w. GrewBy t (count_on d o) 0 v w) olds news) (sym ops) h
 
 pub arrivals_work : (specs : List PartSpec) (scripts : List ThreadSpec) (arrivals : List (List (List ℕ))) (olds news : List DeskView) (p : ℕ) (frames : List (List ℕ)) (e : Result (List Receipt) WorkerStop)
     → frames ≡ slice_index_or arrivals p [] → ArrivalsEnd specs olds news p frames e → WorkEnds specs scripts arrivals olds (work.Arrivals p) news e
@@ -32,5 +34,6 @@ arrivals_work specs scripts arrivals olds news p frames (Ok rs) a h = (
   h.2,
 )
 arrivals_work specs scripts arrivals olds news p frames (Err (stop.Refused thread place part refusal)) a h =
-    (h.0, h.1, (h.2, subst (λ q. IsArrivalRefused specs olds news (slice_index_or arrivals q []) place q refusal) (sym h.2) (subst (λ fs. IsArrivalRefused specs olds news fs place p refusal) a h.3)))
-arrivals_work specs scripts arrivals olds news p frames (Err stop.NoMemory) a h = h
+    (subst (λ fs. AtDesks (λ d v w. GrewBy 255 0 (length (if p == d then fs else [])) v w) olds news) a h.0, h.1, (h.2, subst (λ q. IsArrivalRefused specs olds news (slice_index_or arrivals q []) place q refusal) (sym h.2) (subst (λ fs. IsArrivalRefused specs olds news fs place p refusal) a h.3)))
+arrivals_work specs scripts arrivals olds news p frames (Err stop.NoMemory) a h =
+    subst (λ fs. AtDesks (λ d v w. GrewBy 255 0 (length (if p == d then fs else [])) v w) olds news) a h

@@ -1,5 +1,5 @@
 -- How all workers end.
-use Rattle.std.specs.Prelude.{◌≡◌, ℕ, ◌<◌, ◌⊎◌, List, [], length, slice_get, slice_index_or, Some, Result, Ok, Err}
+use Rattle.std.specs.Prelude.{◌≡◌, ℕ, ◌+◌, ◌<◌, ◌≤◌, ◌⊎◌, List, [], ◌∷◌, length, slice_get, slice_index_or, Some, Result, Ok, Err}
 use Rattle.nook_defs.specs.declared.data.DeskRefused.{DeskRefused}
 use Rattle.nook_defs.specs.declared.data.DeskRefused.TheVariants as refused
 use Rattle.nook_defs.specs.declared.data.Op.{Op}
@@ -9,8 +9,8 @@ use Rattle.nook_defs.specs.declared.data.ThreadSpec.{ThreadSpec}
 use Rattle.desk_like.specs.Desks.{DeskView, IsRisingFrom}
 use Rattle.app_threads.specs.declared.stop.WorkerStop.{WorkerStop}
 use Rattle.app_threads.specs.declared.stop.WorkerStop.TheVariants as stop
-use Rattle.app_threads.specs.Workers.{AreReceipts, AreRising, AreRows, AreRuns, AtDesks, Gains, Grew, IsArrivalRefused, IsCallRefused, IsNotOwn, frames_at, invokes_of_all}
-use Rattle.app_threads.specs.Works.{all_works}
+use Rattle.app_threads.specs.Workers.{AreReceipts, AreRising, AreRows, AreRuns, AtDesks, Gains, Grows, IsArrivalRefused, IsCallRefused, IsNotOwn, StayAlone, count_on, frames_at, invokes_at, invokes_by, invokes_of_all}
+use Rattle.app_threads.specs.Works.{all_works, ops_of}
 
 -- there is a receipt for each operation of the thread
 pub record HasRow (olds news : List DeskView) (thread : ℕ) (ops : List (ℕ × Op)) : Type 0 where
@@ -23,6 +23,21 @@ pub record HasArrived (old new : DeskView) (frames : List (List ℕ)) : Type 0 w
   pub places : List ℕ
   pub rising : IsRisingFrom (length old.seen) places
   pub arrived : frames_at new.seen places ≡ frames
+
+-- how many operations of all scripts are on this part
+abbrev pub count_on_all : ℕ → List ThreadSpec → ℕ
+count_on_all part [] = 0
+count_on_all part (script ∷ scripts) = count_on part script.ops + count_on_all part scripts
+
+-- Of what was added through a desk's seat, each thread invoked at most as many operations as its script has on the desk,
+-- and no other thread any; all invocations together are at most as many as those operations, and at most so many frames
+-- arrived
+pub record AtMost (scripts : List ThreadSpec) (frames : List (List ℕ)) (desk : ℕ) (old new : DeskView) : Type 0 where
+  pub places : List ℕ
+  pub grows : Grows old new places
+  pub invoked : (thread : ℕ) → length (invokes_by thread new.seen places) ≤ count_on desk (ops_of (slice_get scripts thread))
+  pub invoked_in_all : length (invokes_at new.seen places) ≤ count_on_all desk scripts
+  pub arrived : length (frames_at new.seen places) ≤ length frames
 
 module _ (specs : List PartSpec) (scripts : List ThreadSpec) (arrivals : List (List (List ℕ))) (olds news : List DeskView) where
   -- Each thread has its row of receipts. Of what was added through a desk's seat, the invocations are exactly those of the
@@ -55,9 +70,10 @@ module _ (specs : List PartSpec) (scripts : List ThreadSpec) (arrivals : List (L
   AreSeenRuns = 0 < length (all_works scripts arrivals) → AreRuns specs news
 
   abbrev pub WorkersEnd : Result (List (List Receipt)) WorkerStop → Type 0
-  WorkersEnd (Ok table) = AreFinished table × AreSeenRuns
+  WorkersEnd (Ok table) = AreFinished table × AreSeenRuns × StayAlone olds news
   WorkersEnd (Err (stop.Refused thread place part refusal)) =
-      AtDesks (λ d v w. Grew v w) olds news
+      AtDesks (λ d v w. AtMost scripts (slice_index_or arrivals d []) d v w) olds news
       × (IsThreadRefused thread place part refusal ⊎ IsPartRefused thread place part refusal)
       × AreSeenRuns
+      × StayAlone olds news
   WorkersEnd (Err stop.NoMemory) = Unit {0}

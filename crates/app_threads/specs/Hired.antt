@@ -3,13 +3,14 @@ use Rattle.std.specs.Prelude.{◌≡◌, ℕ, List, ◌∷◌, ◌++◌, map, le
 use Rattle.nook_defs.specs.declared.data.PartSpec.{PartSpec}
 use Rattle.nook_defs.specs.declared.data.Receipt.{Receipt}
 use Rattle.nook_defs.specs.declared.data.ThreadSpec.{ThreadSpec}
-use Rattle.desk_like.specs.Desks.{DeskView, new_view}
+use Rattle.desk_like.specs.Desks.{DeskView}
 use Rattle.app_threads.specs.declared.stop.WorkerStop.{WorkerStop}
 use Rattle.app_threads.specs.declared.stop.WorkerStop.TheVariants as stop
 use Rattle.app_threads.specs.declared.work.Work.{Work}
 use Rattle.app_threads.specs.declared.work.Worker.{Worker}
 use Rattle.app_threads.specs.declared.work.Done.{Done}
-use Rattle.app_threads.specs.Workers.{AreSeats}
+use Rattle.app_threads.specs.Steps.{Starts}
+use Rattle.app_threads.specs.Workers.{AreSeats, AtDesks, KeepShares}
 use Rattle.app_threads.specs.Works.{IsWork, WorkEnds}
 
 -- two lists are as long, and so it is with the items at each place
@@ -22,17 +23,18 @@ module _ {D S : Type 0} (is_seat : D → S → Type 0) (spec : D → PartSpec) (
   pub record IsHired (olds : List DeskView) (k : Work) (worker : Worker S) : Type 0 where
     pub is : worker.work ≡ k
     pub seats : AreSeats is_seat desks worker.seats.items
-    pub views : map view worker.seats.items ≡ map new_view olds
+    pub starts : AtDesks Starts olds (map view worker.seats.items)
 
   -- it can do its work
   pub record IsReady (scripts : List ThreadSpec) (arrivals : List (List (List ℕ))) (worker : Worker S) : Type 0 where
     pub seats : AreSeats is_seat desks worker.seats.items
     pub work : IsWork scripts arrivals worker.work
 
-  -- it has done its work
+  -- it has done its work, and its seats have the shares that they had
   pub record IsDone (scripts : List ThreadSpec) (arrivals : List (List (List ℕ))) (worker : Worker S) (done : Done S) : Type 0 where
     pub seats : AreSeats is_seat desks done.seats.items
     pub ends : WorkEnds (map spec desks) scripts arrivals (map view worker.seats.items) worker.work (map view done.seats.items) done.end
+    pub shares : KeepShares (map view worker.seats.items) (map view done.seats.items)
 
 -- the first of the ends that is a stop
 abbrev pub StopsAt : List (Result (List Receipt) WorkerStop) → WorkerStop → Type 0

@@ -1,10 +1,11 @@
 -- One step of a worker, as its seats' views show it.
-use Rattle.std.specs.Prelude.{◌≡◌, ℕ, Bool, List, [], ◌∷◌, length, slice_get, slice_set, Some, Result, Ok, Err}
+use Rattle.std.specs.Prelude.{◌≡◌, ℕ, ◌⊎◌, Bool, true, List, [], ◌∷◌, length, slice_get, slice_set, Some, Result, Ok, Err}
 use Rattle.nook_defs.specs.declared.data.Op.{Op}
 use Rattle.nook_defs.specs.declared.data.PartSpec.{PartSpec}
 use Rattle.nook_defs.specs.declared.data.Receipt.{Receipt}
 use Rattle.nook_defs.specs.Runs.{IsRun}
-use Rattle.desk_like.specs.Desks.{ArriveEnds, CallEnds, DeskView, Joins, new_view, shared_view}
+use Rattle.desk_like.specs.Desks.{Accounts, ArriveEnds, CallEnds, DeskView, Joins, halved_view, new_view}
+use Rattle.shares.specs.Shares.{owns}
 use Rattle.app_threads.specs.declared.stop.WorkerStop.{WorkerStop}
 use Rattle.app_threads.specs.declared.stop.WorkerStop.TheVariants as stop
 
@@ -38,13 +39,17 @@ NextArrivalEnds spec old new place part frame (Err stop.NoMemory) = ⊥
 abbrev pub Same : ℕ → DeskView → DeskView → Type 0
 Same d old new = (new.seen ≡ old.seen) × (new.made ≡ old.made)
 
+-- a new seat beside another has seen the same, and nothing was added through it
+abbrev pub Starts : ℕ → DeskView → DeskView → Type 0
+Starts d old made = (made.seen ≡ old.seen) × (made.made ≡ [])
+
 -- a seat was made beside another
 abbrev pub Splits : DeskView → DeskView → DeskView → Type 0
-Splits old new made = (new ≡ shared_view old) × (made ≡ new_view old)
+Splits old new made = (new ≡ halved_view old) × (made ≡ new_view old) × Accounts new
 
 -- a seat took another in
 abbrev pub TakesInOne : PartSpec → DeskView → DeskView → DeskView → Type 0
-TakesInOne spec old other new = Joins old other new × IsRun spec new.seen
+TakesInOne spec old other new = Joins old other new × IsRun spec new.seen × Accounts new
 
 -- each seat took another in
 abbrev pub TakesIn : List PartSpec → List DeskView → List DeskView → List DeskView → Type 0
@@ -58,3 +63,26 @@ TakesIn specs olds others news =
 abbrev pub TakeAllIn : List PartSpec → List DeskView → List (List DeskView) → List DeskView → Type 0
 TakeAllIn specs olds [] news = news ≡ olds
 TakeAllIn specs olds (others ∷ workers) news = (mids : List DeskView) × TakesIn specs olds others mids × TakeAllIn specs mids workers news
+
+-- ---- where a point of a desk's share is
+
+-- the seat of this desk has the point
+pub record HasPoint (views : List DeskView) (d : ℕ) (point : ℕ → Bool) : Type 0 where
+  pub view : DeskView
+  pub there : slice_get views d ≡ Some view
+  pub has : owns view.share point ≡ true
+
+-- a worker's seat of this desk has the point
+pub record OneHasPoint (workers : List (List DeskView)) (d : ℕ) (point : ℕ → Bool) : Type 0 where
+  pub worker : ℕ
+  pub views : List DeskView
+  pub there : slice_get workers worker ≡ Some views
+  pub has : HasPoint views d point
+
+-- each point that a seat had is with it or with the seat that was made beside it
+pub record Halve (olds news made : List DeskView) : Type 0 where
+  pub each : (d : ℕ) (point : ℕ → Bool) → HasPoint olds d point → HasPoint news d point ⊎ HasPoint made d point
+
+-- each point that a seat had is with it or with a worker's seat
+pub record Spread (olds news : List DeskView) (workers : List (List DeskView)) : Type 0 where
+  pub each : (d : ℕ) (point : ℕ → Bool) → HasPoint olds d point → HasPoint news d point ⊎ OneHasPoint workers d point

@@ -16,7 +16,7 @@ use Rattle.nook_defs.specs.declared.data.ThreadSpec.{ThreadSpec}
 use Rattle.nook_defs.specs.Places.{at_number}
 use Rattle.nook_defs.specs.Runs.{IsRun, state_of}
 use Rattle.nook_defs.specs.State.{PartState}
-use Rattle.desk_like.specs.Desks.{Answers, DeskView, HasNoneOpen, HasOpen, IsAt, IsReceipt, IsRisingFrom}
+use Rattle.desk_like.specs.Desks.{Accounts, Answers, DeskView, HasNoneOpen, HasOpen, IsAlone, IsAt, IsReceipt, IsRisingFrom}
 use Rattle.app_threads.specs.declared.stop.WorkerStop.{WorkerStop}
 use Rattle.app_threads.specs.declared.stop.WorkerStop.TheVariants as stop
 
@@ -30,9 +30,18 @@ abbrev pub frame_of : Option Event → Option (List ℕ)
 frame_of (Some (event.Arrive frame kept)) = Some frame
 frame_of _ = None
 
+-- an invocation by this thread
+abbrev pub is_invoke_by : ℕ → Option Event → Bool
+is_invoke_by thread (Some (event.Invoke call t op answer)) = t == thread
+is_invoke_by thread _ = false
+
 -- those of the places that hold an invocation
 abbrev pub invokes_at : List Event → List ℕ → List ℕ
 invokes_at seen places = filter (λ place. is_invoke (at_number place seen)) places
+
+-- those that hold an invocation by this thread
+abbrev pub invokes_by : ℕ → List Event → List ℕ → List ℕ
+invokes_by thread seen places = filter (λ place. is_invoke_by thread (at_number place seen)) places
 
 -- the frames that arrived at these places
 abbrev pub frames_at : List Event → List ℕ → List (List ℕ)
@@ -51,8 +60,12 @@ pub record Gains (old new : DeskView) (invokes : List ℕ) (frames : List (List 
   pub invoked : invokes_at new.seen places ≡ invokes
   pub arrived : frames_at new.seen places ≡ frames
 
-abbrev pub Grew : DeskView → DeskView → Type 0
-Grew old new = (places : List ℕ) × Grows old new places
+-- of what was added through a seat, at most so many are invocations, and at most so many are arrivals
+pub record GainsAtMost (old new : DeskView) (calls frames : ℕ) : Type 0 where
+  pub places : List ℕ
+  pub grows : Grows old new places
+  pub invoked : length (invokes_at new.seen places) ≤ calls
+  pub arrived : length (frames_at new.seen places) ≤ frames
 
 -- the seat of one worker gained these; the places rise, behind all that was seen before
 pub record Does (old new : DeskView) (invokes : List ℕ) (frames : List (List ℕ)) : Type 0 where
@@ -89,8 +102,23 @@ Owns thread old new = old.made ≡ [] → All (λ place. IsAt new.seen place (λ
 abbrev pub IsNotOwn : ℕ → DeskView → DeskView → Type 0
 IsNotOwn call old new = (places : List ℕ) × (new.made ≡ old.made ++ places) × All (λ place. IsAt new.seen place (IsNoInvoke call)) places
 
-abbrev pub GrewBy : ℕ → DeskView → DeskView → Type 0
-GrewBy thread old new = Grew old new × MadeBy thread old new
+-- a seat gained at most so much, and what was invoked through a new seat was invoked by this thread
+abbrev pub GrewBy : ℕ → ℕ → ℕ → DeskView → DeskView → Type 0
+GrewBy thread calls frames old new = GainsAtMost old new calls frames × MadeBy thread old new
+
+-- ---- shares and accounts
+
+-- a seat that was the only one of its desk is so again
+pub record StaysAlone (old new : DeskView) : Type 0 where
+  pub still : IsAlone old → IsAlone new
+
+-- a seat of which `Accounts` held has it still
+pub record KeepsAccounts (old new : DeskView) : Type 0 where
+  pub still : Accounts old → Accounts new
+
+-- a seat has the share that it had
+abbrev pub KeepsShare : DeskView → DeskView → Type 0
+KeepsShare old new = new.share ≡ old.share
 
 -- ---- all seats
 
@@ -109,6 +137,18 @@ abbrev pub AtDesks : (ℕ → DeskView → DeskView → Type 0) → List DeskVie
 AtDesks P olds news =
     (length news ≡ length olds)
     × ((d : ℕ) (v w : DeskView) → slice_get olds d ≡ Some v → slice_get news d ≡ Some w → P d v w)
+
+-- each seat that was the only one of its desk is so again
+abbrev pub StayAlone : List DeskView → List DeskView → Type 0
+StayAlone olds news = AtDesks (λ d v w. StaysAlone v w) olds news
+
+-- each seat of which `Accounts` held has it still
+abbrev pub KeepAccounts : List DeskView → List DeskView → Type 0
+KeepAccounts olds news = AtDesks (λ d v w. KeepsAccounts v w) olds news
+
+-- each seat has the share that it had
+abbrev pub KeepShares : List DeskView → List DeskView → Type 0
+KeepShares olds news = AtDesks (λ d v w. KeepsShare v w) olds news
 
 -- what each seat has seen is a run of its desk's part
 abbrev pub AreRuns : List PartSpec → List DeskView → Type 0
@@ -229,6 +269,10 @@ KnowsOpen specs olds news thread part _ = Unit {0}
 
 -- ---- one worker
 
+-- how many of these operations are on this part
+abbrev pub count_on : ℕ → List (ℕ × Op) → ℕ
+count_on part ops = length (filter (λ o. o.0 == part) ops)
+
 -- a thread's worker did these operations
 pub record DoesOps (olds news : List DeskView) (thread : ℕ) (ops : List (ℕ × Op)) (receipts : List Receipt) : Type 0 where
   pub receipts_are : AreReceipts news thread ops receipts
@@ -238,11 +282,11 @@ pub record DoesOps (olds news : List DeskView) (thread : ℕ) (ops : List (ℕ �
 abbrev pub ScriptEnds : List PartSpec → List DeskView → List DeskView → ℕ → List (ℕ × Op) → Result (List Receipt) WorkerStop → Type 0
 ScriptEnds specs olds news thread ops (Ok receipts) = DoesOps olds news thread ops receipts × AtDesks (λ d v w. MadeBy thread v w) olds news
 ScriptEnds specs olds news thread ops (Err (stop.Refused t place part refusal)) =
-    AtDesks (λ d v w. GrewBy thread v w) olds news
+    AtDesks (λ d v w. GrewBy thread (count_on d ops) 0 v w) olds news
     × (t ≡ thread)
     × IsCallRefused specs olds news ops thread place part refusal
     × KnowsOpen specs olds news thread part refusal
-ScriptEnds specs olds news thread ops (Err stop.NoMemory) = AtDesks (λ d v w. GrewBy thread v w) olds news
+ScriptEnds specs olds news thread ops (Err stop.NoMemory) = AtDesks (λ d v w. GrewBy thread (count_on d ops) 0 v w) olds news
 
 -- the worker of a desk's arrivals handed these frames in, and did nothing at the other desks
 abbrev pub DoesFrames : List DeskView → List DeskView → ℕ → List (List ℕ) → Type 0
@@ -252,5 +296,6 @@ abbrev pub ArrivalsEnd : List PartSpec → List DeskView → List DeskView → �
 ArrivalsEnd specs olds news part frames (Ok receipts) =
     (receipts ≡ []) × DoesFrames olds news part frames × AtDesks (λ d v w. MadeBy 255 v w) olds news
 ArrivalsEnd specs olds news part frames (Err (stop.Refused t place p refusal)) =
-    AtDesks (λ d v w. GrewBy 255 v w) olds news × (t ≡ 255) × (p ≡ part) × IsArrivalRefused specs olds news frames place part refusal
-ArrivalsEnd specs olds news part frames (Err stop.NoMemory) = AtDesks (λ d v w. GrewBy 255 v w) olds news
+    AtDesks (λ d v w. GrewBy 255 0 (length (if part == d then frames else [])) v w) olds news × (t ≡ 255) × (p ≡ part) × IsArrivalRefused specs olds news frames place part refusal
+ArrivalsEnd specs olds news part frames (Err stop.NoMemory) =
+    AtDesks (λ d v w. GrewBy 255 0 (length (if part == d then frames else [])) v w) olds news

@@ -10,7 +10,7 @@ use Rattle.app_threads.specs.declared.stop.WorkerStop.{WorkerStop}
 use Rattle.app_threads.specs.declared.stop.WorkerStop.TheVariants as stop
 use Rattle.app_threads.specs.declared.work.Work.{Work}
 use Rattle.app_threads.specs.declared.work.Work.TheVariants as work
-use Rattle.app_threads.specs.Workers.{AreReceipts, AtDesks, Does, GrewBy, IsArrivalRefused, IsCallRefused, KnowsOpen, MadeBy, invokes_of}
+use Rattle.app_threads.specs.Workers.{AreReceipts, AtDesks, Does, GrewBy, IsArrivalRefused, IsCallRefused, KnowsOpen, MadeBy, count_on, invokes_of}
 
 -- a work for each script, from the thread with this number on
 abbrev pub script_works : ℕ → List ThreadSpec → List Work
@@ -66,7 +66,8 @@ WorkEnds specs scripts arrivals olds k news (Ok receipts) =
     × AtDesks (λ d v w. Does v w (invokes_of d (ops_for scripts k) receipts) (frames_for d arrivals k)) olds news
     × AtDesks (λ d v w. MadeBy (thread_of k) v w) olds news
 WorkEnds specs scripts arrivals olds k news (Err (stop.Refused thread place part refusal)) =
-    AtDesks (λ d v w. GrewBy (thread_of k) v w) olds news
+    AtDesks (λ d v w. GrewBy (thread_of k) (count_on d (ops_for scripts k)) (length (frames_for d arrivals k)) v w) olds news
     × (thread ≡ thread_of k)
     × IsWorkRefused specs scripts arrivals olds news k place part refusal
-WorkEnds specs scripts arrivals olds k news (Err stop.NoMemory) = AtDesks (λ d v w. GrewBy (thread_of k) v w) olds news
+WorkEnds specs scripts arrivals olds k news (Err stop.NoMemory) =
+    AtDesks (λ d v w. GrewBy (thread_of k) (count_on d (ops_for scripts k)) (length (frames_for d arrivals k)) v w) olds news

@@ -2,7 +2,7 @@
 
 ghost use Rattle.std.specs.Prelude.{◌≡◌, ◌<◌, ◌≤◌, length, map};
 ghost use Rattle.app_threads.specs.Steps.{IsStepAt, NextArrivalEnds};
-ghost use Rattle.app_threads.specs.Workers.{AreFrames, AreSeats, ArrivalsEnd, IsNetAt};
+ghost use Rattle.app_threads.specs.Workers.{AreFrames, AreSeats, ArrivalsEnd, IsNetAt, KeepShares};
 
 use crate::seats::arrive_at;
 use crate::stop::WorkerStop;
@@ -60,6 +60,7 @@ pub fn run_arrivals<R: Wait, D: DeskLike>(
     requires net { 0 < length frames.now → IsNetAt (map D.spec desks.now) part }
     ensures seats { AreSeats D.is_seat desks.now seats.new }
     ensures ends { ArrivalsEnd (map D.spec desks.now) (map D.view seats.old) (map D.view seats.new) part frames.now result }
+    ensures shares { KeepShares (map D.view seats.old) (map D.view seats.new) }
 {
     for place in 0..frames.len() {
         let frame = frames.get(place);

@@ -2,7 +2,7 @@
 
 ghost use Rattle.std.specs.Prelude.{◌≡◌, ◌<◌, ◌≤◌, length, map};
 ghost use Rattle.app_threads.specs.Steps.{IsStepAt, NextCallEnds};
-ghost use Rattle.app_threads.specs.Workers.{AreSeats, NameDesks, ScriptEnds};
+ghost use Rattle.app_threads.specs.Workers.{AreSeats, KeepShares, NameDesks, ScriptEnds};
 
 use crate::seats::call_at;
 use crate::stop::WorkerStop;
@@ -56,6 +56,7 @@ pub fn run_script<R: Wait, D: DeskLike, G: Gate>(
     requires parts { NameDesks (length desks.now) ops.now }
     ensures seats { AreSeats D.is_seat desks.now seats.new }
     ensures ends { ScriptEnds (map D.spec desks.now) (map D.view seats.old) (map D.view seats.new) thread ops.now result }
+    ensures shares { KeepShares (map D.view seats.old) (map D.view seats.new) }
 {
     let mut receipts = Receipts::new(alloc);
     for place in 0..ops.len() {

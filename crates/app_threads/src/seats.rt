@@ -1,9 +1,9 @@
 //! What a worker does at its seats: one for each desk, in order.
 
 ghost use Rattle.std.specs.Prelude.{◌≡◌, ◌<◌, ◌≤◌, length, map, true, ℕ, slice_get, Some, slice_index_or, IfOk};
-ghost use Rattle.desk_like.specs.Desks.{ArriveEnds, CallEnds, new_view};
-ghost use Rattle.app_threads.specs.Workers.{AreSeats, AtDesks, IsNetAt, IsSeatAt};
-ghost use Rattle.app_threads.specs.Steps.{IsStepAt, Same, Splits, TakesIn, TakesInOne};
+ghost use Rattle.desk_like.specs.Desks.{ArriveEnds, CallEnds};
+ghost use Rattle.app_threads.specs.Workers.{AreSeats, AtDesks, IsNetAt, IsSeatAt, KeepAccounts};
+ghost use Rattle.app_threads.specs.Steps.{Halve, IsStepAt, Same, Splits, Starts, TakesIn, TakesInOne};
 
 use desk_like::DeskLike;
 use nook_defs::data::{DeskRefused, Op, Receipt};
@@ -73,8 +73,10 @@ pub fn split_all<D: DeskLike>(
     requires seats { AreSeats D.is_seat desks.now seats.old }
     ensures seats { AreSeats D.is_seat desks.now seats.new }
     ensures same { AtDesks Same (map D.view seats.old) (map D.view seats.new) }
+    ensures accounts { KeepAccounts (map D.view seats.old) (map D.view seats.new) }
     ensures made { IfOk result (λ made. AreSeats D.is_seat desks.now made.items) }
-    ensures views { IfOk result (λ made. map D.view made.items ≡ map new_view (map D.view seats.old)) }
+    ensures starts { IfOk result (λ made. AtDesks Starts (map D.view seats.old) (map D.view made.items)) }
+    ensures halves { IfOk result (λ made. Halve (map D.view seats.old) (map D.view seats.new) (map D.view made.items)) }
 {
     let mut made = Vec::new(alloc);
     for at in 0..desks.len() {

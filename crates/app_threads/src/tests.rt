@@ -41,7 +41,7 @@ impl DeskLike for ClosedDesk {
 
     ghost is_seat = { λ _ _. Unit {0} };
 
-    ghost view = { λ _. record { seen = []; made = []; alone = false } };
+    ghost view = { λ _. record { seen = []; made = []; share = [] } };
 
     fn call<R: Wait>(
         &self,

@@ -3,8 +3,8 @@
 ghost use Rattle.std.specs.Prelude.{◌≡◌, ◌<◌, ◌≤◌, length, map, All, IfOk, OnOk};
 ghost use Rattle.app_threads.specs.Ends.{WorkersEnd};
 ghost use Rattle.app_threads.specs.Hired.{Each, IsDone, IsHired, IsReady, RowsEnd};
-ghost use Rattle.app_threads.specs.Steps.{Same, TakeAllIn};
-ghost use Rattle.app_threads.specs.Workers.{AreArrivals, AreScripts, AreSeats, AtDesks};
+ghost use Rattle.app_threads.specs.Steps.{Same, Spread, TakeAllIn};
+ghost use Rattle.app_threads.specs.Workers.{AreArrivals, AreScripts, AreSeats, AtDesks, KeepAccounts, KeepShares};
 ghost use Rattle.app_threads.specs.Works.{IsWork, WorkEnds};
 
 use crate::arrivals::run_arrivals;
@@ -32,7 +32,9 @@ fn hire<D: DeskLike>(
     requires { AreSeats D.is_seat desks.now seats.old }
     ensures seats { AreSeats D.is_seat desks.now seats.new }
     ensures same { AtDesks Same (map D.view seats.old) (map D.view seats.new) }
+    ensures accounts { KeepAccounts (map D.view seats.old) (map D.view seats.new) }
     ensures hired { IfOk result (λ workers. Each (IsHired D.is_seat D.spec D.view desks.now (map D.view seats.old)) works.now workers.items) }
+    ensures spread { IfOk result (λ workers. Spread (map D.view seats.old) (map D.view seats.new) (map (λ worker. map D.view worker.seats.items) workers.items)) }
 {
     let mut workers = Vec::new(alloc);
     for at in 0..works.len() {
@@ -62,6 +64,7 @@ fn work_at<R: Wait, D: DeskLike, G: Gate>(
     requires work { IsWork scripts.now arrivals.now work }
     ensures seats { AreSeats D.is_seat desks.now seats.new }
     ensures ends { WorkEnds (map D.spec desks.now) scripts.now arrivals.now (map D.view seats.old) work (map D.view seats.new) result }
+    ensures shares { KeepShares (map D.view seats.old) (map D.view seats.new) }
 {
     match work {
         Work::Script { thread } => {
@@ -133,6 +136,7 @@ fn take_in<D: DeskLike>(
     ensures seats { AreSeats D.is_seat desks.now seats.new }
     ensures joins { OnOk result (TakeAllIn (map D.spec desks.now) (map D.view seats.old) (map (λ done. map D.view done.seats.items) workers.items) (map D.view seats.new)) }
     ensures ends { IfOk result (λ ends. ends.items ≡ map (λ done. done.end) workers.items) }
+    ensures accounts { KeepAccounts (map D.view seats.old) (map D.view seats.new) }
 {
     let mut ends = Vec::new(alloc);
     for done in workers {
@@ -162,8 +166,11 @@ fn rows_of(
 /// There are at most 8 desks, as many seats and lists of arrivals, and at most 16 scripts. The gate is passed before
 /// each operation of a script. A worker that is refused stops there, and the others finish; the one with the smallest
 /// thread number is told, and workers of arrivals come after all threads, in the order of their desks. After a table or
-/// a refusal the seats know all that was seen and added through the workers' seats. After `NoMemory` some workers may
-/// not have run, and what was added through the seats of those that did may not be known.
+/// a refusal the seats have taken all the workers' seats in: they know all that was seen and added through these, and
+/// those that were alone before are alone again. After a refusal no seat gained more calls of a thread than its script
+/// has on that desk, nor more arrivals than the desk's list. After `NoMemory` some workers may not have run, and what was
+/// added through the seats of those that did may not be known. Whatever the answer, a seat that accounted for all that
+/// was added through it (`Accounts`) does so still.
 pub fn run_workers<R: Threads + Wait + Sync, D: DeskLike, G: Gate>(
     rt: &R,
     alloc: Global,
@@ -179,6 +186,7 @@ pub fn run_workers<R: Threads + Wait + Sync, D: DeskLike, G: Gate>(
     requires arrivals { AreArrivals (map D.spec desks.now) arrivals.now }
     ensures seats { AreSeats D.is_seat desks.now seats.new }
     ensures ends { WorkersEnd (map D.spec desks.now) scripts.now arrivals.now (map D.view seats.old) (map D.view seats.new) result }
+    ensures accounts { KeepAccounts (map D.view seats.old) (map D.view seats.new) }
 {
     let works = works_of(alloc, scripts, arrivals)?;
     let workers = hire(alloc, desks, seats, works.as_slice())?;

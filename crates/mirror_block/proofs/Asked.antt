@@ -1,15 +1,20 @@
 -- How asking a side ends, by how its desk's call ends.
-use Rattle.std.proofs.Common.{◌≡◌, ℕ, suc, ◌+◌, ◌-◌, ◌<◌, ◌≤◌, true, false, Option, Some, None, Ok, Err, List, [], ◌∷◌, length, slice_get, sym, refl, ap, ◌∙◌, inl, inr, arith}
+use Rattle.std.proofs.Common.{◌≡◌, ◌⊎◌, ℕ, suc, ◌+◌, ◌-◌, ◌<◌, ◌≤◌, true, false, Option, Some, None, Ok, Err, List, [], ◌∷◌, length, slice_get, subst, sym, refl, ap, ◌∙◌, inl, inr, arith}
 use Rattle.nook_defs.specs.declared.data.Answer.{Answer}
+use Rattle.nook_defs.specs.declared.data.CallEntry.{CallEntry}
+use Rattle.nook_defs.specs.declared.data.DeskRefused.{DeskRefused}
 use Rattle.nook_defs.specs.declared.data.DeskRefused.TheVariants as refused
 use Rattle.nook_defs.specs.declared.data.Event.{Event}
 use Rattle.nook_defs.specs.declared.data.Event.TheVariants as event
 use Rattle.nook_defs.specs.declared.data.Op.{Op}
 use Rattle.nook_defs.specs.declared.data.PartSpec.{PartSpec}
 use Rattle.nook_defs.specs.declared.data.Receipt.{Receipt}
+use Rattle.nook_defs.specs.Log.{call_of_thread}
 use Rattle.nook_defs.specs.Places.{at_number}
 use Rattle.nook_defs.specs.Runs.{IsRun, state_of}
-use Rattle.desk_like.specs.Desks.{CallEnds, DeskView}
+use Rattle.nook_defs.specs.State.{PartState}
+use Rattle.shares.specs.Shares.{IsWhole}
+use Rattle.desk_like.specs.Desks.{Accounts, CallEnds, DeskView, HasOpen}
 use Rattle.mirror_block.specs.Disk.{IsShown}
 use Rattle.mirror_block.specs.Rule.{is_disk_op}
 use Rattle.mirror_block.specs.Sides.{IsAsked, IsFull, IsSide, WantsMemory, and_more, answers_gained}
@@ -17,16 +22,21 @@ use Rattle.mirror_block.proofs.Calls.{answered_once, asked, calls_counted, close
 use Rattle.mirror_block.proofs.Gains.{IsCalled, called, nothing_added, place_behind}
 use Rattle.mirror_block.proofs.Plain.{call_shown, served_by}
 
-module _ (spec : PartSpec) (old new : DeskView) (o : Op) (side : IsSide spec spec.blocks false old) (run : IsRun spec new.seen) where
+-- where no call is open, no thread has one
+none_has : (p : PartState) (thread call : ℕ) → p.log.pending ≡ [] → HasOpen p thread call → ⊥
+none_has p thread call none h = absurd cc (sym h.open_one ∙ ap (λ (l : List CallEntry). call_of_thread thread l) none)
+
+module _ (spec : PartSpec) (old new : DeskView) (o : Op) (side : IsSide spec spec.blocks false old) (run : IsRun spec new.seen) (accounts : Accounts new) where
   none : (state_of spec old.seen).log.pending ≡ []
   none = side.none_open refl
 
   -- the side of a mirror that stopped
-  stopped_side : new.alone ≡ old.alone → IsSide spec spec.blocks true new
+  stopped_side : new.share ≡ old.share → IsSide spec spec.blocks true new
   stopped_side a = record {
     class = side.class;
     size = refl;
-    alone = a ∙ side.alone;
+    alone = subst IsWhole (sym a) side.alone;
+    accounts = accounts;
     run = run;
     none_open = λ e. absurd cc;
     idle = λ e. absurd cc;
@@ -56,7 +66,8 @@ module _ (spec : PartSpec) (old new : DeskView) (o : Op) (side : IsSide spec spe
         record {
           class = side.class;
           size = refl;
-          alone = ends.0.adds.alone ∙ side.alone;
+          alone = subst IsWhole (sym ends.0.adds.share) side.alone;
+          accounts = accounts;
           run = run;
           none_open = λ e. closed_behind spec old new receipt.call o run none c receipt.answer first;
           idle = λ e device shows. (served_by spec.blocks old new receipt.call o disk_op c receipt.answer first (side.idle refl) device shows).over;
@@ -65,13 +76,24 @@ module _ (spec : PartSpec) (old new : DeskView) (o : Op) (side : IsSide spec spe
       )
 
   pub no_memory : (which : Option ℕ) → CallEnds spec old new 0 o (Err (refused.NoMemory which)) → WantsMemory old new o × IsSide spec spec.blocks true new
-  no_memory None ends = (inl (nothing_added old new side.alone ends), stopped_side ends.alone)
+  no_memory None ends = (inl (nothing_added old new side.alone ends), stopped_side ends.share)
   no_memory (Some call) ends =
       let c : IsCalled old new call o = called old new call o ends.1.0 side.alone ends.1.1 in
       let first = open_unanswered spec old new call o run none c ends.0 in (
         inr (asked spec old new call o run none c, given spec old new call o run none c ∙ ap (λ (x : Option Answer). and_more x []) first),
-        stopped_side ends.1.1.adds.alone,
+        stopped_side ends.1.1.adds.share,
       )
+
+  -- no call is open at a side that is asked, so memory or numbers of calls were wanting
+  pub why_refused : (why : DeskRefused) → CallEnds spec old new 0 o (Err why) → ((which : Option ℕ) × (why ≡ refused.NoMemory which)) ⊎ (why ≡ refused.TooManyCalls)
+  why_refused (refused.NoMemory which) ends = inl (which, refl)
+  why_refused refused.TooManyCalls ends = inr refl
+  why_refused (refused.OpenCall call) ends =
+      let same = nothing_added old new side.alone ends.0 in
+      let pending : (state_of spec new.seen).log.pending ≡ [] = ap (λ (v : DeskView). (state_of spec v.seen).log.pending) same ∙ none in
+      absurd (none_has (state_of spec new.seen) 0 call pending ends.1)
+  why_refused refused.NoOpenCall ends = absurd ends
+  why_refused refused.TooManyArrivals ends = absurd ends
 
   pub full : CallEnds spec old new 0 o (Err refused.TooManyCalls) → IsFull old new o
   full ends =

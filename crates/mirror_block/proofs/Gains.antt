@@ -1,5 +1,5 @@
 -- What a call adds to what the one seat of a side has seen.
-use Rattle.std.proofs.Common.{◌≡◌, ℕ, zero, suc, ◌+◌, ◌<◌, ◌≤◌, Bool, true, Option, Some, List, [], ◌∷◌, ◌++◌, length, drop, slice_get, subst, sym, refl, ap, ◌∙◌, arith, append-nil, length-append}
+use Rattle.std.proofs.Common.{◌≡◌, ℕ, zero, suc, ◌+◌, ◌<◌, ◌≤◌, Option, Some, List, [], ◌∷◌, ◌++◌, length, drop, slice_get, subst, sym, refl, ap, ◌∙◌, arith, append-nil, length-append}
 use Rattle.std.proofs.Math.Seq.{drop-append_seam}
 use Rattle.std.proofs.lemmas.List.Elements.{All-contains, All-from_recursion}
 use Rattle.std.proofs.lemmas.Map.Made.{Contains-tail}
@@ -11,20 +11,21 @@ use Rattle.nook_defs.specs.declared.data.Event.TheVariants as event
 use Rattle.nook_defs.specs.declared.data.Op.{Op}
 use Rattle.nook_defs.specs.Places.{at_number}
 use Rattle.part_laws.proofs.Places.{get_mid, some_same}
-use Rattle.desk_like.specs.Desks.{AddsNothing, DeskView, Invokes, IsAt, IsInvoke, IsOther, IsRisingFrom}
+use Rattle.shares.specs.Shares.{Share}
+use Rattle.desk_like.specs.Desks.{AddsNothing, DeskView, Invokes, IsAlone, IsAt, IsInvoke, IsOther, IsRisingFrom}
 use Rattle.mirror_block.specs.Sides.{gained}
 
 pub gained_is : (old new : DeskView) (more : List Event) → old.seen ++ more ≡ new.seen → gained old new ≡ more
 gained_is old new more e = ap (drop (length old.seen)) (sym e) ∙ drop-append_seam old.seen more
 
-abbrev view : List Event → List ℕ → Bool → DeskView
-view seen made alone = record { seen = seen; made = made; alone = alone }
+abbrev view : List Event → List ℕ → Share → DeskView
+view seen made share = record { seen = seen; made = made; share = share }
 
-same_view : (v w : DeskView) → v.seen ≡ w.seen → v.made ≡ w.made → v.alone ≡ w.alone → v ≡ w
+same_view : (v w : DeskView) → v.seen ≡ w.seen → v.made ≡ w.made → v.share ≡ w.share → v ≡ w
 same_view v w e f g =
-    ap (λ (s : List Event). view s v.made v.alone) e
-    ∙ ap (λ (m : List ℕ). view w.seen m v.alone) f
-    ∙ ap (λ (b : Bool). view w.seen w.made b) g
+    ap (λ (s : List Event). view s v.made v.share) e
+    ∙ ap (λ (m : List ℕ). view w.seen m v.share) f
+    ∙ ap (λ (s : Share). view w.seen w.made s) g
 
 -- ---- places
 
@@ -57,8 +58,8 @@ none_contained : (place : ℕ) → Contains [] place → ⊥
 none_contained place c = let l = c.1 in absurd (omega arith)
 
 -- where nothing was added through the only seat, it knows the same
-pub nothing_added : (old new : DeskView) → old.alone ≡ true → AddsNothing old new → new ≡ old
-nothing_added old new alone a = same_view new old (seen a.seen.0 a.seen.1) (a.made ∙ append-nil old.made) a.alone
+pub nothing_added : (old new : DeskView) → IsAlone old → AddsNothing old new → new ≡ old
+nothing_added old new alone a = same_view new old (seen a.seen.0 a.seen.1) (a.made ∙ append-nil old.made) a.share
   where
     seen : (more : List Event) → old.seen ++ more ≡ new.seen → new.seen ≡ old.seen
     seen [] e = sym e ∙ append-nil old.seen
@@ -76,7 +77,7 @@ pub record IsCalled (old new : DeskView) (call : ℕ) (o : Op) : Type 0 where
   pub others : AllByRecursion IsOther tail
 
 -- what was added through the only seat, by the place of the invocation
-module _ (old new : DeskView) (call : ℕ) (o : Op) (at : ℕ) (alone : old.alone ≡ true) (h : Invokes old new call 0 o at) where
+module _ (old new : DeskView) (call : ℕ) (o : Op) (at : ℕ) (alone : IsAlone old) (h : Invokes old new call 0 o at) where
   contained : (place : ℕ) → length old.seen < place → place ≤ length new.seen → Contains (at ∷ h.others) place
   contained place l m = h.adds.own alone place l m
 

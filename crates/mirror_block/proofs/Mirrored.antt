@@ -66,6 +66,7 @@ side_stopped spec n b v s = record {
   class = s.class;
   size = s.size;
   alone = s.alone;
+  accounts = s.accounts;
   run = s.run;
   none_open = λ e. absurd cc;
   idle = λ e. absurd cc;

@@ -37,6 +37,7 @@ new_side spec size v n = record {
   class = n.class;
   size = n.size;
   alone = n.alone;
+  accounts = n.accounts;
   run = subst (IsRun spec) (sym n.seen) (empty_run spec);
   none_open = λ e. ap (λ (l : List Event). (state_of spec l).log.pending) n.seen ∙ none_open_at_first spec;
   idle = λ e. subst (IsIdleBehind size) (sym n.seen) (idle_at_first size);

@@ -8,7 +8,7 @@ use Rattle.nook_defs.specs.declared.data.Event.TheVariants as event
 use Rattle.nook_defs.specs.declared.data.Op.{Op}
 use Rattle.nook_defs.specs.declared.data.PartSpec.{PartSpec}
 use Rattle.nook_defs.specs.Runs.{IsRun, answer_at, state_of}
-use Rattle.desk_like.specs.Desks.{DeskView}
+use Rattle.desk_like.specs.Desks.{Accounts, DeskView, IsAlone}
 use Rattle.mirror_block.specs.declared.stop.MirrorStop.{MirrorStop}
 use Rattle.mirror_block.specs.declared.stop.MirrorStop.TheVariants as stop
 use Rattle.mirror_block.specs.Disk.{IsIdleBehind, IsShown}
@@ -59,14 +59,17 @@ answers_given (e ∷ events) = answers_given events
 pub record IsNewSide (spec : PartSpec) (blocks : ℕ) (v : DeskView) : Type 0 where
   pub class : spec.class ≡ class.Block
   pub size : spec.blocks ≡ blocks
-  pub alone : v.alone ≡ true
+  pub alone : IsAlone v
+  pub accounts : Accounts v
   pub seen : v.seen ≡ []
 
--- a side of a mirror of so many blocks, whose flag is set or not: while it is not set no call is open
+-- a side of a mirror of so many blocks, whose flag is set or not: its seat is the only one at its desk, which added all
+-- that it has seen; while the flag is not set no call is open
 pub record IsSide (spec : PartSpec) (blocks : ℕ) (stopped : Bool) (v : DeskView) : Type 0 where
   pub class : spec.class ≡ class.Block
   pub size : spec.blocks ≡ blocks
-  pub alone : v.alone ≡ true
+  pub alone : IsAlone v
+  pub accounts : Accounts v
   pub run : IsRun spec v.seen
   pub none_open : stopped ≡ false → (state_of spec v.seen).log.pending ≡ []
   pub idle : stopped ≡ false → IsIdleBehind blocks v.seen

@@ -1,6 +1,7 @@
 //! The outcomes of the rule against a table, and a mirror over desks that refuse.
 
-ghost use Rattle.std.specs.Prelude.{◌≡◌, IfOk, [], true};
+ghost use Rattle.std.specs.Prelude.{◌≡◌, IfOk, []};
+ghost use Rattle.shares.specs.Shares.{whole};
 ghost use Rattle.mirror_block.specs.Sides.{IsNewSide};
 
 use crate::outcome::{Outcome, after_asking};
@@ -12,6 +13,7 @@ use nook_defs::data::{
 use nook_defs::lists::{Frames, Words};
 use nook_defs::name::Name;
 use std::alloc::Global;
+use std::process::Abort;
 use std::sync::Wait;
 use std::test::Fail;
 
@@ -309,20 +311,20 @@ fn reads_end_as_in_the_table(rt: HostRuntime) -> Result<(), Fail> {
     Ok(())
 }
 
-/// A desk that refuses each call for want of memory.
+/// A desk that refuses each call for want of memory. It has one seat alone: whoever would split it ends the test.
 #[derive(Drop)]
-struct ClosedDesk {
+struct ClosedDesk<R> {
     spec: PartSpec,
+    rt: R,
 }
 
-/// A seat at such a desk, which knows only whether it is the only one.
+/// The seat at such a desk.
 #[derive(Drop)]
-struct Chair {
-    alone: bool,
-}
+struct Chair;
 
 #[tactic(auto, unfolding(nook_defs::specs::Runs::IsRunFrom))]
-impl DeskLike for ClosedDesk {
+impl<A: Abort + Sync> DeskLike for ClosedDesk<A> {
+    ghost use Rattle.shares.specs.Shares.{whole};
     ghost use Rattle.std.specs.Prelude.{[]};
 
     type Seat = Chair;
@@ -331,7 +333,7 @@ impl DeskLike for ClosedDesk {
 
     ghost is_seat = { λ _ _. Unit {0} };
 
-    ghost view = { λ c. record { seen = []; made = []; alone = c.alone } };
+    ghost view = { λ _. record { seen = []; made = []; share = whole } };
 
     fn call<R: Wait>(
         &self,
@@ -354,17 +356,18 @@ impl DeskLike for ClosedDesk {
         Err(DeskRefused::NoMemory { call: None })
     }
 
-    fn split(&self, seat: &mut Chair) -> Chair {
-        seat.alone = false;
-        Chair { alone: false }
+    fn split(&self, _seat: &mut Chair) -> Chair {
+        panic!(&self.rt; "no second seat")
     }
 
-    fn join(&self, _seat: &mut Chair, _other: Chair) {}
+    fn join(&self, _seat: &mut Chair, _other: Chair) {
+        panic!(&self.rt; "no second seat")
+    }
 }
 
 /// A desk of a disk of four blocks with an empty image.
-fn disk_desk(alloc: Global) -> Result<ClosedDesk, Fail>
-    ensures { IfOk result (λ desk. IsNewSide desk.spec 4 (record { seen = []; made = []; alone = true })) }
+fn disk_desk<R: Abort + Drop>(alloc: Global, rt: R) -> Result<ClosedDesk<R>, Fail>
+    ensures { IfOk result (λ desk. IsNewSide desk.spec 4 (record { seen = []; made = []; share = whole })) }
 {
     Ok(ClosedDesk {
         spec: PartSpec {
@@ -382,21 +385,16 @@ fn disk_desk(alloc: Global) -> Result<ClosedDesk, Fail>
             faults: Faults::new(alloc),
             arrivals: Frames::new(alloc),
         },
+        rt,
     })
 }
 
 #[test]
 fn a_refused_operation_asks_nobody(rt: HostRuntime) -> Result<(), Fail> {
     let alloc = rt.alloc();
-    let left = disk_desk(alloc)?;
-    let right = disk_desk(alloc)?;
-    let mut mirror = Mirror::new(
-        &left,
-        &right,
-        Chair { alone: true },
-        Chair { alone: true },
-        4,
-    );
+    let left = disk_desk(alloc, rt.clone()?)?;
+    let right = disk_desk(alloc, rt.clone()?)?;
+    let mut mirror = Mirror::new(&left, &right, Chair, Chair, 4);
     let past_the_end = mirror.read(&rt, alloc, 3, 2);
     assert!(rt; matches!(past_the_end, Ok(MirrorAnswer::BadRange)));
     let of_no_block = mirror.read(&rt, alloc, 0, 0);
@@ -410,15 +408,9 @@ fn a_refused_operation_asks_nobody(rt: HostRuntime) -> Result<(), Fail> {
 #[test]
 fn a_mirror_stops_at_the_first_side_without_memory(rt: HostRuntime) -> Result<(), Fail> {
     let alloc = rt.alloc();
-    let left = disk_desk(alloc)?;
-    let right = disk_desk(alloc)?;
-    let mut mirror = Mirror::new(
-        &left,
-        &right,
-        Chair { alone: true },
-        Chair { alone: true },
-        4,
-    );
+    let left = disk_desk(alloc, rt.clone()?)?;
+    let right = disk_desk(alloc, rt.clone()?)?;
+    let mut mirror = Mirror::new(&left, &right, Chair, Chair, 4);
     match mirror.read(&rt, alloc, 0, 1) {
         Ok(_) => assert!(rt; false, "a desk that refuses gave an answer"),
         Err(why) => assert_eq!(rt; why, MirrorStop::NoMemory { side: Some(0) }),

@@ -1,12 +1,13 @@
 use Rattle.std.proofs.Common.{◌≤◌, length, map, take, arith}
+use Rattle.std.specs.Prelude.{Ok, Err}
 use Rattle.std.proofs.lemmas.Result.{err_from_is_err_and}
 use Rattle.std.proofs.lemmas.List.{take_all}
-use Rattle.app_threads.proofs.Listed.{all_at, take_next}
-use Rattle.app_threads.proofs.Scripts.{frames_ended, frames_more, frames_none, frames_stopped}
+use Rattle.app_threads.proofs.Listed.{all_at, take_few, take_next}
+use Rattle.app_threads.proofs.Scripts.{arrival_shares, frames_ended, frames_more, frames_none, frames_stopped, shares_none}
 use Rattle.app_threads.proofs.arrivals.run_arrivals.Goals as goal
 
 pub loop-place-init : goal.loop-place-init
-loop-place-init g c = record { seats = c.requires.seats; does = frames_none (map g.D.DeskLike.view c.args.seats.now) c.args.part }
+loop-place-init g c = record { seats = c.requires.seats; does = frames_none (map g.D.DeskLike.view c.args.seats.now) c.args.part; shares = shares_none (map g.D.DeskLike.view c.args.seats.now) }
 
 pub arrive_next-requires-clause-some : goal.arrive_next-requires-clause-some
 arrive_next-requires-clause-some g c κs within =
@@ -22,7 +23,12 @@ returns-in_err-arrive_next-clause-ends g c =
     rw (q.1, q.2)
     (frames_stopped (map g.D.DeskLike.spec c.args.desks.now) (map g.D.DeskLike.view c.args.seats.now) (map g.D.DeskLike.view c.loop-place.seats) (map g.D.DeskLike.view c.arrive_next.new.seats)
     c.loop-place.place c.args.part c.get-frame.result.now c.args.frames.now (take c.loop-place.place c.args.frames.now) c.in_err-arrive_next.field-0.0
-    c.loop-place.invariant.does c.get-frame.ensures c.in_err-arrive_next.ensures.ends)
+    (take_few c.args.frames.now c.loop-place.place) c.loop-place.invariant.does c.get-frame.ensures c.in_err-arrive_next.ensures.ends)
+
+pub returns-in_err-arrive_next-clause-shares : goal.returns-in_err-arrive_next-clause-shares
+returns-in_err-arrive_next-clause-shares g c =
+    arrival_shares (map g.D.DeskLike.spec c.args.desks.now) (map g.D.DeskLike.view c.args.seats.now) (map g.D.DeskLike.view c.loop-place.seats) (map g.D.DeskLike.view c.arrive_next.new.seats)
+    c.loop-place.place c.args.part c.get-frame.result.now (Err c.in_err-arrive_next.field-0.0) c.in_err-arrive_next.ensures.ends c.loop-place.invariant.shares
 
 pub loop-place-preserved : goal.loop-place-preserved
 loop-place-preserved g c = record {
@@ -32,6 +38,9 @@ loop-place-preserved g c = record {
       (frames_more (map g.D.DeskLike.spec c.args.desks.now) (map g.D.DeskLike.view c.args.seats.now) (map g.D.DeskLike.view c.loop-place.seats) (map g.D.DeskLike.view c.arrive_next.new.seats)
       c.loop-place.place c.args.part c.get-frame.result.now c.in_ok-arrive_next.field-0 (take c.loop-place.place c.args.frames.now)
       c.loop-place.invariant.does c.in_ok-arrive_next.ensures.ends);
+  shares =
+      arrival_shares (map g.D.DeskLike.spec c.args.desks.now) (map g.D.DeskLike.view c.args.seats.now) (map g.D.DeskLike.view c.loop-place.seats) (map g.D.DeskLike.view c.arrive_next.new.seats)
+      c.loop-place.place c.args.part c.get-frame.result.now (Ok c.in_ok-arrive_next.field-0) c.in_ok-arrive_next.ensures.ends c.loop-place.invariant.shares;
 }
 
 pub returns-clause-ends : goal.returns-clause-ends

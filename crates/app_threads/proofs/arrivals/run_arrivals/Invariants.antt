@@ -1,5 +1,5 @@
 use Rattle.std.proofs.Common.{map, take}
-use Rattle.app_threads.specs.Workers.{AreSeats, DoesFrames}
+use Rattle.app_threads.specs.Workers.{AreSeats, DoesFrames, KeepShares}
 use Rattle.app_threads.proofs.arrivals.run_arrivals.Given as goal
 
 abbrev pub invariant-loop-place : goal.invariant-loop-place
@@ -7,4 +7,5 @@ invariant-loop-place g l =
     record {
       seats : AreSeats g.D.DeskLike.is_seat l.desks l.seats;
       does : DoesFrames (map g.D.DeskLike.view l.fn.seats) (map g.D.DeskLike.view l.seats) l.part (take l.place l.frames);
+      shares : KeepShares (map g.D.DeskLike.view l.fn.seats) (map g.D.DeskLike.view l.seats);
     }

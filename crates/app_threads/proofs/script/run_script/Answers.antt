@@ -1,12 +1,17 @@
 use Rattle.std.proofs.Common.{◌<◌, length, map, take, arith}
+use Rattle.std.specs.Prelude.{Ok, Err}
 use Rattle.std.proofs.lemmas.List.{take_all}
 use Rattle.std.proofs.lemmas.Result.{err_from_is_err_and}
 use Rattle.app_threads.proofs.Listed.{all_at, take_next}
-use Rattle.app_threads.proofs.Scripts.{ops_ended, ops_more, ops_none, ops_stopped, ops_unkept}
+use Rattle.app_threads.proofs.Scripts.{call_shares, ops_ended, ops_more, ops_none, ops_stopped, ops_unkept, shares_none}
 use Rattle.app_threads.proofs.script.run_script.Goals as goal
 
 pub loop-place-init : goal.loop-place-init
-loop-place-init g c = record { seats = c.requires.seats; does = rw c.new-receipts.ensures (ops_none (map g.D.DeskLike.view c.args.seats.now) c.args.thread) }
+loop-place-init g c = record {
+  seats = c.requires.seats;
+  does = rw c.new-receipts.ensures (ops_none (map g.D.DeskLike.view c.args.seats.now) c.args.thread);
+  shares = shares_none (map g.D.DeskLike.view c.args.seats.now);
+}
 
 pub call_next-requires-clause-part : goal.call_next-requires-clause-part
 call_next-requires-clause-part g c κs within =
@@ -17,7 +22,7 @@ returns-in_err-receipt-clause-ends g c =
     let q = err_from_is_err_and c.from_residual.result c.from_residual.ensures.1 in
     rw (q.1, q.2)
     (ops_stopped (map g.D.DeskLike.spec c.args.desks.now) (map g.D.DeskLike.view c.args.seats.now) (map g.D.DeskLike.view c.loop-place.seats) (map g.D.DeskLike.view c.call_next.new.seats)
-    c.args.thread c.loop-place.place c.get.result.now.0 c.get.result.now.1 c.args.ops.now (take c.loop-place.place c.args.ops.now) c.loop-place.receipts c.in_err-receipt.field-0.0
+    c.args.thread c.loop-place.place c.get.result.now.0 c.get.result.now.1 c.args.ops.now c.loop-place.receipts c.in_err-receipt.field-0.0
     c.loop-place.invariant.does c.get.ensures c.in_err-receipt.ensures.ends)
 
 pub returns-in_err-push-clause-ends : goal.returns-in_err-push-clause-ends
@@ -25,8 +30,18 @@ returns-in_err-push-clause-ends g c =
     let q = err_from_is_err_and c.from_residual-in_err-push.result c.from_residual-in_err-push.ensures.1 in
     rw (q.1, q.2)
     (ops_unkept (map g.D.DeskLike.spec c.args.desks.now) (map g.D.DeskLike.view c.args.seats.now) (map g.D.DeskLike.view c.loop-place.seats) (map g.D.DeskLike.view c.call_next.new.seats)
-    c.args.thread c.loop-place.place c.get.result.now.0 c.get.result.now.1 c.in_ok-receipt.receipt c.args.ops.now (take c.loop-place.place c.args.ops.now) c.loop-place.receipts
-    c.loop-place.invariant.does c.in_ok-receipt.ensures.ends)
+    c.args.thread c.loop-place.place c.get.result.now.0 c.get.result.now.1 c.in_ok-receipt.receipt c.args.ops.now c.loop-place.receipts
+    c.loop-place.invariant.does c.get.ensures c.in_ok-receipt.ensures.ends)
+
+pub returns-in_err-receipt-clause-shares : goal.returns-in_err-receipt-clause-shares
+returns-in_err-receipt-clause-shares g c =
+    call_shares (map g.D.DeskLike.spec c.args.desks.now) (map g.D.DeskLike.view c.args.seats.now) (map g.D.DeskLike.view c.loop-place.seats) (map g.D.DeskLike.view c.call_next.new.seats)
+    c.args.thread c.loop-place.place c.get.result.now.0 c.get.result.now.1 (Err c.in_err-receipt.field-0.0) c.in_err-receipt.ensures.ends c.loop-place.invariant.shares
+
+pub returns-in_err-push-clause-shares : goal.returns-in_err-push-clause-shares
+returns-in_err-push-clause-shares g c =
+    call_shares (map g.D.DeskLike.spec c.args.desks.now) (map g.D.DeskLike.view c.args.seats.now) (map g.D.DeskLike.view c.loop-place.seats) (map g.D.DeskLike.view c.call_next.new.seats)
+    c.args.thread c.loop-place.place c.get.result.now.0 c.get.result.now.1 (Ok c.in_ok-receipt.receipt) c.in_ok-receipt.ensures.ends c.loop-place.invariant.shares
 
 pub loop-place-preserved : goal.loop-place-preserved
 loop-place-preserved g c = record {
@@ -39,6 +54,9 @@ loop-place-preserved g c = record {
       c.args.thread c.loop-place.place c.get.result.now.0 c.get.result.now.1 c.in_ok-receipt.receipt ops c.loop-place.receipts
       c.loop-place.invariant.does c.in_ok-receipt.ensures.ends in
       rw (c.in_ok-push.ensures.ok, take_next c.args.ops.now c.loop-place.place c.get.result.now c.get.ensures) k;
+  shares =
+      call_shares (map g.D.DeskLike.spec c.args.desks.now) (map g.D.DeskLike.view c.args.seats.now) (map g.D.DeskLike.view c.loop-place.seats) (map g.D.DeskLike.view c.call_next.new.seats)
+      c.args.thread c.loop-place.place c.get.result.now.0 c.get.result.now.1 (Ok c.in_ok-receipt.receipt) c.in_ok-receipt.ensures.ends c.loop-place.invariant.shares;
 }
 
 pub returns-clause-ends : goal.returns-clause-ends

@@ -1,7 +1,8 @@
 use Rattle.std.proofs.Common.{◌≡◌, ◌∙◌, map, take, length, ap, sym, subst}
 use Rattle.std.proofs.lemmas.Result.{err_from_is_err_and}
 use Rattle.app_threads.specs.Ends.{AreFinished}
-use Rattle.app_threads.proofs.Ending.{all_back, all_ended, all_finished, all_ready, all_seen_runs, all_stopped, ended_with}
+use Rattle.app_threads.proofs.Ending.{all_alone, all_back, all_ended, all_finished, all_ready, all_seen_runs, all_stopped, ended_with, spread_worked}
+use Rattle.app_threads.proofs.Splitting.{accounts_twice}
 use Rattle.app_threads.proofs.workers.run_workers.Goals as goal
 
 pub run_all-requires-clause-ready : goal.run_all-requires-clause-ready
@@ -21,10 +22,23 @@ returns-in_err-rows_of-clause-ends g c =
     let dones = c.in_ok-done.done.items in
     let q = err_from_is_err_and c.from_residual-in_err-rows_of.result c.from_residual-in_err-rows_of.ensures.1 in
     let ended = all_ended g.D.DeskLike.is_seat g.D.DeskLike.spec view c.args.desks.now c.args.scripts.now c.args.arrivals.now olds c.as_slice.result.now c.in_ok-workers.workers.items dones c.in_ok-workers.ensures.hired c.in_ok-done.ensures in
+    let spread = spread_worked g.D.DeskLike.is_seat g.D.DeskLike.spec view c.args.desks.now c.args.scripts.now c.args.arrivals.now olds (map view c.hire.new.seats) c.in_ok-workers.workers.items dones c.in_ok-done.ensures c.in_ok-workers.ensures.spread in
     let all = ended_with specs c.args.scripts.now c.args.arrivals.now _ c.as_slice.result.now _ _ _ c.in_ok-ends.ends.items (c.as_slice.ensures.value ∙ c.in_ok-works.ensures) c.in_ok-ends.ensures.ends ended in
     rw (q.1, q.2)
-    (all_stopped specs c.args.scripts.now c.args.arrivals.now olds (map view c.hire.new.seats) (map view c.take_in.new.seats) _ c.in_ok-ends.ends.items c.hire.ensures.same c.in_ok-ends.ensures.joins all
+    (all_stopped specs c.args.scripts.now c.args.arrivals.now olds (map view c.hire.new.seats) (map view c.take_in.new.seats) _ c.in_ok-ends.ends.items c.hire.ensures.same spread c.in_ok-ends.ensures.joins all
     c.in_err-rows_of.field-0.0 c.requires.scripts.0 c.in_err-rows_of.ensures)
+
+pub returns-in_err-ends-clause-accounts : goal.returns-in_err-ends-clause-accounts
+returns-in_err-ends-clause-accounts g c =
+    accounts_twice (map g.D.DeskLike.view c.args.seats.now) (map g.D.DeskLike.view c.hire.new.seats) (map g.D.DeskLike.view c.take_in.new.seats) c.hire.ensures.accounts c.take_in.ensures.accounts
+
+pub returns-in_err-rows_of-clause-accounts : goal.returns-in_err-rows_of-clause-accounts
+returns-in_err-rows_of-clause-accounts g c =
+    accounts_twice (map g.D.DeskLike.view c.args.seats.now) (map g.D.DeskLike.view c.hire.new.seats) (map g.D.DeskLike.view c.take_in.new.seats) c.hire.ensures.accounts c.take_in.ensures.accounts
+
+pub returns-clause-accounts : goal.returns-clause-accounts
+returns-clause-accounts g c =
+    accounts_twice (map g.D.DeskLike.view c.args.seats.now) (map g.D.DeskLike.view c.hire.new.seats) (map g.D.DeskLike.view c.take_in.new.seats) c.hire.ensures.accounts c.take_in.ensures.accounts
 
 pub returns-clause-ends : goal.returns-clause-ends
 returns-clause-ends g c =
@@ -38,10 +52,12 @@ returns-clause-ends g c =
     let dones = c.in_ok-done.done.items in
     let rows = c.in_ok-rows_of.field-0 in
     let ended = all_ended g.D.DeskLike.is_seat g.D.DeskLike.spec view c.args.desks.now scripts arrivals olds c.as_slice.result.now c.in_ok-workers.workers.items dones c.in_ok-workers.ensures.hired c.in_ok-done.ensures in
+    let spread = spread_worked g.D.DeskLike.is_seat g.D.DeskLike.spec view c.args.desks.now scripts arrivals olds mids c.in_ok-workers.workers.items dones c.in_ok-done.ensures c.in_ok-workers.ensures.spread in
     let all = ended_with specs scripts arrivals _ c.as_slice.result.now _ _ _ c.in_ok-ends.ends.items (c.as_slice.ensures.value ∙ c.in_ok-works.ensures) c.in_ok-ends.ensures.ends ended in
     let cut : c.from_vec.result ≡ take (length scripts) rows =
     c.from_vec.ensures ∙ (c.truncate.ensures.items ∙ (ap (λ n. take n c.into_vec-rows.result.items) c.len.ensures ∙ ap (take (length scripts)) c.into_vec-rows.ensures)) in (
       subst (AreFinished specs scripts arrivals olds news) (sym cut)
-          (all_finished specs scripts arrivals olds mids news _ c.in_ok-ends.ends.items c.hire.ensures.same c.in_ok-ends.ensures.joins all rows c.in_ok-rows_of.ensures),
-      all_seen_runs specs scripts arrivals olds mids news _ c.in_ok-ends.ends.items c.hire.ensures.same c.in_ok-ends.ensures.joins all,
+          (all_finished specs scripts arrivals olds mids news _ c.in_ok-ends.ends.items c.hire.ensures.same spread c.in_ok-ends.ensures.joins all rows c.in_ok-rows_of.ensures),
+      all_seen_runs specs scripts arrivals olds mids news _ c.in_ok-ends.ends.items c.hire.ensures.same spread c.in_ok-ends.ensures.joins all,
+      all_alone specs scripts arrivals olds mids news _ c.in_ok-ends.ends.items c.hire.ensures.same spread c.in_ok-ends.ensures.joins all,
     )

@@ -3,7 +3,7 @@ use Rattle.std.specs.Prelude.{All}
 use Rattle.std.specs.Vec.Iter.{into_iter_items, into_iter_len}
 use Rattle.desk_like.specs.Desks.{DeskView}
 use Rattle.app_threads.specs.Steps.{TakeAllIn}
-use Rattle.app_threads.specs.Workers.{AreSeats}
+use Rattle.app_threads.specs.Workers.{AreSeats, KeepAccounts}
 use Rattle.app_threads.proofs.workers.take_in.Given as goal
 
 abbrev pub invariant-loop-done : goal.invariant-loop-done
@@ -17,4 +17,5 @@ invariant-loop-done g l =
       joins : (news : List DeskView) → TakeAllIn specs (map view l.seats) (map (λ done. map view done.seats.items) (into_iter_items l.done-iterator)) news
           → TakeAllIn specs (map view l.fn.seats) (map (λ done. map view done.seats.items) l.fn.workers.items) news;
       ends : l.ends.items ++ map (λ done. done.end) (into_iter_items l.done-iterator) ≡ map (λ done. done.end) l.fn.workers.items;
+      accounts : KeepAccounts (map view l.fn.seats) (map view l.seats);
     }

@@ -1,0 +1,218 @@
+-- How many invocations and arrivals a seat gained at most.
+use Rattle.std.proofs.Common.{◌≡◌, ◌⊎◌, ℕ, zero, suc, ◌+◌, ◌≤◌, Bool, true, false, cond, Option, Some, None, List, [], ◌∷◌, ◌++◌, take, length, slice_get, subst, sym, refl, ap, ◌∙◌, inl, inr, arith, length-append}
+use Rattle.std.specs.Prelude.{All, if◌then◌else◌, ◌==◌}
+use Rattle.std.specs.List.{filter}
+use Rattle.std.proofs.lemmas.Bool.Decides.{nat_tests}
+use Rattle.std.proofs.lemmas.List.Elements.{All-weaker, filter-append, filter_map-append}
+use mathlib.Core.List.{IsPrefix}
+use Rattle.nook_defs.specs.declared.data.Event.{Event}
+use Rattle.nook_defs.specs.declared.data.Event.TheVariants as event
+use Rattle.nook_defs.specs.declared.data.Op.{Op}
+use Rattle.nook_defs.specs.declared.data.Receipt.{Receipt}
+use Rattle.nook_defs.specs.Places.{at_number}
+use Rattle.desk_like.specs.Desks.{AddsNothing, DeskView, IsAt, Invokes, Joins}
+use Rattle.app_threads.specs.Steps.{Same}
+use Rattle.app_threads.specs.Workers.{Gains, GainsAtMost, Grows, IsBy, count_on, frame_of, frames_at, invokes_at, invokes_by, invokes_of, is_invoke, is_invoke_by}
+use Rattle.app_threads.proofs.Grown.{all_there_grow, frames_grow, grows_more, grows_none, invokes_does, invokes_grow, nothing_does, same_event, There}
+use Rattle.app_threads.proofs.Listed.{filter_none, filter_same, if_same, same_or_other, take_next}
+
+-- ---- a script's operations on one part
+
+-- one more of a list that is filtered by the same test as another
+more_few : {X Y : Type 0} (b : Bool) (x : X) (xs : List X) (y : Y) (ys : List Y) → length xs ≤ length ys → length (cond b (x ∷ xs) xs) ≤ length (cond b (y ∷ ys) ys)
+more_few true x xs y ys l = omega arith
+more_few false x xs y ys l = l
+
+pub invokes_few : (d : ℕ) (ops : List (ℕ × Op)) (rs : List Receipt) → length (invokes_of d ops rs) ≤ count_on d ops
+invokes_few d [] rs = omega arith
+invokes_few d (o ∷ ops) [] = omega arith
+invokes_few d (o ∷ ops) (r ∷ rs) = more_few (o.0 == d) r.at_invoke (invokes_of d ops rs) o (filter (λ x. x.0 == d) ops) (invokes_few d ops rs)
+
+pub count_take : (d n : ℕ) (ops : List (ℕ × Op)) → count_on d (take n ops) ≤ count_on d ops
+count_take d zero ops = omega arith
+count_take d (suc n) [] = omega arith
+count_take d (suc n) (o ∷ ops) = more_few (o.0 == d) o (filter (λ x. x.0 == d) (take n ops)) o (filter (λ x. x.0 == d) ops) (count_take d n ops)
+
+abbrev on_part : ℕ → ℕ × Op → Bool
+on_part part o = o.0 == part
+
+-- the operation at the next place is one more on its part
+pub count_next : (ops : List (ℕ × Op)) (place part : ℕ) (op : Op) → slice_get ops place ≡ Some (part, op) → count_on part (take place ops) + 1 ≤ count_on part ops
+count_next ops place part op h =
+    let more = count_take part (place + 1) ops in
+    let next = ap (count_on part) (take_next ops place (part, op) h) in
+    let last : List (ℕ × Op) = (part, op) ∷ [] in
+    let both = ap length (filter-append (on_part part) (take place ops) last) in
+    let one : length (filter (on_part part) last) ≡ 1 = ap length (if_same part last []) in
+    let sum = length-append (filter (on_part part) (take place ops)) (filter (on_part part) last) in
+    omega (arith, more, next, both, one, sum)
+
+-- ---- gains of at most so much
+
+pub gains_at_most : (v w : DeskView) (is : List ℕ) (fs : List (List ℕ)) → Gains v w is fs → GainsAtMost v w (length is) (length fs)
+gains_at_most v w is fs g = record {
+  places = g.places;
+  grows = g.grows;
+  invoked = omega (arith, ap length g.invoked);
+  arrived = omega (arith, ap length g.arrived);
+}
+
+pub at_most_weaker : (v w : DeskView) (m n f g : ℕ) → m ≤ n → f ≤ g → GainsAtMost v w m f → GainsAtMost v w n g
+at_most_weaker v w m n f g l k h = record {
+  places = h.places;
+  grows = h.grows;
+  invoked = let i = h.invoked in omega arith;
+  arrived = let a = h.arrived in omega arith;
+}
+
+invokes_both : (u v w : DeskView) (ps qs : List ℕ) → Grows u v ps → Grows v w qs → length (invokes_at w.seen (ps ++ qs)) ≡ length (invokes_at v.seen ps) + length (invokes_at w.seen qs)
+invokes_both u v w ps qs g h =
+    omega (arith, ap length (filter-append (λ place. is_invoke (at_number place w.seen)) ps qs), length-append (invokes_at w.seen ps) (invokes_at w.seen qs), ap length (invokes_grow v.seen w.seen ps h.seen g.there))
+
+frames_both : (u v w : DeskView) (ps qs : List ℕ) → Grows u v ps → Grows v w qs → length (frames_at w.seen (ps ++ qs)) ≡ length (frames_at v.seen ps) + length (frames_at w.seen qs)
+frames_both u v w ps qs g h =
+    omega (arith, ap length (filter_map-append (λ place. frame_of (at_number place w.seen)) ps qs), length-append (frames_at w.seen ps) (frames_at w.seen qs), ap length (frames_grow v.seen w.seen ps h.seen g.there))
+
+pub at_most_more : (u v w : DeskView) (m n f g : ℕ) → GainsAtMost u v m f → GainsAtMost v w n g → GainsAtMost u w (m + n) (f + g)
+at_most_more u v w m n f g h k = record {
+  places = h.places ++ k.places;
+  grows = grows_more u v w h.places k.places h.grows k.grows;
+  invoked = let a = h.invoked in let b = k.invoked in omega (arith, invokes_both u v w h.places k.places h.grows k.grows);
+  arrived = let a = h.arrived in let b = k.arrived in omega (arith, frames_both u v w h.places k.places h.grows k.grows);
+}
+
+pub nothing_at_most : (v w : DeskView) → AddsNothing v w → GainsAtMost v w 0 0
+nothing_at_most v w a = gains_at_most v w [] [] (nothing_does v w a).gains
+
+pub invokes_at_most : (v w : DeskView) (call thread : ℕ) (op : Op) (at : ℕ) → Invokes v w call thread op at → GainsAtMost v w 1 0
+invokes_at_most v w call thread op at h = gains_at_most v w (at ∷ []) [] (invokes_does v w call thread op at h).gains
+
+-- ---- by thread
+
+filter_weaker : {X : Type 0} (p q : X → Bool) (xs : List X) → ((x : X) → p x ≡ true → q x ≡ true) → length (filter p xs) ≤ length (filter q xs)
+filter_weaker p q [] f = omega arith
+filter_weaker p q (x ∷ xs) f = by_test (p x) (q x) (f x) (filter_weaker p q xs f)
+  where
+    by_test : (a b : Bool) → (a ≡ true → b ≡ true) → length (filter p xs) ≤ length (filter q xs) → length (cond a (x ∷ filter p xs) (filter p xs)) ≤ length (cond b (x ∷ filter q xs) (filter q xs))
+    by_test true true g rest = omega arith
+    by_test true false g rest = absurd (let e = g refl in cc)
+    by_test false true g rest = omega arith
+    by_test false false g rest = rest
+
+by_is_invoke : (thread : ℕ) (e : Event) → is_invoke_by thread (Some e) ≡ true → is_invoke (Some e) ≡ true
+by_is_invoke thread (event.Invoke c t o answer) h = refl
+by_is_invoke thread (event.Enter c t attempt answer) h = absurd cc
+by_is_invoke thread (event.Burst context c burst count end acts answer failure) h = absurd cc
+by_is_invoke thread (event.Stage stage answers released) h = absurd cc
+by_is_invoke thread (event.Arrive frame kept) h = absurd cc
+
+not_by_other : (thread other : ℕ) (e : Event) → (thread ≡ other → ⊥) → IsBy thread e → is_invoke_by other (Some e) ≡ false
+not_by_other thread other (event.Invoke c t o answer) n h = by_test (t == other) refl
+  where
+    by_test : (b : Bool) → (t == other) ≡ b → (t == other) ≡ false
+    by_test true q = absurd (n (sym h ∙ grind (arith, nat_tests)))
+    by_test false q = q
+not_by_other thread other (event.Enter c t attempt answer) n h = refl
+not_by_other thread other (event.Burst context c burst count end acts answer failure) n h = refl
+not_by_other thread other (event.Stage stage answers released) n h = refl
+not_by_other thread other (event.Arrive frame kept) n h = refl
+
+invokes_by_few : (thread : ℕ) (seen : List Event) (places : List ℕ) → length (invokes_by thread seen places) ≤ length (invokes_at seen places)
+invokes_by_few thread seen places = filter_weaker (λ place. is_invoke_by thread (at_number place seen)) (λ place. is_invoke (at_number place seen)) places (λ place h. weaker (at_number place seen) h)
+  where
+    weaker : (o : Option Event) → is_invoke_by thread o ≡ true → is_invoke o ≡ true
+    weaker None h = absurd cc
+    weaker (Some e) h = by_is_invoke thread e h
+
+-- where all invocations are a thread's, another has none
+invokes_by_none : (thread other : ℕ) (seen : List Event) (places : List ℕ) → (thread ≡ other → ⊥) → All (λ place. IsAt seen place (IsBy thread)) places → invokes_by other seen places ≡ []
+invokes_by_none thread other seen places n h =
+    filter_none (λ place. is_invoke_by other (at_number place seen)) places
+    (All-weaker (λ place. IsAt seen place (IsBy thread)) (λ place. is_invoke_by other (at_number place seen) ≡ false) (λ place k. ap (is_invoke_by other) k.there ∙ not_by_other thread other k.event n k.is) places h)
+
+pub by_grow : (thread : ℕ) (seen more : List Event) (places : List ℕ) → IsPrefix seen more → All (There seen) places → invokes_by thread more places ≡ invokes_by thread seen places
+by_grow thread seen more places p h =
+    filter_same (λ place. is_invoke_by thread (at_number place more)) (λ place. is_invoke_by thread (at_number place seen)) places
+    (All-weaker (There seen) (λ place. is_invoke_by thread (at_number place more) ≡ is_invoke_by thread (at_number place seen)) (λ place t. ap (is_invoke_by thread) (same_event seen more place p t)) places h)
+
+by_both : (thread : ℕ) (u v w : DeskView) (ps qs : List ℕ) → Grows u v ps → Grows v w qs → length (invokes_by thread w.seen (ps ++ qs)) ≡ length (invokes_by thread v.seen ps) + length (invokes_by thread w.seen qs)
+by_both thread u v w ps qs g h =
+    omega (arith, ap length (filter-append (λ place. is_invoke_by thread (at_number place w.seen)) ps qs), length-append (invokes_by thread w.seen ps) (invokes_by thread w.seen qs), ap length (by_grow thread v.seen w.seen ps h.seen g.there))
+
+-- ---- what all workers gained at most
+
+-- of what was added through a seat, at most so many invocations by each thread, so many in all, and so many arrivals
+pub record Counts (old new : DeskView) (by : ℕ → ℕ) (calls frames : ℕ) : Type 0 where
+  pub places : List ℕ
+  pub grows : Grows old new places
+  pub invoked : (thread : ℕ) → length (invokes_by thread new.seen places) ≤ by thread
+  pub invoked_in_all : length (invokes_at new.seen places) ≤ calls
+  pub arrived : length (frames_at new.seen places) ≤ frames
+
+-- a thread's own number, and none of any other
+abbrev pub only_of : ℕ → ℕ → ℕ → ℕ
+only_of thread calls other = if thread == other then calls else 0
+
+pub counts_none : (v : DeskView) → Counts v v (λ t. 0) 0 0
+counts_none v = record { places = []; grows = grows_none v; invoked = λ t. omega arith; invoked_in_all = omega arith; arrived = omega arith }
+
+pub counts_more : (u v w : DeskView) (f g : ℕ → ℕ) (m n a b : ℕ) → Counts u v f m a → Counts v w g n b → Counts u w (λ t. f t + g t) (m + n) (a + b)
+counts_more u v w f g m n a b h k = record {
+  places = h.places ++ k.places;
+  grows = grows_more u v w h.places k.places h.grows k.grows;
+  invoked = λ t. let x = h.invoked t in let y = k.invoked t in omega (arith, by_both t u v w h.places k.places h.grows k.grows);
+  invoked_in_all = let x = h.invoked_in_all in let y = k.invoked_in_all in omega (arith, invokes_both u v w h.places k.places h.grows k.grows);
+  arrived = let x = h.arrived in let y = k.arrived in omega (arith, frames_both u v w h.places k.places h.grows k.grows);
+}
+
+pub counts_same : (v u w : DeskView) (f : ℕ → ℕ) (m a : ℕ) → Same 0 v u → Counts u w f m a → Counts v w f m a
+counts_same v u w f m a s c = record {
+  places = c.places;
+  grows = record {
+    seen = subst (λ seen. IsPrefix seen w.seen) s.0 c.grows.seen;
+    made = c.grows.made ∙ ap (λ (l : List ℕ). l ++ c.places) s.1;
+    there = c.grows.there;
+  };
+  invoked = c.invoked;
+  invoked_in_all = c.invoked_in_all;
+  arrived = c.arrived;
+}
+
+pub at_most_same : (v u w : DeskView) (m f : ℕ) → Same 0 v u → GainsAtMost u w m f → GainsAtMost v w m f
+at_most_same v u w m f s g = record {
+  places = g.places;
+  grows = record {
+    seen = subst (λ seen. IsPrefix seen w.seen) s.0 g.grows.seen;
+    made = g.grows.made ∙ ap (λ (l : List ℕ). l ++ g.places) s.1;
+    there = g.grows.there;
+  };
+  invoked = g.invoked;
+  arrived = g.arrived;
+}
+
+-- what a worker's seat gained comes to the seat that takes it in
+pub joins_counts : (s o v w : DeskView) (thread calls frames : ℕ) → s.made ≡ [] → Joins v o w → GainsAtMost s o calls frames → All (λ place. IsAt o.seen place (IsBy thread)) o.made → Counts v w (only_of thread calls) calls frames
+joins_counts s o v w thread calls frames none j g by = record {
+  places = g.places;
+  grows = record {
+    seen = j.seen;
+    made = j.made ∙ ap (λ (m : List ℕ). v.made ++ m) own;
+    there = all_there_grow o.seen w.seen g.places j.other_seen g.grows.there;
+  };
+  invoked = λ t. by_place t (same_or_other thread t);
+  invoked_in_all = let i = g.invoked in omega (arith, ap length (invokes_grow o.seen w.seen g.places j.other_seen g.grows.there));
+  arrived = let a = g.arrived in omega (arith, ap length (frames_grow o.seen w.seen g.places j.other_seen g.grows.there));
+}
+  where
+    own : o.made ≡ g.places
+    own = g.grows.made ∙ ap (λ (m : List ℕ). m ++ g.places) none
+
+    by_place : (t : ℕ) → (thread ≡ t) ⊎ (thread ≡ t → ⊥) → length (invokes_by t w.seen g.places) ≤ only_of thread calls t
+    by_place t (inl e) =
+        let few = invokes_by_few t o.seen g.places in
+        let i = g.invoked in
+        let is : only_of thread calls t ≡ calls = subst (λ k. only_of thread calls k ≡ calls) e (if_same thread calls 0) in
+        omega (arith, is, ap length (by_grow t o.seen w.seen g.places j.other_seen g.grows.there))
+    by_place t (inr n) =
+        let has = subst (λ (l : List ℕ). All (λ place. IsAt o.seen place (IsBy thread)) l) own by in
+        omega (arith, ap length (by_grow t o.seen w.seen g.places j.other_seen g.grows.there), ap length (invokes_by_none thread t o.seen g.places n has))

@@ -13,10 +13,11 @@ use Rattle.nook_defs.specs.Steps.{opening}
 use Rattle.device_laws.proofs.DeviceStays.{opening_spec, spec_from}
 use Rattle.report_text.specs.Whole.{HaveEnds, ShowsState, objects_from}
 use Rattle.sim_run.proofs.Reaching.{seats_of_runs}
-use Rattle.sim_run.specs.declared.simulating.Simulated.{Simulated}
-use Rattle.sim_run.specs.Ends.{end_of, ends_of, objects_in}
+use Rattle.run_ends.specs.declared.whole_run.WholeRun.{WholeRun}
+use Rattle.run_ends.specs.Ends.{end_of, objects_in}
+use Rattle.sim_run.specs.Ends.{ends_of}
 use Rattle.sim_run.specs.Reached.{AreSeatsOf, IsSeatOf}
-use Rattle.sim_run.specs.Whole.{events_in}
+use Rattle.run_ends.specs.Journals.{events_in}
 
 shows : (spec : PartSpec) (seat : PartSeat) (events : List Event) → IsSeatOf spec seat → events ≡ seat.run.journal
     → ShowsState spec (state_of spec events) (end_of seat.run.state)
@@ -41,11 +42,11 @@ have_ends (spec ∷ specs) (seat ∷ seats) (journal ∷ journals) a j =
     let rest : map events_in journals ≡ map journal_of seats = cc in
     (shows spec seat journal.list a.0 first, have_ends specs seats journals a.1 rest)
 
-ends_at : (specs : List PartSpec) (seats : List PartSeat) (x : Simulated) → AreSeatsOf specs seats
+ends_at : (specs : List PartSpec) (seats : List PartSeat) (x : WholeRun) → AreSeatsOf specs seats
     → map events_in x.run.journals ≡ map journal_of seats → x.ends ≡ ends_of seats → HaveEnds specs x.run.journals x.ends
 ends_at specs seats x a j e = rw e (have_ends specs seats x.run.journals a j)
 
-pub ends_told : (r : Result Simulated NoMemory) (scenario : Scenario) (s : Simulation) → IsScheduledRun scenario s
+pub ends_told : (r : Result WholeRun NoMemory) (scenario : Scenario) (s : Simulation) → IsScheduledRun scenario s
     → IfOk r (λ x. map events_in x.run.journals ≡ journals_of s) → IfOk r (λ x. x.ends ≡ ends_of s.parts)
     → IfOk r (λ x. HaveEnds scenario.parts x.run.journals x.ends)
 ends_told (Err x) scenario s h j e = e

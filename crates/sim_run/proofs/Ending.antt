@@ -6,15 +6,16 @@ use Rattle.nook_defs.specs.Listening.{Listening}
 use Rattle.nook_defs.specs.ReportText.{events_count}
 use Rattle.nook_defs.specs.Simulation.{Choice, IsScheduledRun, Simulation, answer_table, begins, choices_of, journals_of, runs, taken}
 use Rattle.nook_defs.specs.Valid.{IsValidScenario}
-use Rattle.sim_run.specs.declared.simulating.Simulated.{Simulated}
+use Rattle.run_ends.specs.declared.whole_run.WholeRun.{WholeRun}
 use Rattle.request_taps.specs.Bus.{result_of, told_all}
 use Rattle.request_taps.specs.declared.tap.Tap.{Tap}
-use Rattle.sim_run.proofs.Publishing.{published_back, told_all_append}
+use Rattle.run_ends.proofs.Told.{told_all_append}
+use Rattle.sim_run.proofs.Publishing.{published_back}
 use Rattle.sim_run.proofs.Reaching.{few_events, none_at_first, one_event_more, runs_back, runs_front, runs_still, runs_of_seats, seats_of_runs}
 use Rattle.sim_run.specs.Advanced.{IsAdvanced}
 use Rattle.sim_run.specs.Published.{HearsStep, made, moved, published}
-use Rattle.sim_run.specs.Reached.{AreRuns}
-use Rattle.sim_run.specs.Whole.{HeardSteps, IsSimulated, IsWhole, events_in}
+use Rattle.run_ends.specs.Journals.{AreRuns, events_in}
+use Rattle.sim_run.specs.Whole.{HeardSteps, IsSimulated, IsWhole}
 
 -- The run of a scenario, step by step, and its end.
 
@@ -99,11 +100,7 @@ pub none_heard : (scenario : Scenario) (taps : List (Tap Listening)) → HeardSt
 unfolding published told_all
 none_heard scenario taps = refl
 
-pub on_err : {T E P : Type 0} (r : Result T E) → P → OnErr r P
-on_err (Ok x) p = tt
-on_err (Err x) p = p
-
-pub simulated_told : (r : Result Simulated NoMemory) (scenario : Scenario) (s : Simulation) (totals : List (ℕ × Bool)) (old new : List (Tap Listening))
+pub simulated_told : (r : Result WholeRun NoMemory) (scenario : Scenario) (s : Simulation) (totals : List (ℕ × Bool)) (old new : List (Tap Listening))
     → IsWhole scenario s old new → IfOk r (λ x. map events_in x.run.journals ≡ journals_of s) → IfOk r (λ x. x.run.answers ≡ answer_table s)
     → IfOk r (λ x. x.run.taps ≡ totals) → totals ≡ map result_of new
     → IfOk r (λ x. IsSimulated scenario x.run.journals x.run.answers x.run.taps old new)

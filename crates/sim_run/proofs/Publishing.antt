@@ -15,15 +15,11 @@ use Rattle.request_taps.specs.Bus.{told, told_all}
 use Rattle.request_taps.specs.declared.tap.Tap.{Tap}
 use Rattle.sim_run.proofs.Choosing.{choices_open}
 use Rattle.sim_run.proofs.Reaching.{IsPicked, picked_one, runs_front}
-use Rattle.sim_run.specs.Published.{events_of_part, heard_in_journals, made, made_by, made_of, moved, published, with_part}
+use Rattle.run_ends.specs.Journals.{with_part}
+use Rattle.sim_run.specs.Published.{events_of_part, heard_in_journals, made, made_by, made_of, moved, published}
 use Rattle.sim_run.specs.Reached.{IsOpenChoice}
 
 -- The events of a run by its last step.
-
-pub told_all_append : (xs ys : List (ℕ × Event)) (taps : List (Tap Listening)) → told_all (xs ++ ys) taps ≡ told_all ys (told_all xs taps)
-unfolding told_all
-told_all_append [] ys taps = refl
-told_all_append (e ∷ xs) ys taps = told_all_append xs ys (map (told e.0 e.1) taps)
 
 pub published_back : (n : ℕ) (s : Simulation) → published (suc n) s ≡ published n s ++ made (runs n s) (choices_of (runs n s))
 unfolding published runs

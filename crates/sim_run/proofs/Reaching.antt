@@ -17,7 +17,8 @@ use Rattle.part_laws.proofs.ValidFits.{valid_fits}
 use Rattle.sim_run.proofs.Choosing.{choices_open}
 use Rattle.sim_run.proofs.Picking.{picked_within}
 use Rattle.sim_run.specs.Published.{moved}
-use Rattle.sim_run.specs.Reached.{AreRuns, AreSeatsOf, IsSeatOf, MayTake, IsOpenChoice}
+use Rattle.run_ends.specs.Journals.{AreRuns}
+use Rattle.sim_run.specs.Reached.{AreSeatsOf, IsSeatOf, MayTake, IsOpenChoice}
 
 -- What a simulation does in one step.
 

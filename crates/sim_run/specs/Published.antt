@@ -8,6 +8,7 @@ use Rattle.nook_defs.specs.Simulation.{Choice, PartSeat, Simulation, actor_of, c
 use Rattle.nook_defs.specs.Taps.{heard_events}
 use Rattle.request_taps.specs.Bus.{told_all}
 use Rattle.request_taps.specs.declared.tap.Tap.{Tap}
+use Rattle.run_ends.specs.Journals.{with_part}
 
 -- The events of a run in the order in which they are made, each with its part.
 
@@ -40,11 +41,6 @@ published (suc more) s = made s (choices_of s) ++ published more (moved s (choic
 abbrev pub events_of_part : ℕ → List (ℕ × Event) → List Event
 events_of_part part [] = []
 events_of_part part (e ∷ events) = if e.0 == part then e.1 ∷ events_of_part part events else events_of_part part events
-
--- the events of a journal, with their part
-abbrev pub with_part : ℕ → List Event → List (ℕ × Event)
-with_part part [] = []
-with_part part (e ∷ events) = (part, e) ∷ with_part part events
 
 -- how many events of the journals a listener hears, of which the first is that of part `part`
 abbrev pub heard_in_journals : Listening → ℕ → List (List Event) → ℕ

@@ -20,13 +20,6 @@ AreSeatsOf [] (seat ∷ seats) = ⊥
 AreSeatsOf (spec ∷ specs) [] = ⊥
 AreSeatsOf (spec ∷ specs) (seat ∷ seats) = IsSeatOf spec seat × AreSeatsOf specs seats
 
--- one journal for each spec, a run of it
-abbrev pub AreRuns : List PartSpec → List (List Event) → Type 0
-AreRuns [] [] = Unit {0}
-AreRuns [] (journal ∷ journals) = ⊥
-AreRuns (spec ∷ specs) [] = ⊥
-AreRuns (spec ∷ specs) (journal ∷ journals) = IsRun spec journal × AreRuns specs journals
-
 -- there is such a part, and it may take the step
 abbrev pub MayTake : Option PartSeat → Step → Type 0
 MayTake None s = ⊥

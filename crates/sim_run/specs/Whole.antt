@@ -7,12 +7,10 @@ use Rattle.nook_defs.specs.Room.{Kept}
 use Rattle.nook_defs.specs.Simulation.{IsScheduledRun, Simulation, answer_table, begins, journals_of}
 use Rattle.request_taps.specs.Bus.{result_of, told_all}
 use Rattle.request_taps.specs.declared.tap.Tap.{Tap}
+use Rattle.run_ends.specs.Journals.{events_in}
 use Rattle.sim_run.specs.Published.{published}
 
 -- What a whole run leaves.
-
-abbrev pub events_in : Kept Event → List Event
-events_in journal = journal.list
 
 -- the taps heard the events of so many steps of the run, in the order in which they were made
 abbrev pub HeardSteps : Scenario → ℕ → List (Tap Listening) → List (Tap Listening) → Type 0

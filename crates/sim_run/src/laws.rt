@@ -8,7 +8,7 @@ ghost use Rattle.nook_defs.specs.Valid.{IsValidScenario};
 ghost use Rattle.nook_defs.specs.declared.data.Event.{Event};
 ghost use Rattle.nook_defs.specs.declared.data.Scenario.{Scenario};
 ghost use Rattle.sim_run.specs.Published.{events_of_part, heard_in_journals, published};
-ghost use Rattle.sim_run.specs.Reached.{AreRuns};
+ghost use Rattle.run_ends.specs.Journals.{AreRuns};
 
 /// Every valid scenario has a scheduled run: in the end no actor has a step.
 pub fn every_scenario_has_a_scheduled_run()

@@ -3,7 +3,6 @@
 
 mod actors;
 mod chosen;
-mod ends;
 pub mod laws;
 mod script;
 mod seat;
@@ -12,6 +11,4 @@ mod simulating;
 mod tests;
 mod whole_run;
 
-pub use ends::end_of;
-pub use simulating::Simulated;
 pub use whole_run::simulate;

@@ -7,13 +7,13 @@ ghost use Rattle.sim_run.specs.Ends.{end_of_seat};
 ghost use Rattle.nook_defs.specs.Steps.{enabled};
 ghost use Rattle.nook_defs.specs.Valid.{IsValidPart};
 
-use crate::ends::end_of;
 use nook_defs::data::{Event, Op, PartSpec, Step};
 use nook_defs::journal::Journal;
 use nook_defs::lists::{TryCopy, Words};
 use nook_defs::memory::NoMemory;
 use part_core::Part;
 use report_text::whole_report::PartEnd;
+use run_ends::end_of;
 use std::alloc::Global;
 use std::marker::Model;
 

@@ -11,7 +11,7 @@ ghost use Rattle.sim_run.specs.Ends.{ends_of};
 ghost use Rattle.sim_run.specs.Published.{HearsChoice, HearsStep, made_of};
 ghost use Rattle.request_taps.specs.Bus.{seen};
 ghost use Rattle.sim_run.specs.Reached.{IsOpenChoice, MayTake};
-ghost use Rattle.sim_run.specs.Whole.{events_in};
+ghost use Rattle.run_ends.specs.Journals.{events_in};
 
 use crate::actors::{able_threads, choice_of, list_ready};
 use crate::chosen::Chosen;
@@ -24,16 +24,10 @@ use nook_defs::outside::Listener;
 use report_text::report::{Journals, Run};
 use report_text::whole_report::PartEnds;
 use request_taps::Bus;
+use run_ends::WholeRun;
 use schedule::Schedule;
 use std::alloc::Global;
 use std::marker::Model;
-
-/// What a whole run left: its journals, answers and totals, and what each part ends in.
-#[derive(Drop)]
-pub struct Simulated {
-    pub run: Run,
-    pub ends: PartEnds,
-}
 
 /// A run as it stands.
 #[derive(Drop)]
@@ -116,7 +110,7 @@ impl<'a> Simulating<'a> {
 
     /// What the run left: one journal a part and what the part ends in, each thread's answers, and the totals of its
     /// taps, which are given.
-    pub fn into_run(self, taps: TapTotals) -> Result<Simulated, NoMemory>
+    pub fn into_run(self, taps: TapTotals) -> Result<WholeRun, NoMemory>
         ensures journals { IfOk result (λ whole. map events_in whole.run.journals ≡ journals_of self.entry) }
         ensures answers { IfOk result (λ whole. whole.run.answers ≡ answer_table self.entry) }
         ensures taps { IfOk result (λ whole. whole.run.taps ≡ taps) }
@@ -131,7 +125,7 @@ impl<'a> Simulating<'a> {
         let ends = take_ends(alloc, &seats)?;
         let journals = take_journals(alloc, seats)?;
         let answers = take_answers(alloc, threads)?;
-        Ok(Simulated {
+        Ok(WholeRun {
             run: Run {
                 journals,
                 answers,

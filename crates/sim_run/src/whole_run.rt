@@ -4,14 +4,15 @@ ghost use Rattle.std.specs.Prelude.{ℕ, IfOk, OnErr, map};
 ghost use Rattle.nook_defs.specs.Valid.{IsValidScenario};
 ghost use Rattle.request_taps.specs.Bus.{seen};
 ghost use Rattle.report_text.specs.Whole.{HaveEnds};
-ghost use Rattle.sim_run.specs.Reached.{AreRuns};
-ghost use Rattle.sim_run.specs.Whole.{HeardSteps, IsSimulated, IsWhole, events_in};
+ghost use Rattle.run_ends.specs.Journals.{AreRuns, events_in};
+ghost use Rattle.sim_run.specs.Whole.{HeardSteps, IsSimulated, IsWhole};
 
-use crate::simulating::{Simulated, Simulating};
+use crate::simulating::Simulating;
 use nook_defs::data::Scenario;
 use nook_defs::memory::NoMemory;
 use nook_defs::outside::Listener;
 use request_taps::Bus;
+use run_ends::WholeRun;
 use std::alloc::Global;
 
 /// More steps than the run of any scenario has: each of at most 8 parts makes fewer than 2^23 events.
@@ -25,7 +26,7 @@ pub fn simulate<L: Listener>(
     alloc: Global,
     scenario: &Scenario,
     taps: &mut Bus<L>,
-) -> Result<Simulated, NoMemory>
+) -> Result<WholeRun, NoMemory>
     requires { IsValidScenario scenario.now }
     ensures simulated { IfOk result (λ whole. IsSimulated scenario.now whole.run.journals whole.run.answers whole.run.taps
         (map (seen L.listening) taps.old) (map (seen L.listening) taps.new)) }

@@ -1,8 +1,10 @@
 use Rattle.std.proofs.Common.{map}
 use Rattle.request_taps.specs.Bus.{seen}
-use Rattle.sim_run.proofs.Ending.{on_err, runs_told, simulated_told}
+use Rattle.run_ends.proofs.Told.{on_err}
+use Rattle.sim_run.proofs.Ending.{runs_told, simulated_told}
 use Rattle.sim_run.proofs.EndStates.{ends_told}
-use Rattle.sim_run.specs.Whole.{events_in, IsWhole}
+use Rattle.run_ends.specs.Journals.{events_in}
+use Rattle.sim_run.specs.Whole.{IsWhole}
 use Rattle.sim_run.proofs.whole_run.simulate.Goals as goal
 
 pub returns-in_err-totals-clause-heard : goal.returns-in_err-totals-clause-heard

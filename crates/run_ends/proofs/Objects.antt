@@ -2,7 +2,7 @@
 use Rattle.std.proofs.Common.{◌≡◌, ℕ, suc, ◌+◌, ◌-◌, ◌<◌, List, [], ◌∷◌, ◌++◌, refl, sym, ap, ◌∙◌, arith, add-one, append-nil, append_assoc}
 use Rattle.nook_defs.specs.Pages.{object_words}
 use Rattle.report_text.specs.Whole.{objects_from}
-use Rattle.sim_run.specs.Ends.{objects_in}
+use Rattle.run_ends.specs.Ends.{objects_in}
 
 next_object : (object left : ℕ) (memory : List ℕ) → left ≡ suc (12 - object) → objects_from object left memory
     ≡ object_words object memory ∷ objects_from (object + 1) (12 - object) memory

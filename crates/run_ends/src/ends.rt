@@ -1,7 +1,7 @@
 //! What each part of a run ends in, for the report.
 
 ghost use Rattle.std.specs.Prelude.{◌≡◌, IfOk};
-ghost use Rattle.sim_run.specs.Ends.{end_of, objects_in};
+ghost use Rattle.run_ends.specs.Ends.{end_of, objects_in};
 
 use nook_defs::lists::{Frames, Items, Word};
 use nook_defs::memory::NoMemory;

@@ -1,6 +1,6 @@
 use Rattle.std.proofs.Common.{arith}
-use Rattle.sim_run.proofs.Objects.{all_objects, first_objects, more_objects}
-use Rattle.sim_run.proofs.ends.objects_of.Goals as goal
+use Rattle.run_ends.proofs.Objects.{all_objects, first_objects, more_objects}
+use Rattle.run_ends.proofs.ends.objects_of.Goals as goal
 
 pub loop-object-init : goal.loop-object-init
 loop-object-init c = first_objects c.new-objects.result c.args.part.now.state.domain.memory c.new-objects.ensures

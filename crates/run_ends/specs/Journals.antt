@@ -1,0 +1,21 @@
+-- The journals that a whole run leaves.
+use Rattle.std.specs.Prelude.{ℕ, List, [], ◌∷◌}
+use Rattle.nook_defs.specs.declared.data.Event.{Event}
+use Rattle.nook_defs.specs.declared.data.PartSpec.{PartSpec}
+use Rattle.nook_defs.specs.Room.{Kept}
+use Rattle.nook_defs.specs.Runs.{IsRun}
+
+abbrev pub events_in : Kept Event → List Event
+events_in journal = journal.list
+
+-- one journal for each spec, a run of it
+abbrev pub AreRuns : List PartSpec → List (List Event) → Type 0
+AreRuns [] [] = Unit {0}
+AreRuns [] (journal ∷ journals) = ⊥
+AreRuns (spec ∷ specs) [] = ⊥
+AreRuns (spec ∷ specs) (journal ∷ journals) = IsRun spec journal × AreRuns specs journals
+
+-- the events of a journal, with their part
+abbrev pub with_part : ℕ → List Event → List (ℕ × Event)
+with_part part [] = []
+with_part part (e ∷ events) = (part, e) ∷ with_part part events

@@ -1,8 +1,8 @@
 -- What threads leave fits, where no journal has other invocations or arrivals than those that were asked for.
-use Rattle.std.proofs.Common.{◌≡◌, ℕ, zero, suc, ◌+◌, ◌==◌, if◌then◌else◌, Bool, true, false, Some, None, List, [], ◌∷◌, filter, map, length, slice_get, slice_index_or, refl, sym, ap, ◌∙◌, subst, arith, eqb-true, eq-eqb}
+use Rattle.std.proofs.Common.{◌≡◌, ℕ, zero, suc, ◌+◌, ◌==◌, true, Some, None, List, [], ◌∷◌, filter, map, length, slice_get, slice_index_or, refl, sym, ap, ◌∙◌, subst, arith, eqb-true, eq-eqb}
 use Rattle.std.proofs.lemmas.List.Elements.{recursion_from_All}
 use Rattle.std.specs.List.{AllByRecursion}
-use Rattle.desk_like.specs.Desks.{IsArrive, IsAt, IsInvoke}
+use Rattle.desk_like.specs.Desks.{IsAt, IsInvoke}
 use Rattle.nook_defs.specs.Log.{opening_log}
 use Rattle.nook_defs.specs.Places.{at_number}
 use Rattle.nook_defs.specs.Runs.{IsRun, next_any, state_of}
@@ -20,15 +20,16 @@ use Rattle.part_laws.proofs.Places.{from_map, split}
 use Rattle.part_laws.proofs.RunBound.{opening_tied}
 use Rattle.part_laws.proofs.StepsFit.{opening_fit}
 use Rattle.part_laws.proofs.ValidFits.{valid_fits}
-use Rattle.sim_run.specs.Reached.{AreRuns}
-use Rattle.threaded_run.specs.Threaded.{AreServed, AreSettled, ArriveAt, HasArrivals, HaveArrivals, HaveReceipts, IsServed, IsThreaded, invoked_on, journal_at}
+use Rattle.run_ends.specs.Journals.{AreRuns}
+use Rattle.threaded_run.specs.Threaded.{AreServed, AreSettled, HasArrivals, HaveArrivals, HaveReceipts, IsServed, IsThreaded, invoked_on, journal_at}
 use Rattle.audit_laws.proofs.Nexts.{inner, no_some}
 use Rattle.audit_laws.specs.Audit.{is_on, opening_section, thread_on}
 use Rattle.audit_laws.specs.Fitting.{AllFit}
 use Rattle.audited_runs.proofs.Exact.{HasLeft, HasThread, InvokedAt, IsExact, IsInvokeOf, exact_fits}
-use Rattle.audited_runs.proofs.Placed.{IsPlaced}
+use Rattle.threaded_run.proofs.Counted.{frames_placed, if_false, if_true}
+use Rattle.threaded_run.proofs.Placed.{IsPlaced}
 use Rattle.audited_runs.proofs.Shares.{filter_none, filter_same}
-use Rattle.audited_runs.specs.Others.{HasNoOthers, HaveNoOthers, is_arrival, is_invocation_by, operations_on}
+use Rattle.threaded_run.specs.Others.{HasNoOthers, HaveNoOthers, is_invocation_by, operations_on}
 
 -- ---- invocations
 
@@ -45,12 +46,6 @@ invoke_passes thread o (event.Enter c t attempt a) h = absurd h
 invoke_passes thread o (event.Burst context c burst count end acts a failure) h = absurd h
 invoke_passes thread o (event.Stage stage answers released) h = absurd h
 invoke_passes thread o (event.Arrive frame kept) h = absurd h
-
-pub if_true : {X : Type 0} (b : Bool) (x y : X) → b ≡ true → (if b then x else y) ≡ x
-if_true b x y h = rw h refl
-
-pub if_false : {X : Type 0} (b : Bool) (x y : X) → b ≡ false → (if b then x else y) ≡ y
-if_false b x y h = rw h refl
 
 module _ (place : ℕ) (journal : List Event) (journals : List (List Event)) (own : journal_at journals place ≡ journal) (i : ℕ) where
   -- the script's operations on a part are invoked in its journal
@@ -85,24 +80,6 @@ placed_are journal i (o ∷ ops) [] h = absurd h
 placed_are journal i (o ∷ ops) (place ∷ places) h =
     let more = placed_are journal i ops places h.1 in
     ((record { event = h.0.event; there = h.0.there; is = invoke_passes i o.1 h.0.event h.0.is }, more.0), ap suc more.1)
-
--- ---- arrivals
-
-arrive_passes : (frame : List ℕ) (kept : Bool) (e : Event) → IsArrive frame kept e → is_arrival e ≡ true
-arrive_passes frame kept (event.Invoke c t x a) h = absurd h
-arrive_passes frame kept (event.Enter c t attempt a) h = absurd h
-arrive_passes frame kept (event.Burst context c burst count end acts a failure) h = absurd h
-arrive_passes frame kept (event.Stage stage answers released) h = absurd h
-arrive_passes frame kept (event.Arrive f k) h = refl
-
-frames_are : (journal : List Event) (frames : List (List ℕ)) (places : List ℕ) → ArriveAt journal frames places
-    → AllByRecursion (IsPlaced is_arrival journal) places × (length places ≡ length frames)
-frames_are journal [] [] h = (tt, refl)
-frames_are journal [] (place ∷ places) h = absurd h
-frames_are journal (frame ∷ frames) [] h = absurd h
-frames_are journal (frame ∷ frames) (place ∷ places) h =
-    let more = frames_are journal frames places h.1 in
-    ((record { event = h.0.1.event; there = h.0.1.there; is = arrive_passes frame h.0.0 h.0.1.event h.0.1.is }, more.0), ap suc more.1)
 
 -- ---- threads
 
@@ -155,7 +132,7 @@ part_exact threads place spec journal journals table own v run settled served ar
       subst (HasThread journal place i 0 (opening spec) journal) (sym from.2) (record { left = left; here = tt; opened = refl });
   others = λ i h. none.invoked i ∙ ap (operations_on place) (none_of_map (thread_on place) threads i h);
   frames =
-      let placed = frames_are journal spec.arrivals arrived.places arrived.arrive in
+      let placed = frames_placed journal spec.arrivals arrived.places arrived.arrive in
       record {
         places = arrived.places;
         arrive = arrived.arrive;
@@ -191,10 +168,10 @@ all_exact threads whole table place (spec ∷ parts) (journal ∷ journals) same
     next n k = omega arith
 
 pub threaded_fits : (scenario : Scenario) (journals : List (List Event)) (answers : List (List (ℕ × Answer))) → IsValidScenario scenario → AreRuns scenario.parts journals
-    → IsThreaded scenario journals answers → HaveNoOthers scenario.threads 0 scenario.parts journals → AllFit scenario.threads 0 scenario.parts journals
-threaded_fits scenario journals answers v runs threaded none =
+    → IsThreaded scenario journals answers → AllFit scenario.threads 0 scenario.parts journals
+threaded_fits scenario journals answers v runs threaded =
     all_exact scenario.threads journals answers 0 scenario.parts journals (λ k. ap (λ (n : ℕ). slice_index_or journals n []) (first k))
-    (recursion_from_All IsValidPart scenario.parts v.parts) runs threaded.settled threaded.served threaded.arrived none
+    (recursion_from_All IsValidPart scenario.parts v.parts) runs threaded.settled threaded.served threaded.arrived threaded.no_others
   where
     first : (k : ℕ) → k ≡ 0 + k
     first k = omega arith

@@ -24,11 +24,12 @@ use Rattle.threaded_run.specs.Threaded.{ArriveAt}
 use Rattle.audit_laws.proofs.Nexts.{inner, no_some}
 use Rattle.audit_laws.specs.Audit.{Section, are_through, arrival_of, has_nothing, invocation_by, is_complete, is_through, section_after}
 use Rattle.audit_laws.specs.Fitting.{FitsFrom, IsNext}
-use Rattle.audited_runs.proofs.Placed.{AreAll, AreBehind, first_behind, passes_first, passes_not, rest_behind}
+use Rattle.audited_runs.proofs.Placed.{AreAll, passes_first, passes_not}
+use Rattle.threaded_run.proofs.Placed.{AreBehind, first_behind, rest_behind}
 use Rattle.audited_runs.proofs.Sections.{IsOpen, here_after, open_after, waits_nowhere}
 use Rattle.audited_runs.proofs.Serves.{IsHere}
 use Rattle.audited_runs.proofs.Shares.{filter_none, filter_same}
-use Rattle.audited_runs.specs.Others.{is_arrival, is_invocation_by}
+use Rattle.threaded_run.specs.Others.{is_arrival, is_invocation_by}
 
 -- an invocation of an operation by a thread
 abbrev pub IsInvokeOf : ℕ → Op → Event → Type 0
@@ -42,7 +43,7 @@ InvokedAt journal thread [] (place ∷ places) = ⊥
 InvokedAt journal thread (o ∷ ops) [] = ⊥
 InvokedAt journal thread (o ∷ ops) (place ∷ places) = IsAt journal place (IsInvokeOf thread o.1) × InvokedAt journal thread ops places
 
-told_rest : (place : ℕ) (e : Event) (t : ThreadState) (w : Option Waiting) → (settled place e t w).rest ≡ t.rest
+pub told_rest : (place : ℕ) (e : Event) (t : ThreadState) (w : Option Waiting) → (settled place e t w).rest ≡ t.rest
 told_rest place e t None = refl
 told_rest place e t (Some w) = by_answer (if_part place w.part (answer_at w.call e))
   where
@@ -50,14 +51,14 @@ told_rest place e t (Some w) = by_answer (if_part place w.part (answer_at w.call
     by_answer None = refl
     by_answer (Some a) = refl
 
-started_rest : (i place : ℕ) (e : Event) (t : ThreadState) → is_invocation_by i e ≡ true → (started i place e t).rest ≡ tail_ops t.rest
+pub started_rest : (i place : ℕ) (e : Event) (t : ThreadState) → is_invocation_by i e ≡ true → (started i place e t).rest ≡ tail_ops t.rest
 started_rest i place (event.Invoke call thread o a) t h = rw h refl
 started_rest i place (event.Enter call thread attempt a) t h = absurd (true≢false (sym h))
 started_rest i place (event.Burst context call burst count end acts a failure) t h = absurd (true≢false (sym h))
 started_rest i place (event.Stage stage answers released) t h = absurd (true≢false (sym h))
 started_rest i place (event.Arrive frame kept) t h = absurd (true≢false (sym h))
 
-started_same : (i place : ℕ) (e : Event) (t : ThreadState) → is_invocation_by i e ≡ false → (started i place e t).rest ≡ t.rest
+pub started_same : (i place : ℕ) (e : Event) (t : ThreadState) → is_invocation_by i e ≡ false → (started i place e t).rest ≡ t.rest
 started_same i place (event.Invoke call thread o a) t h = rw h refl
 started_same i place (event.Enter call thread attempt a) t h = refl
 started_same i place (event.Burst context call burst count end acts a failure) t h = refl

@@ -28,7 +28,7 @@ use Rattle.run_laws.proofs.Numbers.{none_found, number, started_number, step_say
 use Rattle.audit_laws.proofs.Nexts.{inner, no_some}
 use Rattle.audit_laws.specs.Audit.{Section, are_through, has_nothing, invocation_by, is_complete, is_through, opening_section, section_after, thread_on}
 use Rattle.audit_laws.specs.Fitting.{FitsFrom, IsNext, section_from}
-use Rattle.audited_runs.proofs.Placed.{AreBehind}
+use Rattle.threaded_run.proofs.Placed.{AreBehind}
 use Rattle.audited_runs.proofs.Serves.{AreOn, IsGiven, IsHere, Serves, Starts, serves_before, waiting_number}
 
 -- ---- a thread's open call is the one that the part has open

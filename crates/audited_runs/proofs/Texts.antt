@@ -13,7 +13,8 @@ use Rattle.nook_defs.specs.declared.data.Scenario.{Scenario}
 use Rattle.nook_defs.specs.declared.data.ThreadSpec.{ThreadSpec}
 use Rattle.run_laws.proofs.Reached.{parts_answered}
 use Rattle.sim_run.proofs.Publishing.{journals_are_heard}
-use Rattle.sim_run.specs.Published.{heard_in_journals, published, with_part}
+use Rattle.run_ends.specs.Journals.{with_part}
+use Rattle.sim_run.specs.Published.{heard_in_journals, published}
 use Rattle.audit_laws.specs.Audit.{Done, Section, answers_in_order, done_of, each_of_part, journal_in, last_lines, own_listeners, published_in}
 use Rattle.audit_laws.specs.Fitting.{fitting_text, sections_of}
 use Rattle.audited_runs.proofs.Apart.{answers_again, left_by}

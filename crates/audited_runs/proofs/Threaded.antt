@@ -20,6 +20,7 @@ use Rattle.audit_laws.specs.Audit.{Section, answers_in_order, are_through, arriv
 use Rattle.audit_laws.specs.Fitting.{AllFit, FitsFrom, IsNext, section_from, sections_of}
 use Rattle.audited_runs.proofs.Apart.{low_ops}
 use Rattle.audited_runs.proofs.Merged.{thread_served}
+use Rattle.audited_runs.proofs.NoOthers.{have_no_others}
 use Rattle.audited_runs.proofs.Serves.{rising_before}
 
 -- ---- settled
@@ -154,6 +155,7 @@ fitting_is_threaded scenario journals v h =
       settled = all_settled scenario.threads 0 scenario.parts journals h;
       served = all_served 0 scenario.threads scenario.threads scenario.parts journals (λ k. ap (slice_get scenario.threads) (none k)) parts threads h;
       arrived = all_arrivals scenario.threads 0 scenario.parts journals h;
+      no_others = have_no_others scenario.threads 0 scenario.parts journals h;
     }
   where
     none : (n : ℕ) → n ≡ 0 + n

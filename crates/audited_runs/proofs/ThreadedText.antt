@@ -10,8 +10,8 @@ use Rattle.nook_defs.specs.declared.data.Event.{Event}
 use Rattle.nook_defs.specs.declared.data.PartSpec.{PartSpec}
 use Rattle.nook_defs.specs.declared.data.Scenario.{Scenario}
 use Rattle.nook_defs.specs.declared.data.ThreadSpec.{ThreadSpec}
-use Rattle.sim_run.specs.Published.{heard_in_journals, with_part}
-use Rattle.sim_run.specs.Reached.{AreRuns}
+use Rattle.run_ends.specs.Journals.{AreRuns, with_part}
+use Rattle.sim_run.specs.Published.{heard_in_journals}
 use Rattle.threaded_run.specs.Threaded.{IsThreaded, in_parts}
 use Rattle.audit_laws.proofs.Leading.{section_led}
 use Rattle.audit_laws.specs.Audit.{Done, answers_in_order, journal_in, last_lines, opening_section, own_listeners, published_in}
@@ -20,7 +20,6 @@ use Rattle.audited_runs.proofs.Asked.{threaded_fits}
 use Rattle.audited_runs.proofs.Texts.{heard_both, heard_in_sections, results_same}
 use Rattle.audited_runs.proofs.Threaded.{fitting_is_threaded}
 use Rattle.audited_runs.proofs.Unique.{answers_unique}
-use Rattle.audited_runs.specs.Others.{HaveNoOthers}
 
 -- the sections of journals that fit have these journals
 sections_have : (threads : List ThreadSpec) (place : ℕ) (parts : List PartSpec) (journals : List (List Event)) → AllFit threads place parts journals
@@ -41,17 +40,17 @@ heard_in_parts l part (journal ∷ journals) =
     (heard_in_parts l (suc part) journals ∙ ap (λ (k : ℕ). heard_in_journals l k journals) (sym (add-one part)))
 
 pub threaded_text : (scenario : Scenario) (journals : List (List Event)) (answers : List (List (ℕ × Answer))) → IsValidScenario scenario → AreRuns scenario.parts journals
-    → IsThreaded scenario journals answers → HaveNoOthers scenario.threads 0 scenario.parts journals
+    → IsThreaded scenario journals answers
     → fitting_text scenario journals
     ≡ report_text scenario journals answers (map (λ l. tap_result l (in_parts 0 journals)) own_listeners) (status_of scenario.parts journals)
 unfolding fitting_text last_lines report_text
-threaded_text scenario journals answers v runs threaded none =
-    let fit : AllFit scenario.threads 0 scenario.parts journals = threaded_fits scenario journals answers v runs threaded none in
+threaded_text scenario journals answers v runs threaded =
+    let fit : AllFit scenario.threads 0 scenario.parts journals = threaded_fits scenario journals answers v runs threaded in
     let sections : List Done = sections_of scenario.threads 0 scenario.parts journals in
     let again : IsThreaded scenario journals (answers_in_order 0 scenario.threads sections) = fitting_is_threaded scenario journals v fit in
     let same : answers_in_order 0 scenario.threads sections ≡ answers =
     answers_unique scenario.threads scenario.parts journals (answers_in_order 0 scenario.threads sections) answers
-    (recursion_from_All IsValidPart scenario.parts v.parts) runs none again.served threaded.served in
+    (recursion_from_All IsValidPart scenario.parts v.parts) runs threaded.no_others again.served threaded.served in
     let have : map journal_in sections ≡ journals = sections_have scenario.threads 0 scenario.parts journals fit in
     let heard : (l : Listening) → heard_events l (published_in 0 sections) ≡ heard_events l (in_parts 0 journals) =
     λ l. heard_in_sections l 0 sections ∙ ap (heard_in_journals l 0) have ∙ sym (heard_in_parts l 0 journals) in

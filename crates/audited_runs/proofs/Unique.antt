@@ -13,16 +13,18 @@ use Rattle.nook_defs.specs.declared.data.Receipt.{Receipt}
 use Rattle.nook_defs.specs.declared.data.ThreadSpec.{ThreadSpec}
 use Rattle.part_laws.proofs.Places.{split}
 use Rattle.part_laws.proofs.ValidFits.{valid_fits}
-use Rattle.sim_run.specs.Reached.{AreRuns}
+use Rattle.run_ends.specs.Journals.{AreRuns}
 use Rattle.threaded_run.specs.Threaded.{AreServed, HaveReceipts, answers_by, invoked_on, journal_at}
 use Rattle.audit_laws.proofs.Nexts.{inner, no_some}
 use Rattle.audit_laws.specs.Audit.{is_on}
-use Rattle.audited_runs.proofs.Asked.{if_false, if_true, invoked_are, placed_are}
+use Rattle.audited_runs.proofs.Asked.{invoked_are, placed_are}
+use Rattle.threaded_run.proofs.Counted.{if_false, if_true}
 use Rattle.audited_runs.proofs.Exact.{InvokedAt, IsInvokeOf}
 use Rattle.audited_runs.proofs.Once.{answered_once}
-use Rattle.audited_runs.proofs.Placed.{AreAll, AreBehind, passes_first, passes_not, rest_behind}
+use Rattle.audited_runs.proofs.Placed.{AreAll, passes_first, passes_not}
+use Rattle.threaded_run.proofs.Placed.{AreBehind, rest_behind}
 use Rattle.audited_runs.proofs.Shares.{filter_same}
-use Rattle.audited_runs.specs.Others.{HaveNoOthers, is_invocation_by, operations_on}
+use Rattle.threaded_run.specs.Others.{HaveNoOthers, is_invocation_by, operations_on}
 
 -- ---- the places of all events of a kind
 

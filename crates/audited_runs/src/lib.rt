@@ -7,7 +7,6 @@
 ghost use Rattle.std.specs.Prelude.{◌≡◌, List, map, ℕ};
 ghost use Rattle.audit_laws.specs.Audit.{answers_in_order, own_listeners};
 ghost use Rattle.audit_laws.specs.Fitting.{AllFit, fitting_text, sections_of};
-ghost use Rattle.audited_runs.specs.Others.{HaveNoOthers};
 ghost use Rattle.nook_defs.specs.ReportText.{report_text, status_of};
 ghost use Rattle.nook_defs.specs.Simulation.{IsScheduledRun, Simulation, answer_table, begins, journals_of};
 ghost use Rattle.nook_defs.specs.Taps.{tap_result};
@@ -16,7 +15,7 @@ ghost use Rattle.nook_defs.specs.declared.data.Answer.{Answer};
 ghost use Rattle.nook_defs.specs.declared.data.Event.{Event};
 ghost use Rattle.nook_defs.specs.declared.data.Scenario.{Scenario};
 ghost use Rattle.sim_run.specs.Published.{published};
-ghost use Rattle.sim_run.specs.Reached.{AreRuns};
+ghost use Rattle.run_ends.specs.Journals.{AreRuns};
 ghost use Rattle.threaded_run.specs.Threaded.{IsThreaded, in_parts};
 
 /// The journals of a valid scenario's scheduled run fit the scenario, and their report is the report of the run with
@@ -31,7 +30,8 @@ pub fn every_scheduled_run_fits()
 {}
 
 /// Journals that fit a valid scenario are what a run by threads leaves, with the answers that they give each script in
-/// its order. In a scenario that is not valid an operation may be on a part that is not there: it has no answer.
+/// its order. In a scenario that is not valid an operation may be on a part that is not there: it has no answer. So what
+/// is promised of a run by threads holds of every scheduled run too.
 pub fn every_fitting_run_is_threaded()
     ensures { (scenario : Scenario) (journals : List (List Event)) → IsValidScenario scenario
         → AllFit scenario.threads 0 scenario.parts journals
@@ -39,16 +39,14 @@ pub fn every_fitting_run_is_threaded()
         (answers_in_order 0 scenario.threads (sections_of scenario.threads 0 scenario.parts journals)) }
 {}
 
-/// What a run by threads leaves of a valid scenario fits, where no journal has other invocations or arrivals than those
-/// that were asked for, and its report is theirs with what the program's own listeners count of them.
+/// What a run by threads leaves of a valid scenario fits, and its report is theirs with what the program's own listeners
+/// count of them.
 pub fn every_threaded_run_fits()
     ensures fits { (scenario : Scenario) (journals : List (List Event)) (answers : List (List (ℕ × Answer)))
         → IsValidScenario scenario → AreRuns scenario.parts journals → IsThreaded scenario journals answers
-        → HaveNoOthers scenario.threads 0 scenario.parts journals
         → AllFit scenario.threads 0 scenario.parts journals }
     ensures text { (scenario : Scenario) (journals : List (List Event)) (answers : List (List (ℕ × Answer)))
         → IsValidScenario scenario → AreRuns scenario.parts journals → IsThreaded scenario journals answers
-        → HaveNoOthers scenario.threads 0 scenario.parts journals
         → fitting_text scenario journals ≡ report_text scenario journals answers
         (map (λ l. tap_result l (in_parts 0 journals)) own_listeners)
         (status_of scenario.parts journals) }

@@ -1,5 +1,5 @@
 -- A part that is taken out of its desk by its only seat.
-use Rattle.std.proofs.Common.{◌≡◌, ℕ, zero, suc, ◌+◌, ◌<◌, ◌≤◌, true, Some, None, List, [], ◌∷◌, length, slice_get, subst, sym, refl, ap, ◌∙◌, arith}
+use Rattle.std.proofs.Common.{◌≡◌, ℕ, zero, suc, ◌+◌, ◌<◌, ◌≤◌, Some, None, List, [], ◌∷◌, length, slice_get, subst, sym, refl, ap, ◌∙◌, arith}
 use Rattle.std.proofs.lemmas.List.Elements.{All-contains}
 use Rattle.std.proofs.lemmas.Option.{slice_get_within}
 use Rattle.std.specs.List.{AllByRecursion}
@@ -9,12 +9,13 @@ use Rattle.nook_defs.specs.Places.{at_number}
 use Rattle.nook_defs.specs.Room.{Kept}
 use Rattle.nook_defs.specs.Runs.{IsRun, PartRun, next_any, state_of}
 use Rattle.nook_defs.specs.State.{PartState}
-use Rattle.desk_like.specs.Desks.{DeskView, IsAt, IsOther, Waits}
+use Rattle.shares.specs.Shares.{IsWhole}
+use Rattle.desk_like.specs.Desks.{DeskView, IsAlone, IsAt, IsOther, Waits}
 use Rattle.part_laws.proofs.Places.{some_same}
 use Rattle.mirror_block.proofs.Gains.{place_behind}
 use Rattle.report_text.specs.declared.whole_report.PartEnd.{PartEnd}
 use Rattle.report_text.specs.Whole.{ShowsState}
-use Rattle.sim_run.specs.Ends.{end_of, objects_in}
+use Rattle.run_ends.specs.Ends.{end_of, objects_in}
 use Rattle.mirrored_run.specs.Closing.{GoesOn, IsClosedBehind, IsLeftBehind}
 
 -- ---- the only seat of a desk that settles
@@ -29,7 +30,7 @@ all_by_place P [] h = tt
 all_by_place P (e ∷ events) h = (h 0 e refl, all_by_place P events (λ i x at. h (suc i) x at))
 
 -- what is seen more is neither an invocation nor an arrival
-goes_on : (old new : DeskView) → old.alone ≡ true → Waits old new → GoesOn old.seen new.seen
+goes_on : (old new : DeskView) → IsAlone old → Waits old new → GoesOn old.seen new.seen
 goes_on old new alone w = record { rest = w.adds.seen.0; begins = w.adds.seen.1; others = all_by_place IsOther w.adds.seen.0 by_place }
   where
     by_place : (i : ℕ) (x : Event) → slice_get w.adds.seen.0 i ≡ Some x → IsOther x
@@ -40,10 +41,10 @@ goes_on old new alone w = record { rest = w.adds.seen.0; begins = w.adds.seen.1;
         let other : IsAt new.seen place IsOther = All-contains (λ (q : ℕ). IsAt new.seen q IsOther) w.places place w.others (w.adds.own alone place (omega arith) high) in
         subst IsOther (some_same other.event x (sym other.there ∙ found)) other.is
 
-pub closed_behind : (spec : PartSpec) (old new : DeskView) (part : PartRun) → old.alone ≡ true → Waits old new → next_any (state_of spec new.seen) ≡ None
-    → part.state.spec ≡ spec → (new.alone ≡ true → part.journal ≡ new.seen) → IsClosedBehind spec old.seen part
+pub closed_behind : (spec : PartSpec) (old new : DeskView) (part : PartRun) → IsAlone old → Waits old new → next_any (state_of spec new.seen) ≡ None
+    → part.state.spec ≡ spec → (IsAlone new → part.journal ≡ new.seen) → IsClosedBehind spec old.seen part
 closed_behind spec old new part alone w settled same closed =
-    let journal : part.journal ≡ new.seen = closed (w.adds.alone ∙ alone) in
+    let journal : part.journal ≡ new.seen = closed (subst IsWhole (sym w.adds.share) alone) in
     record {
       same = same;
       goes_on = subst (GoesOn old.seen) (sym journal) (goes_on old new alone w);

@@ -20,7 +20,7 @@ use Rattle.nook_defs.specs.Contract.{first_break}
 use Rattle.nook_defs.specs.ReportText.{has_break}
 use Rattle.nook_defs.specs.Runs.{next_any, state_of}
 use Rattle.nook_defs.specs.Valid.{IsValidPart, IsValidScenario, IsValidThread}
-use Rattle.desk_like.specs.Desks.{DeskView}
+use Rattle.desk_like.specs.Desks.{Accounts, DeskView, IsAlone}
 use Rattle.mirror_block.specs.Disk.{ServesAll}
 use Rattle.mirror_block.specs.Mirrors.{MirrorView, new_mirror}
 use Rattle.mirror_block.specs.Rule.{both_present, mirrored}
@@ -30,8 +30,7 @@ use Rattle.nook_defs.specs.Room.{Kept}
 use Rattle.part_server.specs.Turns.{opening_view}
 use Rattle.report_text.specs.declared.whole_report.PartEnd.{PartEnd}
 use Rattle.report_text.specs.Whole.{HaveEnds}
-use Rattle.sim_run.specs.Reached.{AreRuns}
-use Rattle.sim_run.specs.Whole.{events_in}
+use Rattle.run_ends.specs.Journals.{AreRuns, events_in}
 use Rattle.mirrored_run.specs.declared.running.Unheard.{Unheard}
 use Rattle.mirrored_run.specs.Closing.{GoesOn, IsLeftBehind}
 use Rattle.mirrored_run.specs.Hearing.{HearAllOrNothing}
@@ -189,20 +188,30 @@ both_valid scenario l r e valid =
 
 -- ---- the sides
 
+alone_at_first : IsAlone opening_view
+alone_at_first point = refl
+
+accounts_at_first : Accounts opening_view
+accounts_at_first = record {
+  within = λ k d lt. absurd (omega arith);
+  all = λ alone place past low. absurd (omega arith);
+}
+
 pub new_side : (s t : PartSpec) (blocks : ℕ) (v : DeskView) → s ≡ t → t.class ≡ class.Block → t.blocks ≡ blocks → v ≡ opening_view → IsNewSide s blocks v
 new_side s t blocks v e c b o = record {
   class = ap (λ (x : PartSpec). x.class) e ∙ c;
   size = ap (λ (x : PartSpec). x.blocks) e ∙ b;
-  alone = ap (λ (x : DeskView). x.alone) o;
+  alone = subst IsAlone (sym o) alone_at_first;
+  accounts = subst Accounts (sym o) accounts_at_first;
   seen = ap (λ (x : DeskView). x.seen) o;
 }
 
 -- the seats are still alone
 pub served_alone : {D : Type 0} (spec : D → PartSpec) (ld rd : D) (ov ow : DeskView) (blocks : ℕ) (ops : List Op) (answers : List MirrorAnswer) (lv rv : DeskView)
-    → IsNewSide (spec ld) blocks ov → IsNewSide (spec rd) blocks ow → HasServed spec ld rd ov ow blocks ops answers lv rv → (lv.alone ≡ true) × (rv.alone ≡ true)
+    → IsNewSide (spec ld) blocks ov → IsNewSide (spec rd) blocks ow → HasServed spec ld rd ov ow blocks ops answers lv rv → IsAlone lv × IsAlone rv
 served_alone spec ld rd ov ow blocks ops answers lv rv l r h =
     let k = served_keeps spec (new_mirror ld rd ov ow blocks) ops answers h.new (new_is_mirror spec ld rd ov ow blocks l r) refl h.served in
-    (ap (λ (v : DeskView). v.alone) h.left_is ∙ k.0.left.alone, ap (λ (v : DeskView). v.alone) h.right_is ∙ k.0.right.alone)
+    (subst IsAlone (sym h.left_is) k.0.left.alone, subst IsAlone (sym h.right_is) k.0.right.alone)
 
 -- ---- what is left
 

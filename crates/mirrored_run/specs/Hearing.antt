@@ -6,7 +6,7 @@ use Rattle.nook_defs.specs.declared.data.Scenario.{Scenario}
 use Rattle.nook_defs.specs.Listening.{Listening}
 use Rattle.request_taps.specs.Bus.{told_all}
 use Rattle.request_taps.specs.declared.tap.Tap.{Tap}
-use Rattle.sim_run.specs.Reached.{AreRuns}
+use Rattle.run_ends.specs.Journals.{AreRuns}
 use Rattle.threaded_run.specs.Threaded.{in_parts}
 use Rattle.mirrored_run.specs.Mirrors.{IsMirrorRun}
 

@@ -3,8 +3,7 @@ use Rattle.std.specs.Prelude.{◌≡◌, List, [], ◌∷◌, map}
 use Rattle.nook_defs.specs.declared.data.Event.{Event}
 use Rattle.nook_defs.specs.declared.data.Scenario.{Scenario}
 use Rattle.report_text.specs.Whole.{HaveEnds}
-use Rattle.sim_run.specs.Reached.{AreRuns}
-use Rattle.sim_run.specs.Whole.{events_in}
+use Rattle.run_ends.specs.Journals.{AreRuns, events_in}
 use Rattle.mirrored_run.specs.declared.running.Unheard.{Unheard}
 use Rattle.mirrored_run.specs.Mirrors.{IsMirrorRun}
 

@@ -1,6 +1,7 @@
 //! A part that is taken out of its desk, and what it leaves.
 
-ghost use Rattle.std.specs.Prelude.{◌≡◌, IfOk, true};
+ghost use Rattle.std.specs.Prelude.{IfOk};
+ghost use Rattle.desk_like.specs.Desks.{IsAlone};
 ghost use Rattle.part_server.specs.Desk.{IsDeskSeat, desk_spec, desk_view};
 ghost use Rattle.mirrored_run.specs.Closing.{IsClosedBehind, IsLeftBehind};
 
@@ -9,7 +10,7 @@ use nook_defs::memory::NoMemory;
 use part_core::Part;
 use part_server::{DeskSeat, PartDesk};
 use report_text::whole_report::PartEnd;
-use sim_run::end_of;
+use run_ends::end_of;
 use std::alloc::Global;
 use std::sync::Wait;
 
@@ -28,7 +29,7 @@ pub fn leave<R: Wait>(
     seat: DeskSeat,
 ) -> Result<Left, NoMemory>
     requires seat { IsDeskSeat desk seat }
-    requires alone { (desk_view seat).alone ≡ true }
+    requires alone { IsAlone (desk_view seat) }
     ensures { IfOk result (λ left. IsLeftBehind (desk_spec desk) (desk_view seat).seen left.journal left.end) }
 {
     let part = close(rt, desk, seat)?;
@@ -44,7 +45,7 @@ pub fn leave<R: Wait>(
 /// Lets a desk's part take the steps that it has left, and closes the desk by its only seat.
 fn close<R: Wait>(rt: &R, desk: PartDesk, seat: DeskSeat) -> Result<Part, NoMemory>
     requires seat { IsDeskSeat desk seat }
-    requires alone { (desk_view seat).alone ≡ true }
+    requires alone { IsAlone (desk_view seat) }
     ensures { IfOk result (λ part. IsClosedBehind (desk_spec desk) (desk_view seat).seen part) }
 {
     let mut seat = seat;

@@ -12,8 +12,7 @@ ghost use Rattle.part_server.specs.Desk.{IsDeskSeat, desk_spec, desk_view};
 ghost use Rattle.part_server.specs.Turns.{opening_view};
 ghost use Rattle.report_text.specs.Whole.{HaveEnds};
 ghost use Rattle.request_taps.specs.Bus.{result_of, seen, told_all};
-ghost use Rattle.sim_run.specs.Reached.{AreRuns};
-ghost use Rattle.sim_run.specs.Whole.{events_in};
+ghost use Rattle.run_ends.specs.Journals.{AreRuns, events_in};
 ghost use Rattle.threaded_run.specs.Threaded.{in_parts};
 
 use crate::closing::{Left, leave};
@@ -28,7 +27,7 @@ use part_server::{DeskSeat, PartDesk};
 use report_text::report::{Journals, Run};
 use report_text::whole_report::PartEnds;
 use request_taps::Bus;
-use sim_run::Simulated;
+use run_ends::WholeRun;
 use std::alloc::Global;
 use std::sync::Wait;
 use threaded_run::publish_all;
@@ -36,7 +35,7 @@ use threaded_run::publish_all;
 /// What the run of a mirror left: its journals, totals and ends (with no answers of threads), and the mirror's answers.
 #[derive(Drop)]
 pub struct Mirrored {
-    pub whole: Simulated,
+    pub whole: WholeRun,
     pub answers: MirrorAnswers,
 }
 
@@ -82,7 +81,7 @@ pub fn run_mirror<R: Wait, L: Listener>(
     publish_all(taps, left.journals.as_slice());
     let totals = taps.totals(alloc)?;
     Ok(Mirrored {
-        whole: Simulated {
+        whole: WholeRun {
             run: Run {
                 journals: left.journals,
                 answers: AnswerTable::new(alloc),

@@ -1,5 +1,5 @@
 -- The answers of a run by threads are those of the scripts' operations, in order.
-use Rattle.std.proofs.Common.{◌≡◌, ℕ, suc, ◌+◌, ◌<◌, ◌≤◌, List, [], ◌∷◌, ◌++◌, length, map, drop, get_or, refl, sym, ap, ◌∙◌, arith, add-one, append_assoc, drop-cons, subst}
+use Rattle.std.proofs.Common.{◌≡◌, ℕ, suc, ◌+◌, ◌<◌, ◌≤◌, List, [], ◌∷◌, ◌++◌, length, map, drop, get_or, refl, sym, ap, ◌∙◌, arith, add-one, append_assoc, drop-cons}
 use Rattle.nook_defs.specs.declared.data.Answer.{Answer}
 use Rattle.nook_defs.specs.declared.data.Event.{Event}
 use Rattle.nook_defs.specs.declared.data.Op.{Op}
@@ -7,18 +7,11 @@ use Rattle.nook_defs.specs.declared.data.Receipt.{Receipt}
 use Rattle.nook_defs.specs.declared.data.Scenario.{Scenario}
 use Rattle.nook_defs.specs.declared.data.ThreadSpec.{ThreadSpec}
 use Rattle.nook_defs.specs.Valid.{IsValidScenario}
-use Rattle.nook_defs.specs.Simulation.{journals_of}
 use Rattle.std.proofs.lemmas.List.{length-map}
 use Rattle.threaded_run.specs.declared.running.Unheard.{Unheard}
-use Rattle.nook_defs.specs.Listening.{Listening}
-use Rattle.report_text.specs.Whole.{HaveEnds}
-use Rattle.request_taps.specs.declared.tap.Tap.{Tap}
-use Rattle.sim_run.specs.Reached.{AreRuns}
-use Rattle.sim_run.specs.declared.simulating.Simulated.{Simulated}
-use Rattle.sim_run.specs.Whole.{IsSimulated, events_in}
+use Rattle.run_ends.specs.Journals.{events_in}
 use Rattle.threaded_run.proofs.Leaving.{count_left}
 use Rattle.threaded_run.specs.Leaving.{answers_in}
-use Rattle.threaded_run.proofs.Scheduled.{scheduled_as_threaded}
 use Rattle.threaded_run.specs.Threaded.{AreAnswered, AreServed, HaveReceipts, IsThreaded, answers_by}
 use Rattle.threaded_run.specs.Unheard.{IsWholeRun}
 
@@ -42,18 +35,6 @@ parts_served journals thread (t ∷ threads) (answers ∷ table) h =
 pub threaded_answered : (scenario : Scenario) (journals : List (List Event)) (answers : List (List (ℕ × Answer))) → IsThreaded scenario journals answers
     → AreAnswered scenario answers
 threaded_answered scenario journals answers h = parts_served journals 0 scenario.threads answers h.served
-
--- a scheduled run stands for one by threads
-pub in_place_whole : (scenario : Scenario) (whole : Simulated) (left : Unheard) (old new : List (Tap Listening)) → IsValidScenario scenario
-    → IsSimulated scenario whole.run.journals whole.run.answers whole.run.taps old new → AreRuns scenario.parts (map events_in whole.run.journals)
-    → HaveEnds scenario.parts whole.run.journals whole.ends
-    → left.journals ≡ whole.run.journals → left.answers ≡ whole.run.answers → left.ends ≡ whole.ends → IsWholeRun scenario left
-in_place_whole scenario whole left old new valid s runs ends j a e = record {
-  runs = subst (λ js. AreRuns scenario.parts (map events_in js)) (sym j) runs;
-  ends = subst (λ js. HaveEnds scenario.parts js left.ends) (sym j) (subst (HaveEnds scenario.parts whole.run.journals) (sym e) ends);
-  threaded = subst (λ js. IsThreaded scenario js left.answers) (sym (ap (map events_in) j ∙ s.same_journals))
-      (subst (IsThreaded scenario (journals_of s.simulation)) (sym (a ∙ s.same_answers)) (scheduled_as_threaded scenario s.simulation valid s.scheduled));
-}
 
 -- up to eight journals
 pub few_journals : (scenario : Scenario) (left : Unheard) → IsValidScenario scenario → IsWholeRun scenario left → length left.journals ≤ 8

@@ -1,67 +1,65 @@
--- Parts that take the steps that they have left, and desks that are closed one after another.
-use Rattle.std.proofs.Common.{◌≡◌, ℕ, zero, suc, ◌+◌, ◌^◌, ◌<◌, ◌≤◌, None, List, [], ◌∷◌, ◌++◌, length, map, refl, sym, ap, ◌∙◌, subst, arith, append_assoc, append-nil, length-append, slice_index_or, get_or, take, add-one}
+-- Parts that take the steps that they have left behind their desks' only seats, and desks that are closed one after another.
+use Rattle.std.proofs.Common.{◌≡◌, ℕ, zero, suc, ◌+◌, ◌<◌, ◌≤◌, Some, None, List, [], ◌∷◌, ◌++◌, length, map, refl, sym, ap, ◌∙◌, subst, arith, append_assoc, append-nil, length-append, slice_get, slice_index_or, get_or, take, add-one}
 use Rattle.std.proofs.Math.Seq.{take-suc}
-use mathlib.Core.List.{IsPrefix, map-append}
+use Rattle.std.proofs.lemmas.List.Elements.{All-contains}
+use Rattle.std.specs.List.{AllByRecursion}
+use mathlib.Core.List.{map-append}
 use Rattle.app_threads.specs.Workers.{AreSeats}
-use Rattle.device_laws.proofs.DeviceStays.{spec_after}
+use Rattle.desk_like.specs.Desks.{DeskView, IsAlone, IsAt, IsOther, Waits}
 use Rattle.nook_defs.specs.declared.data.Event.{Event}
 use Rattle.nook_defs.specs.declared.data.PartSpec.{PartSpec}
-use Rattle.nook_defs.specs.declared.data.Step.{Step}
+use Rattle.nook_defs.specs.Places.{at_number}
 use Rattle.nook_defs.specs.Room.{Kept}
-use Rattle.nook_defs.specs.Runs.{IsRun, PartRun, event_of, next_any, run_after, state_of}
+use Rattle.nook_defs.specs.Runs.{IsRun, PartRun, next_any, state_of}
 use Rattle.nook_defs.specs.State.{PartState}
-use Rattle.nook_defs.specs.Valid.{IsValidPart}
-use Rattle.part_laws.proofs.RunSmall.{run_small}
-use Rattle.part_laws.proofs.ValidFits.{valid_fits}
+use Rattle.part_laws.proofs.Places.{some_same}
 use Rattle.report_text.specs.declared.whole_report.PartEnd.{PartEnd}
 use Rattle.report_text.specs.Whole.{ShowsState}
-use Rattle.sim_run.specs.Ends.{end_of, objects_in}
-use Rattle.threaded_run.specs.Leaving.{AreLeft, IsClosed, IsLeft}
+use Rattle.shares.specs.Shares.{IsWhole}
+use Rattle.run_ends.specs.Ends.{end_of, objects_in}
+use Rattle.threaded_run.proofs.Counted.{place_there}
+use Rattle.part_server.specs.Turns.{opening_view}
+use Rattle.threaded_run.specs.Leaving.{AreAlone, AreLeft, AreNew, GoesOn, IsClosed, IsLeft}
 
-prefix_trans : {X : Type 0} (a b c : List X) → IsPrefix a b → IsPrefix b c → IsPrefix a c
-prefix_trans a b c p q = (p.0 ++ q.0, sym (append_assoc a p.0 q.0) ∙ (ap (λ z. z ++ q.0) p.1 ∙ q.1))
+-- ---- the only seat of a desk that settles
 
--- ---- the steps that a part has left
+all_by_place : (P : Event → Type 0) (events : List Event) → ((i : ℕ) (e : Event) → slice_get events i ≡ Some e → P e) → AllByRecursion P events
+all_by_place P [] h = tt
+all_by_place P (e ∷ events) h = (h 0 e refl, all_by_place P events (λ i x at. h (suc i) x at))
 
--- a part that took at least so many steps
-pub record HasTaken (n : ℕ) (old part : PartRun) : Type 0 where
-  pub count : n ≤ length part.journal
-  pub same : part.state.spec ≡ old.state.spec
-  pub begins : IsPrefix old.journal part.journal
+get_behind : (seen rest : List Event) (i : ℕ) → slice_get (seen ++ rest) (length seen + i) ≡ slice_get rest i
+get_behind [] rest i = ap (slice_get rest) (zero_plus i)
+  where
+    zero_plus : (n : ℕ) → 0 + n ≡ n
+    zero_plus n = omega arith
+get_behind (e ∷ seen) rest i = ap (slice_get (e ∷ seen ++ rest)) (next (length seen) i) ∙ get_behind seen rest i
+  where
+    next : (n i : ℕ) → suc n + i ≡ suc (n + i)
+    next n i = omega arith
 
-pub none_taken : (part : PartRun) → HasTaken 0 part part
-none_taken part = record { count = omega arith; same = refl; begins = ([], append-nil part.journal) }
+-- what is seen more is neither an invocation nor an arrival
+goes_on : (old new : DeskView) → IsAlone old → Waits old new → GoesOn old.seen new.seen
+goes_on old new alone w = record { rest = w.adds.seen.0; begins = w.adds.seen.1; others = all_by_place IsOther w.adds.seen.0 by_place }
+  where
+    by_place : (i : ℕ) (x : Event) → slice_get w.adds.seen.0 i ≡ Some x → IsOther x
+    by_place i x there =
+        let place : ℕ = suc (length old.seen + i) in
+        let found : at_number place new.seen ≡ Some x = ap (λ (l : List Event). at_number place l) (sym w.adds.seen.1) ∙ get_behind old.seen w.adds.seen.0 i ∙ there in
+        let high : place ≤ length new.seen = place_there new.seen place x found in
+        let other : IsAt new.seen place IsOther = All-contains (λ (q : ℕ). IsAt new.seen q IsOther) w.places place w.others (w.adds.own alone place (omega arith) high) in
+        subst IsOther (some_same other.event x (sym other.there ∙ found)) other.is
 
-pub one_taken : (n : ℕ) (old part new : PartRun) (s : Step) → HasTaken n old part → new ≡ run_after part s → HasTaken (n + 1) old new
-one_taken n old part new s h e = subst (HasTaken (n + 1) old) (sym e) record {
-  count =
-      let more : length (part.journal ++ event_of part.state s ∷ []) ≡ length part.journal + 1
-      = length-append part.journal (event_of part.state s ∷ []) in
-      let before : n ≤ length part.journal = h.count in
-      omega arith;
-  same = spec_after part.state s ∙ h.same;
-  begins = prefix_trans old.journal part.journal (part.journal ++ event_of part.state s ∷ []) h.begins (event_of part.state s ∷ [], refl);
-}
+pub closed_behind : (spec : PartSpec) (old new : DeskView) (part : PartRun) → IsAlone old → Waits old new → next_any (state_of spec new.seen) ≡ None
+    → part.state.spec ≡ spec → (IsAlone new → part.journal ≡ new.seen) → IsClosed spec old.seen part
+closed_behind spec old new part alone w settled same closed =
+    let journal : part.journal ≡ new.seen = closed (subst IsWhole (sym w.adds.share) alone) in
+    record {
+      same = same;
+      goes_on = subst (GoesOn old.seen) (sym journal) (goes_on old new alone w);
+      settled = ap (λ (l : List Event). next_any (state_of spec l)) journal ∙ settled;
+    }
 
-pub taken_all : (n : ℕ) (old part : PartRun) → HasTaken n old part → next_any part.state ≡ None → IsClosed old.state.spec old.journal part
-taken_all n old part h e = record { same = h.same; begins = h.begins; settled = e }
-
--- no part takes so many
-pub has_to_stop : (n : ℕ) (old part : PartRun) → HasTaken n old part → 2 ^ 23 ≤ n → IsRun part.state.spec part.journal → IsValidPart part.state.spec → ⊥
-has_to_stop n old part h many run valid =
-    let few : length part.journal < 2 ^ 23 = run_small part.state.spec part.journal (valid_fits part.state.spec valid) valid.limit run in
-    let count : n ≤ length part.journal = h.count in
-    omega arith
-
--- ---- a desk's part
-
-pub closed_on : (spec : PartSpec) (seen settled : List Event) (part end : PartRun) → IsPrefix seen settled → IsPrefix settled part.journal
-    → part.state.spec ≡ spec → IsClosed part.state.spec part.journal end → IsClosed spec seen end
-closed_on spec seen settled part end p q e h = record {
-  same = h.same ∙ e;
-  begins = prefix_trans seen settled end.journal p (prefix_trans settled part.journal end.journal q h.begins);
-  settled = h.settled;
-}
+-- ---- what the part leaves
 
 shows : (spec : PartSpec) (p : PartState) (end : PartEnd) → end ≡ end_of p → p.spec ≡ spec → ShowsState spec p end
 unfolding end_of objects_in
@@ -73,22 +71,16 @@ shows spec p end e same = subst (ShowsState spec p) (sym e) record {
   limit = ap (λ (x : PartSpec). x.limit) same;
 }
 
-left_at : (spec : PartSpec) (seen : List Event) (part : PartRun) (end : PartEnd) → IsClosed spec seen part
-    → IsRun spec part.journal → part.state ≡ state_of spec part.journal → end ≡ end_of part.state
-    → (journal : Kept Event) → journal.list ≡ part.journal → IsLeft spec seen journal end
-left_at spec seen part end h run state e journal same = record {
-  run = subst (IsRun spec) (sym same) run;
-  begins = subst (IsPrefix seen) (sym same) h.begins;
-  settled = subst (λ xs. next_any (state_of spec xs) ≡ None) (sym same) (subst (λ p. next_any p ≡ None) state h.settled);
-  shows = subst (λ xs. ShowsState spec (state_of spec xs) end) (sym same) (subst (λ p. ShowsState spec p end) state (shows spec part.state end e h.same));
-}
-
 pub left_of : (spec : PartSpec) (seen : List Event) (part : PartRun) (end : PartEnd) (journal : Kept Event) → IsClosed spec seen part
     → IsRun part.state.spec part.journal → part.state ≡ state_of part.state.spec part.journal → end ≡ end_of part.state
     → journal.list ≡ part.journal → IsLeft spec seen journal end
-left_of spec seen part end journal h run state e same =
-    left_at spec seen part end h (subst (λ x. IsRun x part.journal) h.same run) (subst (λ x. part.state ≡ state_of x part.journal) h.same state) e
-    journal same
+left_of spec seen part end journal h run state e same = record {
+  run = subst (IsRun spec) (sym same) (subst (λ (s : PartSpec). IsRun s part.journal) h.same run);
+  goes_on = subst (GoesOn seen) (sym same) h.goes_on;
+  settled = ap (λ (l : List Event). next_any (state_of spec l)) same ∙ h.settled;
+  shows = subst (λ (l : List Event). ShowsState spec (state_of spec l) end) (sym same)
+      (subst (λ (p : PartState). ShowsState spec p end) (state ∙ ap (λ (s : PartSpec). state_of s part.journal) h.same) (shows spec part.state end e h.same));
+}
 
 -- ---- lists that are worked off
 
@@ -114,19 +106,30 @@ more_specs spec i parts part desks all desk within is before of a =
     ∙ sym (take-suc parts i part within)
     ∙ ap (λ (n : ℕ). take n parts) (sym (add-one i))
 
+-- one new seat more
+pub one_more_new : {S : Type 0} (view : S → DeskView) (seats all : List S) (seat : S) → AreNew (map view seats) → view seat ≡ opening_view
+    → all ≡ seats ++ seat ∷ [] → AreNew (map view all)
+one_more_new view seats all seat new is a = subst (λ xs. AreNew (map view xs)) (sym a) (behind seats new)
+  where
+    behind : (xs : List _) → AreNew (map view xs) → AreNew (map view (xs ++ seat ∷ []))
+    behind [] h = (is, tt)
+    behind (x ∷ xs) h = (h.0, behind xs h.1)
+
 -- ---- one desk after another
 
-module _ {D S : Type 0} (IsSeat : D → S → Type 0) (spec : D → PartSpec) (seen : S → List Event) where
+module _ {D S : Type 0} (IsSeat : D → S → Type 0) (spec : D → PartSpec) (view : S → DeskView) where
   -- these desks are left to close, by these seats, and the parts of the others have left these
   pub record Remain (specs : List PartSpec) (seens : List (List Event)) (desks : List D) (seats : List S) (journals : List (Kept Event)) (ends : List PartEnd) : Type 0 where
     pub seated : AreSeats IsSeat desks seats
-    pub goes_on : (js : List (Kept Event)) (es : List PartEnd) → AreLeft (map spec desks) (map seen seats) js es
+    pub alone : AreAlone (map view seats)
+    pub goes_on : (js : List (Kept Event)) (es : List PartEnd) → AreLeft (map spec desks) (map (λ s. (view s).seen) seats) js es
         → AreLeft specs seens (journals ++ js) (ends ++ es)
 
-  pub all_remain : (own desks : List D) (mine seats : List S) (journals : List (Kept Event)) (ends : List PartEnd) → AreSeats IsSeat own mine
-      → desks ≡ own → seats ≡ mine → journals ≡ [] → ends ≡ [] → Remain (map spec own) (map seen mine) desks seats journals ends
-  all_remain own desks mine seats journals ends a d s j e = rw (d, s) record {
+  pub all_remain : (own desks : List D) (mine seats : List S) (journals : List (Kept Event)) (ends : List PartEnd) → AreSeats IsSeat own mine → AreAlone (map view mine)
+      → desks ≡ own → seats ≡ mine → journals ≡ [] → ends ≡ [] → Remain (map spec own) (map (λ s. (view s).seen) mine) desks seats journals ends
+  all_remain own desks mine seats journals ends a l d s j e = rw (d, s) record {
     seated = a;
+    alone = l;
     goes_on = λ js es h. rw (j, e) h;
   }
 
@@ -141,10 +144,11 @@ module _ {D S : Type 0} (IsSeat : D → S → Type 0) (spec : D → PartSpec) (s
 
   pub one_less : (specs : List PartSpec) (seens : List (List Event)) (desk : D) (desks : List D) (seat : S) (seats : List S)
       (journals : List (Kept Event)) (ends : List PartEnd) (journal : Kept Event) (end : PartEnd)
-      → Remain specs seens (desk ∷ desks) (seat ∷ seats) journals ends → IsLeft (spec desk) (seen seat) journal end
+      → Remain specs seens (desk ∷ desks) (seat ∷ seats) journals ends → IsLeft (spec desk) (view seat).seen journal end
       → Remain specs seens desks seats (journals ++ journal ∷ []) (ends ++ end ∷ [])
   one_less specs seens desk desks seat seats journals ends journal end h left = record {
     seated = rest_seated desk desks seat seats h.seated;
+    alone = h.alone.1;
     goes_on = λ js es more. rw (append_assoc journals (journal ∷ []) js, append_assoc ends (end ∷ []) es) (h.goes_on (journal ∷ js) (end ∷ es) (left, more));
   }
 
@@ -154,6 +158,11 @@ module _ {D S : Type 0} (IsSeat : D → S → Type 0) (spec : D → PartSpec) (s
       → Remain specs seens all both journals ends → IsSeat desk seat
   seat_of specs seens desk all desks seat both seats journals ends d s h =
       next_seat desk desks seat seats (subst (λ x. AreSeats IsSeat x (seat ∷ seats)) d (subst (AreSeats IsSeat all) s h.seated))
+
+  -- and it is alone there
+  pub alone_of : (specs : List PartSpec) (seens : List (List Event)) (desks : List D) (seat : S) (both seats : List S)
+      (journals : List (Kept Event)) (ends : List PartEnd) → both ≡ seat ∷ seats → Remain specs seens desks both journals ends → IsAlone (view seat)
+  alone_of specs seens desks seat both seats journals ends s h = (subst (λ xs. AreAlone (map view xs)) s h.alone).0
 
   pub none_remain : (specs : List PartSpec) (seens : List (List Event)) (seats : List S) (journals : List (Kept Event)) (ends : List PartEnd)
       → Remain specs seens [] seats journals ends → AreLeft specs seens journals ends
@@ -183,7 +192,7 @@ module _ {D S : Type 0} (IsSeat : D → S → Type 0) (spec : D → PartSpec) (s
   pub leaves_one : (specs : List PartSpec) (seens : List (List Event)) (desk : D) (all desks : List D) (seat : S) (both seats : List S)
       (journals more : List (Kept Event)) (ends further : List PartEnd) (journal : Kept Event) (end : PartEnd)
       → all ≡ desk ∷ desks → both ≡ seat ∷ seats → more ≡ journals ++ journal ∷ [] → further ≡ ends ++ end ∷ []
-      → Remain specs seens all both journals ends → IsLeft (spec desk) (seen seat) journal end
+      → Remain specs seens all both journals ends → IsLeft (spec desk) (view seat).seen journal end
       → Remain specs seens desks seats more further
   leaves_one specs seens desk all desks seat both seats journals more ends further journal end d s m f h left =
       subst (λ js. Remain specs seens desks seats js further) (sym m)

@@ -7,10 +7,8 @@ use Rattle.nook_defs.specs.Listening.{Listening}
 use Rattle.nook_defs.specs.Room.{Kept}
 use Rattle.request_taps.specs.Bus.{told, told_all}
 use Rattle.request_taps.specs.declared.tap.Tap.{Tap}
-use Rattle.sim_run.proofs.Publishing.{told_all_append}
-use Rattle.sim_run.specs.Published.{with_part}
-use Rattle.sim_run.specs.Reached.{AreRuns}
-use Rattle.sim_run.specs.Whole.{events_in}
+use Rattle.run_ends.proofs.Told.{told_all_append}
+use Rattle.run_ends.specs.Journals.{AreRuns, events_in, with_part}
 use Rattle.threaded_run.specs.Threaded.{HearAllOrNothing, IsThreaded, in_parts}
 
 front : {X : Type 0} (xs : List X) (i : ℕ) (x : X) → i < length xs → x ≡ get_or xs i x → drop i xs ≡ x ∷ drop (i + 1) xs

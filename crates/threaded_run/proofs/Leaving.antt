@@ -1,16 +1,25 @@
 -- What parts leave, told of each part.
-use Rattle.std.proofs.Common.{◌≡◌, ℕ, zero, suc, List, [], ◌∷◌, length, map, refl, ap}
+use Rattle.std.proofs.Common.{◌≡◌, ℕ, zero, suc, Bool, false, List, [], ◌∷◌, ◌++◌, filter, length, map, refl, sym, ap, ◌∙◌, append-nil}
+use Rattle.std.specs.List.{AllByRecursion}
+use Rattle.std.proofs.lemmas.List.Elements.{filter-append}
 use mathlib.Core.List.{IsPrefix}
+use Rattle.desk_like.specs.Desks.{IsOther}
 use Rattle.nook_defs.specs.declared.data.Event.{Event}
+use Rattle.nook_defs.specs.declared.data.Event.TheVariants as event
 use Rattle.nook_defs.specs.declared.data.PartSpec.{PartSpec}
+use Rattle.nook_defs.specs.declared.data.ThreadSpec.{ThreadSpec}
 use Rattle.nook_defs.specs.Room.{Kept}
 use Rattle.report_text.specs.declared.whole_report.PartEnd.{PartEnd}
 use Rattle.report_text.specs.Whole.{HaveEnds}
-use Rattle.sim_run.specs.Reached.{AreRuns}
-use Rattle.sim_run.specs.Whole.{events_in}
+use Rattle.run_ends.specs.Journals.{AreRuns, events_in}
 use Rattle.threaded_run.proofs.Growing.{arrivals_grown}
-use Rattle.threaded_run.specs.Leaving.{AreLeft}
+use Rattle.threaded_run.proofs.Placed.{left_out}
+use Rattle.threaded_run.specs.Leaving.{AreLeft, GoesOn}
+use Rattle.threaded_run.specs.Others.{HaveNoOthers, is_arrival, is_invocation_by}
 use Rattle.threaded_run.specs.Threaded.{AreSettled, HaveArrivals, journal_at}
+
+prefix_of : (seen journal : List Event) → GoesOn seen journal → IsPrefix seen journal
+prefix_of seen journal h = (h.rest, h.begins)
 
 pub runs_left : (specs : List PartSpec) (seens : List (List Event)) (journals : List (Kept Event)) (ends : List PartEnd)
     → AreLeft specs seens journals ends → AreRuns specs (map events_in journals)
@@ -58,7 +67,49 @@ arrivals_left (spec ∷ specs) [] journals ends h a = absurd h
 arrivals_left (spec ∷ specs) (seen ∷ seens) [] ends h a = absurd h
 arrivals_left (spec ∷ specs) (seen ∷ seens) (journal ∷ journals) [] h a = absurd h
 arrivals_left (spec ∷ specs) (seen ∷ seens) (journal ∷ journals) (end ∷ ends) h a =
-    (arrivals_grown seen journal.list spec.arrivals h.0.begins a.0, arrivals_left specs seens journals ends h.1 a.1)
+    (arrivals_grown seen journal.list spec.arrivals (prefix_of seen journal.list h.0.goes_on) a.0, arrivals_left specs seens journals ends h.1 a.1)
+
+other_invokes : (thread : ℕ) (e : Event) → IsOther e → is_invocation_by thread e ≡ false
+other_invokes thread (event.Invoke call t o a) h = absurd h
+other_invokes thread (event.Enter call t attempt a) h = refl
+other_invokes thread (event.Burst context call burst count end acts a failure) h = refl
+other_invokes thread (event.Stage stage answers released) h = refl
+other_invokes thread (event.Arrive frame kept) h = refl
+
+other_arrives : (e : Event) → IsOther e → is_arrival e ≡ false
+other_arrives (event.Invoke call t o a) h = refl
+other_arrives (event.Enter call t attempt a) h = refl
+other_arrives (event.Burst context call burst count end acts a failure) h = refl
+other_arrives (event.Stage stage answers released) h = refl
+other_arrives (event.Arrive frame kept) h = absurd h
+
+none_pass : (test : Event → Bool) (events : List Event) → ((e : Event) → IsOther e → test e ≡ false) → AllByRecursion IsOther events → filter test events ≡ []
+none_pass test [] fails h = refl
+none_pass test (e ∷ events) fails h = left_out test e events (fails e h.0) ∙ none_pass test events fails h.1
+
+-- what goes on behind has no more of such events
+as_many : (test : Event → Bool) (seen journal : List Event) → ((e : Event) → IsOther e → test e ≡ false) → GoesOn seen journal
+    → length (filter test journal) ≡ length (filter test seen)
+as_many test seen journal fails h =
+    ap (λ (xs : List Event). length (filter test xs)) (sym h.begins)
+    ∙ ap length (filter-append test seen h.rest ∙ ap (λ (xs : List Event). filter test seen ++ xs) (none_pass test h.rest fails h.others) ∙ append-nil (filter test seen))
+
+pub no_others_left : (threads : List ThreadSpec) (place : ℕ) (specs : List PartSpec) (seens : List (List Event)) (journals : List (Kept Event)) (ends : List PartEnd)
+    → AreLeft specs seens journals ends → HaveNoOthers threads place specs seens → HaveNoOthers threads place specs (map events_in journals)
+no_others_left threads place [] [] [] [] h n = tt
+no_others_left threads place [] [] [] (end ∷ ends) h n = absurd h
+no_others_left threads place [] [] (journal ∷ journals) ends h n = absurd h
+no_others_left threads place [] (seen ∷ seens) journals ends h n = absurd h
+no_others_left threads place (spec ∷ specs) [] journals ends h n = absurd h
+no_others_left threads place (spec ∷ specs) (seen ∷ seens) [] ends h n = absurd h
+no_others_left threads place (spec ∷ specs) (seen ∷ seens) (journal ∷ journals) [] h n = absurd h
+no_others_left threads place (spec ∷ specs) (seen ∷ seens) (journal ∷ journals) (end ∷ ends) h n = (
+  record {
+    invoked = λ thread. as_many (is_invocation_by thread) seen journal.list (other_invokes thread) h.0.goes_on ∙ n.0.invoked thread;
+    arrived = as_many is_arrival seen journal.list other_arrives h.0.goes_on ∙ n.0.arrived;
+  },
+  no_others_left threads (suc place) specs seens journals ends h.1 n.1,
+)
 
 -- what has been seen of each part begins its journal
 pub begin_left : (specs : List PartSpec) (seens : List (List Event)) (journals : List (Kept Event)) (ends : List PartEnd)
@@ -70,7 +121,7 @@ begin_left [] (seen ∷ seens) journals ends h part = absurd h
 begin_left (spec ∷ specs) [] journals ends h part = absurd h
 begin_left (spec ∷ specs) (seen ∷ seens) [] ends h part = absurd h
 begin_left (spec ∷ specs) (seen ∷ seens) (journal ∷ journals) [] h part = absurd h
-begin_left (spec ∷ specs) (seen ∷ seens) (journal ∷ journals) (end ∷ ends) h zero = h.0.begins
+begin_left (spec ∷ specs) (seen ∷ seens) (journal ∷ journals) (end ∷ ends) h zero = prefix_of seen journal.list h.0.goes_on
 begin_left (spec ∷ specs) (seen ∷ seens) (journal ∷ journals) (end ∷ ends) h (suc part) = begin_left specs seens journals ends h.1 part
 
 -- as many journals as parts

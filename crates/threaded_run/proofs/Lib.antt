@@ -1,9 +1,10 @@
 pub mod Answered
 pub mod Closed
+pub mod Counted
 pub mod Growing
 pub mod Heard
 pub mod Leaving
+pub mod Placed
+pub mod Refusing
 pub mod Threading
-pub mod Scheduled
-pub mod Serving
 pub mod Working

@@ -8,9 +8,9 @@ use Rattle.nook_defs.specs.declared.data.Scenario.{Scenario}
 use Rattle.nook_defs.specs.declared.data.ThreadSpec.{ThreadSpec}
 use Rattle.nook_defs.specs.Room.{Kept}
 use Rattle.report_text.specs.declared.whole_report.PartEnd.{PartEnd}
-use Rattle.sim_run.specs.Whole.{events_in}
+use Rattle.run_ends.specs.Journals.{events_in}
 use Rattle.threaded_run.proofs.Growing.{receipts_grown}
-use Rattle.threaded_run.proofs.Leaving.{arrivals_left, begin_left, ends_left, runs_left, settled_left}
+use Rattle.threaded_run.proofs.Leaving.{arrivals_left, begin_left, ends_left, no_others_left, runs_left, settled_left}
 use Rattle.threaded_run.specs.declared.running.Unheard.{Unheard}
 use Rattle.threaded_run.specs.Leaving.{AreLeft, HaveRows, HaveWorked, answers_in}
 use Rattle.threaded_run.specs.Threaded.{AreServed, IsThreaded, journal_at}
@@ -39,6 +39,7 @@ threaded scenario seens rows journals ends w l = record {
   settled = settled_left scenario.parts seens journals ends l;
   served = served_all seens (map events_in journals) 0 scenario.threads rows (begin_left scenario.parts seens journals ends l) w.served;
   arrived = arrivals_left scenario.parts seens journals ends l w.arrived;
+  no_others = no_others_left scenario.threads 0 scenario.parts seens journals ends l w.no_others;
 }
 
 pub made_by_threads : (scenario : Scenario) (specs : List PartSpec) (seens : List (List Event)) (rows : List (List Receipt)) (left : Unheard)

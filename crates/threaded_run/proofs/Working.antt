@@ -7,8 +7,8 @@ use Rattle.std.proofs.lemmas.List.{length-map}
 use Rattle.std.proofs.lemmas.Option.{get_or_from_slice_get, slice_get_within}
 use Rattle.app_threads.proofs.Grown.{rising_filter}
 use Rattle.app_threads.specs.Ends.{AreFinished, HasArrived}
-use Rattle.app_threads.specs.Workers.{AreArrivals, AreFrames, AreReceipts, AreRising, AreScripts, IsNetAt, frame_of, frames_at, invokes_of}
-use Rattle.desk_like.specs.Desks.{DeskView, IsReceipt, IsRisingFrom}
+use Rattle.app_threads.specs.Workers.{AreArrivals, AreFrames, AreReceipts, AreRising, AreScripts, IsNetAt, KeepAccounts, StayAlone, frame_of, frames_at, invokes_of}
+use Rattle.desk_like.specs.Desks.{Accounts, DeskView, IsAlone, IsReceipt, IsRisingFrom}
 use Rattle.nook_defs.specs.Classes.{same_class}
 use Rattle.nook_defs.specs.declared.data.Class.{Class}
 use Rattle.nook_defs.specs.declared.data.Class.TheVariants as class
@@ -21,7 +21,11 @@ use Rattle.nook_defs.specs.declared.data.Scenario.{Scenario}
 use Rattle.nook_defs.specs.declared.data.ThreadSpec.{ThreadSpec}
 use Rattle.nook_defs.specs.Places.{at_number}
 use Rattle.nook_defs.specs.Valid.{FitsClass, IsValidPart, IsValidScenario, IsValidThread}
-use Rattle.threaded_run.specs.Leaving.{HaveRows, HaveWorked}
+use Rattle.part_laws.proofs.Places.{some_same}
+use Rattle.part_server.specs.Turns.{opening_view}
+use Rattle.threaded_run.proofs.Counted.{added_all, has_no_others, invoked_same, no_others_from}
+use Rattle.threaded_run.specs.Leaving.{AreAlone, AreNew, HaveRows, HaveWorked}
+use Rattle.threaded_run.specs.Others.{HasNoOthers}
 use Rattle.threaded_run.specs.Threaded.{ArriveAt, HasArrivals, HaveArrivals, HaveReceipts, invoked_on, journal_at}
 
 abbrev pub seens_of : List DeskView → List (List Event)
@@ -52,11 +56,6 @@ receipts_of views thread ((part, op) ∷ ops) (receipt ∷ receipts) h = (
 rise_from_start : (n : ℕ) (places : List ℕ) → IsRisingFrom n places → IsRisingFrom 0 places
 rise_from_start n [] h = tt
 rise_from_start n (place ∷ places) h = (let low : n < place = h.0 in omega arith, h.1)
-
-invoked_same : (part : ℕ) (ops : List (ℕ × Op)) (receipts : List Receipt) → invokes_of part ops receipts ≡ invoked_on part ops receipts
-invoked_same part [] receipts = refl
-invoked_same part (o ∷ ops) [] = refl
-invoked_same part ((p, op) ∷ ops) (receipt ∷ receipts) = rw (invoked_same part ops receipts) refl
 
 -- no operation is on a part that has no desk
 invoked_nowhere : (views : List DeskView) (thread part : ℕ) (ops : List (ℕ × Op)) (receipts : List Receipt) → AreReceipts views thread ops receipts
@@ -153,20 +152,76 @@ frames_of_part (p ∷ parts) zero spec h = ap (λ (s : PartSpec). s.arrivals) (i
     inner h = cc
 frames_of_part (p ∷ parts) (suc d) spec h = frames_of_part parts d spec h
 
+-- ---- seats that were new
+
+pub new_at : (olds : List DeskView) (d : ℕ) (view : DeskView) → AreNew olds → slice_get olds d ≡ Some view → view ≡ opening_view
+new_at [] d view new h = cc
+new_at (v ∷ olds) zero view new h = sym (some_same v view h) ∙ new.0
+new_at (v ∷ olds) (suc d) view new h = new_at olds d view new.1 h
+
+new_accounts : Accounts opening_view
+new_accounts = record { within = λ k d within. absurd (omega arith); all = λ alone place low high. absurd (omega arith) }
+
+new_alone : IsAlone opening_view
+new_alone point = refl
+
+-- all that was done at its desk was done through a seat that is the only one
+pub record DidAll (view : DeskView) : Type 0 where
+  pub accounts : Accounts view
+  pub alone : IsAlone view
+
+-- seats that were new and the only ones, and kept that through the work of others
+pub did_all : (olds views : List DeskView) → AreNew olds → KeepAccounts olds views → StayAlone olds views
+    → (d : ℕ) (view : DeskView) → slice_get views d ≡ Some view → DidAll view
+did_all olds views new keep stay d view there =
+    let within = slice_get_within views d view there in
+    let old = some_view olds d (let same = keep.0 in omega arith) in
+    let is : old.0 ≡ opening_view = new_at olds d old.0 new old.1 in
+    record {
+      accounts = (keep.1 d old.0 view old.1 there).still (subst Accounts (sym is) new_accounts);
+      alone = (stay.1 d old.0 view old.1 there).still (subst IsAlone (sym is) new_alone);
+    }
+
+pub all_alone : (views : List DeskView) → ((d : ℕ) (view : DeskView) → slice_get views d ≡ Some view → DidAll view) → AreAlone views
+all_alone [] h = tt
+all_alone (v ∷ views) h = ((h 0 v refl).alone, all_alone views (λ d w there. h (suc d) w there))
+
 -- ---- all
 
+finished_part : (specs parts : List PartSpec) (threads : List ThreadSpec) (olds views : List DeskView) (rows : List (List Receipt)) (d : ℕ) (spec : PartSpec) (old view : DeskView)
+    → AreFinished specs threads (map (λ (s : PartSpec). s.arrivals) parts) olds views rows → HaveRows (seens_of views) 0 threads rows → old ≡ opening_view → DidAll view
+    → slice_get parts d ≡ Some spec → slice_get olds d ≡ Some old → slice_get views d ≡ Some view → HasArrivals view.seen spec.arrivals → HasNoOthers threads d spec view.seen
+finished_part specs parts threads olds views rows d spec old view h served new did at_part at_old at_view arrived =
+    let g = h.gains.1 d old view at_old at_view in
+    has_no_others view g.places
+    (added_all old view g.places (ap (λ (v : DeskView). v.made) new) g.grows.made did.accounts did.alone)
+    (seens_of views) threads rows served d (seen_at views d view at_view) g.invoked spec
+    (g.arrived ∙ frames_of_part parts d spec at_part) arrived
+
 pub have_worked : (specs parts : List PartSpec) (threads : List ThreadSpec) (olds views : List DeskView) (rows : List (List Receipt)) → length olds ≡ length parts
+    → AreNew olds → KeepAccounts olds views → StayAlone olds views
     → AreFinished specs threads (map (λ (s : PartSpec). s.arrivals) parts) olds views rows → HaveWorked parts threads (seens_of views) rows
-have_worked specs parts threads olds views rows long h = record {
-  served = rows_from olds views 0 threads rows h.arrived.0 h.rows.0
-      (λ t script row a b. (subst (λ n. AreReceipts views n script.ops row) (omega arith) (h.rows.1 t script row a b), h.rising t script row a b));
-  arrived = arrivals_from parts views (let n = h.arrived.0 in omega arith)
-      (λ d spec view a b.
-      let within = slice_get_within parts d spec a in
-      let old = some_view olds d (omega arith) in
-      arrivals_of_one old.0 view spec.arrivals
-      (subst (HasArrived old.0 view) (frames_of_part parts d spec a) (h.arrived.1 d old.0 view old.1 b)));
-}
+have_worked specs parts threads olds views rows long new keep stay h =
+    let served : HaveRows (seens_of views) 0 threads rows =
+    rows_from olds views 0 threads rows h.arrived.0 h.rows.0
+    (λ t script row a b. (subst (λ n. AreReceipts views n script.ops row) (omega arith) (h.rows.1 t script row a b), h.rising t script row a b)) in
+    let arrived : (d : ℕ) (spec : PartSpec) (view : DeskView) → slice_get parts d ≡ Some spec → slice_get views d ≡ Some view → HasArrivals view.seen spec.arrivals =
+    λ d spec view a b.
+    let within = slice_get_within parts d spec a in
+    let old = some_view olds d (omega arith) in
+    arrivals_of_one old.0 view spec.arrivals
+    (subst (HasArrived old.0 view) (frames_of_part parts d spec a) (h.arrived.1 d old.0 view old.1 b)) in
+    record {
+      served = served;
+      arrived = arrivals_from parts views (let n = h.arrived.0 in omega arith) arrived;
+      no_others = no_others_from threads 0 parts views (let n = h.arrived.0 in omega arith)
+          (λ d spec view a b.
+          let within = slice_get_within parts d spec a in
+          let old = some_view olds d (omega arith) in
+          subst (λ (n : ℕ). HasNoOthers threads n spec view.seen) (omega arith)
+          (finished_part specs parts threads olds views rows d spec old.0 view h served (new_at olds d old.0 new old.1)
+          (did_all olds views new keep stay d view b) a old.1 b (arrived d spec view a b)));
+    }
 
 -- ---- what the workers are handed
 
@@ -193,7 +248,7 @@ part_at (p ∷ parts) zero frames h = (p, refl, inner h)
     inner h = cc
 part_at (p ∷ parts) (suc d) frames h = part_at parts d frames h
 
-valid_at : (parts : List PartSpec) (d : ℕ) (spec : PartSpec) → All IsValidPart parts → slice_get parts d ≡ Some spec → IsValidPart spec
+pub valid_at : (parts : List PartSpec) (d : ℕ) (spec : PartSpec) → All IsValidPart parts → slice_get parts d ≡ Some spec → IsValidPart spec
 valid_at parts d spec v h =
     let within = slice_get_within parts d spec h in
     subst IsValidPart (get_or_from_slice_get parts d spec spec h) (v d spec within)
@@ -222,8 +277,14 @@ seens_are view (seat ∷ seats) = ap (λ xs. (view seat).seen ∷ xs) (seens_are
 
 pub gathered : {S : Type 0} (view : S → DeskView) (specs parts : List PartSpec) (threads : List ThreadSpec) (olds news all : List S) (frames : List (List (List ℕ))) (rows : List (List Receipt))
     → all ≡ news → frames ≡ map (λ (s : PartSpec). s.arrivals) parts → length olds ≡ length parts
+    → AreNew (map view olds) → KeepAccounts (map view olds) (map view news) → StayAlone (map view olds) (map view news)
     → AreFinished specs threads frames (map view olds) (map view news) rows → HaveWorked parts threads (map (λ s. (view s).seen) all) rows
-gathered view specs parts threads olds news all frames rows a f l h =
+gathered view specs parts threads olds news all frames rows a f l new keep stay h =
     subst (λ seens. HaveWorked parts threads seens rows) (sym (ap (map (λ s. (view s).seen)) a ∙ seens_are view news))
-    (have_worked specs parts threads (map view olds) (map view news) rows (length-map olds view ∙ l)
+    (have_worked specs parts threads (map view olds) (map view news) rows (length-map olds view ∙ l) new keep stay
     (subst (λ x. AreFinished specs threads x (map view olds) (map view news) rows) f h))
+
+pub left_alone : {S : Type 0} (view : S → DeskView) (olds news all : List S) → all ≡ news
+    → AreNew (map view olds) → KeepAccounts (map view olds) (map view news) → StayAlone (map view olds) (map view news) → AreAlone (map view all)
+left_alone view olds news all a new keep stay =
+    subst (λ seats. AreAlone (map view seats)) (sym a) (all_alone (map view news) (did_all (map view olds) (map view news) new keep stay))

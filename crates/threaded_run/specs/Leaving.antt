@@ -1,6 +1,6 @@
 -- What desks' parts leave once no step of theirs is left.
-use Rattle.std.specs.Prelude.{◌≡◌, ℕ, suc, None, List, [], ◌∷◌}
-use mathlib.Core.List.{IsPrefix}
+use Rattle.std.specs.Prelude.{◌≡◌, ℕ, suc, None, List, [], ◌∷◌, ◌++◌}
+use Rattle.std.specs.List.{AllByRecursion}
 use Rattle.nook_defs.specs.declared.data.Answer.{Answer}
 use Rattle.nook_defs.specs.declared.data.Event.{Event}
 use Rattle.nook_defs.specs.declared.data.PartSpec.{PartSpec}
@@ -10,20 +10,28 @@ use Rattle.nook_defs.specs.Room.{Kept}
 use Rattle.nook_defs.specs.Runs.{IsRun, PartRun, next_any, state_of}
 use Rattle.report_text.specs.declared.whole_report.PartEnd.{PartEnd}
 use Rattle.report_text.specs.Whole.{ShowsState}
-use Rattle.desk_like.specs.Desks.{IsRisingFrom}
+use Rattle.desk_like.specs.Desks.{DeskView, IsAlone, IsOther, IsRisingFrom}
+use Rattle.part_server.specs.Turns.{opening_view}
+use Rattle.threaded_run.specs.Others.{HaveNoOthers}
 use Rattle.threaded_run.specs.Threaded.{HaveArrivals, HaveReceipts, answers_by, invoked_on}
 
--- the part is one of this spec, what a seat at its desk has seen begins its journal, and it has no step left but
--- invocations and arrivals
+-- the journal goes on behind these events, with no invocation and no arrival
+pub record GoesOn (seen journal : List Event) : Type 0 where
+  pub rest : List Event
+  pub begins : seen ++ rest ≡ journal
+  pub others : AllByRecursion IsOther rest
+
+-- the part is one of this spec, its journal goes on behind what the only seat at its desk has seen, and it has no step
+-- left but invocations and arrivals
 pub record IsClosed (spec : PartSpec) (seen : List Event) (part : PartRun) : Type 0 where
   pub same : part.state.spec ≡ spec
-  pub begins : IsPrefix seen part.journal
-  pub settled : next_any part.state ≡ None
+  pub goes_on : GoesOn seen part.journal
+  pub settled : next_any (state_of spec part.journal) ≡ None
 
 -- so it is with a part's journal and what the part ends in
 pub record IsLeft (spec : PartSpec) (seen : List Event) (journal : Kept Event) (end : PartEnd) : Type 0 where
   pub run : IsRun spec journal.list
-  pub begins : IsPrefix seen journal.list
+  pub goes_on : GoesOn seen journal.list
   pub settled : next_any (state_of spec journal.list) ≡ None
   pub shows : ShowsState spec (state_of spec journal.list) end
 
@@ -48,7 +56,17 @@ HaveRows journals thread (t ∷ threads) (row ∷ rows) =
     × HaveRows journals (suc thread) threads rows
 HaveRows journals thread _ _ = ⊥
 
--- threads worked off their scripts, and the parts' frames arrived, in what has been seen of each part
+-- threads worked off their scripts, and the parts' frames arrived, in what has been seen of each part, and nothing else
+-- was invoked or arrived there
 pub record HaveWorked (parts : List PartSpec) (threads : List ThreadSpec) (seens : List (List Event)) (rows : List (List Receipt)) : Type 0 where
   pub served : HaveRows seens 0 threads rows
   pub arrived : HaveArrivals parts seens
+  pub no_others : HaveNoOthers threads 0 parts seens
+
+-- each seat is the only one at its desk
+abbrev pub AreAlone : List DeskView → Type 0
+AreAlone views = AllByRecursion IsAlone views
+
+-- each seat is the first at its desk, at which nothing was done yet
+abbrev pub AreNew : List DeskView → Type 0
+AreNew views = AllByRecursion (λ v. v ≡ opening_view) views

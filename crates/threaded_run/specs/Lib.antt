@@ -1,3 +1,4 @@
 pub mod Leaving
+pub mod Others
 pub mod Threaded
 pub mod Unheard

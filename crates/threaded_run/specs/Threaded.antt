@@ -12,8 +12,8 @@ use Rattle.nook_defs.specs.Runs.{next_any, state_of}
 use Rattle.nook_defs.specs.Listening.{Listening}
 use Rattle.request_taps.specs.Bus.{told_all}
 use Rattle.request_taps.specs.declared.tap.Tap.{Tap}
-use Rattle.sim_run.specs.Published.{with_part}
-use Rattle.sim_run.specs.Reached.{AreRuns}
+use Rattle.run_ends.specs.Journals.{AreRuns, with_part}
+use Rattle.threaded_run.specs.Others.{HaveNoOthers}
 
 -- ---- parts
 
@@ -87,12 +87,13 @@ AreServed journals thread (t ∷ threads) (answers ∷ table) =
 
 -- ---- the whole
 
--- the journals and answers of `run threads`: each part has taken all its steps, and each thread's operations with its
--- answers, and each part's arrivals, are in the journals in order
+-- The journals and answers of `run threads`: each part has taken all its steps; each thread's operations with its
+-- answers, and each part's arrivals, are in the journals in order; and the journals have no other invocation or arrival
 pub record IsThreaded (scenario : Scenario) (journals : List (List Event)) (answers : List (List (ℕ × Answer))) : Type 0 where
   pub settled : AreSettled scenario.parts journals
   pub served : AreServed journals 0 scenario.threads answers
   pub arrived : HaveArrivals scenario.parts journals
+  pub no_others : HaveNoOthers scenario.threads 0 scenario.parts journals
 
 -- the events of journals, part by part, of which the first is that of part `part`
 abbrev pub in_parts : ℕ → List (List Event) → List (ℕ × Event)

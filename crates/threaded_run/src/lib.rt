@@ -3,7 +3,6 @@
 
 mod answering;
 mod closing;
-pub mod laws;
 mod opening;
 mod publishing;
 mod running;

@@ -3,7 +3,9 @@
 ghost use Rattle.std.specs.Prelude.{◌≡◌, All, IfOk, map};
 ghost use Rattle.app_threads.specs.Workers.{AreSeats};
 ghost use Rattle.nook_defs.specs.Valid.{IsValidPart};
-ghost use Rattle.part_server.specs.Desk.{IsDeskSeat, desk_spec};
+ghost use Rattle.part_server.specs.Desk.{IsDeskSeat, desk_spec, desk_view};
+ghost use Rattle.part_server.specs.Turns.{opening_view};
+ghost use Rattle.threaded_run.specs.Leaving.{AreNew};
 
 use nook_defs::data::PartSpec;
 use nook_defs::lists::{Frames, TryCopy};
@@ -12,18 +14,19 @@ use part_core::Part;
 use part_server::{DeskSeat, PartDesk};
 use std::alloc::Global;
 
-/// A desk for each part of a scenario, and a seat at each desk.
+/// A desk for each part of a scenario, and the first seat at each.
 #[derive(Drop)]
 pub struct Opened {
     pub desks: Vec<PartDesk>,
     pub seats: Vec<DeskSeat>,
 }
 
-/// A desk for each of some valid parts, which are at the start of their boot.
+/// A desk for each of some valid parts, which are at the start of their boot, with the one seat at each.
 pub fn open_desks(alloc: Global, parts: &[PartSpec]) -> Result<Opened, NoMemory>
     requires { All IsValidPart parts.now }
     ensures specs { IfOk result (λ opened. map desk_spec opened.desks.items ≡ parts.now) }
     ensures seats { IfOk result (λ opened. AreSeats IsDeskSeat opened.desks.items opened.seats.items) }
+    ensures new { IfOk result (λ opened. AreNew (map desk_view opened.seats.items)) }
 {
     let mut desks = Vec::with_capacity(alloc, parts.len())?;
     let mut seats = Vec::with_capacity(alloc, parts.len())?;
@@ -35,11 +38,12 @@ pub fn open_desks(alloc: Global, parts: &[PartSpec]) -> Result<Opened, NoMemory>
     Ok(Opened { desks, seats })
 }
 
-/// A desk for a valid part, and a seat at it.
+/// A desk for a valid part, and the one seat at it.
 fn open_desk(alloc: Global, spec: &PartSpec) -> Result<(PartDesk, DeskSeat), NoMemory>
     requires { IsValidPart spec.now }
     ensures seat { IfOk result (λ made. IsDeskSeat made.0 made.1) }
     ensures spec { IfOk result (λ made. desk_spec made.0 ≡ spec.now) }
+    ensures view { IfOk result (λ made. desk_view made.1 ≡ opening_view) }
 {
     let part = Part::new(alloc, spec.copy(alloc)?)?;
     PartDesk::new(alloc, part)

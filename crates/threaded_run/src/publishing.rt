@@ -2,8 +2,7 @@
 
 ghost use Rattle.std.specs.Prelude.{◌≡◌, ◌≤◌, length, map};
 ghost use Rattle.request_taps.specs.Bus.{seen, told_all};
-ghost use Rattle.sim_run.specs.Published.{with_part};
-ghost use Rattle.sim_run.specs.Whole.{events_in};
+ghost use Rattle.run_ends.specs.Journals.{events_in, with_part};
 ghost use Rattle.threaded_run.specs.Threaded.{in_parts};
 
 use nook_defs::data::Event;

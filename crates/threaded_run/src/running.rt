@@ -1,16 +1,15 @@
 //! The run of a scenario by threads.
 
-ghost use Rattle.std.specs.Prelude.{◌≡◌, IfOk, IfSome, None, OnErr, map};
+ghost use Rattle.std.specs.Prelude.{◌≡◌, IfOk, OnErr, map};
 ghost use Rattle.app_threads.specs.Workers.{AreSeats};
 ghost use Rattle.nook_defs.specs.Valid.{IsValidScenario};
 ghost use Rattle.report_text.specs.Whole.{HaveEnds};
 ghost use Rattle.request_taps.specs.Bus.{result_of, seen, told_all};
-ghost use Rattle.sim_run.specs.Reached.{AreRuns};
-ghost use Rattle.sim_run.specs.Whole.{events_in};
+ghost use Rattle.run_ends.specs.Journals.{AreRuns, events_in};
 ghost use Rattle.part_server.specs.Desk.{IsDeskSeat, desk_spec, desk_view};
-ghost use Rattle.threaded_run.specs.Leaving.{HaveWorked};
+ghost use Rattle.threaded_run.specs.Leaving.{AreAlone, HaveWorked};
 ghost use Rattle.threaded_run.specs.Threaded.{AreAnswered, HearAllOrNothing, IsThreaded, in_parts};
-ghost use Rattle.threaded_run.specs.Unheard.{IsWholeRun};
+ghost use Rattle.threaded_run.specs.Unheard.{IsForMemory, IsWholeRun};
 
 use crate::answering::answers_of;
 use crate::closing::leave_all;
@@ -18,13 +17,12 @@ use crate::opening::{Opened, arrivals_of, open_desks};
 use crate::publishing::publish_all;
 use app_threads::{WorkerStop, run_workers};
 use nook_defs::data::{AnswerTable, DeskRefused, Scenario, WorkerTable};
-use nook_defs::listeners::CountListener;
 use nook_defs::memory::NoMemory;
 use nook_defs::outside::{Gate, Listener};
 use report_text::report::{Journals, Run};
 use report_text::whole_report::PartEnds;
 use request_taps::Bus;
-use sim_run::{Simulated, simulate};
+use run_ends::WholeRun;
 use std::alloc::Global;
 use std::sync::Wait;
 use std::thread::Threads;
@@ -41,19 +39,19 @@ pub struct Unheard {
 /// its script, and each part with arrivals has a thread that hands them in. Then each part takes the steps that it has
 /// left, and the taps hear the journals, part by part.
 ///
-/// In whatever order the threads got their turns, each journal is a run of its part that has no step left, and holds
-/// the operations of each thread with the answers that are told, and the part's arrivals, in order.
+/// In whatever order the threads got their turns, each journal is a run of its part that has no step left. It holds the
+/// operations of each thread, in order and with the answers that are told, and the part's arrivals, in order, and no
+/// other invocation or arrival.
 ///
-/// Where a desk refuses a thread for another cause than memory, the scenario is simulated under its schedule in place
-/// of it, of which the same holds. After `NoMemory` the taps have heard nothing, or all events of the journals of such a
-/// run, part by part.
+/// An error comes where memory was wanting, and no desk of a valid scenario refuses a thread for another cause. After it
+/// the taps have heard nothing, or all events of the journals of such a run, part by part.
 pub fn run_threads<R: Threads + Wait + Sync, L: Listener, G: Gate>(
     rt: &R,
     alloc: Global,
     scenario: &Scenario,
     taps: &mut Bus<L>,
     gate: &G,
-) -> Result<Simulated, NoMemory>
+) -> Result<WholeRun, NoMemory>
     requires { IsValidScenario scenario.now }
     ensures runs { IfOk result (λ whole. AreRuns scenario.now.parts (map events_in whole.run.journals)) }
     ensures ends { IfOk result (λ whole. HaveEnds scenario.now.parts whole.run.journals whole.ends) }
@@ -68,7 +66,7 @@ pub fn run_threads<R: Threads + Wait + Sync, L: Listener, G: Gate>(
     let left = run_unheard(rt, alloc, scenario, gate)?;
     publish_all(taps, left.journals.as_slice());
     let totals = taps.totals(alloc)?;
-    Ok(Simulated {
+    Ok(WholeRun {
         run: Run {
             journals: left.journals,
             answers: left.answers,
@@ -78,7 +76,7 @@ pub fn run_threads<R: Threads + Wait + Sync, L: Listener, G: Gate>(
     })
 }
 
-/// Runs a valid scenario by threads, or simulates it in place of that.
+/// Runs a valid scenario by threads, and publishes nothing.
 fn run_unheard<R: Threads + Wait + Sync, G: Gate>(
     rt: &R,
     alloc: Global,
@@ -87,51 +85,6 @@ fn run_unheard<R: Threads + Wait + Sync, G: Gate>(
 ) -> Result<Unheard, NoMemory>
     requires { IsValidScenario scenario.now }
     ensures { IfOk result (IsWholeRun scenario.now) }
-{
-    match run_by_threads(rt, alloc, scenario, gate)? {
-        Some(left) => Ok(left),
-        None => simulate_unheard(alloc, scenario),
-    }
-}
-
-/// Simulates a valid scenario under its schedule.
-fn simulate_unheard(alloc: Global, scenario: &Scenario) -> Result<Unheard, NoMemory>
-    requires { IsValidScenario scenario.now }
-    ensures { IfOk result (IsWholeRun scenario.now) }
-{
-    let mut silent: Bus<CountListener> = Bus::of(alloc, Vec::new(alloc))?;
-    let whole = simulate(alloc, scenario, &mut silent)?;
-    Ok(without_totals(whole))
-}
-
-/// What a simulation left, without the totals of its taps.
-fn without_totals(whole: Simulated) -> Unheard
-    ensures journals { result.journals ≡ whole.run.journals }
-    ensures answers { result.answers ≡ whole.run.answers }
-    ensures ends { result.ends ≡ whole.ends }
-{
-    let Simulated { run, ends } = whole;
-    let Run {
-        journals,
-        answers,
-        ..
-    } = run;
-    Unheard {
-        journals,
-        answers,
-        ends,
-    }
-}
-
-/// Runs a valid scenario by threads; `None` where a desk refused one for another cause than memory.
-fn run_by_threads<R: Threads + Wait + Sync, G: Gate>(
-    rt: &R,
-    alloc: Global,
-    scenario: &Scenario,
-    gate: &G,
-) -> Result<Option<Unheard>, NoMemory>
-    requires { IsValidScenario scenario.now }
-    ensures { IfOk result (λ made. IfSome made (IsWholeRun scenario.now)) }
 {
     let arrivals = arrivals_of(alloc, scenario.parts.as_slice())?;
     let mut opened = open_desks(alloc, scenario.parts.as_slice())?;
@@ -145,8 +98,8 @@ fn run_by_threads<R: Threads + Wait + Sync, G: Gate>(
         gate,
     );
     match worked {
-        Ok(table) => Ok(Some(gather(rt, alloc, scenario, opened, table)?)),
-        Err(stop) => stopped(stop),
+        Ok(table) => gather(rt, alloc, scenario, opened, table),
+        Err(stop) => Err(want_of_memory(stop)),
     }
 }
 
@@ -160,6 +113,7 @@ fn gather<R: Wait>(
 ) -> Result<Unheard, NoMemory>
     requires specs { map desk_spec opened.desks.items ≡ scenario.now.parts }
     requires seats { AreSeats IsDeskSeat opened.desks.items opened.seats.items }
+    requires alone { AreAlone (map desk_view opened.seats.items) }
     requires worked { HaveWorked scenario.now.parts scenario.now.threads
         (map (λ s. (desk_view s).seen) opened.seats.items) table }
     ensures { IfOk result (IsWholeRun scenario.now) }
@@ -173,16 +127,16 @@ fn gather<R: Wait>(
     })
 }
 
-/// What is made where a worker stopped: nothing, or `NoMemory` where memory was wanting.
-fn stopped(stop: WorkerStop) -> Result<Option<Unheard>, NoMemory>
-    ensures { IfOk result (λ made. made ≡ None) }
+/// What a worker tells that stopped for want of memory.
+fn want_of_memory(stop: WorkerStop) -> NoMemory
+    requires { IsForMemory stop }
 {
     match stop {
-        WorkerStop::NoMemory => Err(NoMemory),
+        WorkerStop::NoMemory => NoMemory,
         WorkerStop::Refused {
             refusal: DeskRefused::NoMemory { .. },
             ..
-        } => Err(NoMemory),
-        WorkerStop::Refused { .. } => Ok(None),
+        } => NoMemory,
+        WorkerStop::Refused { .. } => unreachable!(),
     }
 }

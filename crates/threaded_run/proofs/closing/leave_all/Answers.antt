@@ -1,26 +1,34 @@
 use Rattle.std.proofs.Common.{map, subst}
 use Rattle.std.specs.Vec.Iter.{into_iter_items, into_iter_len}
 use Rattle.part_server.specs.Desk.{IsDeskSeat, desk_spec, desk_view}
-use Rattle.threaded_run.proofs.Closed.{Remain, all_remain, leaves_one, none_left, none_remain, seat_of}
+use Rattle.threaded_run.proofs.Closed.{Remain, all_remain, alone_of, leaves_one, none_left, none_remain, seat_of}
 use Rattle.threaded_run.proofs.closing.leave_all.Goals as goal
 
 pub loop-desk-init : goal.loop-desk-init
 loop-desk-init g c =
-    all_remain IsDeskSeat desk_spec (λ s. (desk_view s).seen) c.args.opened.desks.items (into_iter_items c.into_iter-desks.result)
+    all_remain IsDeskSeat desk_spec desk_view c.args.opened.desks.items (into_iter_items c.into_iter-desks.result)
     c.args.opened.seats.items (into_iter_items c.into_iter-seats.result) c.new-journals.result c.new-ends.result
-    c.requires c.into_iter-desks.ensures.rest c.into_iter-seats.ensures.rest c.new-journals.ensures c.new-ends.ensures
+    c.requires.seats c.requires.alone c.into_iter-desks.ensures.rest c.into_iter-seats.ensures.rest c.new-journals.ensures c.new-ends.ensures
 
-pub leave-requires : goal.leave-requires
-leave-requires g c =
-    seat_of IsDeskSeat desk_spec (λ s. (desk_view s).seen)
+pub leave-requires-clause-seat : goal.leave-requires-clause-seat
+leave-requires-clause-seat g c =
+    seat_of IsDeskSeat desk_spec desk_view
     (map desk_spec c.args.opened.desks.items) (map (λ s. (desk_view s).seen) c.args.opened.seats.items)
     c.in-Some.desk (into_iter_items c.loop-desk.desks) (into_iter_items c.next.new.self)
     c.in-Some-next.seat (into_iter_items c.loop-desk.seats) (into_iter_items c.next-in-Some.new.self)
     c.loop-desk.journals c.loop-desk.ends c.in-Some.ensures.cases.0 c.in-Some-next.ensures.cases.0 c.loop-desk.invariant
 
+pub leave-requires-clause-alone : goal.leave-requires-clause-alone
+leave-requires-clause-alone g c =
+    alone_of IsDeskSeat desk_spec desk_view
+    (map desk_spec c.args.opened.desks.items) (map (λ s. (desk_view s).seen) c.args.opened.seats.items)
+    (into_iter_items c.loop-desk.desks)
+    c.in-Some-next.seat (into_iter_items c.loop-desk.seats) (into_iter_items c.next-in-Some.new.self)
+    c.loop-desk.journals c.loop-desk.ends c.in-Some-next.ensures.cases.0 c.loop-desk.invariant
+
 pub loop-desk-preserved : goal.loop-desk-preserved
 loop-desk-preserved g c =
-    leaves_one IsDeskSeat desk_spec (λ s. (desk_view s).seen)
+    leaves_one IsDeskSeat desk_spec desk_view
     (map desk_spec c.args.opened.desks.items) (map (λ s. (desk_view s).seen) c.args.opened.seats.items)
     c.in-Some.desk (into_iter_items c.loop-desk.desks) (into_iter_items c.next.new.self)
     c.in-Some-next.seat (into_iter_items c.loop-desk.seats) (into_iter_items c.next-in-Some.new.self)
@@ -30,10 +38,10 @@ loop-desk-preserved g c =
 
 pub returns : goal.returns
 returns g c =
-    none_remain IsDeskSeat desk_spec (λ s. (desk_view s).seen)
+    none_remain IsDeskSeat desk_spec desk_view
     (map desk_spec c.args.opened.desks.items) (map (λ s. (desk_view s).seen) c.args.opened.seats.items)
     (into_iter_items c.loop-desk.seats) c.loop-desk.journals c.loop-desk.ends
-    (subst (λ desks. Remain IsDeskSeat desk_spec (λ s. (desk_view s).seen)
+    (subst (λ desks. Remain IsDeskSeat desk_spec desk_view
     (map desk_spec c.args.opened.desks.items) (map (λ s. (desk_view s).seen) c.args.opened.seats.items)
     desks (into_iter_items c.loop-desk.seats) c.loop-desk.journals c.loop-desk.ends)
     (none_left (into_iter_len c.loop-desk.desks) (into_iter_items c.loop-desk.desks) c.loop-desk.desks.rest.ok.0 c.in_default.ensures.cases.0)

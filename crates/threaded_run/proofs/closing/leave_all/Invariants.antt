@@ -6,7 +6,7 @@ use Rattle.threaded_run.proofs.closing.leave_all.Given as goal
 
 abbrev pub invariant-loop-desk : goal.invariant-loop-desk
 invariant-loop-desk g l =
-    Remain IsDeskSeat desk_spec (λ s. (desk_view s).seen) (map desk_spec l.fn.opened.desks.items) (map (λ s. (desk_view s).seen) l.fn.opened.seats.items)
+    Remain IsDeskSeat desk_spec desk_view (map desk_spec l.fn.opened.desks.items) (map (λ s. (desk_view s).seen) l.fn.opened.seats.items)
     (into_iter_items l.desks) (into_iter_items l.seats) l.journals l.ends
 
 abbrev pub decreases-loop-desk : goal.decreases-loop-desk

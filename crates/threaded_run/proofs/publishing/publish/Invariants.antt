@@ -1,6 +1,6 @@
 use Rattle.std.proofs.Common.{◌≡◌, drop, map}
 use Rattle.request_taps.specs.Bus.{seen, told_all}
-use Rattle.sim_run.specs.Published.{with_part}
+use Rattle.run_ends.specs.Journals.{with_part}
 use Rattle.threaded_run.proofs.publishing.publish.Given as goal
 
 abbrev pub invariant-loop-event : goal.invariant-loop-event

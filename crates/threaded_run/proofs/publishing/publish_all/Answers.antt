@@ -1,7 +1,6 @@
 use Rattle.std.proofs.Common.{◌≡◌, ◌∙◌, ap, arith, length, map, refl, sym}
 use Rattle.request_taps.specs.Bus.{seen, told_all}
-use Rattle.sim_run.specs.Published.{with_part}
-use Rattle.sim_run.specs.Whole.{events_in}
+use Rattle.run_ends.specs.Journals.{events_in, with_part}
 use Rattle.threaded_run.specs.Threaded.{in_parts}
 use Rattle.threaded_run.proofs.Heard.{all_heard, journal_heard}
 use Rattle.threaded_run.proofs.publishing.publish_all.Goals as goal

@@ -1,6 +1,6 @@
 use Rattle.std.proofs.Common.{◌≡◌, drop, map}
 use Rattle.request_taps.specs.Bus.{seen, told_all}
-use Rattle.sim_run.specs.Whole.{events_in}
+use Rattle.run_ends.specs.Journals.{events_in}
 use Rattle.threaded_run.specs.Threaded.{in_parts}
 use Rattle.threaded_run.proofs.publishing.publish_all.Given as goal
 

@@ -1,8 +1,8 @@
 -- Journals that have no other invocations than the scripts', and no other arrivals than the scenario's.
 use Rattle.std.specs.Prelude.{◌≡◌, ℕ, suc, ◌==◌, Bool, true, false, Option, Some, None, List, [], ◌∷◌, filter, length, slice_get}
-use Rattle.audit_laws.specs.Audit.{is_on}
 use Rattle.nook_defs.specs.declared.data.Event.{Event}
 use Rattle.nook_defs.specs.declared.data.Event.TheVariants as event
+use Rattle.nook_defs.specs.declared.data.Op.{Op}
 use Rattle.nook_defs.specs.declared.data.PartSpec.{PartSpec}
 use Rattle.nook_defs.specs.declared.data.ThreadSpec.{ThreadSpec}
 
@@ -19,7 +19,7 @@ is_arrival e = false
 -- how many operations on a part a thread's script has; none where there is no such thread
 abbrev pub operations_on : ℕ → Option ThreadSpec → ℕ
 operations_on place None = 0
-operations_on place (Some t) = length (filter (is_on place) t.ops)
+operations_on place (Some t) = length (filter (λ (o : ℕ × Op). o.0 == place) t.ops)
 
 -- how many invocations by a thread a journal has
 abbrev pub invocations_by : ℕ → List Event → ℕ

@@ -1,3 +1,5 @@
+pub mod Checked
+pub mod Claimed
 pub mod Kept
 pub mod Ready
 pub mod Replies

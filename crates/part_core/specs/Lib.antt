@@ -1,4 +1,5 @@
 pub mod Answering
+pub mod Claimed
 pub mod Crossings
 pub mod Entering
 pub mod Kept

@@ -1,12 +1,11 @@
 //! Which steps may be taken.
 
-ghost use Rattle.std.specs.Prelude.{◌≡◌, option_map, IfSome, IsSome};
+ghost use Rattle.std.specs.Prelude.{◌≡◌, Some, IfSome, IsSome};
 ghost use Rattle.nook_defs.specs.Log.{blocked_by, call_of_thread, is_blocked, open_call};
 ghost use Rattle.part_core.specs.Answering.{call_number};
 ghost use Rattle.nook_defs.specs.Steps.{can_arrive, can_burst, can_enter, can_invoke, can_stage, enabled, is_driven, is_inside, is_ready};
 
 use crate::state::{SHADOW, State};
-use class_table::conflicts;
 use nook_defs::data::{CallEntry, Class, Mode, Step};
 use nook_defs::lists::Words;
 
@@ -57,22 +56,20 @@ impl State {
         }
     }
 
-    /// Whether an open call with a smaller number conflicts with the call. At most 16 calls are open, one a thread.
+    /// Whether an open call with a smaller number conflicts with the open call.
     fn is_blocked(&self, call: &CallEntry) -> bool
+        requires { open_call call.now.call self.now.log.pending ≡ Some call.now }
         ensures { result ≡ is_blocked self.now.spec.class call.now self.now.log.pending }
     {
-        let class = self.spec.class;
-        self.log.pending().iter().any(|earlier| earlier.call < call.call
-            && conflicts(class, &call.op, &earlier.op))
+        self.log.blocked_by(self.spec.class, call.call).is_some()
     }
 
-    /// The open call with the smallest number that the call has to wait for.
-    pub fn blocking(&self, call: &CallEntry) -> Option<&CallEntry>
-        ensures { option_map (λ c. c.now) result ≡ blocked_by self.now.spec.class call.now self.now.log.pending }
+    /// The number of the open call with the smallest number that the open call `call` has to wait for.
+    pub fn blocked_by(&self, call: u32) -> Option<u32>
+        requires { IsSome (open_call call self.now.log.pending) }
+        ensures { IfSome (open_call call self.now.log.pending) (λ c. result ≡ call_number (blocked_by self.now.spec.class c self.now.log.pending)) }
     {
-        let class = self.spec.class;
-        self.log.pending().iter().find(|earlier| earlier.call < call.call
-            && conflicts(class, &call.op, &earlier.op))
+        self.log.blocked_by(self.spec.class, call)
     }
 
     /// The context is Inside: the shadow's own, or while the driver runs that of a thread's call.
@@ -118,34 +115,5 @@ impl State {
             && 1 <= frame.len()
             && frame.len() <= MOST_FRAME_WORDS
             && self.arrived < MOST_CALLS
-    }
-}
-
-impl State {
-    /// An open call by its number.
-    fn open_call(&self, call: u32) -> Option<&CallEntry>
-        ensures { option_map (λ c. c.now) result ≡ open_call call self.now.log.pending }
-    {
-        self.log.pending().iter().find(|entry| entry.call == call)
-    }
-
-    /// The number of the open call with the smallest number that the open call `call` has to wait for.
-    pub fn blocked_by(&self, call: u32) -> Option<u32>
-        requires { IsSome (open_call call self.now.log.pending) }
-        ensures { IfSome (open_call call self.now.log.pending) (λ c. result ≡ call_number (blocked_by self.now.spec.class c self.now.log.pending)) }
-    {
-        match self.open_call(call) {
-            Some(entry) => self.number_blocking(entry),
-            None => None,
-        }
-    }
-
-    fn number_blocking(&self, call: &CallEntry) -> Option<u32>
-        ensures { result ≡ call_number (blocked_by self.now.spec.class call.now self.now.log.pending) }
-    {
-        match self.blocking(call) {
-            Some(earlier) => Some(earlier.call),
-            None => None,
-        }
     }
 }

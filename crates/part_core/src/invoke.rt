@@ -81,7 +81,7 @@ impl State {
         ensures held { IfNone result (self.new ≡ self.old) }
     {
         let front = front_for(op, &mut self.queue);
-        match proxy(op, thread, &self.log, &stage, front) {
+        match proxy(op, thread, self.log.shadow(), &stage, front) {
             Proxy::Answer(answer) => Some(answer),
             Proxy::Hold => None,
         }

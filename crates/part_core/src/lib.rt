@@ -12,6 +12,7 @@ mod enter;
 mod invoke;
 mod kernel;
 mod next;
+mod open_calls;
 mod part;
 mod reply;
 mod stage;

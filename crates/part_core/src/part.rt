@@ -13,6 +13,7 @@ ghost use Rattle.part_laws.specs.Answered.{is_answered};
 ghost use Rattle.part_laws.specs.Recovery.{HasFacts, IsKeptRun};
 
 use crate::state::State;
+use domain_call::Domain;
 use fault_script::FaultScript;
 use nook_defs::data::{Answer, Event, Mode, PartSpec, Step};
 use nook_defs::journal::Journal;
@@ -151,6 +152,13 @@ impl Part {
         ensures facts { IsKeptRun self.state.spec result.list → HasFacts self.state.spec result.list }
     {
         self.journal
+    }
+
+    /// The domain of the part as it is now. The rest of the part is dropped. It takes no memory.
+    pub fn into_domain(self) -> Domain
+        ensures { result.state ≡ self.state.domain }
+    {
+        self.state.domain
     }
 
     /// The events so far. They are a run of the part, which is as they leave it.

@@ -13,7 +13,6 @@ use class_table::{init_place, open_place, set_place};
 use nook_defs::data::{Event, Mode, Op, Stage};
 use nook_defs::lists::Items;
 use nook_defs::memory::NoMemory;
-use recovery_manager::stop;
 
 impl State {
     /// The stage to be done next, if there is one.
@@ -62,13 +61,9 @@ impl State {
         ensures { IsTurned (stage_done Stage.Stop self.old) self.old result self.new }
     {
         let limit = self.spec.limit;
-        let answers = stop(
-            self.alloc,
-            &mut self.log,
-            &mut self.queue,
-            self.failures,
-            limit,
-        )?;
+        let answers = self
+            .log
+            .stop(self.alloc, &mut self.queue, self.failures, limit)?;
         self.domain.unwind();
         self.mode = if self.failures > limit {
             Mode::Dead { collected: false }

@@ -6,6 +6,7 @@ ghost use Rattle.nook_defs.specs.Valid.{IsValidPart};
 ghost use Rattle.part_core.specs.Kept.{AreSameFaults, IsSound};
 ghost use Rattle.part_core.specs.Turning.{IsTurned};
 
+use crate::open_calls::OpenCalls;
 use class_table::defaults_of;
 use domain_call::Domain;
 use fault_script::FaultScript;
@@ -13,7 +14,6 @@ use kernel_services::RxQueue;
 use nook_defs::data::{Event, Mode, PartSpec, Stage, Step};
 use nook_defs::journal::SpareRooms;
 use nook_defs::memory::NoMemory;
-use shadow_log::ShadowLog;
 use std::alloc::Global;
 use std::marker::Model;
 
@@ -25,7 +25,7 @@ pub const SHADOW: u8 = 16;
 pub struct State {
     pub spec: PartSpec,
     pub domain: Domain,
-    pub log: ShadowLog,
+    pub log: OpenCalls,
     pub queue: RxQueue,
     pub mode: Mode,
     pub failures: u32,
@@ -64,7 +64,7 @@ impl State {
     {
         let domain = Domain::new(alloc, &spec)?;
         let queue = RxQueue::new(alloc)?;
-        let log = ShadowLog::new(alloc, defaults_of(spec.class));
+        let log = OpenCalls::new(alloc, defaults_of(spec.class));
         Ok(State {
             spec,
             domain,

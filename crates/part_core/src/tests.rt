@@ -550,6 +550,26 @@ const CUT_EVENTS: &str = "|c1|c2|c3|load|init|x16 2 service3|x16 2 reply0|resume
     |enter1.2|x0 90+store1:5 reply0=done|enter2.1|x1 90+store1:6 reply0=done\
     |enter3.1|x2 89+load1 reply0=blocks6";
 
+/// Two writes and a read of one block: each waits for the earliest that is open.
+const QUEUED: [Drive; 12] = [
+    Drive::Invoke(0, Ask::Write(2, 1)),
+    Drive::Invoke(1, Ask::Write(2, 2)),
+    Drive::Invoke(2, Ask::Read(2)),
+    Drive::Any(5),
+    Drive::Tells(Question::WaitsFor(0), None),
+    Drive::Tells(Question::WaitsFor(1), Some(1)),
+    Drive::Tells(Question::WaitsFor(2), Some(1)),
+    Drive::Any(2),
+    Drive::Tells(Question::OpenOf(0), None),
+    Drive::Tells(Question::WaitsFor(1), None),
+    Drive::Tells(Question::WaitsFor(2), Some(2)),
+    Drive::Any(4),
+];
+
+const QUEUED_EVENTS: &str = "|c1|c2|c3|load|init|x16 2 service3|x16 2 reply0|resume\
+    |enter1.1|x0 90+store2:1 reply0=done|enter2.1|x1 90+store2:2 reply0=done\
+    |enter3.1|x2 89+load2 reply0=blocks2";
+
 /// Two failures in init: the limit of one holds the write, and then it is gone.
 const GIVEN_UP: [Drive; 7] = [
     Drive::Invoke(0, Ask::Write(0, 5)),
@@ -625,6 +645,7 @@ const BUSY_EVENTS: &str = "|c1|load|init|x16 0 trap|stop c1=busy|c2=busy|c3|coll
 fn shows_what_it_does(rt: HostRuntime) -> Result<(), Fail> {
     for (class, first, second, drives, want) in [
         (Class::Block, (3, 89), NEVER, CUT.as_slice(), CUT_EVENTS),
+        (Class::Block, NEVER, NEVER, QUEUED.as_slice(), QUEUED_EVENTS),
         (
             Class::Block,
             (1, 0),

@@ -1,0 +1,5 @@
+pub mod Blocks
+pub mod Claims
+pub mod Firsts
+pub mod Conflicts
+pub mod Removals

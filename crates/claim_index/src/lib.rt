@@ -1,0 +1,15 @@
+//! What open calls claim, found by what is claimed: of each block the calls that read and write it, and the calls
+//! that claim everything, the link's frames or the stream.
+//!
+//! So the call that another has to wait for is found without a look at every open call.
+#![tactic(auto)]
+
+mod by_block;
+mod claim;
+mod claimants;
+mod index;
+#[cfg(test)]
+mod tests;
+
+pub use claim::{Claim, Claimed};
+pub use index::ClaimIndex;

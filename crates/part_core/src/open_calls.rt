@@ -1,0 +1,188 @@
+//! The shadow's log, with an index of what its open calls claim.
+
+ghost use Rattle.std.specs.Prelude.{◌≡◌, ◌+◌, ◌<◌, ◌≤◌, Some, option_map, IfSome, IfOk, OnOk, OnErr};
+ghost use Rattle.claim_index.specs.Claims.{HasBlocks, blocker_of, claimed_by};
+ghost use Rattle.nook_defs.specs.Log.{acknowledged_call, answered, call_of_thread, entered, gone_answers, held_by_shadow, no_call_open, numbered, open_call, opening_log, replay_after, stop_answers, stop_queue, with_call};
+ghost use Rattle.part_core.specs.Claimed.{without_answered};
+
+use claim_index::{Claim, ClaimIndex};
+use nook_defs::data::{Answer, CallAnswers, CallEntry, Class, Op, Stage};
+use nook_defs::lists::Word;
+use nook_defs::memory::NoMemory;
+use nook_defs::outside::RxFront;
+use shadow_log::ShadowLog;
+use std::alloc::Global;
+use std::marker::Model;
+
+/// What the shadow keeps, with the claims of the open calls. A call claims from its Invoke on, whether it is Held or Inside,
+/// until it is answered. Contracts see the log.
+#[derive(Drop)]
+pub struct OpenCalls {
+    log: ShadowLog,
+    claims: ClaimIndex,
+}
+
+impl Model for OpenCalls {
+    ghost use Rattle.nook_defs.specs.State.{CallLog};
+    ghost use Rattle.part_core.specs.Claimed.{AreClaimed};
+
+    ghost Value = { CallLog };
+
+    ghost view = { λ s. s.log };
+
+    ghost invariant = { λ s. AreClaimed s.claims s.log };
+}
+
+impl OpenCalls {
+    /// A log without calls.
+    pub fn new(alloc: Global, defaults: [Word; 4]) -> OpenCalls
+        ensures { result ≡ opening_log defaults }
+    {
+        OpenCalls {
+            log: ShadowLog::new(alloc, defaults),
+            claims: ClaimIndex::new(alloc),
+        }
+    }
+
+    /// A call that stays open. What it claims is added before it is: after `NoMemory` nothing is changed.
+    pub fn invoke(&mut self, thread: u8, op: Op) -> Result<u32, NoMemory>
+        requires few { self.old.count < 100000 }
+        requires blocks { HasBlocks (claimed_by op) }
+        ensures ok { OnOk result (self.new ≡ with_call thread op self.old) }
+        ensures number { IfOk result (λ call. call ≡ self.old.count + 1) }
+        ensures err { OnErr result (self.new ≡ self.old) }
+    {
+        let number = self.log.count() + 1;
+        self.claims.add(Claim::of(number, &op))?;
+        match self.log.invoke(thread, op) {
+            Ok(call) => Ok(call),
+            Err(refused) => {
+                self.claims.remove(number);
+                Err(refused)
+            }
+        }
+    }
+
+    /// A call that is answered at once: only its number is given.
+    pub fn number(&mut self) -> u32
+        requires { self.old.count < 100000 }
+        ensures log { self.new ≡ numbered self.old }
+        ensures number { result ≡ self.old.count + 1 }
+    {
+        self.log.number()
+    }
+
+    /// The call goes Inside, as one attempt more. It claims what it did.
+    pub fn entered(&mut self, call: u32)
+        requires { IfSome (open_call call self.old.pending) (λ c. c.attempts < 4294967295) }
+        ensures { self.new ≡ entered call self.old }
+    {
+        self.log.entered(call);
+    }
+
+    /// The driver's reply to the call was accepted: the record and the holder follow it. The call stays open.
+    pub fn acknowledge(&mut self, call: u32)
+        ensures { self.new ≡ acknowledged_call call self.old }
+    {
+        self.log.acknowledge(call);
+    }
+
+    /// The call is open no more, and claims nothing.
+    pub fn answered(&mut self, call: u32)
+        ensures { self.new ≡ answered call self.old }
+    {
+        self.log.answered(call);
+        self.claims.remove(call);
+    }
+
+    /// The driver is stopped: each open call is answered or held, as `recovery_manager::stop` tells. The calls that are
+    /// answered claim nothing any more.
+    pub fn stop<Q: RxFront>(
+        &mut self,
+        alloc: Global,
+        queue: &mut Q,
+        failures: u32,
+        limit: u32,
+    ) -> Result<CallAnswers, NoMemory>
+        ensures held { failures ≤ limit → OnOk result (self.new ≡ held_by_shadow self.old) }
+        ensures answers { failures ≤ limit → IfOk result (λ answers.
+            answers ≡ stop_answers self.old.pending self.old.config self.old.holder (Q.frames queue.old)) }
+        ensures frames { failures ≤ limit → OnOk result (Q.frames queue.new ≡ stop_queue self.old.pending (Q.frames queue.old)) }
+        ensures closed { limit < failures → OnOk result (self.new ≡ no_call_open self.old) }
+        ensures gone { limit < failures → IfOk result (λ answers. answers ≡ gone_answers failures self.old.pending) }
+        ensures kept { limit < failures → queue.new ≡ queue.old }
+        ensures log { OnErr result (self.new ≡ self.old) }
+        ensures queue { OnErr result (queue.new ≡ queue.old) }
+    {
+        let answers = recovery_manager::stop(alloc, &mut self.log, queue, failures, limit)?;
+        remove_all(&mut self.claims, answers.as_slice());
+        Ok(answers)
+    }
+
+    /// The number of the open call with the smallest number that an open call has to wait for in a part of the class; None
+    /// exactly where there is none, or the call is not open.
+    pub fn blocked_by(&self, class: Class, call: u32) -> Option<u32>
+        ensures { result ≡ blocker_of class (open_call call self.now.pending) self.now.pending }
+    {
+        self.claims.first_conflict(class, call)
+    }
+
+    /// The log alone.
+    pub fn shadow(&self) -> &ShadowLog
+        ensures { result.now ≡ self.now }
+    {
+        &self.log
+    }
+
+    /// The words of the record, by key.
+    pub fn configuration(&self) -> [Word; 4]
+        ensures { result ≡ self.now.config }
+    {
+        self.log.configuration()
+    }
+
+    /// The thread that has the stream.
+    pub fn holder(&self) -> Option<u8>
+        ensures { result ≡ self.now.holder }
+    {
+        self.log.holder()
+    }
+
+    /// How many numbers were given.
+    pub fn count(&self) -> u32
+        ensures { result ≡ self.now.count }
+    {
+        self.log.count()
+    }
+
+    /// The open calls by rising number.
+    pub fn pending(&self) -> &[CallEntry]
+        ensures { result.now ≡ self.now.pending }
+    {
+        self.log.pending()
+    }
+
+    /// The open call of a thread, where it has one.
+    pub fn call_of_thread(&self, thread: u8) -> Option<&CallEntry>
+        ensures call { option_map (λ c. c.now) result ≡ call_of_thread thread self.now.pending }
+        ensures number { IfSome result (λ c. open_call c.now.call self.now.pending ≡ Some c.now) }
+    {
+        self.log.call_of_thread(thread)
+    }
+
+    /// The replay, or Resume, that follows Init or a replay.
+    pub fn replay_next(&self, after: &Stage) -> Stage
+        ensures { result ≡ replay_after after.now self.now }
+    {
+        self.log.replay_next(after)
+    }
+}
+
+/// The claims of calls that are answered end.
+fn remove_all(claims: &mut ClaimIndex, answers: &[(u32, Answer)])
+    ensures { claims.new ≡ without_answered answers.now claims.old }
+{
+    for pair in answers {
+        claims.remove(pair.0);
+    }
+}

@@ -1,25 +1,16 @@
 -- One call of a list changes, or all calls do.
-use Rattle.std.proofs.Common.{◌≡◌, ◌⊎◌, ◌++◌, take, drop, append-nil, Result, Ok, Err, OnOk, ℕ, zero, suc, ◌+◌, ◌<◌, ◌≤◌, false, Some, None, List, [], ◌∷◌, length, map, slice_set, get_or, refl, sym, ap, ◌∙◌, inl, inr, arith}
+use Rattle.std.proofs.Common.{◌≡◌, ◌⊎◌, Result, Ok, Err, OnOk, ℕ, zero, suc, ◌<◌, Some, None, List, [], ◌∷◌, length, map, slice_set, get_or, refl, sym, ap, ◌∙◌, inl, inr, arith}
 use Rattle.std.specs.Option.{option_map}
-use Rattle.std.proofs.lemmas.List.{map-set, drop_all, take_all, length-map}
+use Rattle.std.proofs.lemmas.List.{map-set, length-map}
 use Rattle.std.proofs.Math.Seq.{map-set_same}
 use Rattle.std.proofs.lemmas.Option.{slice_get-get_or, slice_get-map, slice_get_past}
 use Rattle.nook_defs.specs.Places.{at_number, change_number, change_found, put_number}
-use Rattle.nook_defs.specs.Contract.{enters, leaves, sent_once, played_one, handed_one, failed_at}
+use Rattle.nook_defs.specs.Contract.{Watched, leaves, sent_once, played_one, handed_one, failed_at}
 use Rattle.nook_defs.specs.Losses.{count_sent, count_played, count_answered}
 use Rattle.contract_monitor.specs.declared.calls.Call.{Call}
 use Rattle.contract_monitor.specs.declared.calls.Change.{Change}
 use Rattle.contract_monitor.specs.declared.calls.Change.TheVariants as changed
 use Rattle.contract_monitor.specs.Calls.{watched_of, counted_of, watched_calls, counted_calls, watched_change, counted_change}
-
--- a call that is not Inside
-abbrev pub left : Call → Call
-left c = record c { inside = false }
-
--- the number of an item behind so many others, by its number among the rest
-abbrev pub number_from : ℕ → ℕ → ℕ
-number_from i zero = zero
-number_from i (suc n) = suc (i + n)
 
 -- what is seen of the item of a number
 pub at_place : {A X : Type 0} (g : A → X) (number place : ℕ) (xs : List A) (x : A) → number ≡ suc place → place < length xs
@@ -48,7 +39,7 @@ pub changed_nowhere : {A X : Type 0} (g : A → X) (f : X → X) (number : ℕ) 
 changed_nowhere g f number xs h = ap (change_found f number (map g xs)) (at_no_place g number xs h)
 
 -- an item that is seen as before
-same_at : {A X : Type 0} (g : A → X) (place : ℕ) (xs : List A) (old new : A) → old ≡ get_or xs place old → g new ≡ g old
+pub same_at : {A X : Type 0} (g : A → X) (place : ℕ) (xs : List A) (old new : A) → old ≡ get_or xs place old → g new ≡ g old
     → map g (slice_set xs place new) ≡ map g xs
 same_at g place xs old new is h = map-set_same g xs place new old (h ∙ ap g is)
 
@@ -56,8 +47,6 @@ same_at g place xs old new is h = map-set_same g xs place new old (h ∙ ap g is
 pub watched_at : (change : Change) (number place : ℕ) (calls : List Call) (old new : Call) → number ≡ suc place → place < length calls
     → old ≡ get_or calls place old → watched_of new ≡ watched_change change (watched_of old)
     → map watched_of (slice_set calls place new) ≡ watched_calls change number (map watched_of calls)
-watched_at (changed.Enter inside) number place calls old new e l is h = changed_at watched_of (enters inside) number place calls old new e l is h
-watched_at changed.Leave number place calls old new e l is h = changed_at watched_of leaves number place calls old new e l is h
 watched_at changed.Sent number place calls old new e l is h = changed_at watched_of sent_once number place calls old new e l is h
 watched_at changed.Played number place calls old new e l is h = changed_at watched_of played_one number place calls old new e l is h
 watched_at changed.Handed number place calls old new e l is h = changed_at watched_of handed_one number place calls old new e l is h
@@ -69,8 +58,6 @@ watched_at changed.Answered number place calls old new e l is h = same_at watche
 pub counted_at : (change : Change) (number place : ℕ) (calls : List Call) (old new : Call) → number ≡ suc place → place < length calls
     → old ≡ get_or calls place old → counted_of new ≡ counted_change change (counted_of old)
     → map counted_of (slice_set calls place new) ≡ counted_calls change number (map counted_of calls)
-counted_at (changed.Enter inside) number place calls old new e l is h = same_at counted_of place calls old new is h
-counted_at changed.Leave number place calls old new e l is h = same_at counted_of place calls old new is h
 counted_at changed.Sent number place calls old new e l is h = changed_at counted_of count_sent number place calls old new e l is h
 counted_at changed.Played number place calls old new e l is h = same_at counted_of place calls old new is h
 counted_at changed.Handed number place calls old new e l is h = same_at counted_of place calls old new is h
@@ -82,14 +69,10 @@ pub on_ok : {U E : Type 0} {P Q : Type 0} (r : Result U E) → (P → Q) → OnO
 on_ok (Ok v) f p = f p
 on_ok (Err e) f p = tt
 
--- all calls leave
-pub watched_left : (calls : List Call) → map watched_of (map left calls) ≡ map leaves (map watched_of calls)
-watched_left [] = refl
-watched_left (c ∷ calls) = ap (λ more. leaves (watched_of c) ∷ more) (watched_left calls)
+-- what is known of a call once it left
+abbrev pub left_of : Call → Watched
+left_of c = leaves (watched_of c)
 
-pub counted_left : (calls : List Call) → map counted_of (map left calls) ≡ map counted_of calls
-counted_left [] = refl
-counted_left (c ∷ calls) = ap (λ more. counted_of c ∷ more) (counted_left calls)
-
-pub all_left : (xs ys : List Call) (n : ℕ) → length xs ≤ n → ys ≡ map left (take n xs) ++ drop n xs → ys ≡ map left xs
-all_left xs ys n l e = e ∙ rw (take_all n xs l, drop_all n xs l) (append-nil (map left xs))
+pub left_twice : (calls : List Call) → map left_of calls ≡ map leaves (map watched_of calls)
+left_twice [] = refl
+left_twice (c ∷ calls) = ap (λ more. left_of c ∷ more) (left_twice calls)

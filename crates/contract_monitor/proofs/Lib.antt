@@ -1,3 +1,4 @@
 pub mod Changes
-pub mod Settled
+pub mod Listed
 pub mod Stands
+pub mod Tracking

@@ -1,16 +1,16 @@
 -- A monitor that stands for a list of events stands for it and one more.
-use Rattle.std.proofs.Common.{◌≡◌, ℕ, suc, ◌+◌, ◌-◌, ◌<◌, ◌≤◌, drop, false, Option, Some, None, List, [], ◌∷◌, ◌++◌, length, fold, slice_get, refl, sym, ap, ◌∙◌, arith, add-zero, length-append}
-use Rattle.std.proofs.lemmas.List.{drop_all, drop_more}
+use Rattle.std.proofs.Common.{◌≡◌, ℕ, suc, ◌+◌, ◌-◌, ◌<◌, Option, Some, None, List, [], ◌∷◌, ◌++◌, length, fold, slice_get, refl, sym, ap, ◌∙◌, arith, add-zero, length-append}
 use Rattle.std.specs.Option.{unwrap_or}
 use Rattle.std.proofs.lemmas.List.Sums.{fold-append}
 use Rattle.nook_defs.specs.declared.data.Break.{Break}
 use Rattle.nook_defs.specs.declared.data.Class.{Class}
 use Rattle.nook_defs.specs.declared.data.Event.{Event}
 use Rattle.nook_defs.specs.Blocks.{get_blocks}
-use Rattle.nook_defs.specs.Contract.{Watch, is_prefix, break_at, break_from, first_break, first_watch, sees}
+use Rattle.nook_defs.specs.Contract.{Watch, break_at, break_from, first_break, first_watch, sees}
 use Rattle.nook_defs.specs.Losses.{count_event, losses, no_counts, told}
-use Rattle.contract_monitor.specs.Knowing.{Knows, knows_first, saw_event}
+use Rattle.contract_monitor.specs.Knowing.{Knows, knows_first, saw_event, watch_of}
 use Rattle.contract_monitor.specs.Monitors.{Monitored, StandsFor, after_event, break_of, or_break}
+use Rattle.contract_monitor.proofs.Tracking.{clause_tracked, none_later, or_none, or_same, tracked}
 
 -- ---- the first break of a list and one event more
 
@@ -47,7 +47,7 @@ pub stands_first : (class : Class) (size : ℕ) (k : Knows) → k ≡ knows_firs
     → StandsFor class size [] (record { knows = k; seen = 0; broken = None })
 unfolding first_break break_from
 stands_first class size k e = record {
-  watch = ap (λ k. k.watch) e;
+  watch = λ _. record { same = ap watch_of e; front = refl };
   counts = ap (λ k. k.counts) e;
   seen = refl;
   broken = refl;
@@ -55,17 +55,20 @@ stands_first class size k e = record {
 
 -- a monitor whose fields are those after one more event
 pub is_after : (e : Event) (m : Monitored) (knew known : Knows) (had seen : ℕ) (was broken : Option Break) (clause : Option ℕ) →
-    record { knows = knew; seen = had; broken = was } ≡ m → known ≡ saw_event e knew → seen ≡ had + 1 → clause ≡ known.watch.clause
+    record { knows = knew; seen = had; broken = was } ≡ m → known ≡ saw_event e knew → seen ≡ had + 1 → clause ≡ known.clause
     → broken ≡ or_break was (break_of seen clause) → record { knows = known; seen = seen; broken = broken } ≡ after_event e m
 is_after e m knew known had seen was broken clause is k n c b = rw (← is, b, c, k, n) refl
 
 pub stands_more : (class : Class) (size : ℕ) (events : List Event) (e : Event) (m n : Monitored) → StandsFor class size events m
     → n ≡ after_event e m → StandsFor class size (events ++ e ∷ []) n
 stands_more class size events e m n s is = rw is record {
-  watch = ap (λ w. sees w e) s.watch ∙ sym (fold-append sees (first_watch class size) events (e ∷ []));
+  watch = λ none. rw (fold-append sees (first_watch class size) events (e ∷ []))
+      (tracked e m.knows (fold sees (first_watch class size) events) (s.watch (or_none m.broken _ none)) (none_later m.broken (m.seen + 1) _ none));
   counts = ap (λ k. count_event k e) s.counts ∙ sym (fold-append count_event no_counts events (e ∷ []));
   seen = omega (arith, s.seen, length-append events (e ∷ []));
-  broken = rw (s.broken, s.seen, s.watch) (sym (first_break_more class size events e));
+  broken =
+      or_same m.broken (m.seen + 1) _ _ (λ none. clause_tracked e m.knows (fold sees (first_watch class size) events) (s.watch none))
+      ∙ rw (s.broken, s.seen) (sym (first_break_more class size events e));
 }
 
 pub losses_stand : (class : Class) (size : ℕ) (events : List Event) (m : Monitored) → StandsFor class size events m
@@ -87,9 +90,3 @@ pub blocks_more : (medium : List (List ℕ)) (first count i : ℕ) → i < count
 blocks_more medium first count i l =
     ap (get_blocks medium (first + i)) (left_is count i l)
     ∙ ap (λ n. unwrap_or (slice_get medium (first + i)) [] ++ get_blocks medium n (count - (i + 1))) (next_is first i)
-
--- ---- frames beyond the last one that they are compared with
-
-pub prefix_past : (first frames : List (List ℕ)) (i : ℕ) → i < length first → length frames ≤ i →
-    is_prefix (drop i first) (drop i frames) ≡ false
-prefix_past first frames i l h = rw (drop_more first i [] l, drop_all i frames h) refl

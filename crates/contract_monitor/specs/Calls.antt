@@ -1,7 +1,7 @@
-use Rattle.std.specs.Prelude.{◌≡◌, ℕ, suc, ◌<◌, ◌++◌, ◌⊎◌, false, List, [], ◌∷◌, Option, Some, None}
-use Rattle.nook_defs.specs.Contract.{Watched, enters, leaves, sent_once, played_one, handed_one, failed_at}
+use Rattle.std.specs.Prelude.{◌≡◌, ℕ, zero, suc, ◌<◌, ◌⊎◌, ◌==◌, ◌&&◌, ◌||◌, Bool, true, false, not, if◌then◌else◌, min, List, [], ◌∷◌, Option, Some, None}
+use Rattle.nook_defs.specs.Contract.{Watched, sent_once, played_one, handed_one, failed_at}
 use Rattle.nook_defs.specs.Losses.{Counted, count_sent, count_played, count_answered}
-use Rattle.nook_defs.specs.Places.{change_number}
+use Rattle.nook_defs.specs.Places.{at_number, change_number}
 use Rattle.contract_monitor.specs.declared.calls.Call.{Call}
 use Rattle.contract_monitor.specs.declared.calls.Change.{Change}
 use Rattle.contract_monitor.specs.declared.calls.Change.TheVariants as changed
@@ -17,8 +17,6 @@ counted_of c = record { op = c.op; sent = c.sent; played = c.counted; answered =
 
 -- a change of the call with a number, as the contract's monitor makes it
 abbrev pub watched_calls : Change → ℕ → List Watched → List Watched
-watched_calls (changed.Enter inside) number calls = change_number (enters inside) number calls
-watched_calls changed.Leave number calls = change_number leaves number calls
 watched_calls changed.Sent number calls = change_number sent_once number calls
 watched_calls changed.Played number calls = change_number played_one number calls
 watched_calls changed.Handed number calls = change_number handed_one number calls
@@ -40,8 +38,6 @@ IsPlaceOf number count (Some place) = (number ≡ suc place) × (place < count)
 
 -- a change of one call, as the contract's monitor makes it and as the counts make it
 abbrev pub watched_change : Change → Watched → Watched
-watched_change (changed.Enter inside) c = enters inside c
-watched_change changed.Leave c = leaves c
 watched_change changed.Sent c = sent_once c
 watched_change changed.Played c = played_one c
 watched_change changed.Handed c = handed_one c
@@ -55,13 +51,37 @@ counted_change changed.Counted c = count_played c
 counted_change changed.Answered c = count_answered c
 counted_change change c = c
 
--- no call is Inside
-unfoldable pub AreOutside : List Call → Type 0
-AreOutside [] = Unit {0}
-AreOutside (c ∷ calls) = (c.inside ≡ false) × AreOutside calls
+-- a number is among these
+abbrev pub is_listed : ℕ → List ℕ → Bool
+is_listed number [] = false
+is_listed number (other ∷ numbers) = (other == number) || is_listed number numbers
 
--- the calls are these behind others of which none is Inside
-pub record SettledBefore (calls rest : List Call) : Type 0 where
-  pub before : List Call
-  pub whole : calls ≡ before ++ rest
-  pub outside : AreOutside before
+-- each call that is Inside has its number among these; `number` is that of the first call
+abbrev pub are_listed : ℕ → List ℕ → List Watched → Bool
+are_listed number numbers [] = true
+are_listed number numbers (c ∷ calls) = (not c.inside || is_listed number numbers) && are_listed (suc number) numbers calls
+
+abbrev pub passes : (Watched → Bool) → Option Watched → Bool
+passes test None = false
+passes test (Some c) = test c
+
+-- a call passes the test
+abbrev pub some_call : (Watched → Bool) → List Watched → Bool
+some_call test [] = false
+some_call test (c ∷ calls) = test c || some_call test calls
+
+-- a call with one of these numbers passes the test
+abbrev pub some_of : (Watched → Bool) → List ℕ → List Watched → Bool
+some_of test [] calls = false
+some_of test (number ∷ numbers) calls = passes test (at_number number calls) || some_of test numbers calls
+
+-- the smaller of two numbers of calls; 0 stands for no call
+abbrev pub earlier : ℕ → ℕ → ℕ
+earlier zero other = other
+earlier (suc n) other = min (suc n) other
+
+-- the smallest of a number and those of these that stand for calls that pass the test
+abbrev pub first_of : (Watched → Bool) → ℕ → List ℕ → List Watched → ℕ
+first_of test found [] calls = found
+first_of test found (number ∷ numbers) calls =
+    first_of test (if passes test (at_number number calls) then earlier found number else found) numbers calls

@@ -4,9 +4,9 @@ use Rattle.nook_defs.specs.Blocks.{words_for}
 use Rattle.nook_defs.specs.Classes.{covers}
 use Rattle.nook_defs.specs.Contract.{Watched, sets, stores_at}
 
--- a call that stores at the block has these words for it
-abbrev pub agrees : ℕ → List ℕ → Watched → Bool
-agrees block words c = not (stores_at block c) || bytes_eq words (words_for c.op block)
+-- a call that stores at the block has other words for it
+abbrev pub disagrees : ℕ → List ℕ → Watched → Bool
+disagrees block words c = stores_at block c && not (bytes_eq words (words_for c.op block))
 
 abbrev pub is_set_inside : ℕ → ℕ → Watched → Bool
 is_set_inside key value c = c.inside && sets key value c.op

@@ -3,7 +3,7 @@
 ghost use Rattle.std.specs.Prelude.{◌≡◌, slice_set, OnOk};
 ghost use Rattle.nook_defs.specs.Contract.{sees_acts};
 ghost use Rattle.nook_defs.specs.Losses.{count_acts};
-ghost use Rattle.contract_monitor.specs.Knowing.{saw_act, saw_played, saw_popped, saw_register, saw_sent, saw_store};
+ghost use Rattle.contract_monitor.specs.Knowing.{saw_act, saw_played, saw_popped, saw_register, saw_sent, saw_store, watch_of};
 
 use crate::blocks::set_block;
 use crate::calls::{Change, more};
@@ -20,7 +20,7 @@ use nook_defs::memory::NoMemory;
 impl Known {
     /// The acts of a burst of a call.
     pub fn see_acts(&mut self, call: u32, acts: &[Act]) -> Result<(), NoMemory>
-        ensures watch { OnOk result (self.new.watch ≡ sees_acts call acts.now self.old.watch) }
+        ensures watch { OnOk result (watch_of self.new ≡ sees_acts call acts.now (watch_of self.old)) }
         ensures counts { OnOk result (self.new.counts ≡ count_acts call acts.now self.old.counts) }
     {
         for act in acts {
@@ -79,7 +79,7 @@ impl Known {
         ensures { OnOk result (self.new ≡ saw_popped frame.now self.old) }
     {
         let _first = self.ring.pop_front();
-        self.popped.push(frame.copy(self.alloc)?)?;
+        self.pending.push_back(frame.copy(self.alloc)?)?;
         self.tally.popped = more(self.tally.popped, 1)?;
         self.tally.popped_since = more(self.tally.popped_since, 1)?;
         Ok(())

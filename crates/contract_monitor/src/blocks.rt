@@ -1,9 +1,8 @@
-//! The blocks of a disk, and frames, as the contract compares them.
+//! The blocks of a disk, as the contract compares them.
 
 ghost use Rattle.std.specs.Prelude.{◌≡◌, ◌++◌, ◌*◌, [], length, take, drop, replicate, slice_get, slice_set, unwrap_or, IfOk, OnOk};
 ghost use Rattle.nook_defs.specs.Blocks.{blank_blocks, get_blocks, has_block, holds_from, words_for};
 ghost use Rattle.nook_defs.specs.Classes.{covers};
-ghost use Rattle.nook_defs.specs.Contract.{is_prefix};
 ghost use Rattle.contract_monitor.specs.Questions.{holds_block};
 
 use class_table::{blocks_of_op, first_of_op};
@@ -178,19 +177,4 @@ pub fn has_block(block: u32, blocks: &VecDeque<u32>) -> bool
         }
     }
     false
-}
-
-/// Whether the first frames of `frames` are these.
-pub fn is_prefix(first: &[Words], frames: &[Words]) -> bool
-    ensures { result ≡ is_prefix first.now frames.now }
-{
-    for i in 0..first.len() {
-        if frames.len() <= i {
-            return false;
-        }
-        if first[i].as_slice() != frames[i].as_slice() {
-            return false;
-        }
-    }
-    true
 }

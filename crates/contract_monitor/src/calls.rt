@@ -1,10 +1,10 @@
 //! Every call at the place of its number, with what the contract's monitor knows of it and what is counted of it.
 
-ghost use Rattle.std.specs.Prelude.{◌≡◌, ◌≤◌, ◌+◌, ◌++◌, ◌∷◌, [], ℕ, List, None, Some, MatchOption, length, map, take, OnErr, OnOk, IfOk};
+ghost use Rattle.std.specs.Prelude.{◌≡◌, ◌+◌, ◌++◌, ◌∷◌, ◌==◌, [], ℕ, List, None, Some, true, false, MatchOption, length, map, OnOk, IfOk};
 ghost use Rattle.nook_defs.specs.Contract.{enters, leaves, failed_at, handed_one, played_one, sent_once, watched};
 ghost use Rattle.nook_defs.specs.Losses.{count_answered, count_played, count_sent, counted};
-ghost use Rattle.nook_defs.specs.Places.{at_number};
-ghost use Rattle.contract_monitor.specs.Calls.{AreOutside, IsPlaceOf, SettledBefore, counted_calls, counted_change, counted_of, watched_calls, watched_change, watched_of};
+ghost use Rattle.nook_defs.specs.Places.{at_number, change_number};
+ghost use Rattle.contract_monitor.specs.Calls.{IsPlaceOf, are_listed, counted_calls, counted_change, counted_of, is_listed, watched_calls, watched_change, watched_of};
 
 use crate::blocks::copy_queue;
 use nook_defs::data::Op;
@@ -49,9 +49,6 @@ impl Call {
 /// What becomes of a call.
 #[derive(Clone, Copy)]
 pub enum Change {
-    /// It is entered; `inside` tells that it got no answer.
-    Enter { inside: bool },
-    Leave,
     /// A frame was sent in one of its bursts.
     Sent,
     /// Its next sample was played.
@@ -82,38 +79,24 @@ fn place_of(number: u64, count: usize) -> Option<usize>
     Some(number as usize - 1)
 }
 
-/// The place of the first call from a place on that is Inside; the end where none is.
-fn first_inside(calls: &[Call], from: usize) -> usize
-    requires { from ≤ length calls.now }
-    ensures within { result ≤ length calls.now }
-    ensures outside { AreOutside (take from calls.now) → AreOutside (take result calls.now) }
-{
-    for place in from..calls.len() {
-        if calls[place].inside {
-            return place;
-        }
-    }
-    calls.len()
-}
-
-/// Every call at the place of its number. Contracts see them all.
+/// Every call at the place of its number, and the numbers of those that are Inside. Contracts see the calls.
 #[derive(Drop)]
 pub struct Calls {
     all: Vec<Call>,
-    /// The calls before this place are not Inside.
-    settled: usize,
+    /// The number of each call that is Inside is among these.
+    open: Vec<u64>,
 }
 
 impl Model for Calls {
-    ghost use Rattle.std.specs.Prelude.{◌≤◌, List, length, take};
-    ghost use Rattle.contract_monitor.specs.Calls.{AreOutside};
+    ghost use Rattle.std.specs.Prelude.{◌≡◌, List, map, true};
+    ghost use Rattle.contract_monitor.specs.Calls.{are_listed, watched_of};
     ghost use Rattle.contract_monitor.specs.declared.calls.Call.{Call};
 
     ghost Value = { List Call };
 
     ghost view = { λ s. s.all.items };
 
-    ghost invariant = { λ s. (s.settled ≤ length s.all.items) × AreOutside (take s.settled s.all.items) };
+    ghost invariant = { λ s. are_listed 1 s.open.items (map watched_of s.all.items) ≡ true };
 }
 
 impl Calls {
@@ -123,7 +106,7 @@ impl Calls {
     {
         Calls {
             all: Vec::new(alloc),
-            settled: 0,
+            open: Vec::new(alloc),
         }
     }
 
@@ -136,7 +119,10 @@ impl Calls {
         for call in &self.all {
             all.push(call.copy(alloc)?)?;
         }
-        Ok(Calls { all, settled: 0 })
+        Ok(Calls {
+            all,
+            open: copy_numbers(alloc, &self.open)?,
+        })
     }
 
     /// The call with a number.
@@ -148,20 +134,11 @@ impl Calls {
         Some(&self.all[place])
     }
 
-    /// The calls behind those of which none is Inside. They are few where calls are answered in about the order of their
-    /// numbers; a call that stays Inside keeps all later ones among them.
-    pub fn unsettled(&self) -> &[Call]
-        ensures { SettledBefore self.now result.now }
+    /// The numbers of the calls that are Inside, in no order; others may be among them.
+    pub fn open(&self) -> &[u64]
+        ensures { are_listed 1 result.now (map watched_of self.now) ≡ true }
     {
-        let (_, rest) = self.all.split_at(self.settled);
-        rest
-    }
-
-    /// How many calls there are.
-    pub fn len(&self) -> usize
-        ensures { result ≡ length self.now }
-    {
-        self.all.len()
+        self.open.as_slice()
     }
 
     /// Adds an invoked call.
@@ -182,17 +159,44 @@ impl Calls {
         Ok(())
     }
 
+    /// The call with a number is entered, where there is one; `inside` tells that it got no answer.
+    pub fn enter(&mut self, number: u64, inside: bool) -> Result<(), NoMemory>
+        ensures watched { OnOk result (map watched_of self.new ≡ change_number (enters inside) number (map watched_of self.old)) }
+        ensures counted { OnOk result (map counted_of self.new ≡ map counted_of self.old) }
+    {
+        let Some(place) = place_of(number, self.all.len()) else {
+            return Ok(());
+        };
+        if inside {
+            self.open.push(number)?;
+            enter_one(&mut self.all[place], true);
+        } else {
+            enter_one(&mut self.all[place], false);
+            forget(&mut self.open, number);
+        }
+        Ok(())
+    }
+
+    /// The call with a number is Inside no more, where there is one.
+    pub fn leave(&mut self, number: u64)
+        ensures watched { map watched_of self.new ≡ change_number leaves number (map watched_of self.old) }
+        ensures counted { map counted_of self.new ≡ map counted_of self.old }
+    {
+        if let Some(place) = place_of(number, self.all.len()) {
+            leave_one(&mut self.all[place]);
+            forget(&mut self.open, number);
+        }
+    }
+
     /// Changes the call with a number, where there is one.
     pub fn change(&mut self, number: u64, change: Change) -> Result<(), NoMemory>
         ensures watched { OnOk result (map watched_of self.new ≡ watched_calls change number (map watched_of self.old)) }
         ensures counted { OnOk result (map counted_of self.new ≡ counted_calls change number (map counted_of self.old)) }
     {
-        let Some(place) = place_of(number, self.all.len()) else {
-            return Ok(());
-        };
-        change_one(&mut self.all[place], change)?;
-        self.settled = first_inside(&self.all, self.settled.min(place));
-        Ok(())
+        match place_of(number, self.all.len()) {
+            Some(place) => change_one(&mut self.all[place], change),
+            None => Ok(()),
+        }
     }
 
     /// No call is Inside any more.
@@ -200,24 +204,47 @@ impl Calls {
         ensures watched { map watched_of self.new ≡ map leaves (map watched_of self.old) }
         ensures counted { map counted_of self.new ≡ map counted_of self.old }
     {
-        leave_all(&mut self.all);
-        self.settled = self.all.len();
+        leave_listed(&mut self.all, &self.open);
+        self.open.clear();
     }
 }
 
-/// Changes a call. Where memory is wanting, it is Inside exactly where it was.
+/// An equal list of its own.
+fn copy_numbers(alloc: Global, numbers: &[u64]) -> Result<Vec<u64>, NoMemory>
+    ensures { IfOk result (λ made. made.items ≡ numbers.now) }
+{
+    let mut made = Vec::with_capacity(alloc, numbers.len())?;
+    for number in numbers {
+        made.push(*number)?;
+    }
+    Ok(made)
+}
+
+/// A call is entered.
+fn enter_one(call: &mut Call, inside: bool)
+    ensures watched { watched_of call.new ≡ enters inside (watched_of call.old) }
+    ensures counted { counted_of call.new ≡ counted_of call.old }
+{
+    call.inside = inside;
+    call.handed = false;
+    call.failed.clear();
+}
+
+/// A call is Inside no more.
+fn leave_one(call: &mut Call)
+    ensures watched { watched_of call.new ≡ leaves (watched_of call.old) }
+    ensures counted { counted_of call.new ≡ counted_of call.old }
+{
+    call.inside = false;
+}
+
+/// Changes a call. It is Inside exactly where it was.
 fn change_one(call: &mut Call, change: Change) -> Result<(), NoMemory>
     ensures watched { OnOk result (watched_of call.new ≡ watched_change change (watched_of call.old)) }
     ensures counted { OnOk result (counted_of call.new ≡ counted_change change (counted_of call.old)) }
-    ensures err { OnErr result (call.new.inside ≡ call.old.inside) }
+    ensures inside { call.new.inside ≡ call.old.inside }
 {
     match change {
-        Change::Enter { inside } => {
-            call.inside = inside;
-            call.handed = false;
-            call.failed.clear();
-        }
-        Change::Leave => call.inside = false,
         Change::Sent => call.sent = more(call.sent, 1)?,
         Change::Played => call.played = more(call.played, 1)?,
         Change::Handed => call.handed = true,
@@ -228,13 +255,36 @@ fn change_one(call: &mut Call, change: Change) -> Result<(), NoMemory>
     Ok(())
 }
 
-/// No call is Inside any more.
-fn leave_all(calls: &mut [Call])
-    ensures watched { map watched_of calls.new ≡ map leaves (map watched_of calls.old) }
-    ensures counted { map counted_of calls.new ≡ map counted_of calls.old }
-    ensures outside { AreOutside calls.new }
+/// Takes a number off a list; the others stay.
+fn forget(numbers: &mut Vec<u64>, number: u64)
+    ensures { (other : ℕ) → (number == other) ≡ false → is_listed other numbers.old.items ≡ true → is_listed other numbers.new.items ≡ true }
 {
-    for call in calls {
-        call.inside = false;
+    for i in 0..numbers.len() {
+        if numbers[i] == number {
+            numbers.remove(i);
+            return;
+        }
+    }
+}
+
+/// The calls with these numbers are Inside no more.
+fn leave_listed(calls: &mut Vec<Call>, numbers: &[u64])
+    requires { are_listed 1 numbers.now (map watched_of calls.old.items) ≡ true }
+    ensures watched { map watched_of calls.new.items ≡ map leaves (map watched_of calls.old.items) }
+    ensures counted { map counted_of calls.new.items ≡ map counted_of calls.old.items }
+{
+    for number in numbers {
+        leave_number(calls, *number);
+    }
+}
+
+/// The call with a number is Inside no more, where there is one.
+fn leave_number(calls: &mut Vec<Call>, number: u64)
+    ensures left { map leaves (map watched_of calls.new.items) ≡ map leaves (map watched_of calls.old.items) }
+    ensures counted { map counted_of calls.new.items ≡ map counted_of calls.old.items }
+    ensures listed { (others : List ℕ) → are_listed 1 (number ∷ others) (map watched_of calls.old.items) ≡ true → are_listed 1 others (map watched_of calls.new.items) ≡ true }
+{
+    if let Some(place) = place_of(number, calls.len()) {
+        leave_one(&mut calls[place]);
     }
 }

@@ -4,7 +4,7 @@ ghost use Rattle.std.specs.Prelude.{◌≡◌, true, Some, map, OnOk};
 ghost use Rattle.nook_defs.specs.Losses.{count_answer, count_answers, count_handed, count_option, handed_result, is_busy, is_done, is_frame, one_if, samples_of, sends_of};
 ghost use Rattle.nook_defs.specs.Places.{at_number};
 ghost use Rattle.contract_monitor.specs.Calls.{counted_of};
-ghost use Rattle.contract_monitor.specs.Knowing.{saw_arrival, saw_enter, saw_invoke};
+ghost use Rattle.contract_monitor.specs.Knowing.{saw_arrival, saw_enter, saw_invoke, watch_of};
 
 use crate::calls::{Call, Calls, Change, more};
 use crate::known::Known;
@@ -24,7 +24,7 @@ impl Known {
     pub fn enter(&mut self, call: u32, inside: bool) -> Result<(), NoMemory>
         ensures { OnOk result (self.new ≡ saw_enter call inside self.old) }
     {
-        self.calls.change(u64::from(call), Change::Enter { inside })
+        self.calls.enter(u64::from(call), inside)
     }
 
     /// A frame arrived, and the ring kept it or had no room.
@@ -43,7 +43,7 @@ impl Known {
 
     /// A burst ended, and may have handed a frame up.
     pub fn count_handed(&mut self, end: &End) -> Result<(), NoMemory>
-        ensures watch { OnOk result (self.new.watch ≡ self.old.watch) }
+        ensures watch { OnOk result (watch_of self.new ≡ watch_of self.old) }
         ensures counts { OnOk result (self.new.counts ≡ count_handed (handed_result end.now) self.old.counts) }
     {
         let Some(given) = handed_result(end) else {
@@ -60,7 +60,7 @@ impl Known {
 
     /// Calls are answered.
     pub fn count_answers(&mut self, answers: &[(u32, Answer)]) -> Result<(), NoMemory>
-        ensures watch { OnOk result (self.new.watch ≡ self.old.watch) }
+        ensures watch { OnOk result (watch_of self.new ≡ watch_of self.old) }
         ensures counts { OnOk result (self.new.counts ≡ count_answers answers.now self.old.counts) }
     {
         for answer in answers {
@@ -71,7 +71,7 @@ impl Known {
 
     /// A call may be answered.
     pub fn count_option(&mut self, call: u32, answer: &Option<Answer>) -> Result<(), NoMemory>
-        ensures watch { OnOk result (self.new.watch ≡ self.old.watch) }
+        ensures watch { OnOk result (watch_of self.new ≡ watch_of self.old) }
         ensures counts { OnOk result (self.new.counts ≡ count_option call answer.now self.old.counts) }
     {
         match answer {
@@ -82,7 +82,7 @@ impl Known {
 
     /// A call is answered.
     fn count_answer(&mut self, call: u32, answer: &Answer) -> Result<(), NoMemory>
-        ensures watch { OnOk result (self.new.watch ≡ self.old.watch) }
+        ensures watch { OnOk result (watch_of self.new ≡ watch_of self.old) }
         ensures counts { OnOk result (self.new.counts ≡ count_answer call answer.now self.old.counts) }
     {
         let number = u64::from(call);

@@ -6,8 +6,9 @@ ghost use Rattle.nook_defs.specs.Classes.{is_write};
 ghost use Rattle.nook_defs.specs.Losses.{count_stage, is_done};
 ghost use Rattle.nook_defs.specs.Places.{at_number};
 ghost use Rattle.contract_monitor.specs.Calls.{watched_of};
+ghost use Rattle.contract_monitor.specs.Knowing.{kept, watch_of};
 
-use crate::blocks::{get_blocks, has_block, holds, is_prefix};
+use crate::blocks::{get_blocks, has_block, holds};
 use crate::calls::{Call, Change, more};
 use crate::clauses::wanted;
 use crate::known::{Known, in_driver, in_ring};
@@ -26,8 +27,7 @@ impl Known {
         answer: &Option<Answer>,
         failure: &Option<FailCause>,
     ) -> Result<(), NoMemory>
-        ensures watch { OnOk result (self.new.watch ≡ sees_crossing call end.now answer.now failure.now self.old.watch) }
-        ensures counts { OnOk result (self.new.counts ≡ self.old.counts) }
+        ensures { OnOk result (self.new ≡ kept (sees_crossing call end.now answer.now failure.now (watch_of self.old)) self.old.counts) }
     {
         if failure.is_some() {
             self.replay = None;
@@ -53,24 +53,25 @@ impl Known {
 
     /// A frame was handed up.
     fn see_handed(&mut self, call: u32, moved: &Words) -> Result<(), NoMemory>
-        ensures watch { OnOk result (self.new.watch ≡ sees_service true call moved.now self.old.watch) }
-        ensures counts { OnOk result (self.new.counts ≡ self.old.counts) }
+        ensures { OnOk result (self.new ≡ kept (sees_service true call moved.now (watch_of self.old)) self.old.counts) }
     {
-        self.handed.push(moved.copy(self.alloc)?)?;
-        let front = is_prefix(&self.handed, &self.popped);
-        self.clause = wanted(front, 8, self.clause);
+        let due = match self.pending.pop_front() {
+            Some(frame) => moved.as_slice() == frame.as_slice(),
+            None => false,
+        };
+        self.clause = wanted(due, 8, self.clause);
         self.calls.change(u64::from(call), Change::Handed)
     }
 
     /// A reply was accepted.
     fn see_reply(&mut self, call: u32, answer: &Option<Answer>) -> Result<(), NoMemory>
-        ensures watch { OnOk result (self.new.watch ≡ sees_reply call answer.now self.old.watch) }
-        ensures counts { OnOk result (self.new.counts ≡ self.old.counts) }
+        ensures { OnOk result (self.new ≡ kept (sees_reply call answer.now (watch_of self.old)) self.old.counts) }
     {
         match answer {
             Some(answer) => {
                 self.clause = self.owed(call, answer)?;
-                self.calls.change(u64::from(call), Change::Leave)
+                self.calls.leave(u64::from(call));
+                Ok(())
             }
             None => {
                 let replayed = is_replayed(&self.replay, &self.registers);
@@ -83,7 +84,7 @@ impl Known {
 
     /// The smallest broken clause at a call's answer.
     fn owed(&self, call: u32, answer: &Answer) -> Result<Option<u8>, NoMemory>
-        ensures { IfOk result (λ clause. clause ≡ owes_found (at_number call self.now.watch.calls) answer.now self.now.watch) }
+        ensures { IfOk result (λ clause. clause ≡ owes_found (at_number call self.now.calls) answer.now (watch_of self.now)) }
     {
         match self.calls.find(u64::from(call)) {
             Some(call) => self.owes(call, answer),
@@ -93,7 +94,7 @@ impl Known {
 
     /// The smallest broken clause at the answer of this call.
     fn owes(&self, call: &Call, answer: &Answer) -> Result<Option<u8>, NoMemory>
-        ensures { IfOk result (λ clause. clause ≡ owes (watched_of call.now) call.now.op answer.now self.now.watch) }
+        ensures { IfOk result (λ clause. clause ≡ owes (watched_of call.now) call.now.op answer.now (watch_of self.now)) }
     {
         match &call.op {
             Op::Read { first, count } => self.owes_read(call, *first, *count, answer),
@@ -119,7 +120,7 @@ impl Known {
         count: u32,
         answer: &Answer,
     ) -> Result<Option<u8>, NoMemory>
-        ensures { IfOk result (λ clause. clause ≡ owes (watched_of call.now) (Op.Read first count) answer.now self.now.watch) }
+        ensures { IfOk result (λ clause. clause ≡ owes (watched_of call.now) (Op.Read first count) answer.now (watch_of self.now)) }
     {
         match answer {
             Answer::Blocks(words) => {
@@ -136,7 +137,7 @@ impl Known {
     /// A Write's answer: its blocks have its words, or a command failed on the block.
     fn owes_write(&self, call: &Call, answer: &Answer) -> Option<u8>
         requires { is_write call.now.op ≡ true }
-        ensures { result ≡ owes (watched_of call.now) call.now.op answer.now self.now.watch }
+        ensures { result ≡ owes (watched_of call.now) call.now.op answer.now (watch_of self.now) }
     {
         match answer {
             Answer::Done => wanted(holds(&call.op, &self.medium), 3, self.clause),
@@ -147,7 +148,7 @@ impl Known {
 
     /// What an answer Done owes.
     fn owes_done(&self, kept: bool, clause: u8, answer: &Answer) -> Option<u8>
-        ensures { result ≡ (if is_done answer.now then wanted kept clause self.now.watch.clause else self.now.watch.clause) }
+        ensures { result ≡ (if is_done answer.now then wanted kept clause self.now.clause else self.now.clause) }
     {
         match answer {
             Answer::Done => wanted(kept, clause, self.clause),
@@ -157,7 +158,7 @@ impl Known {
 
     /// A Get's answer: the register's value.
     fn owes_value(&self, key: u32, answer: &Answer) -> Option<u8>
-        ensures { (c : Watched) → result ≡ owes c (Op.Get key) answer.now self.now.watch }
+        ensures { (c : Watched) → result ≡ owes c (Op.Get key) answer.now (watch_of self.now) }
     {
         match answer {
             Answer::Value(word) => {
@@ -169,16 +170,12 @@ impl Known {
 
     /// A stage of the boot or of a recovery.
     pub fn see_stage(&mut self, stage: Stage) -> Result<(), NoMemory>
-        ensures watch { OnOk result (self.new.watch ≡ sees_stage stage self.old.watch) }
-        ensures counts { OnOk result (self.new.counts ≡ count_stage stage self.old.counts) }
+        ensures { OnOk result (self.new ≡ kept (sees_stage stage (watch_of self.old)) (count_stage stage self.old.counts)) }
     {
         match stage {
             Stage::Stop => self.calls.leave_all(),
             Stage::Reset => self.see_reset()?,
-            Stage::Load => {
-                self.popped.clear();
-                self.handed.clear();
-            }
+            Stage::Load => self.pending.clear(),
             Stage::ReplaySet { key, value } => self.replay = Some((key, value)),
             Stage::Collect | Stage::Init | Stage::ReplayOpen | Stage::Resume => {}
         }
@@ -187,8 +184,7 @@ impl Known {
 
     /// The device was reset.
     fn see_reset(&mut self) -> Result<(), NoMemory>
-        ensures watch { OnOk result (self.new.watch ≡ sees_stage Stage.Reset self.old.watch) }
-        ensures counts { OnOk result (self.new.counts ≡ count_stage Stage.Reset self.old.counts) }
+        ensures { OnOk result (self.new ≡ kept (sees_stage Stage.Reset (watch_of self.old)) (count_stage Stage.Reset self.old.counts)) }
     {
         let ring = in_ring(&self.tally);
         let driver = in_driver(&self.tally);

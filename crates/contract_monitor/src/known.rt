@@ -33,8 +33,9 @@ pub struct Tally {
     pub reset: u64,
 }
 
-/// The medium, ring and registers as the events leave them, the frames popped and handed up since the last Load,
-/// the calls, and the counts. Contracts see what the definitions of the contract and of the losses know.
+/// The medium, ring and registers as the events leave them, the frames popped since the last Load that were not handed
+/// up, the calls, and the counts. Contracts see what is kept of what the definitions of the contract and of the losses
+/// know.
 #[derive(Drop)]
 pub struct Known {
     pub alloc: Global,
@@ -42,8 +43,8 @@ pub struct Known {
     pub medium: Vec<Words>,
     pub ring: VecDeque<Words>,
     pub registers: [u32; 4],
-    pub popped: Vec<Words>,
-    pub handed: Vec<Words>,
+    /// The frames popped since the last Load, behind as many as were handed up.
+    pub pending: VecDeque<Words>,
     pub calls: Calls,
     pub replay: Option<(u32, u32)>,
     pub clause: Option<u8>,
@@ -58,17 +59,14 @@ impl Model for Known {
     ghost Value = { Knows };
 
     ghost view = { λ s. record {
-      watch = record {
-        class = s.class;
-        medium = s.medium.items;
-        ring = s.ring.items;
-        registers = s.registers;
-        popped = s.popped.items;
-        handed = s.handed.items;
-        calls = map watched_of s.calls;
-        replay = s.replay;
-        clause = s.clause;
-      };
+      class = s.class;
+      medium = s.medium.items;
+      ring = s.ring.items;
+      registers = s.registers;
+      pending = s.pending.items;
+      calls = map watched_of s.calls;
+      replay = s.replay;
+      clause = s.clause;
       counts = record {
         calls = map counted_of s.calls;
         sends = s.tally.sends;
@@ -100,8 +98,7 @@ impl Known {
             medium: blank_blocks(alloc, class, blocks)?,
             ring: VecDeque::new(alloc),
             registers: defaults_of(class),
-            popped: Vec::new(alloc),
-            handed: Vec::new(alloc),
+            pending: VecDeque::new(alloc),
             calls: Calls::new(alloc),
             replay: None,
             clause: None,
@@ -126,7 +123,7 @@ impl Known {
 
     /// The smallest clause that was broken.
     pub fn clause(&self) -> Option<u8>
-        ensures { result ≡ self.now.watch.clause }
+        ensures { result ≡ self.now.clause }
     {
         self.clause
     }
@@ -199,8 +196,7 @@ impl TryCopy for Known {
             medium: copy_blocks(alloc, &self.medium)?,
             ring: copy_queue(alloc, &self.ring)?,
             registers: self.registers,
-            popped: copy_blocks(alloc, &self.popped)?,
-            handed: copy_blocks(alloc, &self.handed)?,
+            pending: copy_queue(alloc, &self.pending)?,
             calls: self.calls.copy(alloc)?,
             replay: self.replay,
             clause: self.clause,

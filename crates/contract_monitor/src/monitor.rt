@@ -54,6 +54,35 @@ impl Monitor {
         })
     }
 
+    /// The monitor that has seen these events, in order. It wants half the time and memory that a `see` for each of them
+    /// does, since no event is seen twice: a monitor that wants memory is given up.
+    pub fn of_events(
+        alloc: Global,
+        class: Class,
+        blocks: u32,
+        events: &[Event],
+    ) -> Result<Monitor, NoMemory>
+        ensures { IfOk result (λ monitor. StandsFor class blocks events.now monitor) }
+    {
+        let mut monitor = Monitor::new(alloc, class, blocks)?;
+        for event in events {
+            monitor.see_or_give_up(event)?;
+        }
+        Ok(monitor)
+    }
+
+    /// One event more; after NoMemory the monitor is of no use.
+    fn see_or_give_up(&mut self, event: &Event) -> Result<(), NoMemory>
+        ensures { OnOk result ((class : Class) (size : ℕ) (events : List Event) → StandsFor class size events self.old → StandsFor class size (events ++ event.now ∷ []) self.new) }
+    {
+        let seen = more(self.seen, 1)?;
+        self.spare = None;
+        self.known.see(event)?;
+        self.seen = seen;
+        self.broken = or_break(self.broken, seen, self.known.clause());
+        Ok(())
+    }
+
     /// One event more. Where the monitor stood for a list of events, it stands for that list and the event. After
     /// NoMemory it is as it was. A count that has no room in 64 bits is refused as memory is.
     pub fn see(&mut self, event: &Event) -> Result<(), NoMemory>

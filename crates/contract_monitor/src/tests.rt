@@ -128,6 +128,76 @@ fn frames_and_a_reset(alloc: Global) -> Result<Vec<Event>, Fail> {
     Ok(events)
 }
 
+/// Two frames, of one word each, arrive and are popped; then frames of these words are handed up.
+fn hand_ups(alloc: Global, handed: [u32; 2]) -> Result<Vec<Event>, Fail> {
+    let mut events = Vec::new(alloc);
+    for word in [4, 5] {
+        events.push(Event::Arrive {
+            frame: words(alloc, 1, word)?,
+            kept: true,
+        })?;
+    }
+    events.push(invoke(1, Op::Recv))?;
+    events.push(enter(1))?;
+    for word in [4, 5] {
+        let act = Act::Popped {
+            frame: words(alloc, 1, word)?,
+        };
+        events.push(burst(alloc, 1, Some(act), End::Pause, None)?)?;
+    }
+    for word in handed {
+        let end = End::Service {
+            service: 6,
+            first: 0,
+            second: 1,
+            answer: Some(1),
+            moved: words(alloc, 1, word)?,
+        };
+        events.push(burst(alloc, 1, None, end, None)?)?;
+    }
+    Ok(events)
+}
+
+/// The first of many Writes stays Inside while the others come and are answered; then it stores some word.
+fn one_write_of_many(alloc: Global, stored: u32) -> Result<Vec<Event>, Fail> {
+    let mut events = Vec::new(alloc);
+    for call in 1..40 {
+        let op = Op::Write {
+            first: 1,
+            words: words(alloc, 16, 7)?,
+        };
+        events.push(invoke(call, op))?;
+        events.push(enter(call))?;
+        if call > 1 {
+            events.push(reply(alloc, call, None, Answer::BadRange)?)?;
+        }
+    }
+    let store = Act::Store {
+        block: 1,
+        words: words(alloc, 16, stored)?,
+    };
+    events.push(reply(alloc, 1, Some(store), Answer::Done)?)?;
+    Ok(events)
+}
+
+/// A Write stores after the Stop at which it left.
+fn write_beyond_a_stop(alloc: Global) -> Result<Vec<Event>, Fail> {
+    let op = Op::Write {
+        first: 1,
+        words: words(alloc, 16, 7)?,
+    };
+    let store = Act::Store {
+        block: 1,
+        words: words(alloc, 16, 7)?,
+    };
+    Ok(vec![in alloc;
+        invoke(1, op),
+        enter(1),
+        stage(alloc, Stage::Stop),
+        burst(alloc, 1, Some(store), End::Pause, None)?,
+    ]?)
+}
+
 /// A Play of three samples of which one was played, and two answers.
 fn one_play(alloc: Global) -> Result<Vec<Event>, Fail> {
     let op = Op::Play {
@@ -154,12 +224,17 @@ fn one_play(alloc: Global) -> Result<Vec<Event>, Fail> {
     ]?)
 }
 
-/// What a monitor tells of some events: the first break, then sends, samples and busy answers, then the frames.
-fn told(alloc: Global, class: Class, events: &[Event]) -> Result<String, Fail> {
+/// A monitor that is shown some events one by one.
+fn shown(alloc: Global, class: Class, events: &[Event]) -> Result<Monitor, NoMemory> {
     let mut monitor = Monitor::new(alloc, class, 2)?;
     for event in events {
         monitor.see(event)?;
     }
+    Ok(monitor)
+}
+
+/// What a monitor tells: the first break, then sends, samples and busy answers, then the frames.
+fn told(alloc: Global, monitor: &Monitor) -> Result<String, Fail> {
     let mut text = String::new(alloc);
     match monitor.first_break() {
         Some(found) => write!(text, "{}.{}", found.event, found.clause)?,
@@ -213,13 +288,45 @@ fn judges_and_counts(rt: HostRuntime) -> Result<(), Fail> {
             "kept 0 0 0 / 3 0 0 0 0 2 1 0",
         ),
         (
+            Class::Net,
+            hand_ups(alloc, [4, 5])?,
+            "kept 0 0 0 / 2 0 2 0 0 0 0 0",
+        ),
+        (
+            Class::Net,
+            hand_ups(alloc, [5, 4])?,
+            "7.8 0 0 0 / 2 0 2 0 0 0 0 0",
+        ),
+        (
+            Class::Net,
+            hand_ups(alloc, [4, 4])?,
+            "8.8 0 0 0 / 2 0 2 0 0 0 0 0",
+        ),
+        (
+            Class::Block,
+            one_write_of_many(alloc, 7)?,
+            "kept 0 0 0 / 0 0 0 0 0 0 0 0",
+        ),
+        (
+            Class::Block,
+            one_write_of_many(alloc, 8)?,
+            "117.2 0 0 0 / 0 0 0 0 0 0 0 0",
+        ),
+        (
+            Class::Block,
+            write_beyond_a_stop(alloc)?,
+            "4.1 0 0 0 / 0 0 0 0 0 0 0 0",
+        ),
+        (
             Class::Sound,
             one_play(alloc)?,
             "5.11 0 2 1 / 0 0 0 0 0 0 0 0",
         ),
     ] {
-        let text = told(alloc, class, &events)?;
-        assert_eq!(rt; text.as_str(), want);
+        let one_by_one = told(alloc, &shown(alloc, class, &events)?)?;
+        assert_eq!(rt; one_by_one.as_str(), want);
+        let at_once = told(alloc, &Monitor::of_events(alloc, class, 2, &events)?)?;
+        assert_eq!(rt; at_once.as_str(), want);
     }
     Ok(())
 }

@@ -4,8 +4,8 @@ ghost use Rattle.std.specs.Prelude.{◌≡◌, map, slice_index};
 ghost use Rattle.nook_defs.specs.Contract.{hands_up, is_agreed, is_covered, is_first_frame, is_next_of, is_own_frame, is_playing, is_replayed, is_replaying, is_setting, sends, sets, stores_at};
 ghost use Rattle.nook_defs.specs.Ideal.{is_next};
 ghost use Rattle.nook_defs.specs.Places.{at_number, number_where};
-ghost use Rattle.contract_monitor.specs.Calls.{watched_of};
-ghost use Rattle.contract_monitor.specs.Questions.{agrees, is_set_inside};
+ghost use Rattle.contract_monitor.specs.Calls.{earlier, first_of, some_of, watched_of};
+ghost use Rattle.contract_monitor.specs.Questions.{disagrees, is_set_inside};
 
 use crate::blocks::{covers, words_for};
 use crate::calls::{Call, Calls};
@@ -22,45 +22,49 @@ fn stores_at(block: u64, call: &Call) -> bool
 pub fn is_covered(block: u64, calls: &Calls) -> bool
     ensures { result ≡ is_covered block (map watched_of calls.now) }
 {
-    covered_among(block, calls.unsettled())
+    covered_among(block, calls, calls.open())
 }
 
-/// The same of some calls.
-fn covered_among(block: u64, calls: &[Call]) -> bool
-    ensures { result ≡ is_covered block (map watched_of calls.now) }
+/// The same of the calls with some numbers.
+fn covered_among(block: u64, calls: &Calls, numbers: &[u64]) -> bool
+    ensures { result ≡ some_of (stores_at block) numbers.now (map watched_of calls.now) }
 {
-    for call in calls {
-        if stores_at(block, call) {
-            return true;
+    for number in numbers {
+        if let Some(call) = calls.find(*number) {
+            if stores_at(block, call) {
+                return true;
+            }
         }
     }
     false
 }
 
-/// Whether a call does not store at the block or has these words for it.
-fn agrees(block: u64, words: &[u32], call: &Call) -> bool
-    ensures { result ≡ agrees block words.now (watched_of call.now) }
+/// Whether a call stores at the block and has other words for it.
+fn disagrees(block: u64, words: &[u32], call: &Call) -> bool
+    ensures { result ≡ disagrees block words.now (watched_of call.now) }
 {
-    !stores_at(block, call) || words == words_for(&call.op, block)
+    stores_at(block, call) && words != words_for(&call.op, block)
 }
 
 /// Whether each Write that is Inside and covers the block has these words for it.
 pub fn is_agreed(block: u64, words: &[u32], calls: &Calls) -> bool
     ensures { result ≡ is_agreed block words.now (map watched_of calls.now) }
 {
-    agreed_among(block, words, calls.unsettled())
+    !disagreed_among(block, words, calls, calls.open())
 }
 
-/// The same of some calls.
-fn agreed_among(block: u64, words: &[u32], calls: &[Call]) -> bool
-    ensures { result ≡ is_agreed block words.now (map watched_of calls.now) }
+/// Whether a call with one of some numbers stores at the block and has other words for it.
+fn disagreed_among(block: u64, words: &[u32], calls: &Calls, numbers: &[u64]) -> bool
+    ensures { result ≡ some_of (disagrees block words.now) numbers.now (map watched_of calls.now) }
 {
-    for call in calls {
-        if !agrees(block, words, call) {
-            return false;
+    for number in numbers {
+        if let Some(call) = calls.find(*number) {
+            if disagrees(block, words, call) {
+                return true;
+            }
         }
     }
-    true
+    false
 }
 
 /// Whether an operation sends this frame.
@@ -104,24 +108,32 @@ fn is_playing(call: &Call) -> bool
 pub fn playing(calls: &Calls) -> u64
     ensures { result ≡ number_where is_playing (map watched_of calls.now) }
 {
-    let rest = calls.unsettled();
-    let number = playing_among(rest);
-    if number == 0 {
-        return 0;
-    }
-    (calls.len() - rest.len()) as u64 + number
+    playing_among(calls, calls.open())
 }
 
-/// The same among some calls.
-fn playing_among(calls: &[Call]) -> u64
-    ensures { result ≡ number_where is_playing (map watched_of calls.now) }
+/// The same among the calls with some numbers.
+fn playing_among(calls: &Calls, numbers: &[u64]) -> u64
+    ensures { result ≡ first_of is_playing 0 numbers.now (map watched_of calls.now) }
 {
-    for i in 0..calls.len() {
-        if is_playing(&calls[i]) {
-            return i as u64 + 1;
+    let mut found = 0;
+    for number in numbers {
+        if let Some(call) = calls.find(*number) {
+            if is_playing(call) {
+                found = earlier(found, *number);
+            }
         }
     }
-    0
+    found
+}
+
+/// The smaller of two numbers of calls; 0 stands for no call.
+fn earlier(number: u64, other: u64) -> u64
+    ensures { result ≡ earlier number other }
+{
+    if number == 0 {
+        return other;
+    }
+    number.min(other)
 }
 
 /// Whether a word is the next one of a Play of which so many samples were played.
@@ -170,16 +182,18 @@ fn sets(key: u32, value: u32, op: &Op) -> bool
 pub fn is_setting(key: u32, value: u32, calls: &Calls) -> bool
     ensures { result ≡ is_setting key value (map watched_of calls.now) }
 {
-    setting_among(key, value, calls.unsettled())
+    setting_among(key, value, calls, calls.open())
 }
 
-/// The same of some calls.
-fn setting_among(key: u32, value: u32, calls: &[Call]) -> bool
-    ensures { result ≡ is_setting key value (map watched_of calls.now) }
+/// The same of the calls with some numbers.
+fn setting_among(key: u32, value: u32, calls: &Calls, numbers: &[u64]) -> bool
+    ensures { result ≡ some_of (is_set_inside key value) numbers.now (map watched_of calls.now) }
 {
-    for call in calls {
-        if is_set_inside(key, value, call) {
-            return true;
+    for number in numbers {
+        if let Some(call) = calls.find(*number) {
+            if is_set_inside(key, value, call) {
+                return true;
+            }
         }
     }
     false

@@ -17,7 +17,7 @@ use Rattle.report_text.specs.declared.write.WriteStop.{WriteStop}
 use Rattle.journal_audit.specs.Comparisons.{Comparison, held_in, untouched}
 use Rattle.nook_defs.specs.State.{PartState}
 use Rattle.report_text.specs.Whole.{ShowsState}
-use Rattle.sim_run.specs.Ends.{end_of, objects_in}
+use Rattle.run_ends.specs.Ends.{end_of, objects_in}
 use Rattle.journal_audit.specs.Found.{at_last, between, found_from, inside}
 use Rattle.journal_audit.specs.Placed.{Departs, Follows, IsEnding, Place}
 use Rattle.journal_audit.specs.Stopping.{Checks, OnUnfit}

@@ -1,7 +1,6 @@
 //! The lines behind a section's events.
 
 ghost use Rattle.std.specs.Prelude.{◌≡◌, ◌<◌, ◌++◌, ◌∷◌, [], List, IfOk, OnOk, length};
-ghost use Rattle.contract_monitor.specs.Monitors.{StandsFor};
 ghost use Rattle.audit_laws.specs.Audit.{Done, done_of, section_end};
 ghost use Rattle.journal_audit.specs.Found.{between, found_from, inside};
 ghost use Rattle.journal_audit.specs.Placed.{Departs, Follows, IsEnding};
@@ -16,11 +15,10 @@ use crate::section::Section;
 use crate::stop::Stop;
 use crate::tally::Tally;
 use contract_monitor::Monitor;
-use nook_defs::data::{Event, PartSpec};
 use nook_defs::memory::NoMemory;
 use report_text::whole_report::PartReport;
 use report_text::whole_text::write_final;
-use sim_run::end_of;
+use run_ends::end_of;
 use std::alloc::Global;
 
 /// Checks the lines behind a section's events, which is over then.
@@ -88,21 +86,11 @@ fn compare_ending(
 fn judge(alloc: Global, section: &Section) -> Result<PartReport, NoMemory>
     ensures { IfOk result (λ judged. judged ≡ judged_in section.now) }
 {
-    let monitor = watched(alloc, section.spec(), section.events())?;
+    let spec = section.spec();
+    let monitor = Monitor::of_events(alloc, spec.class, spec.blocks, section.events())?;
     Ok(PartReport {
         losses: monitor.losses(),
         first_break: monitor.first_break(),
         failures: section.part().failures(),
     })
-}
-
-/// The monitor of a part, behind its events.
-fn watched(alloc: Global, spec: &PartSpec, events: &[Event]) -> Result<Monitor, NoMemory>
-    ensures { IfOk result (λ monitor. StandsFor spec.now.class spec.now.blocks events.now monitor) }
-{
-    let mut monitor = Monitor::new(alloc, spec.class, spec.blocks)?;
-    for event in events {
-        monitor.see(event)?;
-    }
-    Ok(monitor)
 }

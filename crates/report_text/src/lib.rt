@@ -2,7 +2,7 @@
 #![tactic(auto)]
 
 pub mod line;
-mod pieces;
+pub mod pieces;
 pub mod report;
 #[cfg(test)]
 mod tests;

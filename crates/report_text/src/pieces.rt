@@ -309,7 +309,7 @@ fn push_cause_tail(line: &mut Line, cause: Option<FailCause>) -> Result<(), NoMe
 }
 
 /// Acts, each behind a bar.
-fn push_acts_tail(line: &mut Line, acts: &[Act]) -> Result<(), NoMemory>
+pub fn push_acts_tail(line: &mut Line, acts: &[Act]) -> Result<(), NoMemory>
     ensures { OnOk result (line.new ≡ line.old ++ acts_tail acts.now) }
 {
     for act in acts {
@@ -404,7 +404,7 @@ pub fn push_event(line: &mut Line, event: &Event) -> Result<(), NoMemory>
 }
 
 /// What came of a burst: its end, its acts, its answer and its failure.
-fn push_outcome(
+pub fn push_outcome(
     line: &mut Line,
     end: &End,
     acts: &Acts,

@@ -126,10 +126,7 @@ fn judge(
 ) -> Result<(Losses, Option<Break>), NoMemory>
     ensures { IfOk result (λ judged. judged ≡ (losses events.now, first_break spec.now.class spec.now.blocks events.now)) }
 {
-    let mut monitor = Monitor::new(alloc, spec.class, spec.blocks)?;
-    for event in events {
-        monitor.see(event)?;
-    }
+    let monitor = Monitor::of_events(alloc, spec.class, spec.blocks, events)?;
     Ok((monitor.losses(), monitor.first_break()))
 }
 

@@ -1,7 +1,7 @@
-use Rattle.std.proofs.Common.{◌∙◌, sym}
-use Rattle.contract_monitor.proofs.Settled.{agreed_past}
+use Rattle.std.proofs.Common.{map, not, ap, ◌∙◌}
+use Rattle.contract_monitor.specs.Calls.{watched_of}
+use Rattle.contract_monitor.proofs.Listed.{agreed_listed}
 use Rattle.contract_monitor.proofs.watching.is_agreed.Goals as goal
 
 pub returns : goal.returns
-returns c =
-    c.agreed_among.ensures ∙ sym (agreed_past c.args.block c.args.words.now c.args.calls.now c.unsettled.result.now c.unsettled.ensures)
+returns c = ap not c.disagreed_among.ensures ∙ agreed_listed c.args.block c.args.words.now c.open.result.now (map watched_of c.args.calls.now) c.open.ensures

@@ -1,7 +1,7 @@
 use Rattle.std.proofs.Common.{◌≡◌, map, drop}
-use Rattle.nook_defs.specs.Contract.{is_setting}
-use Rattle.contract_monitor.specs.Calls.{watched_of}
+use Rattle.contract_monitor.specs.Calls.{some_of, watched_of}
+use Rattle.contract_monitor.specs.Questions.{is_set_inside}
 use Rattle.contract_monitor.proofs.watching.setting_among.Given as goal
 
-abbrev pub invariant-loop-call : goal.invariant-loop-call
-invariant-loop-call l = is_setting l.key l.value (map watched_of l.calls) ≡ is_setting l.key l.value (map watched_of (drop l.call-index l.calls))
+abbrev pub invariant-loop-number : goal.invariant-loop-number
+invariant-loop-number l = some_of (is_set_inside l.key l.value) l.numbers (map watched_of l.calls) ≡ some_of (is_set_inside l.key l.value) (drop l.number-index l.numbers) (map watched_of l.calls)

@@ -1,9 +1,9 @@
 pub mod Numerals
 pub mod LastPiece
-pub mod Defined
 pub mod NamedLines
 pub mod OneValue
 pub mod Short
 pub mod Lines
 pub mod Floats
 pub mod WordItems
+pub mod MadeLines

@@ -1,6 +1,6 @@
 -- One line of either pass, and the whole.
-use Rattle.std.proofs.Common.{◌≡◌, ℕ, ◌+◌, ◌<◌, ◌≤◌, subst, List, [], ◌∷◌, ◌++◌, length, drop, get_or, map, refl, ap, sym, ◌∙◌, arith, add-one}
-use Rattle.std.specs.Prelude.{Option, Some, None, Result, Ok, Err}
+use Rattle.std.proofs.Common.{◌≡◌, ℕ, ◌+◌, ◌<◌, ◌≤◌, subst, List, [], ◌∷◌, ◌++◌, length, drop, get_or, map, refl, ap, sym, ◌∙◌, arith, add-one, append-nil, append_assoc}
+use Rattle.std.specs.Prelude.{None, Result, Ok, Err}
 use Rattle.std.specs.Borrow.{Bor}
 use Rattle.std.specs.Result.{IsErrAnd}
 use Rattle.std.proofs.Math.Seq.{drop-cons}
@@ -14,37 +14,28 @@ use Rattle.nook_defs.specs.declared.assembler.Section.{Section}
 use Rattle.nook_defs.specs.declared.assembler.Section.TheVariants as section
 use Rattle.nook_defs.specs.declared.assembler.Statement.{Statement}
 use Rattle.nook_defs.specs.declared.assembler.Statement.TheVariants as statement
-use Rattle.nook_defs.specs.declared.data.Image.{Image}
 use Rattle.driver_asm.specs.Answers.{Gives, Fails}
-use Rattle.driver_asm.specs.Places.{or_else}
 use Rattle.driver_asm.specs.declared.error.AsmError.{AsmError}
 use Rattle.driver_asm.specs.declared.error.AsmError.TheVariants as errors
 use Rattle.std.proofs.lemmas.List.{drop_all}
-use mathlib.Core.Path.{fun_ext}
-use Rattle.driver_asm.proofs.Defined.{first_of_more}
 
 -- ---- first pass
 
-or_else_assoc : {T : Type 0} (a b c : Option T) → or_else (or_else a b) c ≡ or_else a (or_else b c)
-or_else_assoc None b c = refl
-or_else_assoc (Some a) b c = refl
-
-pub labels_step : (old new : List Label) (at next : Places) (line : List ℕ) (more : List (List ℕ)) (name : List ℕ)
+labels_step : (old new : List Label) (at next : Places) (line : List ℕ) (more : List (List ℕ))
     → next ≡ next_line (places_after (line_says no_labels None at.in_section (tokens_of line)) at)
-    → first_of new name ≡ or_else (first_of old name) (first_of (label_of (definition_of (tokens_of line)) at) name)
-    → or_else (first_of new name) (first_of (labels_from next more) name) ≡ or_else (first_of old name) (first_of (labels_from at (line ∷ more)) name)
+    → new ≡ old ++ label_of (definition_of (tokens_of line)) at
+    → new ++ labels_from next more ≡ old ++ labels_from at (line ∷ more)
 unfolding labels_from
-labels_step old new at next line more name same defined =
+labels_step old new at next line more same defined =
     rw (
       defined,
-      or_else_assoc (first_of old name) (first_of (label_of (definition_of (tokens_of line)) at) name) (first_of (labels_from next more) name),
-      first_of_more (label_of (definition_of (tokens_of line)) at) (labels_from (next_line (places_after (line_says no_labels None at.in_section (tokens_of line)) at)) more) name,
       same,
+      append_assoc old (label_of (definition_of (tokens_of line)) at) (labels_from (next_line (places_after (line_says no_labels None at.in_section (tokens_of line)) at)) more),
     ) refl
 
-pub labels_end : (at : Places) (name : List ℕ) → first_of (labels_from at []) name ≡ None
+labels_end : (at : Places) → labels_from at [] ≡ []
 unfolding labels_from
-labels_end at name = refl
+labels_end at = refl
 
 -- a line adds at most one word
 pub text_after : (says : Result Statement AsmKind) (at : Places) → (places_after says at).text ≤ at.text + 1
@@ -107,26 +98,22 @@ text_next says at next h = omega (arith, ap (λ p. p.text) h, text_after says at
 pub initial_next : (says : Result Statement AsmKind) (at next : Places) → next ≡ next_line (places_after says at) → next.initial ≤ at.initial + 1
 initial_next says at next h = omega (arith, ap (λ p. p.initial) h, initial_after says at)
 
-pub labels_more : (old new : List Label) (at next : Places) (lines : List (Bor (List ℕ))) (i : ℕ) (d : Bor (List ℕ)) (name : List ℕ) (whole : Option Label) → i < length lines
+pub labels_more : (old new : List Label) (at next : Places) (lines : List (Bor (List ℕ))) (i : ℕ) (d : Bor (List ℕ)) (whole : List Label) → i < length lines
     → next ≡ next_line (places_after (line_says no_labels None at.in_section (tokens_of (get_or lines i d).now)) at)
-    → first_of new name ≡ or_else (first_of old name) (first_of (label_of (definition_of (tokens_of (get_or lines i d).now)) at) name)
-    → or_else (first_of old name) (first_of (labels_from at (map (λ line. line.now) (drop i lines))) name) ≡ whole
-    → or_else (first_of new name) (first_of (labels_from next (map (λ line. line.now) (drop (i + 1) lines))) name) ≡ whole
-labels_more old new at next lines i d name whole inside same defined before =
-    labels_step old new at next (get_or lines i d).now (map (λ line. line.now) (drop (i + 1) lines)) name same defined
-    ∙ ap (λ ls. or_else (first_of old name) (first_of (labels_from at ls) name)) (sym (lines_split lines i d inside))
+    → new ≡ old ++ label_of (definition_of (tokens_of (get_or lines i d).now)) at
+    → old ++ labels_from at (map (λ line. line.now) (drop i lines)) ≡ whole
+    → new ++ labels_from next (map (λ line. line.now) (drop (i + 1) lines)) ≡ whole
+labels_more old new at next lines i d whole inside same defined before =
+    labels_step old new at next (get_or lines i d).now (map (λ line. line.now) (drop (i + 1) lines)) same defined
+    ∙ ap (λ ls. old ++ labels_from at ls) (sym (lines_split lines i d inside))
     ∙ before
 
-or_else_none : {T : Type 0} (a : Option T) → or_else a None ≡ a
-or_else_none None = refl
-or_else_none (Some a) = refl
-
-pub labels_done : (labels : List Label) (at : Places) (lines : List (Bor (List ℕ))) (i : ℕ) (name : List ℕ) (whole : Option Label) → length lines ≤ i
-    → or_else (first_of labels name) (first_of (labels_from at (map (λ line. line.now) (drop i lines))) name) ≡ whole → first_of labels name ≡ whole
-labels_done labels at lines i name whole past h =
-    sym (or_else_none (first_of labels name))
-    ∙ ap (λ found. or_else (first_of labels name) found) (sym (labels_end at name))
-    ∙ ap (λ ls. or_else (first_of labels name) (first_of (labels_from at (map (λ line. line.now) ls)) name)) (sym (drop_all i lines past))
+pub labels_done : (labels : List Label) (at : Places) (lines : List (Bor (List ℕ))) (i : ℕ) (whole : List Label) → length lines ≤ i
+    → labels ++ labels_from at (map (λ line. line.now) (drop i lines)) ≡ whole → labels ≡ whole
+labels_done labels at lines i whole past h =
+    sym (append-nil labels)
+    ∙ ap (labels ++◌) (sym (labels_end at))
+    ∙ ap (λ ls. labels ++ labels_from at (map (λ line. line.now) ls)) (sym (drop_all i lines past))
     ∙ h
 
 -- ---- second pass, by the lines that are left
@@ -152,21 +139,17 @@ draft_fails labels n i lines d draft whole (errors.Bad kind line) inside fault b
 
 -- ---- the whole
 
-labels_whole : (text : List ℕ) (labels : List Label) → ((name : List ℕ) → first_of labels name ≡ first_of (labels_from first_places (lines_of text)) name)
-    → first_of labels ≡ first_of (labels_from first_places (lines_of text))
-labels_whole text labels same = fun_ext same
-
-pub assembled_by : (text : List ℕ) (labels : List Label) (draft : Draft) → ((name : List ℕ) → first_of labels name ≡ first_of (labels_from first_places (lines_of text)) name)
+pub assembled_by : (text : List ℕ) (labels : List Label) (draft : Draft) → labels ≡ labels_from first_places (lines_of text)
     → draft_from (first_of labels) 1 (lines_of text) first_draft ≡ Ok draft
     → assembled text ≡ at_line (length (lines_of text) + 1) (image_with draft.class (all_given draft.entries) draft)
 unfolding assembled
-assembled_by text labels draft same drawn = rw (sym (labels_whole text labels same), drawn) refl
+assembled_by text labels draft same drawn = rw (sym same, drawn) refl
 
-pub assembled_fails : (text : List ℕ) (labels : List Label) (why : AsmError) → ((name : List ℕ) → first_of labels name ≡ first_of (labels_from first_places (lines_of text)) name)
+pub assembled_fails : (text : List ℕ) (labels : List Label) (why : AsmError) → labels ≡ labels_from first_places (lines_of text)
     → Fails why (draft_from (first_of labels) 1 (lines_of text) first_draft) → Fails why (assembled text)
 unfolding assembled
 assembled_fails text labels errors.NoMemory same drawn = tt
-assembled_fails text labels (errors.Bad kind line) same drawn = rw (sym (labels_whole text labels same), drawn) refl
+assembled_fails text labels (errors.Bad kind line) same drawn = rw (sym same, drawn) refl
 
 -- ---- an error that is passed on
 
@@ -180,13 +163,12 @@ abbrev bytes_of : List (Bor (List ℕ)) → List (List ℕ)
 bytes_of lines = map (λ line. line.now) lines
 
 same_labels : (text : List ℕ) (lines : List (Bor (List ℕ))) (labels : List Label) → bytes_of lines ≡ lines_of text
-    → ((name : List ℕ) → first_of labels name ≡ first_of (labels_from first_places (bytes_of lines)) name)
-    → (name : List ℕ) → first_of labels name ≡ first_of (labels_from first_places (lines_of text)) name
-same_labels text lines labels cut same name = same name ∙ ap (λ ls. first_of (labels_from first_places ls) name) cut
+    → labels ≡ labels_from first_places (bytes_of lines) → labels ≡ labels_from first_places (lines_of text)
+same_labels text lines labels cut same = same ∙ ap (labels_from first_places) cut
 
 pub whole_by : (text : List ℕ) (items first second third : List (Bor (List ℕ))) (labels : List Label) (draft : Draft) (line : ℕ)
     → bytes_of items ≡ lines_of text → first ≡ items → second ≡ items → third ≡ items
-    → ((name : List ℕ) → first_of labels name ≡ first_of (labels_from first_places (bytes_of first)) name)
+    → labels ≡ labels_from first_places (bytes_of first)
     → draft_from (first_of labels) 1 (bytes_of second) first_draft ≡ Ok draft
     → line ≡ length (bytes_of third) + 1
     → assembled text ≡ at_line line (image_with draft.class (all_given draft.entries) draft)
@@ -197,7 +179,7 @@ whole_by text items first second third labels draft line cut p q r same drawn be
 
 pub whole_fails : (text : List ℕ) (items first second : List (Bor (List ℕ))) (labels : List Label) (why : AsmError)
     → bytes_of items ≡ lines_of text → first ≡ items → second ≡ items
-    → ((name : List ℕ) → first_of labels name ≡ first_of (labels_from first_places (bytes_of first)) name)
+    → labels ≡ labels_from first_places (bytes_of first)
     → Fails why (draft_from (first_of labels) 1 (bytes_of second) first_draft)
     → Fails why (assembled text)
 whole_fails text items first second labels why cut p q same fails =

@@ -1,5 +1,5 @@
 -- Lists of two and three tokens.
-use Rattle.std.proofs.Common.{◌≡◌, ℕ, ◌<◌, ◌≤◌, List, [], ◌∷◌, length, get_or, arith, Some, Option}
+use Rattle.std.proofs.Common.{◌≡◌, ℕ, ◌<◌, ◌≤◌, List, [], ◌∷◌, length, get_or, arith, Some}
 use Rattle.nook_defs.specs.AsmLines.{Labels, operands_of, operands_with, value_of}
 use Rattle.nook_defs.specs.AsmTokens.{register_of}
 use Rattle.nook_defs.specs.declared.assembler.Form.TheVariants as form

@@ -1,4 +1,4 @@
-use Rattle.std.specs.Prelude.{ℕ, List, [], ◌∷◌, Bool, true, ◌≤◌, ◌≡◌, ◌&&◌, nat_le, Option, Some, None, if◌then◌else◌}
+use Rattle.std.specs.Prelude.{ℕ, List, [], ◌∷◌, Bool, true, ◌&&◌, nat_le, Option, Some, None, if◌then◌else◌}
 use Rattle.nook_defs.specs.AsmTokens.{is_numeral, numeral_value}
 use Rattle.nook_defs.specs.AsmLines.{Labels, value_of}
 use Rattle.nook_defs.specs.declared.assembler.Value.{Value}

@@ -55,6 +55,20 @@ impl Draft {
         }
     }
 
+    /// The number of text words.
+    pub fn text_len(&self) -> usize
+        ensures { result ≡ length self.now.text }
+    {
+        self.text.len()
+    }
+
+    /// The number of initial words.
+    pub fn initial_len(&self) -> usize
+        ensures { result ≡ length self.now.initial }
+    {
+        self.initial.len()
+    }
+
     /// The draft after a line, or the smallest kind of fault that the line has.
     #[tactic(auto, unfolding(nook_defs::specs::Assembler::draft_after))]
     pub fn after(

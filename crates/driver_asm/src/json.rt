@@ -32,9 +32,13 @@ pub fn write_image(alloc: Global, image: &Image) -> Result<Words8, NoMemory>
     Ok(Words8::from_vec(text))
 }
 
-/// An image as a JSON value.
+/// An image as a JSON value, its keys in byte order and its words as eight lower-case digits.
+///
+/// # Errors
+///
+/// Want of memory.
 #[tactic(auto, unfolding(nook_defs::specs::ImageText::image_data))]
-fn image_value(alloc: Global, image: &Image) -> Result<Value, NoMemory>
+pub fn image_value(alloc: Global, image: &Image) -> Result<Value, NoMemory>
     ensures { IfOk result (λ value. view value ≡ image_data image.now) }
 {
     let initial = words_value(alloc, image.initial.as_slice())?;
@@ -84,8 +88,12 @@ fn hex_value(alloc: Global, word: Word) -> Result<Value, NoMemory>
     Ok(Value::String(text))
 }
 
-/// Adds the last digits of a word.
-fn push_digits(text: &mut String, count: u32, word: Word) -> Result<(), NoMemory>
+/// Adds the last hexadecimal digits of a word, in lower case.
+///
+/// # Errors
+///
+/// Want of memory.
+pub fn push_digits(text: &mut String, count: u32, word: Word) -> Result<(), NoMemory>
     ensures { OnOk result (string_bytes text.new ≡ string_bytes text.old ++ hex_text count word) }
 {
     if count == 0 {

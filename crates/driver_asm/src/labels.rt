@@ -1,9 +1,8 @@
 //! The labels of a text, each with its first definition.
 
-ghost use Rattle.std.specs.Prelude.{◌≡◌, ◌<◌, ◌^◌, ℕ, IfOk, Some, List, [], OnOk};
+ghost use Rattle.std.specs.Prelude.{◌≡◌, ◌<◌, ◌^◌, ◌++◌, IfOk, Some, [], OnOk};
 ghost use Rattle.nook_defs.specs.AsmLines.{first_of, label_value, no_labels};
 ghost use Rattle.nook_defs.specs.Assembler.{is_other_line, label_of};
-ghost use Rattle.driver_asm.specs.Places.{or_else};
 
 use crate::line::NextPlaces;
 use crate::tokens::register_of;
@@ -40,10 +39,9 @@ impl LabelTable {
 
     /// Defines a name where the next word goes. A name that is defined keeps its definition, and a register's name
     /// is never defined.
-    #[tactic(auto, using(crate::proofs::Defined::first_of_more))]
     pub fn define(&mut self, alloc: Global, name: &[u8], at: &NextPlaces) -> Result<(), NoMemory>
         requires { at.now.initial < 2 ^ 63 }
-        ensures { OnOk result ((other : List ℕ) → first_of self.new other ≡ or_else (first_of self.old other) (first_of (label_of (Some name.now) at.now) other)) }
+        ensures { OnOk result (self.new ≡ self.old ++ label_of (Some name.now) at.now) }
     {
         if register_of(name).is_some() {
             return Ok(());
@@ -54,6 +52,13 @@ impl LabelTable {
             line: at.line(),
         };
         self.labels.push(label)
+    }
+
+    /// The labels, in the order of their definitions.
+    pub fn into_items(self) -> Items<Label>
+        ensures { result ≡ self }
+    {
+        self.labels
     }
 
     /// The place of a label, where it is defined.

@@ -1,11 +1,10 @@
 //! The two passes.
 
-ghost use Rattle.std.specs.Prelude.{◌≡◌, ◌+◌, ◌<◌, ◌^◌, ℕ, List, IfOk, OnOk, None, Result, map, length};
+ghost use Rattle.std.specs.Prelude.{◌≡◌, ◌+◌, ◌<◌, ◌^◌, ◌++◌, IfOk, OnOk, None, Result, map, length};
 ghost use Rattle.nook_defs.specs.AsmLines.{definition_of, first_of, line_says, no_labels};
 ghost use Rattle.nook_defs.specs.AsmTokens.{tokens_of};
 ghost use Rattle.nook_defs.specs.Assembler.{all_given, label_of, next_line, places_after, assembled, at_line, draft_after, draft_from, first_draft, first_places, image_with, labels_from};
 ghost use Rattle.nook_defs.specs.declared.assembler.AsmKind.{AsmKind};
-ghost use Rattle.driver_asm.specs.Places.{or_else};
 ghost use Rattle.driver_asm.specs.Answers.{Gives, Takes};
 
 use crate::draft::Draft;
@@ -36,15 +35,15 @@ pub fn assemble(alloc: Global, text: &[u8]) -> Result<Image, AsmError>
 }
 
 /// The number of the line behind the last.
-fn line_behind(lines: &[&[u8]]) -> u64
+pub fn line_behind(lines: &[&[u8]]) -> u64
     ensures { result ≡ length (map (λ line. line.now) lines.now) + 1 }
 {
     lines.len() as u64 + 1
 }
 
 /// The first pass: the labels that the lines define.
-fn labels_of(alloc: Global, lines: &[&[u8]]) -> Result<LabelTable, NoMemory>
-    ensures { IfOk result (λ labels. (name : List ℕ) → first_of labels name ≡ first_of (labels_from first_places (map (λ line. line.now) lines.now)) name) }
+pub fn labels_of(alloc: Global, lines: &[&[u8]]) -> Result<LabelTable, NoMemory>
+    ensures { IfOk result (λ labels. labels ≡ labels_from first_places (map (λ line. line.now) lines.now)) }
 {
     let mut labels = LabelTable::new(alloc);
     let mut at = NextPlaces::new();
@@ -65,7 +64,7 @@ fn behind_line(
     requires line { at.line < 2 ^ 63 }
     requires text { at.text < 2 ^ 63 }
     requires initial { at.initial < 2 ^ 63 }
-    ensures labels { OnOk result ((name : List ℕ) → first_of labels.new name ≡ or_else (first_of labels.old name) (first_of (label_of (definition_of (tokens_of line.now)) at) name)) }
+    ensures labels { OnOk result (labels.new ≡ labels.old ++ label_of (definition_of (tokens_of line.now)) at) }
     ensures places { IfOk result (λ next. next ≡ next_line (places_after (line_says no_labels None at.in_section (tokens_of line.now)) at)) }
 {
     let tokens = tokens_of(alloc, line)?;
@@ -82,7 +81,7 @@ fn define_label(
     tokens: &[Token],
 ) -> Result<(), NoMemory>
     requires { at.now.initial < 2 ^ 63 }
-    ensures { OnOk result ((name : List ℕ) → first_of labels.new name ≡ or_else (first_of labels.old name) (first_of (label_of (definition_of tokens.now) at.now) name)) }
+    ensures { OnOk result (labels.new ≡ labels.old ++ label_of (definition_of tokens.now) at.now) }
 {
     match definition_of(tokens) {
         Some(name) => labels.define(alloc, name, at),
@@ -105,7 +104,7 @@ fn draft_of(alloc: Global, labels: &LabelTable, lines: &[&[u8]]) -> Result<Draft
 }
 
 /// The draft after a line, or its fault at the line.
-fn after_line(
+pub fn after_line(
     alloc: Global,
     labels: &LabelTable,
     number: u64,
@@ -119,7 +118,7 @@ fn after_line(
 }
 
 /// A fault at a line.
-fn at_line<T: Drop>(line: u64, made: Result<T, LineStop>) -> Result<T, AsmError>
+pub fn at_line<T: Drop>(line: u64, made: Result<T, LineStop>) -> Result<T, AsmError>
     ensures { (given : Result T AsmKind) → Takes made given → Gives result (at_line line given) }
 {
     match made {

@@ -1,7 +1,7 @@
 //! The assembler text of an image.
 
 ghost use Rattle.std.specs.Prelude.{◌≡◌, ◌∷◌, ◌++◌, [], codes, decimal, flat_map, map, IfOk, OnOk, Ok, string_bytes};
-ghost use Rattle.nook_defs.specs.Disassembler.{class_tokens, disassembled, entry_lines, image_lines, initial_lines, instr_tokens, later_token, line_text, operand_tokens, register_text, text_tokens, word_tokens};
+ghost use Rattle.nook_defs.specs.Disassembler.{class_tokens, disassembled, entry_lines, image_lines, initial_lines, instr_tokens, later_token, line_body, line_text, operand_tokens, register_text, text_tokens, word_tokens};
 ghost use Rattle.nook_defs.specs.Assembler.{assembled};
 ghost use Rattle.nook_defs.specs.Valid.{IsValidImage};
 ghost use Rattle.nook_defs.specs.Keys.{entry_keys};
@@ -128,8 +128,29 @@ fn push_text_words(text: &mut String, words: &[Word]) -> Result<(), NoMemory>
     Ok(())
 }
 
+/// The text of one text word as its line has it, without the line feed: its instruction, or `.word` and the number
+/// where it is none.
+///
+/// # Errors
+///
+/// Want of memory.
+pub fn word_text(alloc: Global, word: Word) -> Result<String, NoMemory>
+    ensures { IfOk result (λ text. string_bytes text ≡ line_body (text_tokens word)) }
+{
+    let mut text = String::new(alloc);
+    match decode(word) {
+        Some(instr) => push_instr_body(&mut text, instr)?,
+        None => push_word_body(&mut text, word)?,
+    }
+    Ok(text)
+}
+
 /// Adds the line of a text word: its instruction, or the number where it is none.
-fn push_text_word(text: &mut String, word: Word) -> Result<(), NoMemory>
+///
+/// # Errors
+///
+/// Want of memory.
+pub fn push_text_word(text: &mut String, word: Word) -> Result<(), NoMemory>
     ensures { OnOk result (string_bytes text.new ≡ string_bytes text.old ++ line_text (text_tokens word)) }
 {
     match decode(word) {
@@ -142,11 +163,18 @@ fn push_text_word(text: &mut String, word: Word) -> Result<(), NoMemory>
 fn push_instr(text: &mut String, instr: Instr) -> Result<(), NoMemory>
     ensures { OnOk result (string_bytes text.new ≡ string_bytes text.old ++ line_text (instr_tokens (fields_of instr))) }
 {
-    let fields = fields_of(instr);
-    text.push_str(mnemonic_text(fields.mnemonic))?;
-    push_operands(text, form_of(fields.mnemonic), &fields)?;
+    push_instr_body(text, instr)?;
     text.push_str("\n")?;
     Ok(())
+}
+
+/// Adds an instruction without a line feed.
+fn push_instr_body(text: &mut String, instr: Instr) -> Result<(), NoMemory>
+    ensures { OnOk result (string_bytes text.new ≡ string_bytes text.old ++ line_body (instr_tokens (fields_of instr))) }
+{
+    let fields = fields_of(instr);
+    text.push_str(mnemonic_text(fields.mnemonic))?;
+    push_operands(text, form_of(fields.mnemonic), &fields)
 }
 
 /// Adds the operands of a form, each behind a token.
@@ -178,13 +206,24 @@ fn push_registers(text: &mut String, fields: &Fields) -> Result<(), NoMemory>
 }
 
 /// Adds the line of a word that is a number.
-fn push_word(text: &mut String, word: Word) -> Result<(), NoMemory>
+///
+/// # Errors
+///
+/// Want of memory.
+pub fn push_word(text: &mut String, word: Word) -> Result<(), NoMemory>
     ensures { OnOk result (string_bytes text.new ≡ string_bytes text.old ++ line_text (word_tokens word)) }
 {
-    text.push_str(".word")?;
-    push_number(text, word)?;
+    push_word_body(text, word)?;
     text.push_str("\n")?;
     Ok(())
+}
+
+/// Adds a word that is a number, without a line feed.
+fn push_word_body(text: &mut String, word: Word) -> Result<(), NoMemory>
+    ensures { OnOk result (string_bytes text.new ≡ string_bytes text.old ++ line_body (word_tokens word)) }
+{
+    text.push_str(".word")?;
+    push_number(text, word)
 }
 
 /// Adds the lines of the initial words, where there are any.

@@ -1,4 +1,4 @@
-use Rattle.std.proofs.Common.{arith, refl}
+use Rattle.std.proofs.Common.{arith}
 use Rattle.driver_asm.proofs.Lines.{initial_next, labels_done, labels_more, line_next, text_next}
 use Rattle.driver_asm.proofs.passes.labels_of.Goals as goal
 
@@ -7,9 +7,9 @@ loop-line-preserved c = record {
   line = omega (arith, line_next _ c.loop-line.at c.in_ok-at.at c.in_ok-at.ensures.places);
   text = omega (arith, text_next _ c.loop-line.at c.in_ok-at.at c.in_ok-at.ensures.places);
   initial = omega (arith, initial_next _ c.loop-line.at c.in_ok-at.at c.in_ok-at.ensures.places);
-  labels = λ name. labels_more c.loop-line.labels c.behind_line.new.labels c.loop-line.at c.in_ok-at.at c.args.lines.now c.loop-line.line-index _ name _ c.loop-line-test.true
-      c.in_ok-at.ensures.places (c.in_ok-at.ensures.labels name) (c.loop-line.invariant.labels name);
+  labels = labels_more c.loop-line.labels c.behind_line.new.labels c.loop-line.at c.in_ok-at.at c.args.lines.now c.loop-line.line-index _ _ c.loop-line-test.true
+      c.in_ok-at.ensures.places c.in_ok-at.ensures.labels c.loop-line.invariant.labels;
 }
 
 pub returns : goal.returns
-returns c = λ name. labels_done c.loop-line.labels c.loop-line.at c.args.lines.now c.loop-line.line-index name _ c.loop-line-test.false (c.loop-line.invariant.labels name)
+returns c = labels_done c.loop-line.labels c.loop-line.at c.args.lines.now c.loop-line.line-index _ c.loop-line-test.false c.loop-line.invariant.labels

@@ -66,11 +66,11 @@ class_plain class.Block = IsUtf8-are_ascii (codes "block") refl
 class_plain class.Net = IsUtf8-are_ascii (codes "net") refl
 class_plain class.Sound = IsUtf8-are_ascii (codes "sound") refl
 
-image_plain : (image : Image) → IsValidImage image → IsPlain max_depth (image_data image)
+pub image_plain : (n : ℕ) (image : Image) → 1 < n → IsValidImage image → IsPlain n (image_data image)
 unfolding image_data
-image_plain image valid = (
+image_plain n image deep valid = (
   1,
-  omega arith,
+  deep,
   (
     IsUtf8-are_ascii (codes "class") refl,
     class_plain image.class,
@@ -118,11 +118,11 @@ entries_read class.Block es h = five (Entries class.Block) es h block_read
 entries_read class.Net es h = five (Entries class.Net) es h net_read
 entries_read class.Sound es h = six (Entries class.Sound) es h sound_read
 
-image_read : (image : Image) → IsValidImage image → of_json (outline (image_data image)) ≡ Some (image_data image)
+pub image_read : (image : Image) → IsValidImage image → of_json (outline (image_data image)) ≡ Some (image_data image)
 unfolding image_data Entries
 image_read image valid =
     rw (words_read image.initial, entries_read image.class image.entries valid.entries (low_from image.entries valid.places), words_read image.text) refl
 
 pub text_comes_back : (image : Image) → IsValidImage image → image_from (image_text image) ≡ Ok image
 unfolding image_from image_text
-text_comes_back image valid = rw (json_with_feed (image_data image) (image_plain image valid) (image_read image valid)) (image_back image valid)
+text_comes_back image valid = rw (json_with_feed (image_data image) (image_data image) (image_plain max_depth image (omega arith) valid) (image_read image valid)) (image_back image valid)

@@ -11,6 +11,7 @@ use Rattle.json.specs.Json as json
 use Rattle.json.specs.Tree as tree
 use Rattle.json.specs.Print.{quoted}
 use Rattle.json.proofs.Printed.Decimals.{IsNumber-decimal}
+use Rattle.json.proofs.Printed.Tokens.{tokens-print}
 use Rattle.json.proofs.Printed.Trees.{value-json_tokens, ArePrintable-json_tokens}
 use Rattle.json.proofs.Printed.Utf8.{IsUtf8-are_ascii, IsUtf8-quoted, IsUtf8-boolean}
 use Rattle.serde_json.specs.Data.{Num, unsigned, negative, float, Data, null, boolean, number, string, array, object, Items, no_items, item, Members, no_members, member, put}
@@ -21,7 +22,7 @@ use Rattle.nook_defs.specs.Reading.{is_utf8, json_of}
 use Rattle.image_laws.proofs.LineFeed.{tokens_with_feed}
 
 -- texts and unsigned numbers, nested at most so deep
-abbrev IsPlainNumber : Num → Type 0
+abbrev pub IsPlainNumber : Num → Type 0
 IsPlainNumber (unsigned n) = n < 2 ^ 64
 IsPlainNumber (negative z) = ⊥
 IsPlainNumber (float x) = ⊥
@@ -142,20 +143,29 @@ is_json : (bytes : List ℕ) (d : Data) → IsUtf8 bytes → read bytes ≡ Some
 unfolding json_of
 is_json bytes d text h = rw (test_from_text bytes text, h) refl
 
-tokens_of_text : (n : ℕ) (d : Data) → IsPlain n d → tokens (compact_text d ++ 10 ∷ []) ≡ tree.json_tokens (outline d)
+tokens_of_text : (n : ℕ) (d : Data) → IsPlain n d → tokens (compact_text d) ≡ tree.json_tokens (outline d)
 tokens_of_text n d h =
+    ap tokens (sym (print-outline d)) ∙ tokens-print (tree.json_tokens (outline d)) (ArePrintable-json_tokens (outline d) (has_numbers n d h))
+
+tokens_with_line_feed : (n : ℕ) (d : Data) → IsPlain n d → tokens (compact_text d ++ 10 ∷ []) ≡ tree.json_tokens (outline d)
+tokens_with_line_feed n d h =
     ap (λ text. tokens (text ++ 10 ∷ [])) (sym (print-outline d))
     ∙ tokens_with_feed (tree.json_tokens (outline d)) (ArePrintable-json_tokens (outline d) (has_numbers n d h))
 
-read_with_feed : (d : Data) → IsPlain max_depth d → of_json (outline d) ≡ Some d → read (compact_text d ++ 10 ∷ []) ≡ Some d
-read_with_feed d h back =
+-- a text that has the tokens of a value is read as what the value's JSON is read as
+read_by_tokens : (text : List ℕ) (d e : Data) → IsPlain max_depth d → tokens text ≡ tree.json_tokens (outline d) → of_json (outline d) ≡ Some e → read text ≡ Some e
+read_by_tokens text d e h same back =
     ap (λ ts. option_and_then of_json (option_and_then (λ p. json.if_last p.0 p.1) (json.value max_depth ts)))
-    (tokens_of_text max_depth d h ∙ sym (append-nil (tree.json_tokens (outline d))))
+    (same ∙ sym (append-nil (tree.json_tokens (outline d))))
     ∙ ap (λ o. option_and_then of_json (option_and_then (λ p. json.if_last p.0 p.1) o)) (value-json_tokens (outline d) max_depth [] (nests max_depth d h))
     ∙ back
 
-pub json_with_feed : (d : Data) → IsPlain max_depth d → of_json (outline d) ≡ Some d → json_of (compact_text d ++ 10 ∷ []) ≡ Ok d
-json_with_feed d h back =
-    is_json (compact_text d ++ 10 ∷ []) d
+pub json_read : (d e : Data) → IsPlain max_depth d → of_json (outline d) ≡ Some e → json_of (compact_text d) ≡ Ok e
+json_read d e h back =
+    is_json (compact_text d) e (is_text max_depth d h) (read_by_tokens (compact_text d) d e h (tokens_of_text max_depth d h) back)
+
+pub json_with_feed : (d e : Data) → IsPlain max_depth d → of_json (outline d) ≡ Some e → json_of (compact_text d ++ 10 ∷ []) ≡ Ok e
+json_with_feed d e h back =
+    is_json (compact_text d ++ 10 ∷ []) e
     (IsUtf8-append (compact_text d) (10 ∷ []) (is_text max_depth d h) (IsUtf8-are_ascii (10 ∷ []) refl))
-    (read_with_feed d h back)
+    (read_by_tokens (compact_text d ++ 10 ∷ []) d e h (tokens_with_line_feed max_depth d h) back)

@@ -1,0 +1,9 @@
+pub mod Texts
+pub mod Sorted
+pub mod ListsBack
+pub mod PiecesBack
+pub mod NamesApart
+pub mod PartsBack
+pub mod WholeBack
+pub mod PlainScenario
+pub mod ComesBack

@@ -1,0 +1,119 @@
+-- Schedules, faults, bad blocks and operations are read back.
+use Rattle.std.proofs.Common.{◌≡◌, ℕ, ◌-◌, ◌<◌, ◌≤◌, Ok, refl, arith}
+use Rattle.std.proofs.lemmas.Bool.{le-ltb}
+use Rattle.nook_defs.specs.PartReading.{bad_block_of, fault_kind, fault_named, fault_of}
+use Rattle.nook_defs.specs.ScenarioReading.{op_by, op_named, op_of, schedule_by, schedule_named, schedule_of}
+use Rattle.nook_defs.specs.Valid.{IsPick, IsValidBadBlock, IsValidFault, IsValidKind, IsValidOp, IsValidSchedule, IsValidStep, IsWord}
+use Rattle.nook_defs.specs.declared.data.BadBlock.{BadBlock}
+use Rattle.nook_defs.specs.declared.data.Fault.{Fault}
+use Rattle.nook_defs.specs.declared.data.FaultKind.{FaultKind}
+use Rattle.nook_defs.specs.declared.data.FaultKind.TheVariants as strikes
+use Rattle.nook_defs.specs.declared.data.Op.{Op}
+use Rattle.nook_defs.specs.declared.data.Op.TheVariants as op
+use Rattle.nook_defs.specs.declared.data.ScheduleSpec.{ScheduleSpec}
+use Rattle.nook_defs.specs.declared.data.ScheduleSpec.TheVariants as schedule
+use Rattle.scenario_write.specs.ScenarioText.{bad_block_data, fault_data, schedule_data, step_data}
+use Rattle.scenario_write.proofs.ListsBack.{no_less, numbers_back, word_within, words_back}
+use Rattle.scenario_write.proofs.Sorted.{sorted}
+
+pick_within : (n : ℕ) → IsPick n → n ≤ 65535
+pick_within n h = omega (arith, h)
+
+pub schedule_back : (s : ScheduleSpec) → IsValidSchedule s → schedule_of (sorted (schedule_data s)) ≡ Ok s
+unfolding schedule_of schedule_data schedule_named schedule_by
+schedule_back schedule.RoundRobin h = refl
+schedule_back (schedule.Drawn start) h = rw (no_less start, le-ltb 18446744073709551615 start (omega (arith, h))) refl
+schedule_back (schedule.Listed picks) h = rw (numbers_back 0 65536 65535 IsPick pick_within picks (omega arith) h.0 h.1) refl
+
+pub bad_block_back : (blocks : ℕ) (bad : BadBlock) → IsValidBadBlock blocks bad → bad_block_of blocks (sorted (bad_block_data bad)) ≡ Ok bad
+unfolding bad_block_of bad_block_data
+bad_block_back blocks bad h =
+    rw (
+      no_less bad.block,
+      le-ltb (blocks - 1) bad.block (omega (arith, h.block)),
+      no_less bad.after,
+      le-ltb 4294967295 bad.after (word_within bad.after h.after),
+    ) refl
+
+fault_by : (burst after : ℕ) (kind : FaultKind) → 1 ≤ burst → IsWord burst → after ≤ 4095 → IsValidKind kind
+    → fault_of (sorted (fault_data (record { burst = burst; after = after; kind = kind }))) ≡ Ok (record { burst = burst; after = after; kind = kind })
+unfolding fault_of fault_data fault_named fault_kind
+fault_by burst after strikes.Trap one small few h =
+    rw (le-ltb burst 1 one, le-ltb 4294967295 burst (word_within burst small), no_less after, le-ltb 4095 after few) refl
+fault_by burst after strikes.Hang one small few h =
+    rw (le-ltb burst 1 one, le-ltb 4294967295 burst (word_within burst small), no_less after, le-ltb 4095 after few) refl
+fault_by burst after (strikes.Poke address value) one small few h =
+    rw (
+      le-ltb burst 1 one,
+      le-ltb 4294967295 burst (word_within burst small),
+      no_less after,
+      le-ltb 4095 after few,
+      no_less address,
+      le-ltb 4294967295 address (word_within address h.0),
+      no_less value,
+      le-ltb 4294967295 value (word_within value h.1),
+    ) refl
+fault_by burst after (strikes.Code address value) one small few h =
+    rw (
+      le-ltb burst 1 one,
+      le-ltb 4294967295 burst (word_within burst small),
+      no_less after,
+      le-ltb 4095 after few,
+      no_less address,
+      le-ltb 4294967295 address (word_within address h.0),
+      no_less value,
+      le-ltb 4294967295 value (word_within value h.1),
+    ) refl
+fault_by burst after (strikes.Reg register value) one small few h =
+    rw (
+      le-ltb burst 1 one,
+      le-ltb 4294967295 burst (word_within burst small),
+      no_less after,
+      le-ltb 4095 after few,
+      no_less register,
+      le-ltb 15 register h.0,
+      no_less value,
+      le-ltb 4294967295 value (word_within value h.1),
+    ) refl
+
+pub fault_back : (fault : Fault) → IsValidFault fault → fault_of (sorted (fault_data fault)) ≡ Ok fault
+fault_back fault h = fault_by fault.burst fault.after fault.kind h.burst.0 h.burst.1 h.after h.kind
+
+step_by : (parts part : ℕ) (o : Op) → part < parts → IsValidOp o → op_of parts (sorted (step_data (part, o))) ≡ Ok (part, o)
+unfolding op_of step_data op_named op_by
+step_by parts part (op.Read first count) inside h =
+    rw (
+      no_less part,
+      le-ltb (parts - 1) part (omega (arith, inside)),
+      no_less first,
+      le-ltb 4294967295 first (word_within first h.0),
+      no_less count,
+      le-ltb 4294967295 count (word_within count h.1),
+    ) refl
+step_by parts part (op.Write first words) inside h =
+    rw (
+      no_less part,
+      le-ltb (parts - 1) part (omega (arith, inside)),
+      no_less first,
+      le-ltb 4294967295 first (word_within first h.0),
+      words_back 256 words h.1,
+    ) refl
+step_by parts part (op.Send frame) inside h = rw (no_less part, le-ltb (parts - 1) part (omega (arith, inside)), words_back 256 frame h) refl
+step_by parts part op.Recv inside h = rw (no_less part, le-ltb (parts - 1) part (omega (arith, inside))) refl
+step_by parts part op.Open inside h = rw (no_less part, le-ltb (parts - 1) part (omega (arith, inside))) refl
+step_by parts part (op.Play samples) inside h = rw (no_less part, le-ltb (parts - 1) part (omega (arith, inside)), words_back 256 samples h) refl
+step_by parts part op.Close inside h = rw (no_less part, le-ltb (parts - 1) part (omega (arith, inside))) refl
+step_by parts part (op.Get register) inside h =
+    rw (no_less part, le-ltb (parts - 1) part (omega (arith, inside)), no_less register, le-ltb 4294967295 register (word_within register h)) refl
+step_by parts part (op.Set register value) inside h =
+    rw (
+      no_less part,
+      le-ltb (parts - 1) part (omega (arith, inside)),
+      no_less register,
+      le-ltb 4294967295 register (word_within register h.0),
+      no_less value,
+      le-ltb 4294967295 value (word_within value h.1),
+    ) refl
+
+pub step_back : (parts : ℕ) (step : ℕ × Op) → IsValidStep parts step → op_of parts (sorted (step_data step)) ≡ Ok step
+step_back parts step h = step_by parts step.0 step.1 h.0 h.1

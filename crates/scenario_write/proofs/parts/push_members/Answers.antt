@@ -1,0 +1,7 @@
+use Rattle.scenario_write.proofs.Texts.{members_of_part}
+use Rattle.scenario_write.proofs.parts.push_members.Goals as goal
+
+pub returns : goal.returns
+returns c = members_of_part c.args.part.now _ _ _ _ _ _ _ _ _
+    c.from.ensures c.as_slice.ensures
+    c.in_ok-push_number.ensures c.in_ok-push_str.ensures.bytes c.in_ok-push_image.ensures c.in_ok-push_str-2.ensures.bytes c.in_ok-push_list.ensures c.in_ok-push_arrivals.ensures

@@ -1,0 +1,164 @@
+use Rattle.std.specs.Prelude.{ℕ, ◌==◌, ◌||◌, not, List, [], ◌∷◌, ◌++◌, length, codes, Bool, false, if◌then◌else◌}
+use Rattle.serde_json.specs.Data.{Data, string, number, array, object, unsigned, Items, no_items, item, Members, no_members, member}
+use Rattle.serde_json.specs.Written.{compact_text}
+use Rattle.nook_defs.specs.ImageText.{image_data}
+use Rattle.nook_defs.specs.Keys.{class_text, key_text}
+use Rattle.nook_defs.specs.declared.data.BadBlock.{BadBlock}
+use Rattle.nook_defs.specs.declared.data.Class.{Class}
+use Rattle.nook_defs.specs.declared.data.Class.TheVariants as class
+use Rattle.nook_defs.specs.declared.data.Fault.{Fault}
+use Rattle.nook_defs.specs.declared.data.FaultKind.{FaultKind}
+use Rattle.nook_defs.specs.declared.data.FaultKind.TheVariants as strikes
+use Rattle.nook_defs.specs.declared.data.Image.{Image}
+use Rattle.nook_defs.specs.declared.data.Op.{Op}
+use Rattle.nook_defs.specs.declared.data.Op.TheVariants as op
+use Rattle.nook_defs.specs.declared.data.PartSpec.{PartSpec}
+use Rattle.nook_defs.specs.declared.data.Scenario.{Scenario}
+use Rattle.nook_defs.specs.declared.data.ScheduleSpec.{ScheduleSpec}
+use Rattle.nook_defs.specs.declared.data.ScheduleSpec.TheVariants as schedule
+use Rattle.nook_defs.specs.declared.data.ThreadSpec.{ThreadSpec}
+use Rattle.nook_defs.specs.declared.input.Key.{Key}
+use Rattle.nook_defs.specs.declared.input.Key.TheVariants as key
+
+-- A scenario as a JSON value, its members in the order in which they are written, and its text.
+
+-- ---- values
+
+-- a number
+abbrev pub number_data : ℕ → Data
+number_data n = number (unsigned n)
+
+-- a value at a key, before other members
+abbrev pub at : Key → Data → Members → Members
+at key d more = member (key_text key) d more
+
+-- the values of a list
+abbrev pub items_with : {T : Type 0} → (T → Data) → List T → Items
+items_with data_of [] = no_items
+items_with data_of (first ∷ more) = item (data_of first) (items_with data_of more)
+
+-- a list as an array
+abbrev pub list_data : {T : Type 0} → (T → Data) → List T → Data
+list_data data_of list = array (items_with data_of list)
+
+-- numbers as an array
+abbrev pub numbers_data : List ℕ → Data
+numbers_data numbers = list_data number_data numbers
+
+-- ---- schedules
+
+-- the kind of a schedule, and what only schedules of that kind have
+abbrev pub schedule_members : ScheduleSpec → Members
+schedule_members schedule.RoundRobin = at key.Kind (string (codes "round_robin")) no_members
+schedule_members (schedule.Drawn start) = at key.Kind (string (codes "drawn")) (at key.Start (number_data start) no_members)
+schedule_members (schedule.Listed picks) = at key.Kind (string (codes "listed")) (at key.Picks (numbers_data picks) no_members)
+
+-- a schedule
+unfoldable pub schedule_data : ScheduleSpec → Data
+schedule_data spec = object (schedule_members spec)
+
+-- ---- faults and bad blocks
+
+-- what a fault does, and the keys of its kind
+abbrev pub kind_members : FaultKind → Members
+kind_members strikes.Trap = at key.Kind (string (codes "trap")) no_members
+kind_members strikes.Hang = at key.Kind (string (codes "hang")) no_members
+kind_members (strikes.Poke address value) = at key.Kind (string (codes "poke")) (at key.Address (number_data address) (at key.Value (number_data value) no_members))
+kind_members (strikes.Code address value) = at key.Kind (string (codes "code")) (at key.Address (number_data address) (at key.Value (number_data value) no_members))
+kind_members (strikes.Reg register value) = at key.Kind (string (codes "reg")) (at key.Register (number_data register) (at key.Value (number_data value) no_members))
+
+-- a fault
+unfoldable pub fault_data : Fault → Data
+fault_data fault = object (at key.Burst (number_data fault.burst) (at key.After (number_data fault.after) (kind_members fault.kind)))
+
+-- a bad block
+unfoldable pub bad_block_data : BadBlock → Data
+bad_block_data bad = object (at key.Block (number_data bad.block) (at key.After (number_data bad.after) no_members))
+
+-- ---- parts
+
+-- the bad blocks, where there are any
+abbrev pub bad_members : List BadBlock → Members → Members
+bad_members [] more = more
+bad_members (first ∷ others) more = at key.Bad (list_data bad_block_data (first ∷ others)) more
+
+-- what only disks have
+abbrev pub disk_members : Class → PartSpec → Members → Members
+disk_members class.Block part more = at key.Blocks (number_data part.blocks) (bad_members part.bad more)
+disk_members class.Net part more = more
+disk_members class.Sound part more = more
+
+-- what only net parts have
+abbrev pub arrival_members : Class → PartSpec → Members
+arrival_members class.Block part = no_members
+arrival_members class.Net part = at key.Arrivals (list_data numbers_data part.arrivals) no_members
+arrival_members class.Sound part = no_members
+
+-- a driver, given as its image
+abbrev pub driver_data : Image → Data
+driver_data image = object (at key.Image (image_data image) no_members)
+
+-- what stands behind a disk's own members
+abbrev pub part_members : PartSpec → Members
+part_members part =
+    at key.Limit (number_data part.limit)
+    (at key.Driver (driver_data part.image)
+    (at key.Faults (list_data fault_data part.faults)
+    (arrival_members part.class part)))
+
+-- a part
+unfoldable pub part_data : PartSpec → Data
+part_data part = object
+    (at key.Name (string part.name)
+    (at key.Class (string (class_text part.class))
+    (disk_members part.class part
+    (part_members part))))
+
+-- ---- threads
+
+-- an operation, and the keys of its kind
+abbrev pub op_members : Op → Members
+op_members (op.Read first count) = at key.Op (string (codes "read")) (at key.First (number_data first) (at key.Count (number_data count) no_members))
+op_members (op.Write first words) = at key.Op (string (codes "write")) (at key.First (number_data first) (at key.Data (numbers_data words) no_members))
+op_members (op.Send frame) = at key.Op (string (codes "send")) (at key.Frame (numbers_data frame) no_members)
+op_members op.Recv = at key.Op (string (codes "recv")) no_members
+op_members op.Open = at key.Op (string (codes "open")) no_members
+op_members (op.Play samples) = at key.Op (string (codes "play")) (at key.Samples (numbers_data samples) no_members)
+op_members op.Close = at key.Op (string (codes "close")) no_members
+op_members (op.Get register) = at key.Op (string (codes "get")) (at key.Key (number_data register) no_members)
+op_members (op.Set register value) = at key.Op (string (codes "set")) (at key.Key (number_data register) (at key.Value (number_data value) no_members))
+
+-- an operation on a part
+unfoldable pub step_data : ℕ × Op → Data
+step_data step = object (at key.Part (number_data step.0) (op_members step.1))
+
+-- a thread
+unfoldable pub thread_data : ThreadSpec → Data
+thread_data thread = object (at key.Name (string thread.name) (at key.Ops (list_data step_data thread.ops) no_members))
+
+-- ---- scenarios
+
+-- one of the parts has a bad block
+abbrev pub has_bad : List PartSpec → Bool
+has_bad [] = false
+has_bad (part ∷ more) = not (length part.bad == 0) || has_bad more
+
+-- the version of the format: bad blocks came with the second
+abbrev pub version_of : List PartSpec → ℕ
+version_of parts = if has_bad parts then 2 else 1
+
+-- a scenario
+unfoldable pub scenario_data : Scenario → Data
+scenario_data scenario = object
+    (at key.Version (number_data (version_of scenario.parts))
+    (at key.Schedule (schedule_data scenario.schedule)
+    (at key.Parts (list_data part_data scenario.parts)
+    (at key.Threads (list_data thread_data scenario.threads) no_members))))
+
+-- the text of a scenario, on one line without its end
+unfoldable pub scenario_json : Scenario → List ℕ
+scenario_json scenario = compact_text (scenario_data scenario)
+
+-- the same with a line feed
+abbrev pub scenario_line : Scenario → List ℕ
+scenario_line scenario = scenario_json scenario ++ 10 ∷ []

@@ -1,0 +1,12 @@
+//! Scenarios as JSON: what is written for one reads as that scenario.
+#![tactic(auto)]
+
+pub mod laws;
+mod lists;
+mod ops;
+mod parts;
+mod scenario;
+#[cfg(test)]
+mod tests;
+
+pub use scenario::{write_scenario, write_scenario_line};

@@ -1,0 +1,82 @@
+//! Whole scenarios.
+
+ghost use Rattle.std.specs.Prelude.{◌≡◌, ◌++◌, IfOk, Ok, OnOk, string_bytes};
+ghost use Rattle.nook_defs.specs.ScenarioReading.{scenario_from};
+ghost use Rattle.nook_defs.specs.Valid.{IsValidScenario};
+ghost use Rattle.serde_json.specs.Written.{compact_text};
+ghost use Rattle.scenario_write.specs.ScenarioText.{has_bad, scenario_data, scenario_json, scenario_line, version_of};
+
+use crate::lists::{Written, push_list, push_number};
+use nook_defs::data::{PartSpec, Scenario};
+use nook_defs::lists::Words8;
+use nook_defs::memory::NoMemory;
+use std::alloc::Global;
+
+/// A scenario as JSON in compact form on one line, without the line's end. The keys stand in the order in which the
+/// format lists them; the version is 2 where a part has a bad block, else 1; a driver is given as its image. Schedule,
+/// limits and faults are always there, and so are the arrivals of a net part; bad blocks only where there are any. The
+/// text of a valid scenario is read as that scenario.
+///
+/// # Errors
+///
+/// Want of memory.
+#[tactic(auto, unfolding(crate::specs::ScenarioText::scenario_json), using(crate::proofs::ComesBack::text_back))]
+pub fn write_scenario(alloc: Global, scenario: &Scenario) -> Result<Words8, NoMemory>
+    ensures text { IfOk result (λ text. text ≡ scenario_json scenario.now) }
+    ensures back { IsValidScenario scenario.now → IfOk result (λ text. scenario_from text ≡ Ok scenario.now) }
+{
+    let mut text = String::new(alloc);
+    scenario.push(alloc, &mut text)?;
+    Ok(Words8::from_vec(text.into_bytes()))
+}
+
+/// The same with a line feed behind it.
+///
+/// # Errors
+///
+/// Want of memory.
+#[tactic(auto, unfolding(crate::specs::ScenarioText::scenario_json), using(crate::proofs::ComesBack::line_back))]
+pub fn write_scenario_line(alloc: Global, scenario: &Scenario) -> Result<Words8, NoMemory>
+    ensures text { IfOk result (λ text. text ≡ scenario_line scenario.now) }
+    ensures back { IsValidScenario scenario.now → IfOk result (λ text. scenario_from text ≡ Ok scenario.now) }
+{
+    let mut text = String::new(alloc);
+    scenario.push(alloc, &mut text)?;
+    text.push_str("\n")?;
+    Ok(Words8::from_vec(text.into_bytes()))
+}
+
+impl Written for Scenario {
+    ghost json = { scenario_data };
+
+    fn push(&self, alloc: Global, text: &mut String) -> Result<(), NoMemory> {
+        push_number(text, "{\"version\":", version_of(self.parts.as_slice()))?;
+        text.push_str(",\"schedule\":")?;
+        self.schedule.push(alloc, text)?;
+        text.push_str(",\"parts\":")?;
+        push_list(alloc, text, self.parts.as_slice())?;
+        text.push_str(",\"threads\":")?;
+        push_list(alloc, text, self.threads.as_slice())?;
+        text.push_str("}")?;
+        Ok(())
+    }
+}
+
+/// The version of the format that has all that the parts have.
+fn version_of(parts: &[PartSpec]) -> u64
+    ensures { result ≡ version_of parts.now }
+{
+    if has_bad(parts) { 2 } else { 1 }
+}
+
+/// Whether a part has a bad block.
+fn has_bad(parts: &[PartSpec]) -> bool
+    ensures { result ≡ has_bad parts.now }
+{
+    for part in parts {
+        if part.bad.len() != 0 {
+            return true;
+        }
+    }
+    false
+}

@@ -12,6 +12,7 @@ ghost use Rattle.domain_call.specs.Standing.{opening_standing};
 
 mod bursts;
 mod contexts;
+mod detaching;
 mod recovery;
 mod serving;
 
@@ -119,9 +120,9 @@ impl Domain {
         self.inside(context).is_some()
     }
 
-    /// The context, where it is Inside.
+    /// The context, where it is Inside. The context is at most 16.
     #[tactic(auto, using(crate::proofs::Contexts::context_at))]
-    fn inside(&self, context: u8) -> Option<Context>
+    pub fn inside(&self, context: u8) -> Option<Context>
         requires { context < 17 }
         ensures { result ≡ context_of context self.now.state.contexts }
     {

@@ -5,11 +5,13 @@
 //! other call takes any.
 #![tactic(auto)]
 
+mod detached;
 mod domain;
 mod reach;
 #[cfg(test)]
 mod tests;
 
+pub use detached::Detached;
 pub use domain::Domain;
 pub use driver_isa::BurstDone;
 pub use kernel_services::{RxQueue, Served};

@@ -13,3 +13,4 @@ mod turn;
 pub use burst::{BurstDone, run_burst};
 pub use bus::Bus;
 pub use code::{decode, encode};
+pub use turn::turn as run_turn;

@@ -1,0 +1,22 @@
+//! A domain taken apart.
+
+ghost use Rattle.std.specs.Prelude.{◌≡◌};
+
+use super::Domain;
+use crate::detached::Detached;
+
+impl Domain {
+    /// The pages, what the driver holds and the device, for a machine that is run turn by turn. The rest of the domain
+    /// is dropped. It takes no memory.
+    pub fn detach(self) -> Detached
+        ensures words { result.pages.words ≡ self.state.memory }
+        ensures entries { result.tracker.entries ≡ self.state.entries }
+        ensures device { result.device ≡ self.state.device }
+    {
+        Detached {
+            pages: self.pages,
+            tracker: self.tracker,
+            device: self.device,
+        }
+    }
+}

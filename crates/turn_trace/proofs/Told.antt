@@ -1,0 +1,244 @@
+-- A trace goes along with its burst: the same strikes and turns from each place on.
+use Rattle.std.proofs.Common.{◌≡◌, ◌+◌, ◌-◌, ◌%◌, ◌^◌, ◌≤◌, ◌==◌, ℕ, zero, suc, nat_le, Bool, true, false, Option, Some, None, List, [], ◌∷◌, ◌++◌, length, map, flat_map, refl, sym, ◌∙◌, ap, append-nil, append_assoc, length-append, arith}
+use Rattle.nook_defs.specs.declared.data.Act.{Act}
+use Rattle.nook_defs.specs.declared.data.Entry.{Entry}
+use Rattle.nook_defs.specs.declared.data.Fault.{Fault}
+use Rattle.nook_defs.specs.declared.data.TrapCause.{TrapCause}
+use Rattle.nook_defs.specs.declared.data.TrapCause.TheVariants as trap
+use Rattle.nook_defs.specs.declared.machine.BurstEnd.{BurstEnd}
+use Rattle.nook_defs.specs.declared.machine.BurstEnd.TheVariants as ends
+use Rattle.nook_defs.specs.declared.machine.Instr.{Instr}
+use Rattle.nook_defs.specs.declared.machine.Instr.TheVariants as instr
+use Rattle.nook_defs.specs.Burst.{Burst, Struck, acts_of, burst, burst_from, count_at, ended, past_acts, past_crossing, past_stop, past_trap, past_turn, strikes_at, struck_machine, trap_of}
+use Rattle.nook_defs.specs.Devices.{Given, Taken, input_of, output_of}
+use Rattle.nook_defs.specs.Machine.{decode_of}
+use Rattle.nook_defs.specs.Pages.{fetch_word, may_write, read_word}
+use Rattle.nook_defs.specs.Turn.{Machine, Turn, executed, past_decode, past_fetch, past_input, past_output, past_read, r, stores, turn}
+use Rattle.turn_trace.specs.Bursts.{TracedBurst, TracedStep, behind, behind_acts, behind_crossing, behind_stop, behind_turn, burst_trace, finished, strike, struck_at, taken, trace_from, up_to_trap}
+use Rattle.turn_trace.specs.Retelling.{AreNumbered, Retells, acts_of_turn, counted, strikes_of, turns_of}
+use Rattle.turn_trace.specs.Turns.{traced}
+use Rattle.turn_trace.specs.declared.traced.TracedTurn.{TracedTurn}
+
+split : {G : Type 0} → (b : Bool) → (b ≡ true → G) → (b ≡ false → G) → G
+split true there not_there = there refl
+split false there not_there = not_there refl
+
+-- ---- no turn is a hang by itself
+
+abbrev IsOwn : Option BurstEnd → Type 0
+IsOwn None = Unit {0}
+IsOwn (Some (ends.Trap trap.Hang)) = ⊥
+IsOwn (Some (ends.Trap cause)) = Unit {0}
+IsOwn (Some ending) = Unit {0}
+
+read_own : (m : Machine) (a address : ℕ) (o : Option ℕ) → IsOwn (past_read m a address o).crossing
+read_own m a address None = tt
+read_own m a address (Some word) = tt
+
+store_own : (entries : List Entry) (m : Machine) (a address : ℕ) → IsOwn (stores entries m a address).crossing
+store_own entries m a address = split (may_write entries address) (λ e. rw e tt) (λ e. rw e tt)
+
+input_own : (m : Machine) (a port : ℕ) (o : Option Given) → IsOwn (past_input m a port o).crossing
+input_own m a port None = tt
+input_own m a port (Some given) = tt
+
+output_own : (m : Machine) (port : ℕ) (o : Option Taken) → IsOwn (past_output m port o).crossing
+output_own m port None = tt
+output_own m port (Some given) = tt
+
+executed_own : (entries : List Entry) (m : Machine) (i : Instr) → IsOwn (executed entries m i).crossing
+executed_own entries m (instr.Ld a b imm) = read_own m a ((r m b + imm) % 2 ^ 32) (read_word m.memory ((r m b + imm) % 2 ^ 32))
+executed_own entries m (instr.St a b imm) = store_own entries m a ((r m b + imm) % 2 ^ 32)
+executed_own entries m (instr.In a imm) = input_own m a imm (input_of imm m.device)
+executed_own entries m (instr.Out a imm) = output_own m imm (output_of imm (r m a) m.device)
+executed_own entries m _ = tt
+
+decode_own : (entries : List Entry) (m : Machine) (o : Option Instr) → IsOwn (past_decode entries m o).crossing
+decode_own entries m None = tt
+decode_own entries m (Some i) = executed_own entries m i
+
+fetch_own : (entries : List Entry) (m : Machine) (o : Option ℕ) → IsOwn (past_fetch entries m o).crossing
+fetch_own entries m None = tt
+fetch_own entries m (Some word) = decode_own entries m (decode_of word)
+
+turn_own : (entries : List Entry) (m : Machine) → IsOwn (turn entries m).crossing
+unfolding turn
+turn_own entries m = fetch_own entries m (fetch_word m.memory m.cpu.counter)
+
+counts_turns : (number : ℕ) (ending : BurstEnd) → IsOwn (Some ending) → number ≡ counted (number + 0) ending
+counts_turns number (ends.Trap trap.Hang) own = absurd own
+counts_turns number (ends.Trap trap.BadOpcode) own = omega arith
+counts_turns number (ends.Trap trap.BadFetch) own = omega arith
+counts_turns number (ends.Trap (trap.BadRead address)) own = omega arith
+counts_turns number (ends.Trap (trap.ForeignWrite address)) own = omega arith
+counts_turns number (ends.Trap (trap.BadPort port)) own = omega arith
+counts_turns number (ends.Trap trap.Explicit) own = omega arith
+counts_turns number (ends.Trap trap.Injected) own = omega arith
+counts_turns number (ends.Kcall service) own = omega arith
+counts_turns number (ends.Reply status) own = omega arith
+counts_turns number ends.Pause own = omega arith
+
+counts_stop : (place : ℕ) (cause : TrapCause) → count_at place cause ≡ counted (place + 0) (ends.Trap cause)
+counts_stop place trap.Hang = refl
+counts_stop place trap.BadOpcode = omega arith
+counts_stop place trap.BadFetch = omega arith
+counts_stop place (trap.BadRead address) = omega arith
+counts_stop place (trap.ForeignWrite address) = omega arith
+counts_stop place (trap.BadPort port) = omega arith
+counts_stop place trap.Explicit = omega arith
+counts_stop place trap.Injected = omega arith
+
+-- ---- what holds from a place on
+
+record Told (place : ℕ) (faults : List Fault) (acts : List Act) (t : TracedBurst) (b : Burst) : Type 0 where
+  machine : t.left ≡ b.machine
+  ending : t.ending ≡ b.ending
+  count : b.count ≡ counted (place + length (turns_of t.steps)) t.ending
+  few : place + length (turns_of t.steps) ≤ 4096
+  numbers : AreNumbered (place + 1) (turns_of t.steps)
+  done : acts ++ flat_map acts_of_turn (turns_of t.steps) ≡ b.acts
+  each : strikes_of t.steps ++ t.unstruck ≡ faults
+
+ends_told : (place : ℕ) (faults : List Fault) (m : Machine) (acts : List Act) (ending : BurstEnd) (count : ℕ)
+    → place ≤ 4096 → count ≡ counted (place + 0) ending
+    → Told place faults acts (finished faults m ending) (ended count m acts ending)
+ends_told place faults m acts ending count h n = record {
+  machine = refl;
+  ending = refl;
+  count = n;
+  few = omega arith;
+  numbers = tt;
+  done = append-nil acts;
+  each = refl;
+}
+
+-- a turn in front
+turn_told : (place number : ℕ) (faults : List Fault) (acts own : List Act) (told : TracedTurn) (t : TracedBurst) (b : Burst)
+    → number ≡ place + 1 → told.number ≡ number → told.acts ≡ own
+    → Told number faults (acts ++ own) t b → Told place faults acts (behind (taken told ∷ []) t) b
+turn_told place number faults acts own told t b n e a h =
+    let more : place + suc (length (turns_of t.steps)) ≡ number + length (turns_of t.steps) = omega (arith, n) in
+    record {
+      machine = h.machine;
+      ending = h.ending;
+      count = rw more h.count;
+      few = rw more h.few;
+      numbers = (e ∙ n, rw (← n) h.numbers);
+      done = rw a (sym (append_assoc acts own _) ∙ h.done);
+      each = h.each;
+    }
+
+turns_behind : (struck : List Fault) (steps : List TracedStep) → turns_of (map strike struck ++ steps) ≡ turns_of steps
+turns_behind [] steps = refl
+turns_behind (f ∷ struck) steps = turns_behind struck steps
+
+strikes_behind : (struck : List Fault) (steps : List TracedStep) → strikes_of (map strike struck ++ steps) ≡ struck ++ strikes_of steps
+strikes_behind [] steps = refl
+strikes_behind (f ∷ struck) steps = ap (λ s. f ∷ s) (strikes_behind struck steps)
+
+-- strikes in front
+strikes_told : (place : ℕ) (struck rest faults : List Fault) (acts : List Act) (t : TracedBurst) (b : Burst)
+    → struck ++ rest ≡ faults → Told place rest acts t b → Told place faults acts (behind (map strike struck) t) b
+strikes_told place struck rest faults acts t b e h = record {
+  machine = h.machine;
+  ending = h.ending;
+  count = rw (turns_behind struck t.steps) h.count;
+  few = rw (turns_behind struck t.steps) h.few;
+  numbers = rw (turns_behind struck t.steps) h.numbers;
+  done = rw (turns_behind struck t.steps) h.done;
+  each = rw (strikes_behind struck t.steps) (append_assoc struck (strikes_of t.steps) t.unstruck ∙ rw h.each e);
+}
+
+up_to_trap_rest : (f : Fault) (faults more : List Fault) (s : Struck) (m : Machine) (o : Option TrapCause)
+    → more ++ s.rest ≡ faults → up_to_trap more o ++ (past_trap s m faults o).rest ≡ faults
+up_to_trap_rest f faults more s m None e = e
+up_to_trap_rest f faults more s m (Some cause) e = refl
+
+-- the faults that strike at a place and those that are left are all of them
+struck_and_rest : (place : ℕ) (entries : List Entry) (faults : List Fault) (m : Machine)
+    → struck_at place faults ++ (strikes_at place entries faults m).rest ≡ faults
+struck_and_rest place entries [] m = refl
+struck_and_rest place entries (f ∷ faults) m =
+    split (f.after == place)
+    (λ e. rw (e, strikes_at, struck_at)
+    (ap (λ s. f ∷ s) (up_to_trap_rest f faults (struck_at place faults) (strikes_at place entries faults (struck_machine entries f.kind m)) m (trap_of f.kind)
+    (struck_and_rest place entries faults (struck_machine entries f.kind m)))))
+    (λ e. rw (e, strikes_at, struck_at) refl)
+
+-- ---- each step of the two definitions
+
+acts_told : (go : Machine → ℕ → TracedBurst) (go' : Machine → List Act → Burst) (number : ℕ) (rest : List Fault) (m : Machine)
+    (acts : List Act) (n : ℕ) (full : Bool)
+    → number ≤ 4096 → Told number rest acts (go m n) (go' m acts)
+    → Told number rest acts (behind_acts go rest m n full) (past_acts go' number m acts full)
+acts_told go go' number rest m acts n true h more = ends_told number rest m acts ends.Pause number h (counts_turns number ends.Pause tt)
+acts_told go go' number rest m acts n false h more = more
+
+crossing_told : (go : Machine → ℕ → TracedBurst) (go' : Machine → List Act → Burst) (number : ℕ) (rest : List Fault) (m : Machine)
+    (acts : List Act) (n : ℕ) (crossing : Option BurstEnd)
+    → number ≤ 4096 → n ≡ length acts → IsOwn crossing → Told number rest acts (go m n) (go' m acts)
+    → Told number rest acts (behind_crossing go rest m n crossing) (past_crossing go' number m acts crossing)
+crossing_told go go' number rest m acts n None h e own more =
+    rw (← e) (acts_told go go' number rest m acts n (nat_le 64 n) h more)
+crossing_told go go' number rest m acts n (Some ending) h e own more =
+    ends_told number rest m acts ending number h (counts_turns number ending own)
+
+behind_turn_told : (go : Machine → ℕ → TracedBurst) (go' : Machine → List Act → Burst) (place number : ℕ) (rest : List Fault) (m : Machine)
+    (acts : List Act) (n : ℕ) (t : Turn)
+    → number ≡ place + 1 → number ≤ 4096 → n ≡ length acts → IsOwn t.crossing
+    → Told number rest (acts ++ acts_of t.act) (go t.machine (n + length (acts_of t.act))) (go' t.machine (acts ++ acts_of t.act))
+    → Told place rest acts (behind_turn go rest number m n t) (past_turn go' number acts t)
+behind_turn_told go go' place number rest m acts n t e h k own more =
+    let all : n + length (acts_of t.act) ≡ length (acts ++ acts_of t.act) = rw (length-append acts (acts_of t.act), k) refl in
+    turn_told place number rest acts (acts_of t.act) (traced number m t)
+    (behind_crossing go rest t.machine (n + length (acts_of t.act)) t.crossing)
+    (past_crossing go' number t.machine (acts ++ acts_of t.act) t.crossing)
+    e refl refl
+    (crossing_told go go' number rest t.machine (acts ++ acts_of t.act) (n + length (acts_of t.act)) t.crossing h all own more)
+
+stop_told : (go : List Fault → Machine → TracedBurst) (go' : List Fault → Machine → Burst) (place : ℕ) (acts : List Act) (m : Machine)
+    (rest : List Fault) (stopped : Option TrapCause)
+    → place ≤ 4096 → Told place rest acts (go rest m) (go' rest m)
+    → Told place rest acts (behind_stop go m rest stopped) (past_stop go' place acts m rest stopped)
+stop_told go go' place acts m rest None h more = more
+stop_told go go' place acts m rest (Some cause) h more =
+    ends_told place rest m acts (ends.Trap cause) (count_at place cause) h (counts_stop place cause)
+
+-- ---- the whole
+
+from_told : (left : ℕ) (entries : List Entry) (faults : List Fault) (m : Machine) (acts : List Act) (n : ℕ)
+    → left ≤ 4096 → n ≡ length acts
+    → Told (4096 - left) faults acts (trace_from left entries faults m n) (burst_from left entries faults m acts)
+unfolding trace_from burst_from
+from_told zero entries faults m acts n h e = ends_told 4096 faults m acts (ends.Trap trap.Hang) 4096 (omega arith) refl
+from_told (suc left) entries faults m acts n h e =
+    let place : ℕ = 4096 - suc left in
+    let number : ℕ = 4096 - left in
+    let next : number ≡ place + 1 = omega arith in
+    let s : Struck = strikes_at place entries faults m in
+    let t : Turn = turn entries s.machine in
+    let all : n + length (acts_of t.act) ≡ length (acts ++ acts_of t.act) = rw (length-append acts (acts_of t.act), e) refl in
+    strikes_told place (struck_at place faults) s.rest faults acts _ _ (struck_and_rest place entries faults m)
+    (stop_told
+    (λ rest struck. behind_turn (λ m' acts'. trace_from left entries rest m' acts') rest number struck n (turn entries struck))
+    (λ rest struck. past_turn (λ m' acts'. burst_from left entries rest m' acts') number acts (turn entries struck))
+    place acts s.machine s.rest s.stopped (omega arith)
+    (behind_turn_told (λ m' acts'. trace_from left entries s.rest m' acts') (λ m' acts'. burst_from left entries s.rest m' acts')
+    place number s.rest s.machine acts n t next (omega arith) e (turn_own entries s.machine)
+    (from_told left entries s.rest t.machine (acts ++ acts_of t.act) (n + length (acts_of t.act)) (omega arith) all)))
+
+pub retold : (entries : List Entry) (faults : List Fault) (m : Machine) → Retells faults (burst_trace entries faults m) (burst entries faults m)
+unfolding burst_trace burst
+retold entries faults m =
+    let h : Told 0 faults [] (trace_from 4096 entries faults m 0) (burst_from 4096 entries faults m []) =
+    from_told 4096 entries faults m [] 0 (omega arith) refl in
+    let none : 0 + length (turns_of (trace_from 4096 entries faults m 0).steps) ≡ length (turns_of (trace_from 4096 entries faults m 0).steps) = omega arith in
+    record {
+      machine = h.machine;
+      ending = h.ending;
+      count = rw none at h.count;
+      few = rw none at h.few;
+      numbers = h.numbers;
+      acts = h.done;
+      each = h.each;
+    }

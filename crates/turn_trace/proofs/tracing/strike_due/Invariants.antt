@@ -1,0 +1,18 @@
+use Rattle.std.proofs.Common.{◌≡◌, ◌++◌, length}
+use Rattle.driver_isa.specs.Turns.{machine_of}
+use Rattle.nook_defs.specs.Burst.{strikes_at}
+use Rattle.turn_trace.proofs.Going.{strike_lines_at}
+use Rattle.turn_trace.proofs.tracing.strike_due.Given as goal
+
+abbrev pub invariant-loop-rest : goal.invariant-loop-rest
+invariant-loop-rest g l =
+    (strikes_at l.place (g.B.Bus.entries l.bus) l.rest (machine_of l.cpu (g.B.Bus.words l.bus) (g.B.Bus.device l.bus))
+    ≡ strikes_at l.place (g.B.Bus.entries l.initial.bus) l.initial.rest
+    (machine_of l.initial.cpu (g.B.Bus.words l.initial.bus) (g.B.Bus.device l.initial.bus)))
+    × (l.line ++ strike_lines_at l.place (g.B.Bus.entries l.initial.bus) l.rest
+    ≡ l.initial.line ++ strike_lines_at l.place (g.B.Bus.entries l.initial.bus) l.initial.rest)
+    × (g.B.Bus.entries l.bus ≡ g.B.Bus.entries l.initial.bus)
+    × (g.B.Bus.held l.bus ≡ g.B.Bus.held l.initial.bus)
+
+abbrev pub decreases-loop-rest : goal.decreases-loop-rest
+decreases-loop-rest g l = length l.rest

@@ -1,0 +1,4 @@
+pub mod Turns
+pub mod Bursts
+pub mod Lines
+pub mod Retelling

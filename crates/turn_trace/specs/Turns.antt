@@ -1,0 +1,91 @@
+use Rattle.std.specs.Prelude.{ℕ, ◌+◌, ◌%◌, ◌^◌, ◌==◌, if◌then◌else◌, Option, Some, None, List, slice_index}
+use Rattle.nook_defs.specs.declared.data.Act.{Act}
+use Rattle.nook_defs.specs.declared.machine.BurstEnd.{BurstEnd}
+use Rattle.nook_defs.specs.declared.machine.Cpu.{Cpu}
+use Rattle.nook_defs.specs.declared.machine.Instr.{Instr}
+use Rattle.nook_defs.specs.declared.machine.Instr.TheVariants as instr
+use Rattle.nook_defs.specs.Burst.{acts_of}
+use Rattle.nook_defs.specs.Machine.{decode_of}
+use Rattle.nook_defs.specs.Pages.{fetch_word}
+use Rattle.nook_defs.specs.Turn.{Machine, Turn}
+use Rattle.turn_trace.specs.declared.traced.TracedTurn.{TracedTurn}
+
+-- What one turn did: what was fetched, and what is seen of its effects.
+
+-- the instruction of a word that was fetched
+abbrev pub instr_in : Option ℕ → Option Instr
+instr_in None = None
+instr_in (Some word) = decode_of word
+
+-- the register that an instruction sets
+abbrev pub target_of : Instr → Option ℕ
+target_of (instr.Li a imm) = Some a
+target_of (instr.Lui a imm) = Some a
+target_of (instr.Mov a b) = Some a
+target_of (instr.Add a b) = Some a
+target_of (instr.Sub a b) = Some a
+target_of (instr.And a b) = Some a
+target_of (instr.Or a b) = Some a
+target_of (instr.Xor a b) = Some a
+target_of (instr.Shl a b) = Some a
+target_of (instr.Shr a b) = Some a
+target_of (instr.Addi a b imm) = Some a
+target_of (instr.Ld a b imm) = Some a
+target_of (instr.St a b imm) = None
+target_of (instr.Jmp imm) = None
+target_of (instr.Beq a b imm) = None
+target_of (instr.Bne a b imm) = None
+target_of (instr.Blt a b imm) = None
+target_of (instr.Jal a imm) = Some a
+target_of (instr.Jr a) = None
+target_of (instr.In a imm) = Some a
+target_of (instr.Out a imm) = None
+target_of (instr.Kcall imm) = None
+target_of (instr.Ret a) = None
+target_of instr.Fault = None
+
+-- a register with its word
+abbrev pub with_word : Cpu → Option ℕ → Option (ℕ × ℕ)
+with_word cpu None = None
+with_word cpu (Some a) = Some (a, slice_index cpu.registers a)
+
+-- the register that an instruction sets, and its word behind the turn
+abbrev pub set_by : Cpu → Option Instr → Option (ℕ × ℕ)
+set_by after None = None
+set_by after (Some i) = with_word after (target_of i)
+
+-- the address that an instruction stores to, and the word, by the registers before the turn
+abbrev pub store_of : Cpu → Instr → Option (ℕ × ℕ)
+store_of before (instr.St a b imm) = Some ((slice_index before.registers b + imm) % 2 ^ 32, slice_index before.registers a)
+store_of before _ = None
+
+abbrev pub stored_by : Cpu → Option Instr → Option (ℕ × ℕ)
+stored_by before None = None
+stored_by before (Some i) = store_of before i
+
+-- the counter behind the turn, where that is not the next one
+abbrev pub jumped_to : ℕ → ℕ → Option ℕ
+jumped_to before after = if after == before + 1 then None else Some after
+
+-- a turn that is a crossing, by a trap, a kernel call or a reply, shows no effect
+abbrev pub unless_crossed : {T : Type 0} → Option BurstEnd → Option T → Option T
+unless_crossed None effect = effect
+unless_crossed (Some crossing) effect = None
+
+-- what is told of a turn: its number, the word that it fetched, the processor before and behind it, its act, and whether
+-- it was a crossing
+abbrev pub traced_of : ℕ → Option ℕ → Cpu → Cpu → List Act → Option BurstEnd → TracedTurn
+traced_of number word before after acts crossing = record {
+  number = number;
+  counter = before.counter;
+  word = word;
+  set = unless_crossed crossing (set_by after (instr_in word));
+  stored = unless_crossed crossing (stored_by before (instr_in word));
+  jumped = unless_crossed crossing (jumped_to before.counter after.counter);
+  acts = acts;
+}
+
+-- what is told of the turn of a machine
+abbrev pub traced : ℕ → Machine → Turn → TracedTurn
+traced number m t =
+    traced_of number (fetch_word m.memory m.cpu.counter) m.cpu t.machine.cpu (acts_of t.act) t.crossing

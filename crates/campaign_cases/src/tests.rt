@@ -52,14 +52,17 @@ fn written<R: Threads + Sync>(
     Ok((ended, String::from_str(alloc, text)?))
 }
 
-/// The sizes of the tables: one row, one more, a batch and its neighbours, and the most. Beside each size stands the
-/// last line.
-const SIZES: [(usize, &str); 6] = [
+/// The sizes of the tables: one row, one more, a quarter of a batch and a batch, each with its neighbours, and the most.
+/// Beside each size stands the last line.
+const SIZES: [(usize, &str); 9] = [
     (1, "campaign 1 kept 0 given_up 1 broken 0\n"),
     (2, "campaign 2 kept 0 given_up 2 broken 0\n"),
     (255, "campaign 255 kept 85 given_up 170 broken 0\n"),
     (256, "campaign 256 kept 85 given_up 171 broken 0\n"),
     (257, "campaign 257 kept 85 given_up 172 broken 0\n"),
+    (1023, "campaign 1023 kept 341 given_up 682 broken 0\n"),
+    (1024, "campaign 1024 kept 341 given_up 683 broken 0\n"),
+    (1025, "campaign 1025 kept 341 given_up 684 broken 0\n"),
     (4096, "campaign 4096 kept 1365 given_up 2731 broken 0\n"),
 ];
 
@@ -92,14 +95,14 @@ fn each_row_is_written(rt: HostRuntime) -> Result<(), Fail> {
     Ok(())
 }
 
-/// A table of 600 rows is written in four pieces: two batches of 256 rows, the other 88, and the last line. Where a piece
-/// is refused, those before it were written whole.
+/// A table of 2,400 rows is written in four pieces: two batches of 1,024 rows, the other 352, and the last line. Where a
+/// piece is refused, those before it were written whole.
 #[test]
 fn a_sink_that_fails_has_whole_batches(rt: HostRuntime) -> Result<(), Fail> {
     let alloc = rt.alloc();
-    for (failing, count) in [(1, 0), (2, 256), (3, 512), (4, 600)] {
+    for (failing, count) in [(1, 0), (2, 1024), (3, 2048), (4, 2400)] {
         for nothing in [false, true] {
-            let (ended, text) = written(&rt, alloc, 600, failing, nothing)?;
+            let (ended, text) = written(&rt, alloc, 2400, failing, nothing)?;
             let want = rows_text(alloc, count)?;
             assert_eq!(rt; ended, Err(WriteStop::Fault));
             assert!(rt; text.as_str() == want.as_str(), "at write {failing}");

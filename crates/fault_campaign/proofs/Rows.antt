@@ -18,8 +18,8 @@ use Rattle.report_text.specs.declared.report.Run.{Run}
 use Rattle.report_text.specs.declared.whole_report.PartEnd.{PartEnd}
 use Rattle.report_text.specs.declared.whole_report.Report.{Report}
 use Rattle.request_taps.specs.declared.tap.Tap.{Tap}
-use Rattle.sim_run.specs.Reached.{AreRuns}
-use Rattle.sim_run.specs.Whole.{IsSimulated, events_in}
+use Rattle.run_ends.specs.Journals.{AreRuns, events_in}
+use Rattle.sim_run.specs.Whole.{IsSimulated}
 
 same_failures : (specs : List PartSpec) (journals : List (Kept Event)) (ends : List PartEnd) → HaveEnds specs journals ends
     → failures_in (summaries specs journals ends) ≡ failures_count specs (map events_in journals)

@@ -6,8 +6,7 @@ ghost use Rattle.nook_defs.specs.Campaigns.{gone_count, gone_in, is_gone_answer,
 ghost use Rattle.nook_defs.specs.ReportText.{events_count};
 ghost use Rattle.nook_defs.specs.declared.data.Scenario.{Scenario};
 ghost use Rattle.report_text.specs.Whole.{IsReport};
-ghost use Rattle.sim_run.specs.Reached.{AreRuns};
-ghost use Rattle.sim_run.specs.Whole.{events_in};
+ghost use Rattle.run_ends.specs.Journals.{AreRuns, events_in};
 
 use nook_defs::data::{Answer, MemberRow, PartAnswers};
 use nook_defs::journal::Journal;

@@ -16,10 +16,11 @@ use report_text::write::WriteStop;
 use std::alloc::Global;
 use std::thread::Threads;
 
-/// The members of a batch: their rows are kept until all of them have ended.
-const BATCH: usize = 256;
+/// The members of a batch: their rows are kept until all of them have ended. A batch starts its threads anew, so that
+/// many small ones would cost more than they do.
+const BATCH: usize = 1024;
 
-/// Runs a campaign and writes its table. The rows of a batch of 256 members are written as soon as these have ended, and
+/// Runs a campaign and writes its table. The rows of a batch of 1,024 members are written as soon as these have ended, and
 /// no longer kept. After a fault of the sink or `NoMemory` the sink has gained a front of the table's text.
 pub fn write_campaign<R: Threads + Sync, K: Sink>(
     rt: &R,

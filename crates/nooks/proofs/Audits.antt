@@ -15,7 +15,7 @@ use Rattle.nook_defs.specs.declared.data.Scenario.{Scenario}
 use Rattle.nook_defs.specs.declared.data.ThreadSpec.{ThreadSpec}
 use Rattle.nook_defs.specs.declared.input.InputFault.TheVariants as fault
 use Rattle.nook_defs.specs.declared.input.Refusal.{Refusal}
-use Rattle.sim_run.specs.Reached.{AreRuns}
+use Rattle.run_ends.specs.Journals.{AreRuns}
 use Rattle.nooks.proofs.Safety.{all_safe}
 use Rattle.nooks.proofs.Written.{writes_more}
 use Rattle.nooks.specs.Answers.{AnswersInput, IsSound, IsVerdict, Says, verdict_status}

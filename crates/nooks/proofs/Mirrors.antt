@@ -17,8 +17,7 @@ use Rattle.report_text.specs.declared.report.Run.{Run}
 use Rattle.report_text.specs.declared.whole_report.Report.{Report}
 use Rattle.request_taps.proofs.Totals.{all_totals}
 use Rattle.request_taps.specs.Bus.{result_of, settled, told_all}
-use Rattle.sim_run.specs.Reached.{AreRuns}
-use Rattle.sim_run.specs.Whole.{events_in}
+use Rattle.run_ends.specs.Journals.{AreRuns, events_in}
 use Rattle.threaded_run.specs.Threaded.{in_parts}
 use Rattle.nooks.proofs.Reports.{told_writes}
 use Rattle.nooks.proofs.Safety.{all_safe}

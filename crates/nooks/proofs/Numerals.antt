@@ -1,4 +1,4 @@
--- The number of a generated scenario and its text.
+-- A number among the words, and its text.
 use Rattle.std.proofs.Common.{◌≡◌, ℕ, ◌^◌, ◌<◌, ◌≤◌, ◌==◌, ◌&&◌, nat_le, not, if◌then◌else◌, Bool, true, false, Option, Some, None, Result, Ok, Err, List, [], ◌∷◌, IfNone, IfSome, get_or, refl, sym, ap, ◌∙◌, arith, true≢false, decimal}
 use Rattle.std.proofs.lemmas.Bool.{and_parts, le-leb, leb-true}
 use Rattle.std.proofs.lemmas.Fmt.{decimal-digits_value, first_decimal, parse-decimal}
@@ -18,10 +18,10 @@ not_equal a b h = by_test (a == b) h
 
 spelled : (b : ℕ) (bs : List ℕ) (n : ℕ) → (b == 48) ≡ false → IsNumeral 10 (b ∷ bs) → digits_value 10 (b ∷ bs) < 2 ^ 32 → n ≡ digits_value 10 (b ∷ bs)
     → (b ∷ bs) ≡ decimal n
-spelled b bs n zero numeral small e =
+spelled b bs n nonzero numeral small e =
     let few : digits_value 10 (b ∷ bs) < 2 ^ 64 = omega (arith, small) in
     let text : decimal (digits_value 10 (b ∷ bs)) ≡ b ∷ bs =
-    decimal-digits_value (numerals_by_value _ tells_digits) (b ∷ bs) numeral.1 numeral.0 (λ z. absurd (grind (arith, z, zero))) few in
+    decimal-digits_value (numerals_by_value _ tells_digits) (b ∷ bs) numeral.1 numeral.0 (λ z. absurd (grind (arith, z, nonzero))) few in
     sym (ap decimal e ∙ text)
 
 plain_is_decimal : (E : Type 0) (bs : List ℕ) (n : ℕ) → ParsesUnsigned {E = E} 32 10 bs (Ok n) → is_plain bs ≡ true → bs ≡ decimal n
@@ -46,43 +46,43 @@ head_is_plain (b ∷ ds) h =
     let second : not (b == 48) ≡ true = different b 48 low in
     ap (λ x. x && not (b == 48)) first ∙ second
 
-decimal_is_plain : (n : ℕ) → 1 ≤ n → n ≤ 256 → is_plain (decimal n) ≡ true
+decimal_is_plain : (n : ℕ) → 1 ≤ n → n < 2 ^ 32 → is_plain (decimal n) ≡ true
 decimal_is_plain n low high = head_is_plain (decimal n) (first_decimal n (omega (arith, low)) (omega (arith, high)))
 
-is_within : (n : ℕ) → 1 ≤ n → n ≤ 256 → within n true ≡ Some n
-is_within n low high =
+is_within : (most n : ℕ) → 1 ≤ n → n ≤ most → within most n true ≡ Some n
+is_within most n low high =
     let first : nat_le 1 n ≡ true = le-leb 1 n low in
-    let second : nat_le n 256 ≡ true = le-leb n 256 high in
+    let second : nat_le n most ≡ true = le-leb n most high in
     rw (first, second) refl
 
 -- what the function gives
 
-found_by : (bs : List ℕ) (n : ℕ) (low high plain : Bool) → low ≡ nat_le 1 n → high ≡ nat_le n 256 → (plain ≡ true → bs ≡ decimal n)
-    → IfSome (if low && high && plain then Some n else None) (λ m. (bs ≡ decimal m) × (1 ≤ m) × (m ≤ 256))
-found_by bs n true true true a b p = (p refl, leb-true 1 n (sym a), leb-true n 256 (sym b))
-found_by bs n true true false a b p = tt
-found_by bs n true false plain a b p = tt
-found_by bs n false high plain a b p = tt
+found_by : (bs : List ℕ) (most n : ℕ) (low high plain : Bool) → low ≡ nat_le 1 n → high ≡ nat_le n most → (plain ≡ true → bs ≡ decimal n)
+    → IfSome (if low && high && plain then Some n else None) (λ m. (bs ≡ decimal m) × (1 ≤ m) × (m ≤ most))
+found_by bs most n true true true a b p = (p refl, leb-true 1 n (sym a), leb-true n most (sym b))
+found_by bs most n true true false a b p = tt
+found_by bs most n true false plain a b p = tt
+found_by bs most n false high plain a b p = tt
 
-pub number_found : (E : Type 0) (bs : List ℕ) (r : Result ℕ E) (n : ℕ) (x : Option ℕ) → ParsesUnsigned 32 10 bs r → r ≡ Ok n → x ≡ within n (is_plain bs)
-    → IfSome x (λ m. (bs ≡ decimal m) × (1 ≤ m) × (m ≤ 256))
-number_found E bs r n x h e w =
+pub number_found : (E : Type 0) (most : ℕ) (bs : List ℕ) (r : Result ℕ E) (n : ℕ) (x : Option ℕ) → ParsesUnsigned 32 10 bs r → r ≡ Ok n → x ≡ within most n (is_plain bs)
+    → IfSome x (λ m. (bs ≡ decimal m) × (1 ≤ m) × (m ≤ most))
+number_found E most bs r n x h e w =
     let read : ParsesUnsigned {E = E} 32 10 bs (Ok n) = rw e at h in
-    rw w (found_by bs n (nat_le 1 n) (nat_le n 256) (is_plain bs) refl refl (λ p. plain_is_decimal E bs n read p))
+    rw w (found_by bs most n (nat_le 1 n) (nat_le n most) (is_plain bs) refl refl (λ p. plain_is_decimal E bs n read p))
 
-pub number_none : (E : Type 0) (bs : List ℕ) (r : Result ℕ E) (m : ℕ) (x : Option ℕ) → ParsesUnsigned 32 10 bs r → r ≡ Ok m → x ≡ within m (is_plain bs)
-    → IfNone x ((n : ℕ) → bs ≡ decimal n → 1 ≤ n → n ≤ 256 → ⊥)
-number_none E bs r m (Some y) h e w = tt
-number_none E bs r m None h e w = λ n text low high.
-    let parsed : r ≡ Ok n = parse-decimal 32 n bs r (omega (arith, high)) (omega (arith, high)) text h in
+pub number_none : (E : Type 0) (most : ℕ) (bs : List ℕ) (r : Result ℕ E) (m : ℕ) (x : Option ℕ) → most < 2 ^ 32 → ParsesUnsigned 32 10 bs r → r ≡ Ok m → x ≡ within most m (is_plain bs)
+    → IfNone x ((n : ℕ) → bs ≡ decimal n → 1 ≤ n → n ≤ most → ⊥)
+number_none E most bs r m (Some y) small h e w = tt
+number_none E most bs r m None small h e w = λ n text low high.
+    let parsed : r ≡ Ok n = parse-decimal 32 n bs r (omega (arith, high, small)) (omega (arith, high, small)) text h in
     let same : m ≡ n = cc in
-    let plain : is_plain bs ≡ true = ap is_plain text ∙ decimal_is_plain n low high in
-    let some : within m (is_plain bs) ≡ Some n = rw (same, plain) (is_within n low high) in
+    let plain : is_plain bs ≡ true = ap is_plain text ∙ decimal_is_plain n low (omega (arith, high, small)) in
+    let some : within most m (is_plain bs) ≡ Some n = rw (same, plain) (is_within most n low high) in
     let none : None ≡ Some n = w ∙ some in
     absurd (cc)
 
-pub number_failed : (E : Type 0) (bs : List ℕ) (r : Result ℕ E) (x : E) → ParsesUnsigned 32 10 bs r → r ≡ Err x
-    → (n : ℕ) → bs ≡ decimal n → 1 ≤ n → n ≤ 256 → ⊥
-number_failed E bs r x h e n text low high =
-    let parsed : r ≡ Ok n = parse-decimal 32 n bs r (omega (arith, high)) (omega (arith, high)) text h in
+pub number_failed : (E : Type 0) (most : ℕ) (bs : List ℕ) (r : Result ℕ E) (x : E) → most < 2 ^ 32 → ParsesUnsigned 32 10 bs r → r ≡ Err x
+    → (n : ℕ) → bs ≡ decimal n → 1 ≤ n → n ≤ most → ⊥
+number_failed E most bs r x small h e n text low high =
+    let parsed : r ≡ Ok n = parse-decimal 32 n bs r (omega (arith, high, small)) (omega (arith, high, small)) text h in
     absurd (cc)

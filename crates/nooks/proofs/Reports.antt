@@ -32,9 +32,9 @@ use Rattle.nooks.specs.Endings.{IsBegun, IsWritten, Writes}
 use Rattle.nooks.specs.Making.{IsMade, TellsStatus, failures_in, left_of}
 use Rattle.nooks.specs.Streams.{Change, Gains, GainsFront}
 use Rattle.sim_run.proofs.Reaching.{few_events}
-use Rattle.sim_run.specs.declared.simulating.Simulated.{Simulated}
-use Rattle.sim_run.specs.Reached.{AreRuns}
-use Rattle.sim_run.specs.Whole.{IsSimulated, events_in}
+use Rattle.run_ends.specs.declared.whole_run.WholeRun.{WholeRun}
+use Rattle.run_ends.specs.Journals.{AreRuns, events_in}
+use Rattle.sim_run.specs.Whole.{IsSimulated}
 
 -- ---- the status
 
@@ -254,7 +254,7 @@ made_at asked scenario hearing run report valid is answered runs e whole = recor
 }
 
 -- the report of a run that was simulated
-pub made_of : (scenario : Scenario) (hearing : List Listening) (x : Simulated) (r : Result Report NoMemory) (old new : List (Tap Listening))
+pub made_of : (scenario : Scenario) (hearing : List Listening) (x : WholeRun) (r : Result Report NoMemory) (old new : List (Tap Listening))
     → old ≡ map settled hearing → IsValidScenario scenario
     → IsSimulated scenario x.run.journals x.run.answers x.run.taps old new → AreRuns scenario.parts (map events_in x.run.journals)
     → IfOk r (λ report. report.run ≡ x.run) → IfOk r (λ report. IsReport scenario report) → IfOk r (IsMade form.Run scenario hearing)
@@ -275,7 +275,7 @@ by_threads_of scenario hearing run old new begun is heard totals = record {
       ∙ all_totals hearing (in_parts 0 (map events_in run.journals))));
 }
 
-pub threads_made_of : (scenario : Scenario) (hearing : List Listening) (x : Simulated) (r : Result Report NoMemory) (old new : List (Tap Listening))
+pub threads_made_of : (scenario : Scenario) (hearing : List Listening) (x : WholeRun) (r : Result Report NoMemory) (old new : List (Tap Listening))
     → old ≡ map settled hearing → IsValidScenario scenario → AreRuns scenario.parts (map events_in x.run.journals)
     → IsThreaded scenario (map events_in x.run.journals) x.run.answers → AreAnswered scenario x.run.answers
     → new ≡ told_all (in_parts 0 (map events_in x.run.journals)) old → x.run.taps ≡ map result_of new

@@ -49,7 +49,9 @@ any_input form.Dis a b hearing text status e answer = absurd (true≢false e)
 any_input form.Audit a b hearing text status e answer = absurd (true≢false e)
 any_input form.Campaign a b hearing text status e answer = absurd (true≢false e)
 any_input form.Mirror a b hearing text status e answer = absurd (true≢false e)
+any_input form.List a b hearing text status e answer = absurd (true≢false e)
 any_input (form.Gen number) a b hearing text status e answer = answer
+any_input (form.GenScenario number) a b hearing text status e answer = answer
 any_input form.Help a b hearing text status e answer = answer
 any_input form.Version a b hearing text status e answer = answer
 

@@ -8,7 +8,7 @@ use Rattle.nook_defs.specs.declared.data.Scenario.{Scenario}
 use Rattle.nook_defs.specs.Valid.{IsValidPart, IsValidScenario}
 use Rattle.part_laws.proofs.Safe.{run_safe}
 use Rattle.part_laws.specs.Headline.{AreSafe}
-use Rattle.sim_run.specs.Reached.{AreRuns}
+use Rattle.run_ends.specs.Journals.{AreRuns}
 
 safe_each : (specs : List PartSpec) (journals : List (List Event)) → AllByRecursion IsValidPart specs → AreRuns specs journals → AreSafe specs journals
 unfolding AreSafe

@@ -91,7 +91,9 @@ answers_input form.Dis input hearing text status reads answer = answer
 answers_input form.Audit input hearing text status reads answer = answer
 answers_input form.Campaign input hearing text status reads answer = answer
 answers_input form.Mirror input hearing text status reads answer = answer
+answers_input form.List input hearing text status reads answer = answer
 answers_input (form.Gen number) input hearing text status reads answer = absurd (true≢false (sym reads))
+answers_input (form.GenScenario number) input hearing text status reads answer = absurd (true≢false (sym reads))
 answers_input form.Help input hearing text status reads answer = absurd (true≢false (sym reads))
 answers_input form.Version input hearing text status reads answer = absurd (true≢false (sym reads))
 

@@ -14,6 +14,7 @@ use Rattle.nook_defs.specs.ReportText.{report_text, status_of, summary_line}
 use Rattle.nook_defs.specs.ScenarioReading.{scenario_from}
 use Rattle.nook_defs.specs.Simulation.{IsScheduledRun, Simulation, answer_table, begins, journals_of}
 use Rattle.nook_defs.specs.Taps.{tap_result}
+use Rattle.nook_defs.specs.declared.assembler.AsmFault.{AsmFault}
 use Rattle.nook_defs.specs.declared.data.Answer.{Answer}
 use Rattle.nook_defs.specs.declared.data.Campaign.{Campaign}
 use Rattle.nook_defs.specs.declared.data.Event.{Event}
@@ -28,6 +29,8 @@ use Rattle.report_text.specs.Mirrored.{mirror_report_text}
 use Rattle.sim_run.specs.Published.{published}
 use Rattle.threaded_run.specs.Threaded.{AreAnswered, IsThreaded, in_parts}
 use Rattle.part_laws.specs.Headline.{AreSafe}
+use Rattle.image_list.specs.ListText.{list_text}
+use Rattle.scenario_write.specs.ScenarioText.{scenario_line}
 use Rattle.audit_input.specs.Handed.{Hands, HandsNothing}
 use Rattle.audit_laws.specs.Audit.{audited}
 use Rattle.audit_laws.specs.Fitting.{AllFit, fitting_text}
@@ -130,6 +133,15 @@ pub record IsAsmOf (bytes text : List ℕ) : Type 0 where
   pub reading : image_from bytes ≡ Ok image
   pub text_is : text ≡ disassembled image
 
+-- the refusal of an assembler text is that of its fault
+abbrev pub or_bad_text : Result (List ℕ) AsmFault → Result (List ℕ) Refusal
+or_bad_text (Ok text) = Ok text
+or_bad_text (Err asm) = Err (at_root (fault.BadAsm asm))
+
+-- the listing of the assembler text that some bytes are, or its first fault
+abbrev pub listing_from : List ℕ → Result (List ℕ) Refusal
+listing_from bytes = or_bad_text (list_text bytes)
+
 -- the table of the campaign that some bytes are
 pub record IsTableOf (bytes text : List ℕ) : Type 0 where
   pub campaign : Campaign
@@ -205,6 +217,7 @@ Does form.Dis bytes hearing text status = IsAsmOf bytes text × (status ≡ ende
 Does form.Audit bytes hearing text status = IsAuditOf bytes text status
 Does form.Campaign bytes hearing text status = IsTableOf bytes text × (status ≡ ended.Done)
 Does form.Mirror bytes hearing text status = IsMirrorOf bytes hearing text status
+Does form.List bytes hearing text status = (listing_from bytes ≡ Ok text) × (status ≡ ended.Done)
 Does asked bytes hearing text status = ⊥
 
 -- ---- faults of an input
@@ -244,6 +257,7 @@ IsFaultOf form.Dis bytes text = IsRefused (image_from bytes) text
 IsFaultOf form.Audit bytes text = (HandsNothing bytes × (text ≡ bad_header_text)) ⊎ HandsFault bytes text
 IsFaultOf form.Campaign bytes text = IsRefused (campaign_from bytes) text
 IsFaultOf form.Mirror bytes text = IsRefused (scenario_from bytes) text ⊎ IsUnserved bytes text
+IsFaultOf form.List bytes text = IsRefused (listing_from bytes) text
 IsFaultOf asked bytes text = ⊥
 
 -- ---- the answer
@@ -257,6 +271,7 @@ AnswersInput asked (Whole bytes) hearing text status =
 -- what words of a form are answered with
 abbrev pub AnswersForm : Form → Input → List Listening → List ℕ → Status → Type 0
 AnswersForm (form.Gen number) input hearing text status = IsSummary number text status
+AnswersForm (form.GenScenario number) input hearing text status = Says (scenario_line (generated number)) ended.Done text status
 AnswersForm form.Help input hearing text status = Says help_text ended.Done text status
 AnswersForm form.Version input hearing text status = Says version_text ended.Done text status
 AnswersForm asked input hearing text status = AnswersInput asked input hearing text status

@@ -3,16 +3,18 @@ use Rattle.std.specs.Prelude.{◌≡◌, ℕ, ◌≤◌, ◌==◌, ◌&&◌, nat
 use Rattle.nooks.specs.declared.words.Form.{Form}
 use Rattle.nooks.specs.declared.words.Form.TheVariants as form
 
--- the words are of this form; the number of `gen` is in decimal, with no sign and no leading zero
+-- the words are of this form; numbers are in decimal, with no sign and no leading zero
 abbrev pub IsForm : List (List ℕ) → Form → Type 0
 IsForm words form.Run = words ≡ codes "run" ∷ []
 IsForm words form.RunThreads = words ≡ codes "run" ∷ codes "threads" ∷ []
 IsForm words form.Asm = words ≡ codes "asm" ∷ []
 IsForm words form.Dis = words ≡ codes "dis" ∷ []
 IsForm words (form.Gen n) = (words ≡ codes "gen" ∷ decimal n ∷ []) × (1 ≤ n) × (n ≤ 256)
+IsForm words (form.GenScenario n) = (words ≡ codes "gen" ∷ decimal n ∷ codes "scenario" ∷ []) × (1 ≤ n) × (n ≤ 256)
 IsForm words form.Audit = words ≡ codes "audit" ∷ []
 IsForm words form.Campaign = words ≡ codes "campaign" ∷ []
 IsForm words form.Mirror = words ≡ codes "mirror" ∷ []
+IsForm words form.List = words ≡ codes "list" ∷ []
 IsForm words form.Help = words ≡ codes "--help" ∷ []
 IsForm words form.Version = words ≡ codes "--version" ∷ []
 
@@ -32,9 +34,11 @@ is_reading form.RunThreads = true
 is_reading form.Asm = true
 is_reading form.Dis = true
 is_reading (form.Gen n) = false
+is_reading (form.GenScenario n) = false
 is_reading form.Audit = true
 is_reading form.Campaign = true
 is_reading form.Mirror = true
+is_reading form.List = true
 is_reading form.Help = false
 is_reading form.Version = false
 
@@ -52,6 +56,6 @@ abbrev pub is_plain : List ℕ → Bool
 is_plain [] = false
 is_plain (byte ∷ rest) = not (byte == 43) && not (byte == 48)
 
--- a number from 1 to 256 whose text is plain
-abbrev pub within : ℕ → Bool → Option ℕ
-within number plain = if nat_le 1 number && nat_le number 256 && plain then Some number else None
+-- a number from 1 to a greatest one, whose text is plain
+abbrev pub within : ℕ → ℕ → Bool → Option ℕ
+within most number plain = if nat_le 1 number && nat_le number most && plain then Some number else None

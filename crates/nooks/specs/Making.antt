@@ -11,7 +11,7 @@ use Rattle.report_text.specs.Whole.{IsReport}
 use Rattle.report_text.specs.declared.report.Run.{Run}
 use Rattle.report_text.specs.declared.whole_report.PartReport.{PartReport}
 use Rattle.report_text.specs.declared.whole_report.Report.{Report}
-use Rattle.sim_run.specs.Whole.{events_in}
+use Rattle.run_ends.specs.Journals.{events_in}
 use Rattle.threaded_run.specs.Threaded.{in_parts}
 use Rattle.nooks.specs.Answers.{IsRunOf, IsWhole, Left}
 use Rattle.nooks.specs.declared.program.Status.{Status}

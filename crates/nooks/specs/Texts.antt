@@ -22,7 +22,9 @@ help_text =
     ++ (line (codes "nooks run threads     the same, each thread of the scenario as a thread of its own")
     ++ (line (codes "nooks asm             read a driver as assembler text, write its image as JSON")
     ++ (line (codes "nooks dis             read an image as JSON, write assembler text")
+    ++ (line (codes "nooks list            read a driver as assembler text, write its words with their addresses and source lines")
     ++ (line (codes "nooks gen N           simulate generated scenario N (1 to 256), write the line that sums it up")
+    ++ (line (codes "nooks gen N scenario  write generated scenario N as JSON")
     ++ (line (codes "nooks audit           read a scenario and a printed report, check the report line by line")
     ++ (line (codes "nooks campaign        read a scenario and a list of faults, simulate it once for each, write the table")
     ++ (line (codes "nooks mirror          read a scenario of two disks, keep one disk on both, write the report")
@@ -36,7 +38,7 @@ help_text =
     ++ (line (codes "status 5              writing failed; a front of the output was written")
     ++ (line (codes "status 6              memory was wanting; a front of the output was written, or nothing")
     ++ (line (codes "status 7              a driver broke its class's contract")
-    ++ line (codes "status 8              a line of the report does not fit the scenario"))))))))))))))))))
+    ++ line (codes "status 8              a line of the report does not fit the scenario"))))))))))))))))))))
 
 -- what is said of the input of `audit` that does not begin with a length, or has fewer bytes
 abbrev pub bad_header_text : List ℕ
@@ -53,4 +55,4 @@ verdict_text (Some number) = line (codes "audit no line " ++ decimal number)
 
 -- what `--version` writes: the program's name and version, and the kit that it is proved with
 abbrev pub version_text : List ℕ
-version_text = line (codes "nooks 0.9.0, proved with rattle-kit-13f logic dac8208d650f15bf")
+version_text = line (codes "nooks 0.10.0, proved with rattle-kit-13f logic dac8208d650f15bf")

@@ -19,6 +19,7 @@ ghost use Rattle.scenario_read.specs.Gives.{Gives};
 
 use crate::auditing::run_audit;
 use crate::heard::{Heard, all_heard};
+use crate::listing::run_list;
 use crate::mirroring::serve_bytes;
 use crate::program::{AUDIT_LIMIT, LIMIT, Status, finish};
 use crate::simulated::{run_threads_and_report, simulate_and_report};
@@ -102,7 +103,8 @@ where
         Form::Audit => run_audit(alloc, bytes, sink),
         Form::Campaign => run_campaign(rt, alloc, bytes, sink),
         Form::Mirror => serve_bytes(rt, alloc, bytes, sink, listeners),
-        Form::Gen { .. } | Form::Help | Form::Version => unreachable!(),
+        Form::List => run_list(alloc, bytes, sink),
+        Form::Gen { .. } | Form::GenScenario { .. } | Form::Help | Form::Version => unreachable!(),
     }
 }
 

@@ -54,6 +54,17 @@ const PLAIN_TEXT: &str = "\
 FAULT
 ";
 
+/// The listing of the text.
+const LISTING: &str = "\
+0 18000000 7 FAULT
+label stop 0
+entry init 0
+entry read 0
+entry write 0
+entry get 0
+entry set 0
+";
+
 /// The faults of a campaign over the first example: one that strikes at the write's first turn, and one that lies behind
 /// its last.
 const FAULTS: &str =
@@ -111,6 +122,7 @@ fn readings(alloc: Global) -> Result<Vec<Reading>, Fail> {
     made.push(reading_of(alloc, &["campaign"], campaign.as_str(), TABLE)?)?;
     made.push(reading_of(alloc, &["audit"], audit.as_str(), "audit yes\n")?)?;
     made.push(reading_of(alloc, &["mirror"], disks.as_str(), kept.as_str())?)?;
+    made.push(reading_of(alloc, &["list"], TEXT, LISTING)?)?;
     Ok(made)
 }
 

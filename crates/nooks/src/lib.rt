@@ -8,7 +8,9 @@ mod answering;
 mod auditing;
 #[cfg(test)]
 mod failing_tests;
+mod generating;
 mod heard;
+mod listing;
 mod mirroring;
 mod program;
 #[cfg(test)]

@@ -8,6 +8,7 @@ ghost use Rattle.nooks.specs.Forms.{AskUnread, is_reading};
 ghost use Rattle.nooks.specs.Streams.{GainsNothing, change};
 
 use crate::answering::read_and_answer;
+use crate::generating::give_generated;
 use crate::heard::Heard;
 use crate::simulated::run_generated;
 use crate::texts::{HELP, USAGE, VERSION};
@@ -140,7 +141,8 @@ fn run_form<R: Threads + Wait + Sync, S: Source, K: Sink, G: Gate, T: Drop>(
 ) -> Status
 where
     Heard<T>: Listener,
-    requires { (number : ℕ) → asked ≡ Form.Gen number → number ≤ 256 }
+    requires number { (number : ℕ) → asked ≡ Form.Gen number → number ≤ 256 }
+    requires scenario { (number : ℕ) → asked ≡ Form.GenScenario number → number ≤ 256 }
     ensures ends { Ends (Some asked)
         (map (λ v. ⟦<Heard<T> as Listener>⟧.listening (record { value = v })) listeners.items)
         (change S.left S.count source.old source.new) (change K.held K.count sink.old sink.new) result }
@@ -151,6 +153,7 @@ where
 {
     match asked {
         Form::Gen { number } => run_generated(alloc, number, sink),
+        Form::GenScenario { number } => give_generated(alloc, number, sink),
         Form::Help => finish(sink, HELP, Status::Done),
         Form::Version => finish(sink, VERSION, Status::Done),
         Form::Run
@@ -159,7 +162,8 @@ where
         | Form::Dis
         | Form::Audit
         | Form::Campaign
-        | Form::Mirror => read_and_answer(rt, alloc, asked, source, sink, listeners, gate),
+        | Form::Mirror
+        | Form::List => read_and_answer(rt, alloc, asked, source, sink, listeners, gate),
     }
 }
 

@@ -10,7 +10,7 @@ ghost use Rattle.nooks.specs.Endings.{Writes};
 ghost use Rattle.nooks.specs.Making.{IsMade, TellsStatus, failures_in};
 ghost use Rattle.nooks.specs.Streams.{change};
 ghost use Rattle.request_taps.specs.Bus.{seen, settled};
-ghost use Rattle.sim_run.specs.Whole.{events_in};
+ghost use Rattle.run_ends.specs.Journals.{events_in};
 
 use crate::program::Status;
 use crate::words::Form;

@@ -47,8 +47,11 @@ fn outcome_of<R: Threads + Wait + Sync>(
 /// Other words give the usage line and leave the source alone: its first read would fail.
 #[test]
 fn other_words_are_usage(rt: HostRuntime) -> Result<(), Fail> {
-    let cases: [&[&str]; 9] = [
+    let cases: [&[&str]; 12] = [
         &["walk"],
+        &["list", "me"],
+        &["gen", "257", "scenario"],
+        &["gen", "1", "report"],
         &["gen", "257"],
         &["gen", "+1"],
         &[],
@@ -165,11 +168,36 @@ const LABELLED: &str = "\
 .class block\n.entry init a\n.entry read b\n.entry write b\n.entry get b\n.entry set b\n\
 a: LI r1 0\nKCALL 3\nLI r1 0\nRET r1\nb: LI r5 1\nST r5 r3 0\nRET r0\n";
 
-/// Texts are assembled and images taken apart, or told by the line of their first fault; a generated scenario is
-/// summed up.
+/// Its listing.
+const LISTING: &str = "\
+0 01100000 7 LI r1 0
+1 16000003 8 KCALL 3
+2 01100000 9 LI r1 0
+3 17100000 10 RET r1
+4 01500001 11 LI r5 1
+5 0d530000 12 ST r5 r3 0
+6 17000000 13 RET r0
+label a 0
+label b 4
+entry init 0
+entry read 4
+entry write 4
+entry get 4
+entry set 4
+";
+
+/// Texts are assembled and listed and images taken apart, or told by the line of their first fault; a generated scenario
+/// is summed up.
 #[test]
 fn other_forms_write_their_texts(rt: HostRuntime) -> Result<(), Fail> {
-    let cases: [(&[&str], &str, Status, &str); 8] = [
+    let cases: [(&[&str], &str, Status, &str); 10] = [
+        (&["list"], LABELLED, Status::Done, LISTING),
+        (
+            &["list"],
+            ".class block\na: LI r1 0\nFOO r1\n",
+            Status::BadInput,
+            "fault 8 bad_asm 2 line 3 /\n",
+        ),
         (&["asm"], LABELLED, Status::Done, IMAGE),
         (&["asm"], TEXT, Status::Done, IMAGE),
         (&["dis"], IMAGE, Status::Done, TEXT),
@@ -266,3 +294,27 @@ const TABLE: &str = "\
 2 status 0 events 11 failures 0 gone 0 lost 0
 campaign 2 kept 1 given_up 1 broken 0
 ";
+
+/// A generated scenario is read as it was written.
+#[test]
+fn generated_scenarios_are_read(rt: HostRuntime) -> Result<(), Fail> {
+    let alloc = rt.alloc();
+    let nothing = Case {
+        input: &[],
+        per_read: 1,
+        bad_reads: &[1],
+        bad_writes: &[],
+    };
+    let (status, scenario) = outcome_of(&rt, alloc, &["gen", "12", "scenario"], nothing)?;
+    assert_eq!(rt; status, Status::Done);
+    let case = Case {
+        input: scenario.as_str().as_bytes(),
+        per_read: 4096,
+        bad_reads: &[],
+        bad_writes: &[],
+    };
+    let (status, report) = outcome_of(&rt, alloc, &["run"], case)?;
+    assert_eq!(rt; status, Status::Done);
+    assert!(rt; report.as_str().ends_with("\nstatus 0\n"));
+    Ok(())
+}

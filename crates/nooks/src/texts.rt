@@ -10,7 +10,9 @@ nooks run             read a scenario, simulate it, write the report\n\
 nooks run threads     the same, each thread of the scenario as a thread of its own\n\
 nooks asm             read a driver as assembler text, write its image as JSON\n\
 nooks dis             read an image as JSON, write assembler text\n\
+nooks list            read a driver as assembler text, write its words with their addresses and source lines\n\
 nooks gen N           simulate generated scenario N (1 to 256), write the line that sums it up\n\
+nooks gen N scenario  write generated scenario N as JSON\n\
 nooks audit           read a scenario and a printed report, check the report line by line\n\
 nooks campaign        read a scenario and a list of faults, simulate it once for each, write the table\n\
 nooks mirror          read a scenario of two disks, keep one disk on both, write the report\n\
@@ -36,4 +38,4 @@ pub const NOT_MIRROR: &[u8] = b"fault 13 not_mirror /\n";
 pub const AUDIT_YES: &[u8] = b"audit yes\n";
 
 /// What `--version` writes: the program's name and version, and the kit that it is proved with.
-pub const VERSION: &[u8] = b"nooks 0.9.0, proved with rattle-kit-13f logic dac8208d650f15bf\n";
+pub const VERSION: &[u8] = b"nooks 0.10.0, proved with rattle-kit-13f logic dac8208d650f15bf\n";

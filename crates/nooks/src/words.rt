@@ -16,12 +16,16 @@ pub enum Form {
     Dis,
     /// `gen` N: simulate the generated scenario of a number from 1 to 256, write the line that sums it up.
     Gen { number: u32 },
+    /// `gen` N `scenario`: write that generated scenario.
+    GenScenario { number: u32 },
     /// `audit`: read a scenario and a printed report, write whether every line of the report fits.
     Audit,
     /// `campaign`: read a scenario and faults, simulate it once for each fault, write the table of what became of it.
     Campaign,
     /// `mirror`: read a scenario of two disks, keep one disk on both, write the report.
     Mirror,
+    /// `list`: read an assembler text, write its words, labels and entries with their addresses and lines.
+    List,
     /// `--help`: write a line for each form and for each status.
     Help,
     /// `--version`: write the program's version.
@@ -38,7 +42,8 @@ pub fn form_of(words: &[String]) -> Option<Form>
 {
     match words {
         [word] => form_of_word(word.as_str()),
-        [word, number] => form_of_two(word.as_str(), number.as_str()),
+        [word, second] => form_of_two(word.as_str(), second.as_str()),
+        [word, second, third] => form_of_three(word.as_str(), second.as_str(), third.as_str()),
         _ => None,
     }
 }
@@ -60,6 +65,8 @@ fn form_of_word(word: &str) -> Option<Form>
         Some(Form::Campaign)
     } else if word == "mirror" {
         Some(Form::Mirror)
+    } else if word == "list" {
+        Some(Form::List)
     } else if word == "--help" {
         Some(Form::Help)
     } else if word == "--version" {
@@ -95,33 +102,56 @@ fn threads_form(second: &str) -> Option<Form>
     }
 }
 
+/// The form of three words.
+fn form_of_three(word: &str, second: &str, third: &str) -> Option<Form>
+    ensures found { IfSome result (IsForm (word.now ∷ second.now ∷ third.now ∷ [])) }
+    ensures none { IfNone result (IsNoForm (word.now ∷ second.now ∷ third.now ∷ [])) }
+{
+    if word == "gen" && third == "scenario" {
+        scenario_form(second)
+    } else {
+        None
+    }
+}
+
 /// The form of `gen` and a number.
 fn generated_form(number: &str) -> Option<Form>
     ensures found { IfSome result (IsForm (codes "gen" ∷ number.now ∷ [])) }
     ensures none { IfNone result (IsNoForm (codes "gen" ∷ number.now ∷ [])) }
 {
-    match generated_number(number) {
+    match number_up_to(MOST_GENERATED, number) {
         Some(number) => Some(Form::Gen { number }),
         None => None,
     }
 }
 
-/// The number of a generated scenario in decimal, with no sign and no leading zero.
-fn generated_number(text: &str) -> Option<u32>
-    ensures found { IfSome result (λ n. (text.now ≡ decimal n) × (1 ≤ n) × (n ≤ 256)) }
-    ensures none { IfNone result ((n : ℕ) → text.now ≡ decimal n → 1 ≤ n → n ≤ 256 → ⊥) }
+/// The form of `gen`, a number and `scenario`.
+fn scenario_form(number: &str) -> Option<Form>
+    ensures found { IfSome result (IsForm (codes "gen" ∷ number.now ∷ codes "scenario" ∷ [])) }
+    ensures none { IfNone result (IsNoForm (codes "gen" ∷ number.now ∷ codes "scenario" ∷ [])) }
+{
+    match number_up_to(MOST_GENERATED, number) {
+        Some(number) => Some(Form::GenScenario { number }),
+        None => None,
+    }
+}
+
+/// A number from 1 to a greatest one in decimal, with no sign and no leading zero.
+fn number_up_to(most: u32, text: &str) -> Option<u32>
+    ensures found { IfSome result (λ n. (text.now ≡ decimal n) × (1 ≤ n) × (n ≤ most)) }
+    ensures none { IfNone result ((n : ℕ) → text.now ≡ decimal n → 1 ≤ n → n ≤ most → ⊥) }
 {
     match text.parse::<u32>() {
-        Ok(number) => within(number, is_plain(text)),
+        Ok(number) => within(most, number, is_plain(text)),
         Err(_) => None,
     }
 }
 
-/// A number from 1 to 256 whose text is plain.
-fn within(number: u32, plain: bool) -> Option<u32>
-    ensures { result ≡ within number plain }
+/// A number from 1 to a greatest one, whose text is plain.
+fn within(most: u32, number: u32, plain: bool) -> Option<u32>
+    ensures { result ≡ within most number plain }
 {
-    if 1 <= number && number <= MOST_GENERATED && plain {
+    if 1 <= number && number <= most && plain {
         Some(number)
     } else {
         None

@@ -23,3 +23,6 @@ returns-in-Audit-clause-ends g c = rw (c.in-Audit.is) (c.run_audit.ensures.ends 
 
 pub returns-in-Campaign-clause-ends : goal.returns-in-Campaign-clause-ends
 returns-in-Campaign-clause-ends g c = rw (c.in-Campaign.is) (c.run_campaign.ensures.ends [])
+
+pub returns-in-List-clause-ends : goal.returns-in-List-clause-ends
+returns-in-List-clause-ends g c = rw (c.in-List.is) (c.run_list.ensures.ends [])

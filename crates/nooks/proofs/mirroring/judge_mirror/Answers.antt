@@ -2,7 +2,7 @@ use Rattle.std.proofs.Common.{◌≡◌, ◌==◌, ◌∙◌, if◌then◌else�
 use Rattle.std.specs.List.{list_any}
 use Rattle.mirrored_run.specs.Mirrors.{is_lost}
 use Rattle.request_taps.specs.Bus.{result_of, told_all}
-use Rattle.sim_run.specs.Whole.{events_in}
+use Rattle.run_ends.specs.Journals.{events_in}
 use Rattle.threaded_run.specs.Threaded.{in_parts}
 use Rattle.nooks.proofs.Mirrors.{mirror_made_at}
 use Rattle.nooks.proofs.mirroring.judge_mirror.Goals as goal

@@ -8,6 +8,10 @@ pub returns-in-Gen-clause-ends : goal.returns-in-Gen-clause-ends
 returns-in-Gen-clause-ends g c = rw (c.in-Gen.is) (unread_ends (Some (form.Gen c.in-Gen.number)) _ _ _ c.run_generated.result (IsSummary c.in-Gen.number)
     (λ e. absurd (true≢false (sym e))) (λ text s answer. answer) c.run_generated.ensures.ends)
 
+pub returns-in-GenScenario-clause-ends : goal.returns-in-GenScenario-clause-ends
+returns-in-GenScenario-clause-ends g c = rw (c.in-GenScenario.is) (unread_ends (Some (form.GenScenario c.in-GenScenario.number)) _ _ _ c.give_generated.result _
+    (λ e. absurd (true≢false (sym e))) (λ text s answer. answer) c.give_generated.ensures.ends)
+
 pub returns-in-Help-clause-ends : goal.returns-in-Help-clause-ends
 returns-in-Help-clause-ends g c = rw (c.in-Help.is) (unread_ends (Some form.Help) _ _ _ c.finish.result _
     (λ e. absurd (true≢false (sym e))) (λ text s answer. answer) c.finish.ensures.ends)

@@ -8,6 +8,7 @@ use Rattle.nook_defs.specs.Runs.{if_enabled, next_for, next_recovery}
 use Rattle.nook_defs.specs.Simulation.{Choice, PartSeat, Simulation, ThreadState, Waiting, arrival, going_on, invocation, with_choice, with_invocation, with_thread, thread_choices, part_choices, choices_of}
 use Rattle.nook_defs.specs.State.{PartState}
 use Rattle.nook_defs.specs.Steps.{enabled}
+use Rattle.nook_defs.proofs.NextSteps.{next_for_case}
 use Rattle.part_laws.proofs.Places.{split}
 use Rattle.audit_laws.proofs.Nexts.{inner, no_some}
 use Rattle.audit_laws.specs.Audit.{arrival_of}
@@ -37,10 +38,7 @@ if_case P p s s' others here more h = split (enabled p s)
     (λ e. more (rw e at h))
 
 for_no_arrival : (p : PartState) (thread : ℕ) (s : Step) → next_for p thread ≡ Some s → IsNoArrival s
-unfolding next_for
-for_no_arrival p thread s h =
-    if_case IsNoArrival p (step.Enter thread) s (if_enabled p (step.Burst thread) None) tt
-    (if_case IsNoArrival p (step.Burst thread) s None tt no_some) h
+for_no_arrival p thread s h = next_for_case IsNoArrival p thread s (λ e. tt) (λ e. tt) h
 
 recovery_no_arrival : (p : PartState) (s : Step) → next_recovery p ≡ Some s → IsNoArrival s
 unfolding next_recovery

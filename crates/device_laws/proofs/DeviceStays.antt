@@ -32,7 +32,7 @@ use Rattle.nook_defs.specs.Crossing.{fails, is_last, serve_by, next_stage, is_ac
 use Rattle.nook_defs.specs.Devices.{reset_device, reset_kind, opening_device, opening_kind, kind_with_arrival, with_arrival}
 use Rattle.nook_defs.specs.Domain.{opening_domain, entered_domain, plainly_entered, context_of, machine_of, burst_by, DomainBurst, domain_burst, first_argument, second_argument, result_set, left_domain, stopped_domain, collected_domain, loaded_domain, noted}
 use Rattle.nook_defs.specs.Log.{call_of_thread}
-use Rattle.nook_defs.specs.Ports.{class_of, class_of_kind}
+use Rattle.nook_defs.specs.Views.Ports.{class_of, class_of_kind}
 use Rattle.nook_defs.specs.Runs.{step_of, state_after, state_from, IsRun, state_of}
 use Rattle.nook_defs.specs.Services.{checked}
 use Rattle.nook_defs.specs.Stages.{stage_due, is_given_up, stopped, given_up, collects, resets, loads_image, inits, replays_set, replays_open, resumes, stage_done, stage_by, stage_turned}

@@ -1,7 +1,7 @@
 //! A device stays of its class over bursts, steps and runs, and a part keeps its spec.
 
 ghost use Rattle.nook_defs.specs.Burst.{burst};
-ghost use Rattle.nook_defs.specs.Ports.{class_of};
+ghost use Rattle.nook_defs.specs.Views.Ports.{class_of};
 ghost use Rattle.nook_defs.specs.Runs.{IsRun, state_of};
 ghost use Rattle.nook_defs.specs.State.{PartState};
 ghost use Rattle.nook_defs.specs.Steps.{turned};

@@ -5,7 +5,7 @@ use Rattle.nook_defs.specs.declared.data.DeviceKind.{DeviceKind}
 use Rattle.nook_defs.specs.declared.data.DeviceKind.TheVariants as kind
 use Rattle.nook_defs.specs.declared.data.DeviceState.{DeviceState}
 use Rattle.nook_defs.specs.Devices.{Given, Taken, input_of, is_command, is_empty_ring, is_register_port, kind_input, kind_output, output_of}
-use Rattle.nook_defs.specs.Ports.{class_of, class_of_kind, device_after, device_given, device_of}
+use Rattle.nook_defs.specs.Views.Ports.{class_of, class_of_kind, device_after, device_given, device_of}
 
 given_by_choice : (c : Class) (d : DeviceState) (test : Bool) (x y : Option Given) →
     class_of (device_given x d) ≡ c → class_of (device_given y d) ≡ c → class_of (device_given (if test then x else y) d) ≡ c

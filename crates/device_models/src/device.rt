@@ -3,7 +3,7 @@
 ghost use Rattle.std.specs.Prelude.{◌≡◌, ◌<◌, ◌≤◌, ℕ, List, length, slice_index, IfOk, IsNone};
 ghost use Rattle.nook_defs.specs.Classes.{defaults_of};
 ghost use Rattle.nook_defs.specs.Devices.{has_room, input_of, kind_output, medium_of, opening_device, output_of, reset_device, ring_of, speaker_output, with_arrival};
-ghost use Rattle.nook_defs.specs.Ports.{class_of, class_of_kind, defaults_for, device_of, given_by, IsTaken};
+ghost use Rattle.nook_defs.specs.Views.Ports.{class_of, class_of_kind, defaults_for, device_of, given_by, IsTaken};
 ghost use Rattle.device_models.specs.Kept.{IsKept};
 ghost use Rattle.nook_defs.specs.declared.data.DeviceKind.TheVariants as speaker;
 ghost use Rattle.nook_defs.specs.declared.data.BadBlock.{BadBlock};

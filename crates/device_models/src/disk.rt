@@ -6,7 +6,7 @@
 ghost use Rattle.std.specs.Prelude.{◌≡◌, ◌<◌, ◌∷◌, ◌++◌, ℕ, List, [], length, replicate, true, IfOk, IsNone};
 ghost use Rattle.device_models.specs.Kept.{IsKeptDisk};
 ghost use Rattle.nook_defs.specs.Devices.{command_act, commanded, disk_input, disk_output, is_command, is_failing, reset_kind};
-ghost use Rattle.nook_defs.specs.Ports.{device_of, given_by, IsTaken};
+ghost use Rattle.nook_defs.specs.Views.Ports.{device_of, given_by, IsTaken};
 ghost use Rattle.nook_defs.specs.declared.data.DeviceKind.TheVariants as kinds;
 
 use nook_defs::data::Disk;

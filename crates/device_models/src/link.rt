@@ -5,7 +5,7 @@
 
 ghost use Rattle.std.specs.Prelude.{◌≡◌, ◌<◌, ℕ, List, length, true, IsNone};
 ghost use Rattle.nook_defs.specs.Devices.{link_command, link_input, link_output, next_reading, reset_kind};
-ghost use Rattle.nook_defs.specs.Ports.{device_of, given_by, IsTaken};
+ghost use Rattle.nook_defs.specs.Views.Ports.{device_of, given_by, IsTaken};
 ghost use Rattle.nook_defs.specs.declared.data.DeviceKind.TheVariants as kinds;
 
 use nook_defs::data::Link;

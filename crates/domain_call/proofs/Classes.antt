@@ -8,7 +8,7 @@ use Rattle.nook_defs.specs.Burst.{burst}
 use Rattle.nook_defs.specs.Devices.{Given, Taken, input_of, output_of}
 use Rattle.nook_defs.specs.Machine.{decode_of}
 use Rattle.nook_defs.specs.Pages.{may_write, read_word, fetch_word}
-use Rattle.nook_defs.specs.Ports.{class_of, device_after, device_given}
+use Rattle.nook_defs.specs.Views.Ports.{class_of, device_after, device_given}
 use Rattle.nook_defs.specs.Turn.{Machine, turn, executed, past_read, past_input, past_output, past_decode, past_fetch, stores, r}
 use Rattle.part_laws.proofs.BurstKeeps.{split, every_fault, burst_keeps}
 use Rattle.device_models.proofs.Classes.{input_keeps_class, output_keeps_class}

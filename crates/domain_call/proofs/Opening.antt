@@ -7,8 +7,8 @@ use Rattle.nook_defs.specs.declared.data.Class.{Class}
 use Rattle.nook_defs.specs.declared.data.Class.TheVariants as class
 use Rattle.nook_defs.specs.Devices.{opening_device}
 use Rattle.nook_defs.specs.Entries.{opening_entries}
-use Rattle.nook_defs.specs.PageMap.{lent_contexts, none_lent}
-use Rattle.nook_defs.specs.Ports.{class_of}
+use Rattle.nook_defs.specs.Views.PageMap.{lent_contexts, none_lent}
+use Rattle.nook_defs.specs.Views.Ports.{class_of}
 use Rattle.nook_defs.specs.Pages.{opening_memory, opening_objects, padded_words, with_words}
 
 -- words in place of as many words

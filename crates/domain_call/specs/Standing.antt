@@ -5,8 +5,8 @@ use Rattle.nook_defs.specs.declared.data.Entry.{Entry}
 use Rattle.nook_defs.specs.declared.data.PartSpec.{PartSpec}
 use Rattle.nook_defs.specs.declared.machine.Service.{Service}
 use Rattle.nook_defs.specs.Domain.{opening_domain}
-use Rattle.nook_defs.specs.PageMap.{lent_contexts}
-use Rattle.nook_defs.specs.Ports.{class_of}
+use Rattle.nook_defs.specs.Views.PageMap.{lent_contexts}
+use Rattle.nook_defs.specs.Views.Ports.{class_of}
 use Rattle.nook_defs.specs.Services.{Served, served}
 use Rattle.nook_defs.specs.State.{DomainState}
 

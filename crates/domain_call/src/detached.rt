@@ -1,7 +1,7 @@
 //! Pages and a device that are taken out of their domain, for a machine that is run turn by turn.
 
 ghost use Rattle.std.specs.Prelude.{◌≡◌, []};
-ghost use Rattle.nook_defs.specs.PageMap.{lent_contexts};
+ghost use Rattle.nook_defs.specs.Views.PageMap.{lent_contexts};
 
 use device_models::Device;
 use domain_pages::PageMap;

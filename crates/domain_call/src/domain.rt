@@ -4,7 +4,7 @@ ghost use Rattle.std.specs.Prelude.{◌≡◌, ◌+◌, ◌<◌, ◌≤◌, is_s
 ghost use Rattle.std.specs.List.{list_any};
 ghost use Rattle.nook_defs.specs.Classes.{defaults_of};
 ghost use Rattle.nook_defs.specs.Devices.{opening_device};
-ghost use Rattle.nook_defs.specs.PageMap.{none_lent};
+ghost use Rattle.nook_defs.specs.Views.PageMap.{none_lent};
 ghost use Rattle.nook_defs.specs.Domain.{attempt_bursts, buffer_words, context_of, first_argument, second_argument};
 ghost use Rattle.nook_defs.specs.Entries.{is_buffer_of, is_registered};
 ghost use Rattle.nook_defs.specs.Pages.{buffer_start, opening_memory};

@@ -1,7 +1,7 @@
 //! What a driver's machine reaches of a domain during a burst.
 
 ghost use Rattle.std.specs.Prelude.{◌≡◌, ◌∷◌, []};
-ghost use Rattle.nook_defs.specs.PageMap.{lent_contexts};
+ghost use Rattle.nook_defs.specs.Views.PageMap.{lent_contexts};
 
 use device_models::Device;
 use domain_pages::PageMap;

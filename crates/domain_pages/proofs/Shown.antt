@@ -11,7 +11,7 @@ use Rattle.std.proofs.lemmas.List.Edits.{fill_from_more, paste_more, paste_all, 
 use Rattle.std.proofs.lemmas.List.FromFn.{fill_by_all, length-map-range_with_len, get_or-map-range_with_len}
 use Rattle.nook_defs.specs.declared.data.Image.{Image}
 use Rattle.nook_defs.specs.Pages.{opening_memory, opening_object, opening_objects, padded_words, loaded_memory, with_words}
-use Rattle.nook_defs.specs.PageMap.{PageMap, none_written, none_lent, page_written}
+use Rattle.nook_defs.specs.Views.PageMap.{PageMap, none_written, none_lent, page_written}
 use Rattle.domain_pages.specs.Frames.{image_word, word_at, shown, opening_table, IsFramed}
 
 pub length-shown : (table : List Bool) (frames text initial : List ℕ) → length (shown table frames text initial) ≡ 8192

@@ -2,7 +2,7 @@
 
 ghost use Rattle.std.specs.Prelude.{◌≡◌, ◌+◌, ◌/◌, ◌<◌, ◌≤◌, true, false, length, slice_get, slice_set, slice_range, slice_index, slice_index_or, IfOk, OnOk, OnErr};
 ghost use Rattle.nook_defs.specs.Pages.{read_word, fetch_word, padded_words, with_words};
-ghost use Rattle.nook_defs.specs.PageMap.{opening_pages, may_change, page_written, driver_written, pages_loaded};
+ghost use Rattle.nook_defs.specs.Views.PageMap.{opening_pages, may_change, page_written, driver_written, pages_loaded};
 ghost use Rattle.domain_pages.specs.Frames.{with_own};
 
 use crate::frames::{
@@ -28,7 +28,7 @@ pub struct PageMap {
 
 impl Model for PageMap {
     ghost use Rattle.std.specs.Prelude.{take};
-    ghost use Rattle.nook_defs.specs.PageMap.{PageMap};
+    ghost use Rattle.nook_defs.specs.Views.PageMap.{PageMap};
     ghost use Rattle.domain_pages.specs.Frames.{shown, IsFramed};
 
     ghost Value = { PageMap };

@@ -1,7 +1,9 @@
-use Rattle.std.proofs.Common.{◌≡◌, ◌+◌, ◌-◌, ◌<◌, ◌≤◌, ℕ, suc, true, false, nat_le, List, [], Option, Some, None, length, refl, sym, ◌∙◌, arith}
+use Rattle.std.proofs.Common.{◌≡◌, ◌+◌, ◌-◌, ◌<◌, ◌≤◌, ◌==◌, ℕ, suc, true, false, nat_le, List, [], ◌∷◌, Option, Some, None, length, refl, sym, ◌∙◌, arith}
+use Rattle.driver_isa.specs.Runs.{is_due, past_run}
 use Rattle.driver_isa.specs.Turns.{IsTurn}
-use Rattle.nook_defs.specs.Burst.{Burst, Struck, burst, burst_from, count_at, past_strikes, past_turn, strikes_at}
+use Rattle.nook_defs.specs.Burst.{Burst, Struck, burst, burst_from, count_at, ended, strikes_at}
 use Rattle.nook_defs.specs.Turn.{Machine, turn}
+use Rattle.nook_defs.proofs.BurstTurns.{crossing_ends, goes_on, last_act_ends, trap_ends, turn_cases}
 use Rattle.nook_defs.specs.declared.data.Act.{Act}
 use Rattle.nook_defs.specs.declared.data.Entry.{Entry}
 use Rattle.nook_defs.specs.declared.data.Fault.{Fault}
@@ -16,19 +18,14 @@ pub burst_begins : (entries : List Entry) (faults : List Fault) (m : Machine) (a
 unfolding burst
 burst_begins entries faults m acts e = rw e refl
 
--- a burst from a place on: the faults of the place, then a turn
-burst_at : (count : ℕ) (entries : List Entry) (faults : List Fault) (m : Machine) (acts : List Act) → count < 4096
-    → burst_from (4096 - count) entries faults m acts
-    ≡ past_strikes
-    (λ rest struck. past_turn (λ m' acts'. burst_from (4096 - (count + 1)) entries rest m' acts') (count + 1) acts (turn entries struck))
-    count acts (strikes_at count entries faults m)
-unfolding burst_from
-burst_at count entries faults m acts h =
-    let left : ℕ = 4096 - (count + 1) in
-    let whole : 4096 - count ≡ suc left = omega arith in
-    let next : 4096 - left ≡ count + 1 = omega arith in
-    let here : 4096 - suc left ≡ count = omega arith in
-    rw (whole, next, here) refl
+-- the place of a turn and the turns that are left there
+record IsAt (count : ℕ) : Type 0 where
+  whole : 4096 - count ≡ suc (4096 - (count + 1))
+  next : 4096 - (4096 - (count + 1)) ≡ count + 1
+  here : 4096 - suc (4096 - (count + 1)) ≡ count
+
+at_count : (count : ℕ) → count < 4096 → IsAt count
+at_count count h = record { whole = omega arith; next = omega arith; here = omega arith }
 
 -- a trap among the faults of a place ends the burst
 pub stops_here : (count : ℕ) (entries : List Entry) (faults : List Fault) (m : Machine) (acts : List Act) (whole : Burst)
@@ -38,7 +35,9 @@ pub stops_here : (count : ℕ) (entries : List Entry) (faults : List Fault) (m :
     → told ≡ count_at count cause → ending ≡ ends.Trap cause
     → whole ≡ record { machine = s.machine; acts = acts; count = told; ending = ending }
 stops_here count entries faults m acts whole s cause told ending h e struck stopped n x =
-    sym e ∙ rw (burst_at count entries faults m acts h, struck, stopped, n, x) refl
+    let at : IsAt count = at_count count h in
+    let ends_so = trap_ends (4096 - (count + 1)) entries faults m acts s cause (rw at.here struck) stopped in
+    sym (rw at.whole at e) ∙ ends_so ∙ rw (at.here, n, x) refl
 
 -- a crossing ends the burst
 pub crosses_here : (count : ℕ) (entries entries' : List Entry) (faults : List Fault) (m : Machine) (acts : List Act) (whole : Burst)
@@ -48,8 +47,11 @@ pub crosses_here : (count : ℕ) (entries entries' : List Entry) (faults : List 
     → entries' ≡ entries → IsTurn (turn entries' s.machine) left acts after result → result ≡ Some ending
     → whole ≡ record { machine = left; acts = after; count = count + 1; ending = ending }
 crosses_here count entries entries' faults m acts whole s left after result ending h e struck stopped same t r =
+    let at : IsAt count = at_count count h in
     let t' : IsTurn (turn entries s.machine) left acts after result = rw same at t in
-    sym e ∙ rw (burst_at count entries faults m acts h, struck, stopped, t'.crossing, r, t'.machine, ← t'.acts) refl
+    let ends_so = crossing_ends (4096 - (count + 1)) entries faults m acts s (turn entries s.machine) ending (rw at.here struck) stopped refl
+    (t'.crossing ∙ r) in
+    sym (rw at.whole at e) ∙ ends_so ∙ rw (at.next, t'.machine, ← t'.acts) refl
 
 -- the 64th act ends the burst
 pub pauses_here : (count : ℕ) (entries entries' : List Entry) (faults : List Fault) (m : Machine) (acts : List Act) (whole : Burst)
@@ -60,8 +62,11 @@ pub pauses_here : (count : ℕ) (entries entries' : List Entry) (faults : List F
     → nat_le 64 (length after) ≡ true
     → whole ≡ record { machine = left; acts = after; count = count + 1; ending = ends.Pause }
 pauses_here count entries entries' faults m acts whole s left after result h e struck stopped same t r many =
+    let at : IsAt count = at_count count h in
     let t' : IsTurn (turn entries s.machine) left acts after result = rw same at t in
-    sym e ∙ rw (burst_at count entries faults m acts h, struck, stopped, t'.crossing, r, t'.machine, ← t'.acts, many) refl
+    let ends_so = last_act_ends (4096 - (count + 1)) entries faults m acts s (turn entries s.machine) (rw at.here struck) stopped refl
+    (t'.crossing ∙ r) (rw (← t'.acts) many) in
+    sym (rw at.whole at e) ∙ ends_so ∙ rw (at.next, t'.machine, ← t'.acts) refl
 
 -- after any other turn the rest of the burst is left
 pub goes_on_here : (count : ℕ) (entries entries' entries'' : List Entry) (faults : List Fault) (m : Machine) (acts : List Act) (whole : Burst)
@@ -72,8 +77,11 @@ pub goes_on_here : (count : ℕ) (entries entries' entries'' : List Entry) (faul
     → nat_le 64 (length after) ≡ false
     → burst_from (4096 - (count + 1)) entries'' s.rest left after ≡ whole
 goes_on_here count entries entries' entries'' faults m acts whole s left after result h e struck stopped same same' t r few =
+    let at : IsAt count = at_count count h in
     let t' : IsTurn (turn entries s.machine) left acts after result = rw same at t in
-    sym (sym e ∙ rw (burst_at count entries faults m acts h, struck, stopped, t'.crossing, r, t'.machine, ← t'.acts, few, same', same) refl)
+    let goes_so = goes_on (4096 - (count + 1)) entries faults m acts s (turn entries s.machine) (rw at.here struck) stopped refl
+    (t'.crossing ∙ r) (rw (← t'.acts) few) in
+    rw (same', same) (rw (t'.machine, ← t'.acts) at (sym goes_so) ∙ rw at.whole at e)
 
 -- a burst without a crossing is a hang
 pub hangs_here : (count : ℕ) (entries : List Entry) (faults : List Fault) (m : Machine) (acts : List Act) (whole : Burst)
@@ -85,3 +93,81 @@ unfolding burst_from
 hangs_here count entries faults m acts whole told ending h e n x =
     let none : 4096 - count ≡ 0 = omega arith in
     sym e ∙ rw (none, n, x) refl
+
+-- where none of the faults is due, none strikes
+pub none_strikes : (count : ℕ) (entries : List Entry) (faults : List Fault) (m : Machine) → is_due count faults ≡ false
+    → strikes_at count entries faults m ≡ record { machine = m; rest = faults; stopped = None }
+none_strikes count entries [] m e = refl
+none_strikes count entries (f ∷ faults) m e = let other : f.after == count ≡ false = e in rw (other, strikes_at) refl
+
+no_trap : (o : Option TrapCause) (cause : TrapCause) → o ≡ None → o ≡ Some cause → ⊥
+no_trap None cause n e = absurd cc
+no_trap (Some other) cause n e = absurd cc
+
+-- faults that struck without a trap leave a burst with the faults after them
+pub strikes_here : (count : ℕ) (entries entries' : List Entry) (faults : List Fault) (m : Machine) (acts : List Act) (whole : Burst) (s : Struck)
+    → count < 4096 → burst_from (4096 - count) entries faults m acts ≡ whole
+    → strikes_at count entries faults m ≡ s → s.stopped ≡ None → is_due count s.rest ≡ false → entries' ≡ entries
+    → burst_from (4096 - count) entries' s.rest s.machine acts ≡ whole
+strikes_here count entries entries' faults m acts whole s h e struck stopped clear same =
+    let at : IsAt count = at_count count h in
+    let here : strikes_at (4096 - suc (4096 - (count + 1))) entries faults m ≡ s = rw at.here struck in
+    let none : strikes_at (4096 - suc (4096 - (count + 1))) entries s.rest s.machine ≡ calm = rw at.here (none_strikes count entries s.rest s.machine clear) in
+    rw same (sym (rw at.whole (alike (4096 - (count + 1)) here none)) ∙ e)
+  where
+    calm : Struck
+    calm = record { machine = s.machine; rest = s.rest; stopped = None }
+
+    alike : (left : ℕ) → strikes_at (4096 - suc left) entries faults m ≡ s → strikes_at (4096 - suc left) entries s.rest s.machine ≡ calm
+        → burst_from (suc left) entries faults m acts ≡ burst_from (suc left) entries s.rest s.machine acts
+    alike left here none = turn_cases (λ b. b ≡ burst_from (suc left) entries s.rest s.machine acts) left entries faults m acts s (turn entries s.machine) here refl
+        (λ cause c. absurd (no_trap s.stopped cause stopped c))
+        (λ ending n x. sym (crossing_ends left entries s.rest s.machine acts calm (turn entries s.machine) ending none refl refl x))
+        (λ n x many. sym (last_act_ends left entries s.rest s.machine acts calm (turn entries s.machine) none refl refl x many))
+        (λ n x few. sym (goes_on left entries s.rest s.machine acts calm (turn entries s.machine) none refl refl x few))
+
+-- a turn before which no fault is due, and which crosses
+pub run_crosses : (count : ℕ) (entries : List Entry) (faults : List Fault) (m left : Machine) (acts after : List Act) (whole : Burst)
+    (told : Option BurstEnd) (ending : BurstEnd)
+    → count < 4096 → is_due count faults ≡ false → burst_from (4096 - count) entries faults m acts ≡ whole
+    → IsTurn (turn entries m) left acts after told → told ≡ Some ending
+    → whole ≡ ended (count + 1) left after ending
+run_crosses count entries faults m left acts after whole told ending h clear e t r =
+    crosses_here count entries entries faults m acts whole (record { machine = m; rest = faults; stopped = None }) left after told ending
+    h e (none_strikes count entries faults m clear) refl refl t r
+
+-- one with the 64th act
+pub run_pauses : (count : ℕ) (entries : List Entry) (faults : List Fault) (m left : Machine) (acts after : List Act) (whole : Burst)
+    (told : Option BurstEnd)
+    → count < 4096 → is_due count faults ≡ false → burst_from (4096 - count) entries faults m acts ≡ whole
+    → IsTurn (turn entries m) left acts after told → told ≡ None → nat_le 64 (length after) ≡ true
+    → whole ≡ ended (count + 1) left after ends.Pause
+run_pauses count entries faults m left acts after whole told h clear e t r many =
+    pauses_here count entries entries faults m acts whole (record { machine = m; rest = faults; stopped = None }) left after told
+    h e (none_strikes count entries faults m clear) refl refl t r many
+
+-- any other
+pub run_goes_on : (count : ℕ) (entries entries' : List Entry) (faults : List Fault) (m left : Machine) (acts after : List Act) (whole : Burst)
+    (told : Option BurstEnd)
+    → count < 4096 → is_due count faults ≡ false → burst_from (4096 - count) entries faults m acts ≡ whole
+    → IsTurn (turn entries m) left acts after told → told ≡ None → nat_le 64 (length after) ≡ false → entries' ≡ entries
+    → burst_from (4096 - (count + 1)) entries' faults left after ≡ whole
+run_goes_on count entries entries' faults m left acts after whole told h clear e t r few same =
+    goes_on_here count entries entries entries' faults m acts whole (record { machine = m; rest = faults; stopped = None }) left after told
+    h e (none_strikes count entries faults m clear) refl refl same t r few
+
+-- without an act more there is room for one
+pub few_left : (acts after : List Act) → after ≡ acts → length acts < 64 → nat_le 64 (length after) ≡ false
+few_left acts after e h = rw e (grind arith)
+
+-- turns in a row that came to the end of the burst
+pub run_ended : (count : ℕ) (entries : List Entry) (faults : List Fault) (m : Machine) (acts : List Act) (whole : Burst)
+    (told : Option BurstEnd) (ending : BurstEnd)
+    → whole ≡ past_run count entries faults m acts told → told ≡ Some ending → whole ≡ ended count m acts ending
+run_ended count entries faults m acts whole told ending h r = h ∙ rw r refl
+
+-- turns in a row that did not
+pub run_left : (count : ℕ) (entries : List Entry) (faults : List Fault) (m : Machine) (acts : List Act) (whole : Burst)
+    (told : Option BurstEnd)
+    → whole ≡ past_run count entries faults m acts told → told ≡ None → burst_from (4096 - count) entries faults m acts ≡ whole
+run_left count entries faults m acts whole told h r = sym (h ∙ rw r refl)

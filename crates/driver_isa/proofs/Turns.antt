@@ -1,6 +1,6 @@
 use Rattle.std.proofs.Common.{◌≡◌, ◌+◌, ◌%◌, ◌^◌, ℕ, Bool, true, false, List, Option, Some, None, refl, sym, ◌∙◌, subst, append-nil}
 use Rattle.driver_isa.specs.Turns.{IsTurn, machine_of, quiet}
-use Rattle.nook_defs.specs.Ports.{IsTaken}
+use Rattle.nook_defs.specs.Views.Ports.{IsTaken}
 use Rattle.nook_defs.specs.Devices.{Taken}
 use Rattle.nook_defs.specs.Turn.{Machine, Turn, advanced, executed, past_output, r, stores}
 use Rattle.nook_defs.specs.declared.data.Act.{Act}

@@ -1,2 +1,4 @@
 pub mod Fields
+pub mod Runs
+pub mod Steps
 pub mod Turns

@@ -4,7 +4,7 @@ use Rattle.std.specs.Prelude.{Result, Ok, Err, IfOk}
 use Rattle.fault_campaign.specs.Sums.{failures_in, lost_in}
 use Rattle.nook_defs.specs.Campaigns.{IsRowOf, gone_count, lost_count, row_of}
 use Rattle.nook_defs.specs.ReportText.{events_count, failures_count, status_of}
-use Rattle.nook_defs.specs.Room.{Kept}
+use Rattle.nook_defs.specs.Views.Room.{Kept}
 use Rattle.nook_defs.specs.Runs.{state_of}
 use Rattle.nook_defs.specs.Simulation.{answer_table, journals_of}
 use Rattle.nook_defs.specs.declared.data.Event.{Event}

@@ -11,15 +11,15 @@ use Rattle.nook_defs.specs.declared.data.Act.TheVariants as act
 use Rattle.nook_defs.specs.declared.data.Answer.{Answer}
 use Rattle.nook_defs.specs.declared.data.Answer.TheVariants as answered
 use Rattle.nook_defs.specs.declared.data.Class.{Class}
-use Rattle.nook_defs.specs.declared.data.Class.TheVariants.{Block}
+use Rattle.nook_defs.specs.declared.data.Class.TheVariants.{Block, Net, Sound}
 use Rattle.nook_defs.specs.declared.data.Event.{Event}
 use Rattle.nook_defs.specs.declared.data.Event.TheVariants as event
 use Rattle.nook_defs.specs.declared.data.Op.{Op}
 use Rattle.nook_defs.specs.declared.data.Op.TheVariants.{Read, Write, Send, Recv, Open, Play, Close, Get, Set}
 use Rattle.nook_defs.specs.Blocks.{get_blocks, has_block}
-use Rattle.nook_defs.specs.Classes.{covers, is_holder, static_check}
-use Rattle.nook_defs.specs.Ideal.{Ideal, Opened, after_frame, answers_checked, answers_found, answers_waiting, answers_with, closes, is_next_found, is_play, may_call, may_sound, may_wire, may_wire_found, never_failing, opens, play_of, plays_for, ran, same_refusal, shows, stops_waiting, when, with_pending}
-use Rattle.nook_defs.specs.Places.{at_number, number_where, past_one}
+use Rattle.nook_defs.specs.Classes.{covers, same_class, static_check}
+use Rattle.nook_defs.specs.Ideal.{Ideal, Opened, after_answer, answers, closes, is_due, may_answer, may_call, may_sound, may_wire, never_failing, opens, play_of, ran, shows, stops_waiting, when}
+use Rattle.nook_defs.specs.Places.{at_number}
 use Rattle.nook_defs.specs.Runs.{answer_among, answer_at, if_call}
 use Rattle.nook_defs.specs.Trace.{Track, Visible, called, wire, sample, arrived, answer, shown, shown_acts, shown_answers, shown_option, trace, trace_from, tracks_after}
 use Rattle.part_laws.proofs.Places.{change_at, get_mid, get_push, set_mid, some_same}
@@ -35,13 +35,14 @@ when_is : (b : Bool) (x y : Ideal) → when b x ≡ Some y → (b ≡ true) × (
 when_is true x y h = (refl, some_same x y h)
 when_is false x y h = absurd cc
 
+found_is : {X : Type 0} (f : X → Option Ideal) (o : Option X) (n : Ideal) → option_and_then f o ≡ Some n
+    → (x : X) × (o ≡ Some x) × (f x ≡ Some n)
+found_is f None n h = absurd cc
+found_is f (Some x) n h = (x, refl, h)
+
 ran_next : (m : Ideal) (v : Visible) (vs : List Visible) (n : Ideal) → ran m (v ∷ vs) ≡ Some n → (k : Ideal) × (shows m v ≡ Some k) × (ran k vs ≡ Some n)
 unfolding ran
-ran_next m v vs n h = by_shown (shows m v) refl h
-  where
-    by_shown : (o : Option Ideal) → shows m v ≡ o → option_and_then (λ after. ran after vs) o ≡ Some n → (k : Ideal) × (shows m v ≡ Some k) × (ran k vs ≡ Some n)
-    by_shown None e i = absurd cc
-    by_shown (Some k) e i = (k, e, i)
+ran_next m v vs n h = found_is (λ after. ran after vs) (shows m v) n h
 
 ran_none : (m n : Ideal) → ran m [] ≡ Some n → m ≡ n
 unfolding ran
@@ -95,47 +96,41 @@ kept_same m x n c s e = (ap (λ (d : Ideal). d.class) (sym e) ∙ c, ap (λ (d :
 kept_when : (b : Bool) (m x n : Ideal) → x.class ≡ m.class → x.size ≡ m.size → when b x ≡ Some n → Kept m n
 kept_when b m x n c s h = kept_same m x n c s (when_is b x n h).1
 
-kept_pending : (m n : Ideal) (pending : Option (List (List ℕ))) → with_pending m pending ≡ Some n → Kept m n
-kept_pending m n None h = absurd cc
-kept_pending m n (Some pending) h = kept_same m (record m { pending = pending }) n refl refl (some_same (record m { pending = pending }) n h)
+-- an answer changes neither, nor which calls are open
+after_keeps : (m : Ideal) (t : ℕ) (o : Op) (a : Answer) (stored : List ℕ) → ((after_answer m t o a stored).class ≡ m.class)
+    × ((after_answer m t o a stored).size ≡ m.size) × ((after_answer m t o a stored).opened ≡ m.opened)
+after_keeps m t (Write first words) answered.Done stored = (refl, refl, refl)
+after_keeps m t (Write first words) (answered.IoError block) stored = (refl, refl, refl)
+after_keeps m t Recv (answered.Frame frame) stored = (refl, refl, refl)
+after_keeps m t Open answered.Done stored = (refl, refl, refl)
+after_keeps m t Close answered.Done stored = (refl, refl, refl)
+after_keeps m t (Set key value) answered.Done stored = (refl, refl, refl)
+after_keeps m t o a stored = (refl, refl, refl)
 
-kept_with : (m n : Ideal) (t : ℕ) (o : Op) (a : Answer) (kept : List ℕ) → answers_with m t o a kept ≡ Some n → Kept m n
-kept_with m n t (Read first count) (answered.Blocks words) kept h = kept_when _ m m n refl refl h
-kept_with m n t (Read first count) (answered.IoError block) kept h = kept_when _ m m n refl refl h
-kept_with m n t (Write first words) answered.Done kept h = kept_same m _ n refl refl (some_same _ n h)
-kept_with m n t (Write first words) (answered.IoError block) kept h = kept_when _ m _ n refl refl h
-kept_with m n t (Send frame) answered.Done kept h = kept_same m m n refl refl (some_same m n h)
-kept_with m n t Recv answered.Empty kept h = kept_same m m n refl refl (some_same m n h)
-kept_with m n t Recv (answered.Frame frame) kept h = kept_pending m n (after_frame frame m.pending) h
-kept_with m n t Open (answered.Busy stage) kept h = kept_same m m n refl refl (some_same m n h)
-kept_with m n t Open answered.Done kept h = kept_when _ m _ n refl refl h
-kept_with m n t Open (answered.InUse holder) kept h = kept_when _ m _ n refl refl h
-kept_with m n t (Play samples) answered.Done kept h = kept_when _ m _ n refl refl h
-kept_with m n t (Play samples) answered.NotOpen kept h = kept_when _ m _ n refl refl h
-kept_with m n t Close answered.Done kept h = kept_when _ m _ n refl refl h
-kept_with m n t Close answered.NotOpen kept h = kept_when _ m _ n refl refl h
-kept_with m n t (Get key) (answered.Value word) kept h = kept_when _ m _ n refl refl h
-kept_with m n t (Set key value) answered.Done kept h = kept_same m _ n refl refl (some_same _ n h)
-kept_with m n t o a kept h = absurd cc
+-- a call that is answered waits, the answer is due, and the device is the one after it
+record Answering (m n : Ideal) (c : ℕ) (a : Answer) (stored : List ℕ) : Type 0 where
+  call : Opened
+  there : at_number c m.opened ≡ Some call
+  waits : call.waits ≡ true
+  due : is_due (closes c m) call a ≡ true
+  after : after_answer (closes c m) call.thread call.op a stored ≡ n
 
-kept_checked : (check : Option Answer) (m n : Ideal) (t : ℕ) (o : Op) (a : Answer) (kept : List ℕ) → answers_checked check m t o a kept ≡ Some n → Kept m n
-kept_checked None m n t o a kept h = kept_with m n t o a kept h
-kept_checked (Some refusal) m n t o a kept h = kept_when (same_refusal refusal a) m m n refl refl h
-
-kept_found : (o : Option Opened) (m n : Ideal) (a : Answer) (kept : List ℕ) → answers_found o m a kept ≡ Some n → Kept m n
-kept_found None m n a kept h = absurd cc
-kept_found (Some o) m n a kept h = by_waits o.waits h
-  where
-    by_waits : (b : Bool) → answers_waiting b m o a kept ≡ Some n → Kept m n
-    by_waits false h = absurd cc
-    by_waits true h = kept_checked (static_check m.class m.size o.op) m n o.thread o.op a kept h
+answering : (m n : Ideal) (c : ℕ) (a : Answer) (stored : List ℕ) → shows m (answer c a stored) ≡ Some n → Answering m n c a stored
+answering m n c a stored h =
+    let k = found_is (answers (closes c m) a stored) (at_number c m.opened) n h in
+    let w = when_is (k.0.waits && is_due (closes c m) k.0 a) (after_answer (closes c m) k.0.thread k.0.op a stored) n k.2 in
+    let both = and_parts k.0.waits (is_due (closes c m) k.0 a) w.0 in
+    record { call = k.0; there = k.1; waits = both.0; due = both.1; after = w.1 }
 
 kept_shown : (m : Ideal) (v : Visible) (n : Ideal) → shows m v ≡ Some n → Kept m n
 kept_shown m (called call t o) n h = kept_when _ m _ n refl refl h
-kept_shown m (wire call frame) n h = kept_when _ m _ n refl refl h
-kept_shown m (sample word rate volume) n h = kept_when _ m _ n refl refl h
-kept_shown m (arrived frame) n h = kept_same m _ n refl refl (some_same _ n h)
-kept_shown m (answer call a kept) n h = kept_found (at_number call m.opened) (closes call m) n a kept h
+kept_shown m (wire call frame) n h = kept_when _ m _ n refl refl (found_is _ (at_number call m.opened) n h).2
+kept_shown m (sample word rate volume) n h = kept_when _ m _ n refl refl (found_is _ (at_number (play_of m) m.opened) n h).2
+kept_shown m (arrived frame) n h = kept_when _ m _ n refl refl h
+kept_shown m (answer call a stored) n h =
+    let y = answering m n call a stored h in
+    let k = after_keeps (closes call m) y.call.thread y.call.op a stored in
+    kept_same m (after_answer (closes call m) y.call.thread y.call.op a stored) n k.0 k.1 y.after
 
 kept_ran : (m : Ideal) (vs : List Visible) (n : Ideal) → ran m vs ≡ Some n → Kept m n
 unfolding ran
@@ -150,7 +145,7 @@ kept_ran m (v ∷ vs) n h =
 
 abbrev first_shown : ℕ → List Visible → Option Answer
 first_shown call [] = None
-first_shown call (answer c a kept ∷ vs) = or_later (if_call call c (Some a)) (first_shown call vs)
+first_shown call (answer c a stored ∷ vs) = or_later (if_call call c (Some a)) (first_shown call vs)
 first_shown call (v ∷ vs) = first_shown call vs
 
 or_parts : (a b c : Option Answer) → or_later (or_later a b) c ≡ or_later a (or_later b c)
@@ -163,7 +158,7 @@ or_none (Some a) = refl
 
 first_shown_parts : (call : ℕ) (xs ys : List Visible) → first_shown call (xs ++ ys) ≡ or_later (first_shown call xs) (first_shown call ys)
 first_shown_parts call [] ys = refl
-first_shown_parts call (answer c a kept ∷ xs) ys =
+first_shown_parts call (answer c a stored ∷ xs) ys =
     ap (or_later (if_call call c (Some a))) (first_shown_parts call xs ys)
     ∙ sym (or_parts (if_call call c (Some a)) (first_shown call xs) (first_shown call ys))
 first_shown_parts call (called c t o ∷ xs) ys = first_shown_parts call xs ys
@@ -255,28 +250,7 @@ trace_answering (e ∷ events) ts h =
     answering_parts (shown e (tracks_after e ts)) (trace_from (tracks_after e ts) events) (event_answering e (tracks_after e ts) h.0)
     (trace_answering events (tracks_after e ts) h.1)
 
--- ---- a device of which no call but a Read or Write waits
-
-abbrev is_calm : Opened → Bool
-is_calm o = not o.waits || is_disk_op o.op
-
-over_calm : (o : Opened) → is_over o ≡ true → is_calm o ≡ true
-over_calm o h = by_waits o.waits (is_disk_op o.op) h
-  where
-    by_waits : (w d : Bool) → not w ≡ true → (not w || d) ≡ true
-    by_waits false d h = refl
-    by_waits true d h = absurd cc
-
-all_calm : (xs : List Opened) → list_all is_over xs ≡ true → list_all is_calm xs ≡ true
-all_calm [] h = refl
-all_calm (x ∷ xs) h =
-    let k = and_parts (is_over x) (list_all is_over xs) h in
-    both (is_calm x) (list_all is_calm xs) (over_calm x k.0) (all_calm xs k.1)
-  where
-    both : (a b : Bool) → a ≡ true → b ≡ true → (a && b) ≡ true
-    both true true h k = refl
-    both true false h k = absurd cc
-    both false b h k = absurd cc
+-- ---- what a disk shows
 
 passes : (test : Opened → Bool) (xs : List Opened) (i : ℕ) (x : Opened) → list_all test xs ≡ true → slice_get xs i ≡ Some x → test x ≡ true
 passes test [] i x h at = absurd cc
@@ -287,89 +261,35 @@ number_passes : (test : Opened → Bool) (xs : List Opened) (n : ℕ) (x : Opene
 number_passes test xs zero x h at = absurd cc
 number_passes test xs (suc i) x h at = passes test xs i x h at
 
-wires_not : (frame : List ℕ) (o : Op) (y : Opened) → may_wire frame o y ≡ true → (not y.waits || is_disk_op o) ≡ true → ⊥
-wires_not frame (Read first count) y h k = absurd cc
-wires_not frame (Write first words) y h k = absurd cc
-wires_not frame (Send own) y h k =
-    by_waits y.waits (and_parts y.waits (not y.wired) (and_parts (y.waits && not y.wired) (bytes_eq own frame) h).0).0 k
-  where
-    by_waits : (w : Bool) → w ≡ true → (not w || false) ≡ true → ⊥
-    by_waits true h k = absurd cc
-    by_waits false h k = absurd cc
-wires_not frame Recv y h k = absurd cc
-wires_not frame Open y h k = absurd cc
-wires_not frame (Play samples) y h k = absurd cc
-wires_not frame Close y h k = absurd cc
-wires_not frame (Get key) y h k = absurd cc
-wires_not frame (Set key value) y h k = absurd cc
+-- a disk shows nothing that is of another class
+disk_shows_not : (m n x : Ideal) (other : Class) (may : Bool) → m.class ≡ Block → same_class Block other ≡ false
+    → when (same_class m.class other && may) x ≡ Some n → ⊥
+disk_shows_not m n x other may disk differs h = true≢false (
+  sym (and_parts (same_class m.class other) may (when_is (same_class m.class other && may) x n h).0).0
+      ∙ ap (λ c. same_class c other) disk ∙ differs
+)
 
-wire_not : (m n : Ideal) (c : ℕ) (frame : List ℕ) → list_all is_calm m.opened ≡ true → shows m (wire c frame) ≡ Some n → ⊥
-wire_not m n c frame calm h = by_found (at_number c m.opened) refl (when_is (may_wire_found frame (at_number c m.opened)) _ n h).0
-  where
-    by_found : (o : Option Opened) → at_number c m.opened ≡ o → may_wire_found frame o ≡ true → ⊥
-    by_found None e h = absurd cc
-    by_found (Some y) e h = wires_not frame y.op y h (number_passes is_calm m.opened c y calm e)
+wire_not : (m n : Ideal) (c : ℕ) (frame : List ℕ) → m.class ≡ Block → shows m (wire c frame) ≡ Some n → ⊥
+wire_not m n c frame disk h =
+    let k = found_is _ (at_number c m.opened) n h in disk_shows_not m n _ Net (may_wire frame k.0) disk refl k.2
 
-play_not : (o : Op) → is_disk_op o ≡ true → is_play o ≡ false
-play_not (Read first count) h = refl
-play_not (Write first words) h = refl
-play_not (Send frame) h = absurd cc
-play_not Recv h = absurd cc
-play_not Open h = absurd cc
-play_not (Play samples) h = absurd cc
-play_not Close h = absurd cc
-play_not (Get key) h = absurd cc
-play_not (Set key value) h = absurd cc
-
-no_play : (holder : Option ℕ) (xs : List Opened) → list_all is_calm xs ≡ true → number_where (plays_for holder) xs ≡ 0
-no_play holder [] h = refl
-no_play holder (x ∷ xs) h =
-    let k = and_parts (is_calm x) (list_all is_calm xs) h in
-    ap (λ (b : Bool). if b then 1 else past_one (number_where (plays_for holder) xs)) (plays_not x.waits k.0)
-    ∙ ap past_one (no_play holder xs k.1)
-  where
-    plays_not : (w : Bool) → (not w || is_disk_op x.op) ≡ true → (w && is_play x.op && is_holder holder x.thread) ≡ false
-    plays_not false h = refl
-    plays_not true h = ap (λ (b : Bool). b && is_holder holder x.thread) (play_not x.op h)
-
-sample_not : (m n : Ideal) (word rate volume : ℕ) → list_all is_calm m.opened ≡ true → shows m (sample word rate volume) ≡ Some n → ⊥
-sample_not m n word rate volume calm h =
-    let may : may_sound word rate volume m ≡ true = (when_is (may_sound word rate volume m) _ n h).0 in
-    let next : is_next_found word (at_number (play_of m) m.opened) ≡ true = (and_parts _ _ (and_parts _ _ may).0).0 in
-    let none : is_next_found word (at_number 0 m.opened) ≡ true =
-    ap (λ (k : ℕ). is_next_found word (at_number k m.opened)) (sym (no_play m.holder m.opened calm)) ∙ next in
-    absurd cc
-
--- a call that is answered waits, and is answered so
-record Answering (m n : Ideal) (c : ℕ) (a : Answer) (kept : List ℕ) : Type 0 where
-  call : Opened
-  there : at_number c m.opened ≡ Some call
-  waits : call.waits ≡ true
-  answers : answers_checked (static_check m.class m.size call.op) (closes c m) call.thread call.op a kept ≡ Some n
-
-answering : (m n : Ideal) (c : ℕ) (a : Answer) (kept : List ℕ) → shows m (answer c a kept) ≡ Some n → Answering m n c a kept
-answering m n c a kept h = by_found (at_number c m.opened) refl h
-  where
-    by_waits : (y : Opened) → at_number c m.opened ≡ Some y → (w : Bool) → y.waits ≡ w → answers_waiting w (closes c m) y a kept ≡ Some n → Answering m n c a kept
-    by_waits y e true w h = record { call = y; there = e; waits = w; answers = h }
-    by_waits y e false w h = absurd cc
-
-    by_found : (o : Option Opened) → at_number c m.opened ≡ o → answers_found o (closes c m) a kept ≡ Some n → Answering m n c a kept
-    by_found None e h = absurd cc
-    by_found (Some y) e h = by_waits y e y.waits refl h
+sample_not : (m n : Ideal) (word rate volume : ℕ) → m.class ≡ Block → shows m (sample word rate volume) ≡ Some n → ⊥
+sample_not m n word rate volume disk h =
+    let k = found_is _ (at_number (play_of m) m.opened) n h in
+    disk_shows_not m n _ Sound (may_sound word rate volume m k.0) disk refl k.2
 
 -- where no call waits nothing is shown
-idle_ran : (m n : Ideal) (vs : List Visible) → list_all is_over m.opened ≡ true → AllByRecursion IsAnswering vs → ran m vs ≡ Some n → vs ≡ []
-idle_ran m n [] over told h = refl
-idle_ran m n (v ∷ vs) over told h = absurd (by_first v told.0 (ran_next m v vs n h))
+idle_ran : (m n : Ideal) (vs : List Visible) → m.class ≡ Block → list_all is_over m.opened ≡ true → AllByRecursion IsAnswering vs → ran m vs ≡ Some n → vs ≡ []
+idle_ran m n [] disk over told h = refl
+idle_ran m n (v ∷ vs) disk over told h = absurd (by_first v told.0 (ran_next m v vs n h))
   where
     by_first : (v : Visible) → IsAnswering v → (k : Ideal) × (shows m v ≡ Some k) × (ran k vs ≡ Some n) → ⊥
     by_first (called c t o) t' k = t'
-    by_first (wire c frame) t' k = wire_not m k.0 c frame (all_calm m.opened over) k.1
-    by_first (sample word rate volume) t' k = sample_not m k.0 word rate volume (all_calm m.opened over) k.1
+    by_first (wire c frame) t' k = wire_not m k.0 c frame disk k.1
+    by_first (sample word rate volume) t' k = sample_not m k.0 word rate volume disk k.1
     by_first (arrived frame) t' k = t'
-    by_first (answer c a kept) t' k =
-        let y : Answering m k.0 c a kept = answering m k.0 c a kept k.1 in
+    by_first (answer c a stored) t' k =
+        let y : Answering m k.0 c a stored = answering m k.0 c a stored k.1 in
         let over' : not y.call.waits ≡ true = number_passes is_over m.opened c y.call over y.there in
         absurd (true≢false (sym (sym (ap not y.waits) ∙ over')))
 
@@ -378,43 +298,33 @@ idle_ran m n (v ∷ vs) over told h = absurd (by_first v told.0 (ran_next m v vs
 same_words : (xs ys : List ℕ) → bytes_eq xs ys ≡ true → xs ≡ ys
 same_words xs ys h = (bytes_eq-Decides xs ys).0 h
 
-serves_with : (m n : Ideal) (t : ℕ) (o : Op) (a : Answer) (kept : List ℕ) → is_disk_op o ≡ true → answers_with m t o a kept ≡ Some n
-    → ServesSaid m.blocks o a n.blocks × (n.opened ≡ m.opened)
-serves_with m n t (Read first count) (answered.Blocks words) kept d h =
-    let k = when_is (bytes_eq words (get_blocks m.blocks first count)) m n h in
-    ((same_words words (get_blocks m.blocks first count) k.0, ap (λ (x : Ideal). x.blocks) (sym k.1)), ap (λ (x : Ideal). x.opened) (sym k.1))
-serves_with m n t (Read first count) (answered.IoError block) kept d h =
-    let k = when_is (covers (Read first count) block) m n h in
-    ((k.0, ap (λ (x : Ideal). x.blocks) (sym k.1)), ap (λ (x : Ideal). x.opened) (sym k.1))
-serves_with m n t (Write first words) answered.Done kept d h =
-    let k = some_same _ n h in
-    (ap (λ (x : Ideal). x.blocks) (sym k), ap (λ (x : Ideal). x.opened) (sym k))
-serves_with m n t (Write first words) (answered.IoError block) kept d h =
-    let k = when_is (covers (Write first words) block) _ n h in (
-      (
-        k.0,
-        record {
-          stored = λ b. covers (Write first words) b && has_block b kept;
-          covered = λ b s. (and_parts (covers (Write first words) b) (has_block b kept) s).0;
-          after_is = ap (λ (x : Ideal). x.blocks) (sym k.1);
-        },
-      ),
-      ap (λ (x : Ideal). x.opened) (sym k.1),
-    )
-serves_with m n t (Send frame) a kept d h = absurd cc
-serves_with m n t Recv a kept d h = absurd cc
-serves_with m n t Open a kept d h = absurd cc
-serves_with m n t (Play samples) a kept d h = absurd cc
-serves_with m n t Close a kept d h = absurd cc
-serves_with m n t (Get key) a kept d h = absurd cc
-serves_with m n t (Set key value) a kept d h = absurd cc
-serves_with m n t o a kept d h = absurd cc
+serves_with : (m : Ideal) (t : ℕ) (o : Op) (a : Answer) (stored : List ℕ) → is_disk_op o ≡ true → may_answer m t o a ≡ true
+    → ServesSaid m.blocks o a (after_answer m t o a stored).blocks
+serves_with m t (Read first count) (answered.Blocks words) stored d h =
+    (same_words words (get_blocks m.blocks first count) h, refl)
+serves_with m t (Read first count) (answered.IoError block) stored d h = (h, refl)
+serves_with m t (Write first words) answered.Done stored d h = refl
+serves_with m t (Write first words) (answered.IoError block) stored d h = (
+  h,
+  record {
+    stored = λ b. covers (Write first words) b && has_block b stored;
+    covered = λ b s. (and_parts (covers (Write first words) b) (has_block b stored) s).0;
+    after_is = refl;
+  },
+)
+serves_with m t (Send frame) a stored d h = absurd cc
+serves_with m t Recv a stored d h = absurd cc
+serves_with m t Open a stored d h = absurd cc
+serves_with m t (Play samples) a stored d h = absurd cc
+serves_with m t Close a stored d h = absurd cc
+serves_with m t (Get key) a stored d h = absurd cc
+serves_with m t (Set key value) a stored d h = absurd cc
+serves_with m t o a stored d h = absurd cc
 
-serves_checked : (check : Option Answer) (m n : Ideal) (t : ℕ) (o : Op) (a : Answer) (kept : List ℕ) → is_disk_op o ≡ true → answers_checked check m t o a kept ≡ Some n
-    → (check ≡ None → ServesSaid m.blocks o a n.blocks) × (n.opened ≡ m.opened)
-serves_checked None m n t o a kept d h = let k = serves_with m n t o a kept d h in ((λ e. k.0), k.1)
-serves_checked (Some refusal) m n t o a kept d h =
-    let k = when_is (same_refusal refusal a) m n h in ((λ e. absurd cc), ap (λ (x : Ideal). x.opened) (sym k.1))
+-- an answer that is due may come, where the static check gives none
+due_may : (m : Ideal) (o : Opened) (a : Answer) → static_check m.class m.size o.op ≡ None → is_due m o a ≡ true
+    → may_answer m o.thread o.op a ≡ true
+due_may m o a e h = rw (e, is_due) at h
 
 -- ---- a Read or Write that waits
 
@@ -429,28 +339,16 @@ record Waits (m : Ideal) (o : Op) : Type 0 where
 -- the one answer that is shown, and what it does
 record Shows (m n : Ideal) (o : Op) (number : ℕ) (vs : List Visible) : Type 0 where
   a : Answer
-  kept : List ℕ
-  shown_is : vs ≡ answer number a kept ∷ []
+  stored : List ℕ
+  shown_is : vs ≡ answer number a stored ∷ []
   over : list_all is_over n.opened ≡ true
   serves : static_check m.class m.size o ≡ None → ServesSaid m.blocks o a n.blocks
 
-module _ (m : Ideal) (o : Op) (disk_op : is_disk_op o ≡ true) (w : Waits m o) where
-  last_calm : is_calm w.call ≡ true
-  last_calm = by_waits (not w.call.waits) (ap is_disk_op w.op ∙ disk_op)
-    where
-      by_waits : (b : Bool) → is_disk_op w.call.op ≡ true → (b || is_disk_op w.call.op) ≡ true
-      by_waits true h = refl
-      by_waits false h = h
-
-  calm : list_all is_calm m.opened ≡ true
-  calm =
-      ap (list_all is_calm) w.opened ∙ list_all-append is_calm w.earlier (w.call ∷ [])
-      ∙ ap (λ (b : Bool). b && (is_calm w.call && true)) (all_calm w.earlier w.over) ∙ ap (λ (b : Bool). b && true) last_calm
-
+module _ (m : Ideal) (o : Op) (disk : m.class ≡ Block) (disk_op : is_disk_op o ≡ true) (w : Waits m o) where
   -- only the last call may be answered
-  last_answered : (n : Ideal) (c : ℕ) (a : Answer) (kept : List ℕ) → (y : Answering m n c a kept) → (c ≡ suc (length w.earlier)) × (y.call ≡ w.call)
-  last_answered n zero a kept y = absurd (let f = y.there in cc)
-  last_answered n (suc i) a kept y = by_place (get_push w.earlier i w.call y.call (ap (λ (xs : List Opened). slice_get xs i) (sym w.opened) ∙ y.there))
+  last_answered : (n : Ideal) (c : ℕ) (a : Answer) (stored : List ℕ) → (y : Answering m n c a stored) → (c ≡ suc (length w.earlier)) × (y.call ≡ w.call)
+  last_answered n zero a stored y = absurd (let f = y.there in cc)
+  last_answered n (suc i) a stored y = by_place (get_push w.earlier i w.call y.call (ap (λ (xs : List Opened). slice_get xs i) (sym w.opened) ∙ y.there))
     where
       by_place : (slice_get w.earlier i ≡ Some y.call) ⊎ ((i ≡ length w.earlier) × (y.call ≡ w.call)) → (suc i ≡ suc (length w.earlier)) × (y.call ≡ w.call)
       by_place (inl e) =
@@ -474,24 +372,29 @@ module _ (m : Ideal) (o : Op) (disk_op : is_disk_op o ≡ true) (w : Waits m o) 
     where
       by_first : (v : Visible) → IsAnswering v → (k : Ideal) × (shows m v ≡ Some k) × (ran k vs ≡ Some n) → (v ∷ vs ≡ []) ⊎ Shows m n o (suc (length w.earlier)) (v ∷ vs)
       by_first (called c t p) t' k = absurd t'
-      by_first (wire c frame) t' k = absurd (wire_not m k.0 c frame calm k.1)
-      by_first (sample word rate volume) t' k = absurd (sample_not m k.0 word rate volume calm k.1)
+      by_first (wire c frame) t' k = absurd (wire_not m k.0 c frame disk k.1)
+      by_first (sample word rate volume) t' k = absurd (sample_not m k.0 word rate volume disk k.1)
       by_first (arrived frame) t' k = absurd t'
-      by_first (answer c a kept) t' k =
-          let y : Answering m k.0 c a kept = answering m k.0 c a kept k.1 in
-          let l = last_answered k.0 c a kept y in
+      by_first (answer c a stored) t' k =
+          let y : Answering m k.0 c a stored = answering m k.0 c a stored k.1 in
+          let l = last_answered k.0 c a stored y in
           let same_op : y.call.op ≡ o = ap (λ (x : Opened). x.op) l.1 ∙ w.op in
-          let effect = serves_checked (static_check m.class m.size y.call.op) (closes c m) k.0 y.call.thread y.call.op a kept (ap is_disk_op same_op ∙ disk_op) y.answers in
-          let over' : list_all is_over k.0.opened ≡ true = closed k.0 (effect.1 ∙ ap (λ (j : ℕ). (closes j m).opened) l.0) in
-          let rest : vs ≡ [] = idle_ran k.0 n vs over' told.1 k.2 in
+          let disk' : k.0.class ≡ Block = (kept_shown m (answer c a stored) k.0 k.1).0 ∙ disk in
+          let over' : list_all is_over k.0.opened ≡ true = closed k.0 (
+            ap (λ (x : Ideal). x.opened) (sym y.after) ∙ (after_keeps (closes c m) y.call.thread y.call.op a stored).2
+                ∙ ap (λ (j : ℕ). (closes j m).opened) l.0
+          ) in
+          let rest : vs ≡ [] = idle_ran k.0 n vs disk' over' told.1 k.2 in
           let end : k.0 ≡ n = ran_none k.0 n (ap (ran k.0) (sym rest) ∙ k.2) in
           inr (record {
             a = a;
-            kept = kept;
-            shown_is = ap (λ (l : List Visible). answer c a kept ∷ l) rest ∙ ap (λ (j : ℕ). answer j a kept ∷ []) l.0;
+            stored = stored;
+            shown_is = ap (λ (l : List Visible). answer c a stored ∷ l) rest ∙ ap (λ (j : ℕ). answer j a stored ∷ []) l.0;
             over = ap (λ (x : Ideal). list_all is_over x.opened) (sym end) ∙ over';
-            serves = λ e. subst (λ (x : Ideal). ServesSaid m.blocks o a x.blocks) end
-                (subst (λ (p : Op). ServesSaid m.blocks p a k.0.blocks) same_op (effect.0 (ap (static_check m.class m.size) same_op ∙ e)));
+            serves = λ e. subst (λ (x : Ideal). ServesSaid m.blocks o a x.blocks) (y.after ∙ end)
+                (subst (λ (p : Op). ServesSaid m.blocks p a (after_answer (closes c m) y.call.thread y.call.op a stored).blocks) same_op
+                (serves_with (closes c m) y.call.thread y.call.op a stored (ap is_disk_op same_op ∙ disk_op)
+                (due_may (closes c m) y.call a (ap (static_check m.class m.size) same_op ∙ e) y.due)));
           })
 
 -- ---- one call on a side
@@ -549,14 +452,14 @@ module _ (size : ℕ) (old new : DeskView) (call : ℕ) (o : Op) (disk_op : is_d
 
   pub served_by : IsServedBy size old new o a device
   unfolding waits
-  served_by = by_shown (waiting_ran made o disk_op waits device behind told (subst (λ (k : Ideal). ran k behind ≡ Some device) (sym called_so.1) next.2))
+  served_by = by_shown (waiting_ran made o class_kept.0 disk_op waits device behind told (subst (λ (k : Ideal). ran k behind ≡ Some device) (sym called_so.1) next.2))
     where
       by_shown : (behind ≡ []) ⊎ Shows made device o (suc (length goes_on.between.opened)) behind → IsServedBy size old new o a device
       by_shown (inl e) = absurd (let f : None ≡ Some a = sym (ap (first_shown call) e) ∙ shown_first in cc)
       by_shown (inr s) =
           let own : if_call call call (Some s.a) ≡ Some s.a = own_answer call (Some s.a) in
           let shown_so : first_shown call behind ≡ or_later (if_call call call (Some s.a)) None =
-          ap (first_shown call) (s.shown_is ∙ ap (λ (j : ℕ). answer j s.a s.kept ∷ []) (sym number)) in
+          ap (first_shown call) (s.shown_is ∙ ap (λ (j : ℕ). answer j s.a s.stored ∷ []) (sym number)) in
           let same : s.a ≡ a = some_same s.a a (sym (shown_so ∙ or_none (if_call call call (Some s.a)) ∙ own) ∙ shown_first) in
           record {
             over = s.over;

@@ -18,7 +18,7 @@ use Rattle.nook_defs.specs.declared.data.Stage.TheVariants as stage
 use Rattle.nook_defs.specs.declared.data.Step.TheVariants as step
 use Rattle.nook_defs.specs.Calls.{answer_in, invoked, invoked_by}
 use Rattle.nook_defs.specs.Classes.{same_class, static_check}
-use Rattle.nook_defs.specs.Contract.{first_break, first_watch}
+use Rattle.nook_defs.specs.Contract.{first_break, known_first}
 use Rattle.nook_defs.specs.Ideal.{IsClassRun}
 use Rattle.nook_defs.specs.Log.{IsNumbered, call_of_thread, gone_answers, opening_log}
 use Rattle.nook_defs.specs.Runs.{IsRun, IsRunFrom, answer_at, event_of, if_call, state_after, state_from, state_of, step_of}
@@ -34,7 +34,8 @@ use Rattle.part_laws.specs.Facts.{is_dead}
 use Rattle.part_laws.specs.Recovery.{Gone}
 use Rattle.part_laws.proofs.Counts.{counted_from}
 use Rattle.part_laws.proofs.Places.{split}
-use Rattle.part_laws.proofs.Recovered.{gone_stays, sees_one_run}
+use Rattle.part_laws.proofs.ReadAloud.{kept_shows_one_run}
+use Rattle.part_laws.proofs.Recovered.{gone_stays}
 use Rattle.part_laws.proofs.RunBound.{count_more}
 use Rattle.part_laws.proofs.Stages.{with_mode}
 use Rattle.mirror_block.specs.Sides.{Invocation, and_more, answers_given, first_answer, invocations, or_later}
@@ -259,7 +260,7 @@ pub one_run : (spec : PartSpec) (seen : List Event) → spec.class ≡ class.Blo
 unfolding first_break trace IsRunFrom
 one_run spec seen block run contract checked none = split (is_dead (state_of spec seen).mode)
     (λ t. by_parts (given_up_in seen (opening spec) (opening_alive spec) t))
-    (λ t. sees_one_run spec seen (record { run = run; contract = contract; alive = t }))
+    (λ t. kept_shows_one_run spec seen (record { run = run; contract = contract; alive = t }))
   where
     by_parts : GivenUp (opening spec) seen → IsClassRun spec.class spec.blocks (trace seen)
     by_parts k = by_pending q.log.pending refl
@@ -277,9 +278,9 @@ one_run spec seen block run contract checked none = split (is_dead (state_of spe
         event_is = sym parts.1.1 ∙ stops.0
 
         before_run : IsClassRun spec.class spec.blocks (trace k.before)
-        before_run = sees_one_run spec k.before (record {
+        before_run = kept_shows_one_run spec k.before (record {
           run = parts.0;
-          contract = unbroken_before 1 (first_watch spec.class spec.blocks) k.before (k.event ∷ k.behind)
+          contract = unbroken_before 1 (known_first spec.class spec.blocks) k.before (k.event ∷ k.behind)
               (ap (λ (l : List Event). first_break spec.class spec.blocks l) k.parts ∙ contract);
           alive = k.alive;
         })

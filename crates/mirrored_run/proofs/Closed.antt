@@ -6,7 +6,7 @@ use Rattle.std.specs.List.{AllByRecursion}
 use Rattle.nook_defs.specs.declared.data.Event.{Event}
 use Rattle.nook_defs.specs.declared.data.PartSpec.{PartSpec}
 use Rattle.nook_defs.specs.Places.{at_number}
-use Rattle.nook_defs.specs.Room.{Kept}
+use Rattle.nook_defs.specs.Views.Room.{Kept}
 use Rattle.nook_defs.specs.Runs.{IsRun, PartRun, next_any, state_of}
 use Rattle.nook_defs.specs.State.{PartState}
 use Rattle.shares.specs.Shares.{IsWhole}

@@ -26,7 +26,8 @@ use Rattle.nook_defs.specs.declared.machine.BurstEnd.TheVariants as ends
 use Rattle.nook_defs.specs.declared.machine.Service.{Service}
 use Rattle.nook_defs.specs.Calls.{Turned, admitted, entered_by, entered_part, invoked, invoked_by}
 use Rattle.nook_defs.specs.Classes.{accept, admit, static_check}
-use Rattle.nook_defs.specs.Contract.{Watch, break_at, break_from, sees}
+use Rattle.nook_defs.specs.declared.clause.Clause.{Clause}
+use Rattle.nook_defs.specs.Contract.{Known, after, break_from, break_or, broken}
 use Rattle.nook_defs.specs.Crossing.{Crossed, call_replied, closes, crossed, failed, fails, goes_on, is_accepted, is_last, kernel_call, next_mode, next_stage, refused_service, reply_by, serve_by, shadow_fault, shadow_replied, stage_in}
 use Rattle.nook_defs.specs.Domain.{domain_burst, first_argument, second_argument, stopped_domain}
 use Rattle.nook_defs.specs.Log.{call_of_thread, gone_answers}
@@ -58,17 +59,17 @@ more_gone (Some a) answers h = or_right (is_gone a) (has_gone answers) h
 
 -- ---- the contract
 
-unbroken : (o : Option ℕ) (place : ℕ) (later : Option Break) → break_at o place later ≡ None → (o ≡ None) × (later ≡ None)
-unbroken None place later h = (refl, h)
-unbroken (Some clause) place later h = absurd cc
+unbroken : (cs : List Clause) (place : ℕ) (later : Option Break) → break_or place cs later ≡ None → (cs ≡ []) × (later ≡ None)
+unbroken [] place later h = (refl, h)
+unbroken (c ∷ cs) place later h = absurd cc
 
 -- a journal without a break has none in what begins it
-pub unbroken_before : (place : ℕ) (w : Watch) (xs ys : List Event) → break_from place w (xs ++ ys) ≡ None → break_from place w xs ≡ None
+pub unbroken_before : (place : ℕ) (k : Known) (xs ys : List Event) → break_from place k (xs ++ ys) ≡ None → break_from place k xs ≡ None
 unfolding break_from
-unbroken_before place w [] ys h = refl
-unbroken_before place w (e ∷ xs) ys h =
-    let k = unbroken (sees w e).clause place (break_from (suc place) (sees w e) (xs ++ ys)) h in
-    ap (λ (o : Option ℕ). break_at o place (break_from (suc place) (sees w e) xs)) k.0 ∙ unbroken_before (suc place) (sees w e) xs ys k.1
+unbroken_before place k [] ys h = refl
+unbroken_before place k (e ∷ xs) ys h =
+    let u = unbroken (broken k e) place (break_from (suc place) (after k e) (xs ++ ys)) h in
+    ap (λ (cs : List Clause). break_or place cs (break_from (suc place) (after k e) xs)) u.0 ∙ unbroken_before (suc place) (after k e) xs ys u.1
 
 -- ---- where a part was given up
 

@@ -13,7 +13,7 @@ use Rattle.nook_defs.specs.declared.data.Op.{Op}
 use Rattle.nook_defs.specs.declared.data.PartSpec.{PartSpec}
 use Rattle.nook_defs.specs.Blocks.{blank_blocks}
 use Rattle.nook_defs.specs.Classes.{static_check}
-use Rattle.nook_defs.specs.Contract.{first_break, first_watch}
+use Rattle.nook_defs.specs.Contract.{first_break, known_first}
 use Rattle.nook_defs.specs.Ideal.{IsClassRun, never_failing, ran}
 use Rattle.nook_defs.specs.Trace.{trace, trace_from}
 use Rattle.desk_like.specs.Desks.{DeskView}
@@ -58,7 +58,7 @@ Unbroken s seen = first_break s.class s.blocks seen ≡ None
 before_unbroken : (s : PartSpec) (seen journal : List Event) → IsPrefix seen journal → Unbroken s journal → Unbroken s seen
 unfolding first_break
 before_unbroken s seen journal p h =
-    unbroken_before 1 (first_watch s.class s.blocks) seen p.0 (ap (λ (l : List Event). first_break s.class s.blocks l) p.1 ∙ h)
+    unbroken_before 1 (known_first s.class s.blocks) seen p.0 (ap (λ (l : List Event). first_break s.class s.blocks l) p.1 ∙ h)
 
 pub prefix_through : (xs ys zs : List Event) → IsPrefix xs ys → IsPrefix ys zs → IsPrefix xs zs
 prefix_through xs ys zs p q = (p.0 ++ q.0, sym (append_assoc xs p.0 q.0) ∙ ap (λ (l : List Event). l ++ q.0) p.1 ∙ q.1)

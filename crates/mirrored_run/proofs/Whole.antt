@@ -26,7 +26,7 @@ use Rattle.mirror_block.specs.Mirrors.{MirrorView, new_mirror}
 use Rattle.mirror_block.specs.Rule.{both_present, mirrored}
 use Rattle.mirror_block.specs.Sides.{Invocation, IsNewSide, answers_given, invocations}
 use Rattle.mirror_block.proofs.NewMirror.{new_is_mirror}
-use Rattle.nook_defs.specs.Room.{Kept}
+use Rattle.nook_defs.specs.Views.Room.{Kept}
 use Rattle.part_server.specs.Turns.{opening_view}
 use Rattle.report_text.specs.declared.whole_report.PartEnd.{PartEnd}
 use Rattle.report_text.specs.Whole.{HaveEnds}

@@ -1,4 +1,6 @@
 pub mod OnLiterals
+pub mod BurstTurns
+pub mod NextSteps
 pub mod TraceOnLiterals
 pub mod KnownLemmas
 pub mod InputOnLiterals

@@ -185,7 +185,7 @@ abbrev pub has_bad_token : List (List ℕ) → Bool
 has_bad_token [] = false
 has_bad_token (token ∷ more) = is_bad (kind_of token) || has_bad_token more
 
--- a statement that stands in a line with wrong operands elsewhere
+-- the smaller of a statement's fault and WrongOperands
 abbrev pub at_most_wrong : Result Statement AsmKind → Result Statement AsmKind
 at_most_wrong (Ok says) = Err fault.WrongOperands
 at_most_wrong (Err kind) = Err kind

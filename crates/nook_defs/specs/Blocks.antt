@@ -23,6 +23,7 @@ abbrev pub words_for : Op → ℕ → List ℕ
 words_for (Write first words) block = take 16 (drop (16 * (block - first)) words)
 words_for o block = []
 
+-- a block, or what a Write has for it
 abbrev pub put_block : Bool → Op → ℕ → List ℕ → List ℕ
 put_block true o block words = words_for o block
 put_block false o block words = words

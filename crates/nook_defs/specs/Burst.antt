@@ -18,6 +18,7 @@ pub record Burst : Type 0 where
   pub count : ℕ
   pub ending : BurstEnd
 
+-- a burst that is over
 abbrev pub ended : ℕ → Machine → List Act → BurstEnd → Burst
 ended count m acts ending = record { machine = m; acts = acts; count = count; ending = ending }
 
@@ -53,12 +54,14 @@ trap_of (fault.Poke address value) = None
 trap_of (fault.Code address value) = None
 trap_of (fault.Reg register value) = None
 
+-- the machine after a fault struck
 abbrev pub struck_machine : List Entry → FaultKind → Machine → Machine
 struck_machine entries k m = record m {
   cpu = record m.cpu { registers = struck_registers k m.cpu.registers };
   memory = struck_memory entries k m.memory;
 }
 
+-- a fault that is a trap stops the others of its place
 abbrev pub past_trap : Struck → Machine → List Fault → Option TrapCause → Struck
 past_trap more m rest None = more
 past_trap more m rest (Some cause) = record { machine = m; rest = rest; stopped = Some cause }
@@ -77,38 +80,44 @@ abbrev pub count_at : ℕ → TrapCause → ℕ
 count_at count trap.Hang = 4096
 count_at count _ = count
 
+-- the act of a turn, where it does one
 abbrev pub acts_of : Option Act → List Act
 acts_of None = []
 acts_of (Some done) = done ∷ []
 
--- the 64th act ends a burst
-abbrev pub past_acts : (Machine → List Act → Burst) → ℕ → Machine → List Act → Bool → Burst
-past_acts go_on count m acts true = ended count m acts ends.Pause
-past_acts go_on count m acts false = go_on m acts
+-- what a turn leaves: the burst goes on, with the machine, the faults that are left and the acts so far; or it is over
+pub data Going : Type 0 where
+  on : Machine → List Fault → List Act → Going
+  over : Burst → Going
 
--- a crossing ends a burst
-abbrev pub past_crossing : (Machine → List Act → Burst) → ℕ → Machine → List Act → Option BurstEnd → Burst
-past_crossing go_on count m acts None = past_acts go_on count m acts (nat_le 64 (length acts))
-past_crossing go_on count m acts (Some crossing) = ended count m acts crossing
+-- after the machine's turn, which adds its act: a crossing ends the burst, and so does the 64th act; else it goes on
+abbrev pub after_turn : ℕ → List Fault → List Act → Turn → Going
+after_turn count rest acts t =
+    let acts' : List Act = acts ++ acts_of t.act in
+    elim t.crossing [
+      | Some crossing ↦ over (ended count t.machine acts' crossing)
+      | None ↦ if nat_le 64 (length acts') then over (ended count t.machine acts' ends.Pause) else on t.machine rest acts'
+    ]
 
-abbrev pub past_turn : (Machine → List Act → Burst) → ℕ → List Act → Turn → Burst
-past_turn go_on count acts t = past_crossing go_on count t.machine (acts ++ acts_of t.act) t.crossing
+-- one turn, with so many left after it: the faults of its place strike, and a trap among them ends the burst;
+-- then comes the machine's turn
+abbrev pub one_turn : ℕ → List Entry → List Fault → Machine → List Act → Going
+one_turn left entries faults m acts =
+    let place : ℕ = 4096 - suc left in
+    let struck : Struck = strikes_at place entries faults m in
+    elim struck.stopped [
+      | Some cause ↦ over (ended (count_at place cause) struck.machine acts (ends.Trap cause))
+      | None ↦ after_turn (4096 - left) struck.rest acts (turn entries struck.machine)
+    ]
 
--- a fault's trap ends a burst
-abbrev pub past_stop : (List Fault → Machine → Burst) → ℕ → List Act → Machine → List Fault → Option TrapCause → Burst
-past_stop go_on count acts m rest None = go_on rest m
-past_stop go_on count acts m rest (Some cause) = ended (count_at count cause) m acts (ends.Trap cause)
-
-abbrev pub past_strikes : (List Fault → Machine → Burst) → ℕ → List Act → Struck → Burst
-past_strikes go_on count acts s = past_stop go_on count acts s.machine s.rest s.stopped
-
--- a burst with so many turns left: the faults of this place, then a turn; a burst without a crossing is a hang
+-- a burst with so many turns left: one turn after the other until it is over; a burst without a crossing is a hang
 unfoldable pub burst_from : ℕ → List Entry → List Fault → Machine → List Act → Burst
 burst_from zero entries faults m acts = ended 4096 m acts (ends.Trap trap.Hang)
 burst_from (suc left) entries faults m acts =
-    past_strikes
-    (λ rest struck. past_turn (λ m' acts'. burst_from left entries rest m' acts') (4096 - left) acts (turn entries struck))
-    (4096 - suc left) acts (strikes_at (4096 - suc left) entries faults m)
+    elim (one_turn left entries faults m acts) [
+      | on m' rest acts' ↦ burst_from left entries rest m' acts'
+      | over b ↦ b
+    ]
 
 -- one burst up to its crossing, with the faults of the burst in rising order of their places
 unfoldable pub burst : List Entry → List Fault → Machine → Burst

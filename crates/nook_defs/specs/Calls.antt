@@ -36,16 +36,19 @@ queue_in mode.Running o queue = queue
 queue_in (mode.Recovering s) o queue = queue_after o queue
 queue_in (mode.Dead collected) o queue = queue
 
+-- a call that the shadow or the static check answers is only counted; another is open
 abbrev pub logged : ℕ → Op → Option Answer → CallLog → CallLog
 logged thread o None log = with_call thread o log
 logged thread o (Some a) log = numbered log
 
+-- the part after an Invoke with its answer, if it has one
 abbrev pub invoked_with : PartState → ℕ → Op → Option Answer → List (List ℕ) → Turned
 invoked_with p thread o a queue = record {
   state = record p { log = logged thread o a p.log; queue = queue };
   event = event.Invoke (p.log.count + 1) thread o a;
 }
 
+-- an operation that the static check answers changes nothing else
 abbrev pub invoked_by : PartState → ℕ → Op → Option Answer → Turned
 invoked_by p thread o None = invoked_with p thread o (answer_in p.mode thread o p) (queue_in p.mode o p.queue)
 invoked_by p thread o (Some a) = invoked_with p thread o (Some a) p.queue
@@ -56,9 +59,11 @@ invoked thread o p = invoked_by p thread o (static_check p.spec.class p.spec.blo
 
 -- Entering
 
+-- the event of an Enter, with the number of the attempt
 abbrev pub entering : PartState → CallEntry → Option Answer → Event
 entering p c a = event.Enter c.call c.thread (c.attempts + 1) a
 
+-- a call that its class answers is over; another begins an attempt
 abbrev pub admitted : PartState → CallEntry → Admit → Turned
 admitted p c (admits.Reply a) = record {
   state = record p { log = answered c.call p.log };
@@ -73,6 +78,7 @@ admitted p c (admits.Enter place) = record {
   event = entering p c None;
 }
 
+-- the Enter of a thread's open call; a thread that has none may not take this step
 abbrev pub entered_by : PartState → ℕ → Option CallEntry → Turned
 entered_by p thread None = record { state = p; event = event.Enter 0 thread 0 None }
 entered_by p thread (Some c) =

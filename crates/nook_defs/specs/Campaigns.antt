@@ -49,6 +49,7 @@ pub record IsValidCampaign (campaign : Campaign) : Type 0 where
 abbrev pub with_fault : Fault → PartSpec → PartSpec
 with_fault fault part = record part { faults = part.faults ++ fault ∷ [] }
 
+-- the part that a campaign strikes, with one more fault
 abbrev pub with_struck : List PartSpec → ℕ → Fault → Option PartSpec → List PartSpec
 with_struck parts place fault None = parts
 with_struck parts place fault (Some part) = slice_set parts place (with_fault fault part)
@@ -67,6 +68,7 @@ member campaign fault = struck campaign.base campaign.part fault
 
 -- ---- rows
 
+-- the answer of a part that was given up
 abbrev pub is_gone_answer : Answer → Bool
 is_gone_answer (answered.Gone failures) = true
 is_gone_answer a = false

@@ -1,4 +1,4 @@
-use Rattle.std.specs.Prelude.{ℕ, Bool, true, false, List, [], ◌∷◌, length, Option, Some, None, ◌+◌, ◌-◌, ◌/◌, ◌%◌, nat_le, nat_lt, ◌==◌, ◌&&◌, ◌||◌, if◌then◌else◌}
+use Rattle.std.specs.Prelude.{ℕ, Bool, true, false, List, [], ◌∷◌, length, Option, Some, None, ◌+◌, ◌-◌, ◌/◌, ◌%◌, nat_le, nat_lt, ◌==◌, ◌&&◌, ◌||◌, if◌then◌else◌, slice_index, bytes_eq}
 use Rattle.nook_defs.specs.declared.classes.Accept.{Accept}
 use Rattle.nook_defs.specs.declared.classes.Accept.TheVariants as accepted
 use Rattle.nook_defs.specs.declared.classes.Admit.{Admit}
@@ -17,6 +17,7 @@ class_code Block = 0
 class_code Net = 1
 class_code Sound = 2
 
+-- two classes are one
 abbrev pub same_class : Class → Class → Bool
 same_class a b = class_code a == class_code b
 
@@ -34,6 +35,7 @@ maximum_of Block key = if key == 0 then 1 else if key == 1 then 8 else 429496729
 maximum_of Net key = if key == 0 then 1000 else if key == 1 then 1 else if key == 2 then 255 else 4294967295
 maximum_of Sound key = if key == 0 then 48000 else if key == 1 then 10 else if key == 2 then 2 else 4294967295
 
+-- the four defaults of a class
 abbrev pub defaults_of : Class → List ℕ
 defaults_of class = default_of class 0 ∷ default_of class 1 ∷ default_of class 2 ∷ default_of class 3 ∷ []
 
@@ -51,17 +53,35 @@ is_of_class class Close = same_class class Sound
 is_of_class class (Get key) = true
 is_of_class class (Set key value) = true
 
+-- a Write
 abbrev pub is_write : Op → Bool
 is_write (Write first words) = true
 is_write o = false
 
+-- a Set
 abbrev pub is_set : Op → Bool
 is_set (Set key value) = true
 is_set o = false
 
+-- a Recv
 abbrev pub is_recv : Op → Bool
 is_recv Recv = true
 is_recv o = false
+
+-- a Play
+abbrev pub is_play : Op → Bool
+is_play (Play samples) = true
+is_play o = false
+
+-- a Send of this frame
+abbrev pub sends : List ℕ → Op → Bool
+sends frame (Send own) = bytes_eq own frame
+sends frame o = false
+
+-- the word is the next one of a Play of which so many samples were played
+abbrev pub is_next : Op → ℕ → ℕ → Bool
+is_next (Play samples) played word = nat_lt played (length samples) && (slice_index samples played == word)
+is_next o played word = false
 
 -- Open, Play and Close
 abbrev pub is_of_stream : Op → Bool
@@ -137,22 +157,27 @@ conflicts class a b = is_set a || is_set b || clash class a b
 
 -- ---- the entries of a driver, in the class's order
 
+-- how many entries a driver of the class has
 abbrev pub entry_count : Class → ℕ
 entry_count Block = 5
 entry_count Net = 5
 entry_count Sound = 6
 
+-- the place of Init among the entries
 abbrev pub init_place : ℕ
 init_place = 0
 
+-- the place of Open among the entries
 abbrev pub open_place : ℕ
 open_place = 1
 
+-- the place of Get among the entries
 abbrev pub get_place : Class → ℕ
 get_place Block = 3
 get_place Net = 3
 get_place Sound = 4
 
+-- the place of Set among the entries
 abbrev pub set_place : Class → ℕ
 set_place Block = 4
 set_place Net = 4
@@ -201,6 +226,7 @@ admit class thread o holder queued = Enter (entry_place class o)
 abbrev pub is_io_status : Op → ℕ → Bool
 is_io_status o status = nat_le 256 status && nat_lt (status - 256) (blocks_of_op o)
 
+-- what the status of a reply says of an operation
 abbrev pub accept : Op → ℕ → Accept
 accept o status =
     if status == 0 then accepted.Take

@@ -1,30 +1,61 @@
-use Rattle.std.specs.Prelude.{ℕ, suc, Bool, true, false, List, [], ◌∷◌, ◌++◌, length, map, drop, Option, Some, None, is_some, is_none, nat_lt, min, ◌==◌, ◌&&◌, ◌||◌, not, if◌then◌else◌, slice_index, slice_set, bytes_eq}
+use Rattle.std.specs.Prelude.{ℕ, suc, Bool, true, false, List, [], ◌∷◌, ◌++◌, map, filter, find, length, drop, fold, Option, Some, None, is_some, nat_lt, ◌==◌, ◌&&◌, ◌||◌, not, if◌then◌else◌, slice_index, slice_set, bytes_eq}
+use Rattle.std.specs.List.{list_any}
+use Rattle.nook_defs.specs.declared.clause.Clause.{Clause}
+use Rattle.nook_defs.specs.declared.clause.Clause.TheVariants.{UnaskedStore, OtherStore, UnstoredWrite, OtherRead, UnaskedFrame, SecondFrame, UnsentSend, OutOfOrder, LeftInRing, OtherSample, UnplayedPlay, UnaskedRegister, UnmadeSet, OtherGet, UnseenFailure}
 use Rattle.nook_defs.specs.declared.data.Act.{Act}
 use Rattle.nook_defs.specs.declared.data.Act.TheVariants as act
 use Rattle.nook_defs.specs.declared.data.Answer.{Answer}
-use Rattle.nook_defs.specs.declared.data.Answer.TheVariants as answered
+use Rattle.nook_defs.specs.declared.data.Answer.TheVariants as answer
 use Rattle.nook_defs.specs.declared.data.Break.{Break}
 use Rattle.nook_defs.specs.declared.data.Class.{Class}
 use Rattle.nook_defs.specs.declared.data.End.{End}
-use Rattle.nook_defs.specs.declared.data.End.TheVariants as ends
+use Rattle.nook_defs.specs.declared.data.End.TheVariants as end
 use Rattle.nook_defs.specs.declared.data.Event.{Event}
 use Rattle.nook_defs.specs.declared.data.Event.TheVariants as event
 use Rattle.nook_defs.specs.declared.data.FailCause.{FailCause}
 use Rattle.nook_defs.specs.declared.data.Op.{Op}
 use Rattle.nook_defs.specs.declared.data.Op.TheVariants.{Read, Write, Send, Recv, Play, Get, Set}
 use Rattle.nook_defs.specs.declared.data.Stage.{Stage}
-use Rattle.nook_defs.specs.declared.data.Stage.TheVariants as stages
+use Rattle.nook_defs.specs.declared.data.Stage.TheVariants as stage
 use Rattle.nook_defs.specs.Blocks.{blank_blocks, get_blocks, has_block, holds_from, words_for}
-use Rattle.nook_defs.specs.Classes.{covers, defaults_of, is_write}
-use Rattle.nook_defs.specs.Ideal.{is_next, is_play}
-use Rattle.nook_defs.specs.Places.{at_number, change_number, number_where}
+use Rattle.nook_defs.specs.Classes.{covers, defaults_of, is_next, is_play, is_write, sends, is_recv}
+use Rattle.nook_defs.specs.Answers.{answers_of}
 
--- The contract of a class is what a driver owes its device and its callers, in fifteen clauses. It is judged by a
--- journal's events alone.
+-- The contract of a class is what a driver owes its device and its callers, in fifteen clauses. It is judged by the events
+-- of a journal alone. Two things are said apart: what is known after some events, and what the next event breaks.
 
--- a call: whether it is Inside; how many frames were sent in its bursts and how many of its samples were played; and
--- of its attempt, whether a frame was handed up and on which blocks a command failed
-pub record Watched : Type 0 where
+-- ---- the clauses
+
+-- all of them, in the order of their numbers
+abbrev pub all_clauses : List Clause
+all_clauses =
+    UnaskedStore ∷ OtherStore ∷ UnstoredWrite ∷ OtherRead ∷ UnaskedFrame ∷ SecondFrame ∷ UnsentSend ∷ OutOfOrder ∷ LeftInRing
+    ∷ OtherSample ∷ UnplayedPlay ∷ UnaskedRegister ∷ UnmadeSet ∷ OtherGet ∷ UnseenFailure ∷ []
+
+-- the number by which a clause is printed
+abbrev pub number_of : Clause → ℕ
+number_of UnaskedStore = 1
+number_of OtherStore = 2
+number_of UnstoredWrite = 3
+number_of OtherRead = 4
+number_of UnaskedFrame = 5
+number_of SecondFrame = 6
+number_of UnsentSend = 7
+number_of OutOfOrder = 8
+number_of LeftInRing = 9
+number_of OtherSample = 10
+number_of UnplayedPlay = 11
+number_of UnaskedRegister = 12
+number_of UnmadeSet = 13
+number_of OtherGet = 14
+number_of UnseenFailure = 15
+
+-- ---- what is known
+
+-- a call that is open: whether it is Inside; how many frames were sent in its bursts, and how many of its samples were
+-- played; and of its attempt, whether a frame was handed up and on which blocks a command failed
+pub record OpenCall : Type 0 where
+  pub number : ℕ
   pub op : Op
   pub inside : Bool
   pub sent : ℕ
@@ -32,23 +63,22 @@ pub record Watched : Type 0 where
   pub handed : Bool
   pub failed : List ℕ
 
--- what a monitor knows after some events: the medium, the ring and the registers that they leave; the frames popped
--- and the frames handed up since the last Load; every call at the place of its number; the key and value of the
--- ReplaySet that is Inside; and the smallest clause that the last event broke
-pub record Watch : Type 0 where
+-- what is known after some events: the medium, the ring and the registers that they leave; the frames popped and the
+-- frames handed up since the last Load; the open calls in the order in which they were made; and the key and value of
+-- the ReplaySet that is Inside
+pub record Known : Type 0 where
   pub class : Class
   pub medium : List (List ℕ)
   pub ring : List (List ℕ)
   pub registers : List ℕ
   pub popped : List (List ℕ)
   pub handed : List (List ℕ)
-  pub calls : List Watched
+  pub calls : List OpenCall
   pub replay : Option (ℕ × ℕ)
-  pub clause : Option ℕ
 
--- what it knows at first, of a disk with so many blocks
-abbrev pub first_watch : Class → ℕ → Watch
-first_watch class size = record {
+-- what is known at first, of a disk with so many blocks
+abbrev pub known_first : Class → ℕ → Known
+known_first class size = record {
   class = class;
   medium = blank_blocks class size;
   ring = [];
@@ -57,226 +87,288 @@ first_watch class size = record {
   handed = [];
   calls = [];
   replay = None;
-  clause = None;
 }
 
-abbrev pub smaller_clause : ℕ → Option ℕ → ℕ
-smaller_clause clause None = clause
-smaller_clause clause (Some other) = min clause other
+-- ---- what a driver does
 
--- the smallest broken clause, where this one is kept exactly if the test holds
-abbrev pub wanted : Bool → ℕ → Option ℕ → Option ℕ
-wanted true clause broken = broken
-wanted false clause broken = Some (smaller_clause clause broken)
+-- one thing that is done in a burst
+pub data Deed : Type 0 where
+  -- a device act
+  acts : Act → Deed
+  -- a frame is handed up
+  hands_up : List ℕ → Deed
+  -- the reply of the burst's call is accepted, with this answer
+  replies : Answer → Deed
+  -- the reply of the shadow's own call is accepted
+  replays : Deed
 
-abbrev pub wants : Bool → ℕ → Watch → Watch
-wants kept clause w = record w { clause = wanted kept clause w.clause }
+-- what a crossing does: a served service 6 hands a frame up, and a reply is accepted where no failure is carried
+abbrev pub crossing_deeds : End → Option Answer → Option FailCause → List Deed
+crossing_deeds (end.Service number first second result moved) a failure =
+    if number == 6 && is_some result then hands_up moved ∷ [] else []
+crossing_deeds (end.Reply status) (Some a) None = replies a ∷ []
+crossing_deeds (end.Reply status) None None = replays ∷ []
+crossing_deeds e a failure = []
 
--- ---- calls
+-- what a burst does: its acts in order, then its crossing
+abbrev pub deeds_of : List Act → End → Option Answer → Option FailCause → List Deed
+deeds_of done e a failure = map acts done ++ crossing_deeds e a failure
 
-abbrev pub watched : Op → Watched
-watched o = record { op = o; inside = false; sent = 0; played = 0; handed = false; failed = [] }
+-- ---- questions about the open calls
 
--- the call is entered; it is Inside where it got no answer
-abbrev pub enters : Bool → Watched → Watched
-enters inside c = record c { inside = inside; handed = false; failed = [] }
+-- the call with this number
+abbrev pub has_number : ℕ → OpenCall → Bool
+has_number number c = c.number == number
 
-abbrev pub leaves : Watched → Watched
-leaves c = record c { inside = false }
+-- the open call with a number
+abbrev pub call_of : ℕ → List OpenCall → Option OpenCall
+call_of number calls = find (has_number number) calls
 
-abbrev pub sent_once : Watched → Watched
-sent_once c = record c { sent = suc c.sent }
+-- a Write that is Inside and covers a block
+abbrev pub stores : ℕ → OpenCall → Bool
+stores block c = c.inside && is_write c.op && covers c.op block
 
-abbrev pub played_one : Watched → Watched
-played_one c = record c { played = suc c.played }
+-- such a Write that has other words for the block
+abbrev pub stores_other : ℕ → List ℕ → OpenCall → Bool
+stores_other block words c = stores block c && not (bytes_eq words (words_for c.op block))
 
-abbrev pub handed_one : Watched → Watched
-handed_one c = record c { handed = true }
-
-abbrev pub failed_at : ℕ → Watched → Watched
-failed_at block c = record c { failed = block ∷ c.failed }
-
--- ---- clauses 1 and 2: stores
-
--- a Write that is Inside and covers the block
-abbrev pub stores_at : ℕ → Watched → Bool
-stores_at block c = c.inside && is_write c.op && covers c.op block
-
-abbrev pub is_covered : ℕ → List Watched → Bool
-is_covered block [] = false
-is_covered block (c ∷ calls) = stores_at block c || is_covered block calls
-
--- each Write that is Inside and covers the block has these words for it
-abbrev pub is_agreed : ℕ → List ℕ → List Watched → Bool
-is_agreed block words [] = true
-is_agreed block words (c ∷ calls) =
-    (not (stores_at block c) || bytes_eq words (words_for c.op block)) && is_agreed block words calls
-
--- ---- clauses 5 and 6: frames sent
-
-abbrev pub sends : List ℕ → Op → Bool
-sends frame (Send own) = bytes_eq own frame
-sends frame o = false
-
-abbrev pub is_own_frame : List ℕ → Option Watched → Bool
-is_own_frame frame None = false
-is_own_frame frame (Some c) = sends frame c.op
-
-abbrev pub is_first_frame : Option Watched → Bool
-is_first_frame None = true
-is_first_frame (Some c) = c.sent == 0
-
--- ---- clause 8: frames handed up
-
--- the first frames of these are those
-abbrev pub is_prefix : List (List ℕ) → List (List ℕ) → Bool
-is_prefix [] frames = true
-is_prefix (first ∷ more) [] = false
-is_prefix (first ∷ more) (frame ∷ frames) = bytes_eq first frame && is_prefix more frames
-
--- ---- clause 10: samples played
-
-abbrev pub is_playing : Watched → Bool
+-- a Play that is Inside
+abbrev pub is_playing : OpenCall → Bool
 is_playing c = c.inside && is_play c.op
 
-abbrev pub is_next_of : ℕ → Option Watched → Bool
+-- the Play that is Inside
+abbrev pub play_inside : List OpenCall → Option OpenCall
+play_inside calls = find is_playing calls
+
+-- the sample is the next one of a Play
+abbrev pub is_next_of : ℕ → Option OpenCall → Bool
 is_next_of word None = false
 is_next_of word (Some c) = is_next c.op c.played word
 
--- ---- clause 12: registers changed
+-- a call that is such a Send
+abbrev pub is_send_of : List ℕ → Option OpenCall → Bool
+is_send_of frame None = false
+is_send_of frame (Some c) = sends frame c.op
 
--- a Set of the key and value
+-- a Set of a key and value
 abbrev pub sets : ℕ → ℕ → Op → Bool
 sets key value (Set k v) = (k == key) && (v == value)
 sets key value o = false
 
-abbrev pub is_setting : ℕ → ℕ → List Watched → Bool
-is_setting key value [] = false
-is_setting key value (c ∷ calls) = c.inside && sets key value c.op || is_setting key value calls
+-- such a Set that is Inside
+abbrev pub is_setting : ℕ → ℕ → OpenCall → Bool
+is_setting key value c = c.inside && sets key value c.op
 
-abbrev pub is_replaying : ℕ → ℕ → Option (ℕ × ℕ) → Bool
-is_replaying key value None = false
-is_replaying key value (Some set) = (set.0 == key) && (set.1 == value)
+-- the ReplaySet is of this key and value
+abbrev pub is_replay_of : ℕ → ℕ → Option (ℕ × ℕ) → Bool
+is_replay_of key value None = false
+is_replay_of key value (Some set) = (set.0 == key) && (set.1 == value)
 
--- the register has the value, or a Set or ReplaySet that gives it is Inside
-abbrev pub may_register : ℕ → ℕ → Watch → Bool
-may_register key value w =
-    (slice_index w.registers key == value) || is_setting key value w.calls || is_replaying key value w.replay
+-- a Set or a ReplaySet that is Inside gives the register this value
+abbrev pub is_asked : ℕ → ℕ → Known → Bool
+is_asked key value k = list_any (is_setting key value) k.calls || is_replay_of key value k.replay
 
--- ---- the acts of a burst of a call, 0 for the shadow's own
+-- the first frames of these are those
+abbrev pub is_front : List (List ℕ) → List (List ℕ) → Bool
+is_front [] frames = true
+is_front (first ∷ more) [] = false
+is_front (first ∷ more) (frame ∷ frames) = bytes_eq first frame && is_front more frames
 
-abbrev pub sees_act : ℕ → Act → Watch → Watch
-sees_act call (act.Load block) w = w
-sees_act call (act.Failed block store) w = record w { calls = change_number (failed_at block) call w.calls }
-sees_act call (act.Store block words) w = record w {
-  medium = slice_set w.medium block words;
-  clause = wanted (is_covered block w.calls) 1 (wanted (is_agreed block words w.calls) 2 w.clause);
-}
-sees_act call (act.Sent frame) w = record w {
-  calls = change_number sent_once call w.calls;
-  clause = wanted (is_own_frame frame (at_number call w.calls)) 5
-      (wanted (is_first_frame (at_number call w.calls)) 6 w.clause);
-}
-sees_act call (act.Popped frame) w = record w { ring = drop 1 w.ring; popped = w.popped ++ frame ∷ [] }
-sees_act call (act.Played word rate volume) w = record w {
-  calls = change_number played_one (number_where is_playing w.calls) w.calls;
-  clause = wanted (is_next_of word (at_number (number_where is_playing w.calls) w.calls)) 10 w.clause;
-}
-sees_act call (act.Register key value) w = record w {
-  registers = slice_set w.registers key value;
-  clause = wanted (may_register key value w) 12 w.clause;
-}
-
-abbrev pub sees_acts : ℕ → List Act → Watch → Watch
-sees_acts call [] w = w
-sees_acts call (a ∷ acts) w = sees_acts call acts (sees_act call a w)
-
--- ---- replies that are accepted
-
+-- there is no frame
 abbrev pub is_empty : List (List ℕ) → Bool
 is_empty [] = true
 is_empty (frame ∷ frames) = false
 
--- the smallest broken clause when a call's reply was accepted, with its answer
-abbrev pub owes : Watched → Op → Answer → Watch → Option ℕ
-owes c (Write first words) answered.Done w = wanted (holds_from 0 (Write first words) w.medium) 3 w.clause
-owes c (Read first count) (answered.Blocks words) w = wanted (bytes_eq words (get_blocks w.medium first count)) 4 w.clause
-owes c (Send frame) answered.Done w = wanted (nat_lt 0 c.sent) 7 w.clause
-owes c Recv a w = wanted (is_empty w.ring || c.handed) 9 w.clause
-owes c (Play samples) answered.Done w = wanted (c.played == length samples) 11 w.clause
-owes c (Set key value) answered.Done w = wanted (slice_index w.registers key == value) 13 w.clause
-owes c (Get key) (answered.Value word) w = wanted (slice_index w.registers key == word) 14 w.clause
-owes c (Read first count) (answered.IoError block) w = wanted (has_block block c.failed) 15 w.clause
-owes c (Write first words) (answered.IoError block) w = wanted (has_block block c.failed) 15 w.clause
-owes c o a w = w.clause
+-- ---- questions about an operation that is answered
 
-abbrev pub owes_found : Option Watched → Answer → Watch → Option ℕ
-owes_found None a w = w.clause
-owes_found (Some c) a w = owes c c.op a w
+-- what a Read is told is in the medium; nothing is asked of others
+abbrev pub is_in_medium : List ℕ → List (List ℕ) → Op → Bool
+is_in_medium words medium (Read first count) = bytes_eq words (get_blocks medium first count)
+is_in_medium words medium o = true
 
--- the register has the value of the ReplaySet that was Inside
+-- a Send
+abbrev pub is_send : Op → Bool
+is_send (Send frame) = true
+is_send o = false
+
+-- a Play is played to its end; nothing is asked of others
+abbrev pub is_played_out : ℕ → Op → Bool
+is_played_out played (Play samples) = played == length samples
+is_played_out played o = true
+
+-- the register has the value that a Set gives it; nothing is asked of others
+abbrev pub is_in_register : List ℕ → Op → Bool
+is_in_register registers (Set key value) = slice_index registers key == value
+is_in_register registers o = true
+
+-- the register has the value that a Get is told; nothing is asked of others
+abbrev pub is_register_of : ℕ → List ℕ → Op → Bool
+is_register_of word registers (Get key) = slice_index registers key == word
+is_register_of word registers o = true
+
+-- the register has the value of the ReplaySet that is Inside, if one is
 abbrev pub is_replayed : Option (ℕ × ℕ) → List ℕ → Bool
 is_replayed None registers = true
 is_replayed (Some set) registers = slice_index registers set.0 == set.1
 
--- a reply with its answer; the shadow's own calls have none
-abbrev pub sees_reply : ℕ → Option Answer → Watch → Watch
-sees_reply call (Some a) w = record w
-    { calls = change_number leaves call w.calls; clause = owes_found (at_number call w.calls) a w }
-sees_reply call None w = record w { replay = None; clause = wanted (is_replayed w.replay w.registers) 13 w.clause }
+-- a Read or a Write
+abbrev pub is_of_disk : Op → Bool
+is_of_disk (Read first count) = true
+is_of_disk (Write first words) = true
+is_of_disk o = false
 
--- ---- the crossing of a burst
+-- ---- the fifteen clauses
 
--- service 6 hands a frame up
-abbrev pub hands_up : ℕ → Option ℕ → Bool
-hands_up service result = (service == 6) && is_some result
+-- the deed, in a burst of this call (none for the shadow's own), breaks the clause
+abbrev pub breaks : Clause → Known → Option OpenCall → Deed → Bool
+-- 1: a block is stored that no Write Inside covers
+breaks UnaskedStore k c (acts (act.Store block words)) = not (list_any (stores block) k.calls)
+-- 2: a block that a Write Inside covers is stored with other words than that Write's
+breaks OtherStore k c (acts (act.Store block words)) = list_any (stores_other block words) k.calls
+-- 3: a Write is accepted, and a block that it covers does not hold its words
+breaks UnstoredWrite k (Some c) (replies answer.Done) = is_write c.op && not (holds_from 0 c.op k.medium)
+-- 4: a Read is accepted with other words than the medium's
+breaks OtherRead k (Some c) (replies (answer.Blocks words)) = not (is_in_medium words k.medium c.op)
+-- 5: a frame is sent outside a burst of a Send, or another frame than that Send's
+breaks UnaskedFrame k c (acts (act.Sent frame)) = not (is_send_of frame c)
+-- 6: a second frame is sent in one Send
+breaks SecondFrame k (Some c) (acts (act.Sent frame)) = nat_lt 0 c.sent
+-- 7: a Send is accepted, and no frame was sent in it
+breaks UnsentSend k (Some c) (replies answer.Done) = is_send c.op && c.sent == 0
+-- 8: a frame is handed up so that those handed up since the last Load are not the first of those popped since then
+breaks OutOfOrder k c (hands_up frame) = not (is_front (k.handed ++ frame ∷ []) k.popped)
+-- 9: a Recv is accepted while the ring is not empty, and no frame was handed up in a burst of that attempt
+breaks LeftInRing k (Some c) (replies a) = is_recv c.op && not (is_empty k.ring) && not c.handed
+-- 10: a sample is played that is not the next one of the Play Inside, or while none is Inside
+breaks OtherSample k c (acts (act.Played word rate volume)) = not (is_next_of word (play_inside k.calls))
+-- 11: a Play is accepted that was not played to its end
+breaks UnplayedPlay k (Some c) (replies answer.Done) = not (is_played_out c.played c.op)
+-- 12: a register is changed to a value that no Set and no ReplaySet Inside gives it
+breaks UnaskedRegister k c (acts (act.Register key value)) =
+    not (slice_index k.registers key == value) && not (is_asked key value k)
+-- 13: a Set or a ReplaySet is accepted, and the register does not hold its value
+breaks UnmadeSet k (Some c) (replies answer.Done) = not (is_in_register k.registers c.op)
+breaks UnmadeSet k c replays = not (is_replayed k.replay k.registers)
+-- 14: a Get is accepted with a value that is not the register's
+breaks OtherGet k (Some c) (replies (answer.Value word)) = not (is_register_of word k.registers c.op)
+-- 15: a Read or Write is accepted with an IoError of a block on which no command failed in that attempt
+breaks UnseenFailure k (Some c) (replies (answer.IoError block)) = is_of_disk c.op && not (has_block block c.failed)
+breaks clause k c d = false
 
--- a kernel call with the words that it moved
-abbrev pub sees_service : Bool → ℕ → List ℕ → Watch → Watch
-sees_service up call moved w = record w {
-  handed = if up then w.handed ++ moved ∷ [] else w.handed;
-  calls = if up then change_number handed_one call w.calls else w.calls;
-  clause = wanted (not up || is_prefix (w.handed ++ moved ∷ []) w.popped) 8 w.clause;
-}
+-- ---- what is known after a deed
 
--- a failure ends the ReplaySet; calls stay Inside up to the next Stop
-abbrev pub sees_crossing : ℕ → End → Option Answer → Option FailCause → Watch → Watch
-sees_crossing call end a (Some cause) w = record w { replay = None }
-sees_crossing call (ends.Service service first second result moved) a None w =
-    sees_service (hands_up service result) call moved w
-sees_crossing call (ends.Reply status) a None w = sees_reply call a w
-sees_crossing call ends.Pause a None w = w
-sees_crossing call ends.Trap a None w = w
+-- the same calls, but for the one with this number
+abbrev pub change_call : ℕ → (OpenCall → OpenCall) → List OpenCall → List OpenCall
+change_call number change calls = map (λ c. if c.number == number then change c else c) calls
 
--- ---- events
+-- a frame was sent in a burst of the call
+abbrev pub sent_more : OpenCall → OpenCall
+sent_more c = record c { sent = suc c.sent }
 
-abbrev pub sees_stage : Stage → Watch → Watch
-sees_stage stages.Stop w = record w { calls = map leaves w.calls }
-sees_stage stages.Reset w = record w { ring = []; registers = defaults_of w.class }
-sees_stage stages.Load w = record w { popped = []; handed = [] }
-sees_stage (stages.ReplaySet key value) w = record w { replay = Some (key, value) }
-sees_stage s w = w
+-- a sample of the Play was played
+abbrev pub played_more : OpenCall → OpenCall
+played_more c = record c { played = suc c.played }
 
--- what the monitor knows after one more event
-abbrev pub sees : Watch → Event → Watch
-sees w (event.Invoke call thread o a) = record w { calls = w.calls ++ watched o ∷ [] }
-sees w (event.Enter call thread attempt a) = record w { calls = change_number (enters (is_none a)) call w.calls }
-sees w (event.Burst context call burst count end acts a failure) = sees_crossing call end a failure (sees_acts call acts w)
-sees w (event.Stage stage answers released) = sees_stage stage w
-sees w (event.Arrive frame kept) = record w { ring = if kept then w.ring ++ frame ∷ [] else w.ring }
+-- a frame was handed up in the attempt
+abbrev pub handed_frame : OpenCall → OpenCall
+handed_frame c = record c { handed = true }
+
+-- a command on the block failed in the attempt
+abbrev pub failed_at : ℕ → OpenCall → OpenCall
+failed_at block c = record c { failed = block ∷ c.failed }
+
+-- the first call that passes a test is changed, the others stay
+abbrev pub change_first : (OpenCall → Bool) → (OpenCall → OpenCall) → List OpenCall → List OpenCall
+change_first test change [] = []
+change_first test change (c ∷ calls) = if test c then change c ∷ calls else c ∷ change_first test change calls
+
+-- after a deed in a burst of the call with this number
+abbrev pub after_deed : ℕ → Known → Deed → Known
+after_deed call k (acts (act.Load block)) = k
+after_deed call k (acts (act.Failed block store)) = record k { calls = change_call call (failed_at block) k.calls }
+after_deed call k (acts (act.Store block words)) = record k { medium = slice_set k.medium block words }
+after_deed call k (acts (act.Sent frame)) = record k { calls = change_call call sent_more k.calls }
+after_deed call k (acts (act.Popped frame)) = record k { ring = drop 1 k.ring; popped = k.popped ++ frame ∷ [] }
+after_deed call k (acts (act.Played word rate volume)) = record k { calls = change_first is_playing played_more k.calls }
+after_deed call k (acts (act.Register key value)) = record k { registers = slice_set k.registers key value }
+after_deed call k (hands_up frame) = record k
+    { handed = k.handed ++ frame ∷ []; calls = change_call call handed_frame k.calls }
+after_deed call k (replies a) = k
+after_deed call k replays = record k { replay = None }
+
+-- after all of them, in order
+abbrev pub after_deeds : ℕ → Known → List Deed → Known
+after_deeds call k ds = fold (after_deed call) k ds
+
+-- ---- what is known after an event
+
+-- a call that is made is open, and not yet Inside
+abbrev pub new_call : ℕ → Op → OpenCall
+new_call number o = record { number = number; op = o; inside = false; sent = 0; played = 0; handed = false; failed = [] }
+
+-- a new attempt of a call begins: it is Inside
+abbrev pub enter_call : OpenCall → OpenCall
+enter_call c = record c { inside = true; handed = false; failed = [] }
+
+-- an attempt ends, and the call stays open
+abbrev pub leave_call : OpenCall → OpenCall
+leave_call c = record c { inside = false }
+
+-- after a stage: Stop ends each attempt, Reset clears the ring and gives the registers their defaults, Load begins the
+-- frames popped and handed up anew, and a ReplaySet is Inside from its stage on
+abbrev pub after_stage : Stage → Known → Known
+after_stage stage.Stop k = record k { calls = map leave_call k.calls }
+after_stage stage.Reset k = record k { ring = []; registers = defaults_of k.class }
+after_stage stage.Load k = record k { popped = []; handed = [] }
+after_stage (stage.ReplaySet key value) k = record k { replay = Some (key, value) }
+after_stage s k = k
+
+-- a failure ends the ReplaySet that was Inside; the calls stay Inside up to the next Stop
+abbrev pub after_failure : Option FailCause → Known → Known
+after_failure None k = k
+after_failure (Some cause) k = record k { replay = None }
+
+-- what an event leaves, but that the calls which it answers are still there
+abbrev pub during : Known → Event → Known
+during k (event.Invoke call thread o a) = record k { calls = k.calls ++ new_call call o ∷ [] }
+during k (event.Enter call thread attempt a) = record k { calls = change_call call enter_call k.calls }
+during k (event.Burst context call burst count e done a failure) =
+    after_failure failure (after_deeds call k (deeds_of done e a failure))
+during k (event.Stage s answers released) = after_stage s k
+during k (event.Arrive frame kept) = record k { ring = if kept then k.ring ++ frame ∷ [] else k.ring }
+
+-- the call is among those that were answered
+abbrev pub is_answered_in : List (ℕ × Answer) → OpenCall → Bool
+is_answered_in answers c = list_any (λ a. a.0 == c.number) answers
+
+-- what is known after one more event: a call is open until an event answers it
+abbrev pub after : Known → Event → Known
+after k e = record (during k e) { calls = filter (λ c. not (is_answered_in (answers_of e) c)) (during k e).calls }
 
 -- ---- the first break
 
+-- one of the deeds, in order, breaks the clause
+abbrev pub is_broken_by : Clause → ℕ → Known → List Deed → Bool
+is_broken_by clause call k [] = false
+is_broken_by clause call k (d ∷ ds) =
+    breaks clause k (call_of call k.calls) d || is_broken_by clause call (after_deed call k d) ds
+
+-- the clauses that an event breaks, in the order of their numbers
+abbrev pub broken : Known → Event → List Clause
+broken k (event.Burst context call burst count e done a failure) =
+    filter (λ clause. is_broken_by clause call k (deeds_of done e a failure)) all_clauses
+broken k e = []
+
 -- the break that an event is, or else that of the later ones
-abbrev pub break_at : Option ℕ → ℕ → Option Break → Option Break
-break_at None place later = later
-break_at (Some clause) place later = Some (record { event = place; clause = clause })
+abbrev pub break_or : ℕ → List Clause → Option Break → Option Break
+break_or place [] later = later
+break_or place (clause ∷ more) later = Some (record { event = place; clause = number_of clause })
 
 -- the first break of events that follow, the first of them number `place`
-unfoldable pub break_from : ℕ → Watch → List Event → Option Break
-break_from place w [] = None
-break_from place w (e ∷ events) = break_at (sees w e).clause place (break_from (suc place) (sees w e) events)
+unfoldable pub break_from : ℕ → Known → List Event → Option Break
+break_from place k [] = None
+break_from place k (e ∷ events) = break_or place (broken k e) (break_from (suc place) (after k e) events)
 
 -- the first event that breaks a clause, with the smallest clause that it breaks
 unfoldable pub first_break : Class → ℕ → List Event → Option Break
-first_break class size events = break_from 1 (first_watch class size) events
+first_break class size events = break_from 1 (known_first class size) events

@@ -37,6 +37,7 @@ pub record Crossed : Type 0 where
 
 -- Failures
 
+-- the shadow's own call ends
 abbrev pub without_shadow : DomainState → DomainState
 without_shadow d = record d { contexts = slice_set d.contexts 16 no_context }
 
@@ -48,9 +49,11 @@ fails p = record p {
   failures = p.failures + 1;
 }
 
+-- the crossing of a failure: nothing is answered
 abbrev pub failed : PartState → End → FailCause → Crossed
 failed p e cause = record { state = fails p; end = e; answer = None; failure = Some cause }
 
+-- the crossing of a call that is not over: nothing is answered, and nothing fails
 abbrev pub goes_on : PartState → End → Crossed
 goes_on p e = record { state = p; end = e; answer = None; failure = None }
 
@@ -65,41 +68,49 @@ abbrev pub refused_service : ℕ → ℕ → PartState → End
 refused_service number context p =
     end.Service number (first_argument context p.domain) (second_argument context p.domain) None []
 
+-- where the driver's heap begins: after the initial words of its image
 abbrev pub heap_start : PartState → ℕ
 heap_start p = 2048 + length p.spec.image.initial
 
+-- the part after a served call: the driver finds the answer in a register
 abbrev pub with_served : ℕ → Served → PartState → PartState
 with_served context s p = record p {
   domain = result_set context s.answer (record p.domain { memory = s.memory; entries = s.entries });
   queue = s.queue;
 }
 
+-- the crossing of a served call: the end tells the answer and the words that were moved
 abbrev pub served_call : ℕ → ℕ → Served → PartState → Crossed
 served_call number context s p = goes_on (with_served context s p)
     (end.Service number (first_argument context p.domain) (second_argument context p.domain) (Some s.answer) s.moved)
 
+-- a call with a bad argument fails the driver; another is served
 abbrev pub serve_by : ℕ → ℕ → PartState → Result Service BadParam → Crossed
 serve_by number context p (Err bad) =
     failed p (refused_service number context p) (fail.BadParam bad.service bad.argument)
 serve_by number context p (Ok s) =
     served_call number context (served (heap_start p) s p.domain.memory p.domain.entries p.queue) p
 
+-- a kernel call by its number, with the first two arguments that the driver gives it
 abbrev pub kernel_call : ℕ → ℕ → PartState → Crossed
 kernel_call number context p = serve_by number context p
     (checked number (first_argument context p.domain) (second_argument context p.domain) p.spec.class p.domain.entries)
 
 -- Replies of the shadow's own calls
 
+-- the stage of a boot or a recovery; in the other modes the shadow has no call, so no reply of it asks for one
 abbrev pub stage_in : Mode → Stage
 stage_in (mode.Boot s) = s
 stage_in (mode.Recovering s) = s
 stage_in mode.Running = stage.Resume
 stage_in (mode.Dead collected) = stage.Collect
 
+-- the stage Init
 abbrev pub is_init : Stage → Bool
 is_init stage.Init = true
 is_init _ = false
 
+-- the mode after the shadow's call was accepted; in the other modes the shadow has no call
 abbrev pub next_mode : Mode → PartState → Mode
 next_mode (mode.Boot s) p = mode.Boot stage.Resume
 next_mode (mode.Recovering s) p = mode.Recovering (replay_after s p.log)
@@ -110,12 +121,15 @@ abbrev pub is_accepted : ℕ → PartState → Bool
 is_accepted status p =
     status == 0 && (if is_init (stage_in p.mode) then is_registered p.domain.entries else true)
 
+-- the failure of a refused reply to the shadow
 abbrev pub shadow_fault : ℕ → Stage → FailCause
 shadow_fault status s = if is_init s then fail.BadInit status else fail.BadReply status
 
+-- the shadow's call is over, and the next stage is due
 unfoldable pub next_stage : PartState → PartState
 next_stage p = record p { domain = left_domain 16 p.domain; mode = next_mode p.mode p }
 
+-- the reply to the shadow's own call
 abbrev pub shadow_replied : ℕ → PartState → Crossed
 shadow_replied status p =
     if is_accepted status p
@@ -149,18 +163,22 @@ closes c p = record p {
   queue = queue_after c.op p.queue;
 }
 
+-- an accepted reply answers its call
 abbrev pub accepted : CallEntry → ℕ → Answer → PartState → Crossed
 accepted c status a p = record { state = closes c p; end = end.Reply status; answer = Some a; failure = None }
 
+-- a reply is accepted, tells a failure of the medium, or fails the driver
 abbrev pub reply_by : CallEntry → ℕ → PartState → Accept → Crossed
 reply_by c status p accepts.Take = accepted c status (reply_answer c.op c.thread p) p
 reply_by c status p (accepts.IoError block) = accepted c status (answer.IoError block) p
 reply_by c status p (accepts.Fail cause) = failed p (end.Reply status) cause
 
+-- the reply to a thread's open call; a context in which none is open has no burst, so it gives no reply
 abbrev pub call_replied : ℕ → PartState → Option CallEntry → Crossed
 call_replied status p None = goes_on p (end.Reply status)
 call_replied status p (Some c) = reply_by c status p (accept c.op status)
 
+-- a reply, by the context that gives it
 abbrev pub replied : ℕ → ℕ → PartState → Crossed
 replied status context p =
     if context == 16 then shadow_replied status p

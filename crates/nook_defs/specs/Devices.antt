@@ -21,15 +21,19 @@ pub record Taken : Type 0 where
   pub act : Option Act
   pub device : DeviceState
 
+-- a port is read: the word that the driver gets, and the device after it
 abbrev pub gives : ℕ → DeviceState → Option Given
 gives word device = Some (record { word = word; device = device })
 
+-- a port is written: the act that is done, where one is, and the device after it
 abbrev pub takes : Option Act → DeviceState → Option Taken
 takes done device = Some (record { act = done; device = device })
 
+-- the device with another disk
 abbrev pub with_disk : DeviceState → Disk → DeviceState
 with_disk d k = record d { kind = kind.Disk k }
 
+-- the device with another link
 abbrev pub with_link : DeviceState → Link → DeviceState
 with_link d k = record d { kind = kind.Link k }
 
@@ -51,6 +55,7 @@ strikes block count b = b.block == block && nat_le b.after count
 abbrev pub is_failing : Disk → Bool
 is_failing k = list_any (strikes k.block (slice_index k.counts k.block)) k.bad
 
+-- a count of commands, which stays at its highest value
 abbrev pub raised : ℕ → ℕ
 raised count = min (count + 1) (2 ^ 32 - 1)
 
@@ -70,6 +75,7 @@ command_act word k =
     if is_failing k then act.Failed k.block (word == 2)
     else (if word == 1 then act.Load k.block else act.Store k.block k.buffer)
 
+-- what IN gives of a disk; there is nothing at other ports
 abbrev pub disk_input : ℕ → DeviceState → Disk → Option Given
 disk_input port d k =
     if port == 1 then gives k.block d
@@ -77,6 +83,7 @@ disk_input port d k =
     else (if port == 3 then gives k.status d
     else None))
 
+-- what OUT does to a disk; there is nothing at other ports
 abbrev pub disk_output : ℕ → ℕ → DeviceState → Disk → Option Taken
 disk_output port word d k =
     if port == 0 then
@@ -92,10 +99,12 @@ abbrev pub head_of : List (List ℕ) → List ℕ
 head_of [] = []
 head_of (frame ∷ ring) = frame
 
+-- the frames after the first
 abbrev pub tail_of : List (List ℕ) → List (List ℕ)
 tail_of [] = []
 tail_of (frame ∷ ring) = ring
 
+-- no frame waits
 abbrev pub is_empty_ring : List (List ℕ) → Bool
 is_empty_ring [] = true
 is_empty_ring (frame ∷ ring) = false
@@ -104,6 +113,7 @@ is_empty_ring (frame ∷ ring) = false
 abbrev pub next_reading : Link → ℕ
 next_reading k = if is_empty_ring k.ring then k.reading else min (k.reading + 1) 64
 
+-- what IN gives of a link; there is nothing at other ports
 abbrev pub link_input : ℕ → DeviceState → Link → Option Given
 link_input port d k =
     if port == 1 then gives k.length d
@@ -119,6 +129,7 @@ link_command word d k =
     takes (Some (act.Popped (head_of k.ring))) (with_link d (record k { ring = tail_of k.ring; reading = 0 }))
     else takes None d)
 
+-- what OUT does to a link; there is nothing at other ports
 abbrev pub link_output : ℕ → ℕ → DeviceState → Link → Option Taken
 link_output port word d k =
     if port == 0 then link_command word d k
@@ -129,6 +140,7 @@ link_output port word d k =
 
 -- the sound device
 
+-- what OUT does to a speaker: a sample is played at the rate and the volume of its registers
 abbrev pub speaker_output : ℕ → ℕ → DeviceState → Option Taken
 speaker_output port word d =
     if port == 0 then takes (Some (act.Played word (slice_index d.registers 0) (slice_index d.registers 1))) d
@@ -136,11 +148,13 @@ speaker_output port word d =
 
 -- every device
 
+-- what IN gives at a port of the class
 abbrev pub kind_input : ℕ → DeviceState → DeviceKind → Option Given
 kind_input port d (kind.Disk k) = disk_input port d k
 kind_input port d (kind.Link k) = link_input port d k
 kind_input port d kind.Speaker = None
 
+-- what OUT does at a port of the class
 abbrev pub kind_output : ℕ → ℕ → DeviceState → DeviceKind → Option Taken
 kind_output port word d (kind.Disk k) = disk_output port word d k
 kind_output port word d (kind.Link k) = link_output port word d k
@@ -162,6 +176,7 @@ output_of port word d =
     takes (Some (act.Register (port - 8) word)) (record d { registers = slice_set d.registers (port - 8) word })
     else kind_output port word d d.kind
 
+-- a Reset clears all but the medium, the bad blocks and the counts of commands
 abbrev pub reset_kind : DeviceKind → DeviceKind
 reset_kind (kind.Disk k) = kind.Disk (record k { block = 0; buffer = replicate 16 0; position = 0; status = 0 })
 reset_kind (kind.Link k) = kind.Link (record { length = 0; buffer = replicate 64 0; position = 0; ring = []; reading = 0 })
@@ -171,6 +186,7 @@ reset_kind kind.Speaker = kind.Speaker
 unfoldable pub reset_device : List ℕ → DeviceState → DeviceState
 reset_device defaults d = record { registers = defaults; kind = reset_kind d.kind }
 
+-- the device of a class at first
 abbrev pub opening_kind : Class → ℕ → List BadBlock → DeviceKind
 opening_kind class.Block blocks bad = kind.Disk (record {
   medium = replicate blocks (replicate 16 0);
@@ -194,14 +210,17 @@ ring_of_kind (kind.Disk k) = []
 ring_of_kind (kind.Link k) = k.ring
 ring_of_kind kind.Speaker = []
 
+-- the frames that wait in the ring; a device that is no link has none
 abbrev pub ring_of : DeviceState → List (List ℕ)
 ring_of d = ring_of_kind d.kind
 
+-- a disk's blocks; the other devices have none
 abbrev pub medium_of_kind : DeviceKind → List (List ℕ)
 medium_of_kind (kind.Disk k) = k.medium
 medium_of_kind (kind.Link k) = []
 medium_of_kind kind.Speaker = []
 
+-- the same of a device
 abbrev pub medium_of : DeviceState → List (List ℕ)
 medium_of d = medium_of_kind d.kind
 
@@ -209,6 +228,7 @@ medium_of d = medium_of_kind d.kind
 abbrev pub has_room : DeviceState → Bool
 has_room d = nat_lt (length (ring_of d)) 16
 
+-- a frame arrives in the ring; the other devices take none
 abbrev pub kind_with_arrival : List ℕ → DeviceKind → DeviceKind
 kind_with_arrival frame (kind.Disk k) = kind.Disk k
 kind_with_arrival frame (kind.Link k) =

@@ -20,6 +20,7 @@ use Rattle.nook_defs.specs.Pages.{buffer_start, stack_end, object_start, opening
 use Rattle.nook_defs.specs.State.{DomainState}
 use Rattle.nook_defs.specs.Turn.{Machine}
 
+-- a domain at first
 unfoldable pub opening_domain : PartSpec → DomainState
 opening_domain spec = record {
   starts = spec.image.entries;
@@ -37,9 +38,11 @@ pub record Arguments : Type 0 where
   pub second : ℕ
   pub third : ℕ
 
+-- three arguments
 abbrev pub three : ℕ → ℕ → ℕ → Arguments
 three first second third = record { first = first; second = second; third = third }
 
+-- the arguments of an operation in the registers of its context
 abbrev pub arguments_of : ℕ → Op → Arguments
 arguments_of context (op.Read first count) = three first count (buffer_start context)
 arguments_of context (op.Write first words) = three first (length words / 16) (buffer_start context)
@@ -56,9 +59,11 @@ pub record Lent : Type 0 where
   pub writable : Bool
   pub words : List ℕ
 
+-- words that are lent in the buffer of a context, to be written by the driver or not
 abbrev pub lent : Bool → List ℕ → Option Lent
 lent writable words = Some (record { writable = writable; words = words })
 
+-- what an operation lends
 abbrev pub buffer_of : Op → Option Lent
 buffer_of (op.Read first count) = lent true []
 buffer_of (op.Write first words) = lent false words
@@ -75,6 +80,7 @@ abbrev pub entry_registers : ℕ → Arguments → List ℕ
 entry_registers context a =
     0 ∷ a.first ∷ a.second ∷ a.third ∷ (replicate 10 0 ++ stack_end context ∷ 0 ∷ [])
 
+-- a context that begins an entry
 abbrev pub entry_context : ℕ → ℕ → Arguments → Context
 entry_context start context a =
     record { cpu = record { counter = start; registers = entry_registers context a }; bursts = 0 }
@@ -84,6 +90,7 @@ abbrev pub lent_memory : ℕ → Option Lent → List ℕ → List ℕ
 lent_memory context None memory = memory
 lent_memory context (Some l) memory = with_words (buffer_start context) (padded_words 128 l.words) memory
 
+-- the entries with the buffer that is lent
 abbrev pub lent_entries : ℕ → Option Lent → List Entry → List Entry
 lent_entries context None entries = entries
 lent_entries context (Some l) entries = with_entry (entry.Buffer context l.writable) entries
@@ -103,9 +110,11 @@ plainly_entered context place d = record d
 
 -- one context, where it is Inside
 
+-- a context in which nothing runs
 abbrev pub no_context : Option Context
 no_context = None
 
+-- what runs in a context
 abbrev pub context_of : ℕ → List (Option Context) → Option Context
 context_of context contexts = joined (slice_get contexts context)
   where
@@ -120,6 +129,7 @@ pub record DomainBurst : Type 0 where
   pub ending : BurstEnd
   pub acts : List Act
 
+-- the machine of a context: its registers and counter, with the memory and the device of the domain
 abbrev pub machine_of : Context → DomainState → Machine
 machine_of x d = record { cpu = x.cpu; memory = d.memory; device = d.device }
 
@@ -136,6 +146,7 @@ after_burst context x b d = record {
   acts = b.acts;
 }
 
+-- a burst of what runs in a context; where nothing runs there is no burst to be taken
 abbrev pub burst_by : ℕ → List Fault → DomainState → Option Context → DomainBurst
 burst_by context faults d None = record { domain = d; count = 0; ending = ends.Pause; acts = [] }
 burst_by context faults d (Some x) = after_burst context x (burst d.entries faults (machine_of x d)) d
@@ -144,6 +155,7 @@ burst_by context faults d (Some x) = after_burst context x (burst d.entries faul
 unfoldable pub domain_burst : ℕ → List Fault → DomainState → DomainBurst
 domain_burst context faults d = burst_by context faults d (context_of context d.contexts)
 
+-- a register of what runs in a context; 0 where nothing runs
 abbrev pub register_of : ℕ → Option Context → ℕ
 register_of number None = 0
 register_of number (Some x) = slice_index x.cpu.registers number
@@ -152,9 +164,11 @@ register_of number (Some x) = slice_index x.cpu.registers number
 abbrev pub first_argument : ℕ → DomainState → ℕ
 first_argument context d = register_of 1 (context_of context d.contexts)
 
+-- the second argument that a driver gives to a kernel call
 abbrev pub second_argument : ℕ → DomainState → ℕ
 second_argument context d = register_of 2 (context_of context d.contexts)
 
+-- how many bursts what runs in a context has had
 abbrev pub bursts_of : Option Context → ℕ
 bursts_of None = 0
 bursts_of (Some x) = x.bursts
@@ -163,6 +177,7 @@ bursts_of (Some x) = x.bursts
 abbrev pub attempt_bursts : ℕ → DomainState → ℕ
 attempt_bursts context d = bursts_of (context_of context d.contexts)
 
+-- the answer of a kernel call stands in a register
 abbrev pub with_result : ℕ → Option Context → Option Context
 with_result word None = None
 with_result word (Some x) =

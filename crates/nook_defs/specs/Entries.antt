@@ -19,6 +19,7 @@ key_of (entry.Borrow object start) = object
 key_of (entry.Buffer context writable) = context
 key_of (entry.Registration live) = 0
 
+-- the order of entries: by kind, then by place
 abbrev pub comes_before : Entry → Entry → Bool
 comes_before e x = nat_lt (rank e) (rank x) || (rank e == rank x && nat_lt (key_of e) (key_of x))
 
@@ -27,24 +28,28 @@ abbrev pub with_entry : Entry → List Entry → List Entry
 with_entry e [] = e ∷ []
 with_entry e (x ∷ entries) = if comes_before e x then e ∷ x ∷ entries else x ∷ with_entry e entries
 
+-- a heap block that begins at the address
 abbrev pub is_heap_at : ℕ → Entry → Bool
 is_heap_at address (entry.Heap start len) = start == address
 is_heap_at address (entry.Borrow object start) = false
 is_heap_at address (entry.Buffer context writable) = false
 is_heap_at address (entry.Registration live) = false
 
+-- a copy of the kernel object
 abbrev pub is_borrow_of : ℕ → Entry → Bool
 is_borrow_of object (entry.Heap start len) = false
 is_borrow_of object (entry.Borrow o start) = o == object
 is_borrow_of object (entry.Buffer context writable) = false
 is_borrow_of object (entry.Registration live) = false
 
+-- the buffer of the context
 abbrev pub is_buffer_of : ℕ → Entry → Bool
 is_buffer_of context (entry.Heap start len) = false
 is_buffer_of context (entry.Borrow object start) = false
 is_buffer_of context (entry.Buffer c writable) = c == context
 is_buffer_of context (entry.Registration live) = false
 
+-- the driver's registration
 abbrev pub is_registration : Entry → Bool
 is_registration (entry.Heap start len) = false
 is_registration (entry.Borrow object start) = false
@@ -58,6 +63,7 @@ is_live (entry.Borrow object start) = false
 is_live (entry.Buffer context writable) = false
 is_live (entry.Registration live) = live
 
+-- the registration with another state; other entries stay
 abbrev pub with_live : Bool → Entry → Entry
 with_live live (entry.Heap start len) = entry.Heap start len
 with_live live (entry.Borrow object start) = entry.Borrow object start
@@ -114,6 +120,7 @@ free_start heap_start n entries =
     then lowest_run (4097 - (heap_start + n)) entries heap_start n
     else None
 
+-- where the copy of a kernel object begins; other entries have none
 abbrev pub start_of_borrow : Entry → ℕ
 start_of_borrow (entry.Heap start len) = 0
 start_of_borrow (entry.Borrow object start) = start
@@ -129,9 +136,11 @@ borrow_start object (e ∷ entries) = if is_borrow_of object e then Some (start_
 abbrev pub without_heap : ℕ → List Entry → List Entry
 without_heap address entries = filter (λ e. not (is_heap_at address e)) entries
 
+-- the entries without the copy of an object
 abbrev pub without_borrow : ℕ → List Entry → List Entry
 without_borrow object entries = filter (λ e. not (is_borrow_of object e)) entries
 
+-- the entries without the buffer of a context
 abbrev pub without_buffer : ℕ → List Entry → List Entry
 without_buffer context entries = filter (λ e. not (is_buffer_of context e)) entries
 
@@ -139,5 +148,6 @@ without_buffer context entries = filter (λ e. not (is_buffer_of context e)) ent
 abbrev pub collected : List Entry → List Entry
 collected entries = filter is_registration entries
 
+-- what a Collect takes back: all but the registration
 abbrev pub released : List Entry → List Entry
 released entries = filter (λ e. not (is_registration e)) entries

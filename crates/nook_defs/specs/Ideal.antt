@@ -1,11 +1,13 @@
-use Rattle.std.specs.Prelude.{◌≡◌, ℕ, suc, Bool, true, false, List, [], ◌∷◌, ◌++◌, length, Option, Some, None, is_some, option_and_then, nat_lt, ◌==◌, ◌&&◌, not, if◌then◌else◌, slice_index, slice_set, bytes_eq}
+use Rattle.std.specs.Prelude.{◌≡◌, ℕ, suc, Bool, true, false, List, [], ◌∷◌, ◌++◌, length, Option, Some, None, is_some, option_and_then, unwrap_or, ◌==◌, ◌&&◌, not, if◌then◌else◌, slice_index, slice_set, bytes_eq}
+use Rattle.std.specs.List.{list_any}
 use Rattle.nook_defs.specs.declared.data.Answer.{Answer}
 use Rattle.nook_defs.specs.declared.data.Answer.TheVariants as answered
 use Rattle.nook_defs.specs.declared.data.Class.{Class}
+use Rattle.nook_defs.specs.declared.data.Class.TheVariants.{Net, Sound}
 use Rattle.nook_defs.specs.declared.data.Op.{Op}
 use Rattle.nook_defs.specs.declared.data.Op.TheVariants.{Read, Write, Send, Recv, Open, Play, Close, Get, Set}
 use Rattle.nook_defs.specs.Blocks.{blank_blocks, get_blocks, put_from, has_block}
-use Rattle.nook_defs.specs.Classes.{covers, defaults_of, is_holder, static_check}
+use Rattle.nook_defs.specs.Classes.{covers, defaults_of, is_holder, is_next, is_play, same_class, sends, static_check}
 use Rattle.nook_defs.specs.Places.{at_number, change_number, number_where}
 use Rattle.nook_defs.specs.Trace.{Visible, called, wire, sample, arrived, answer}
 
@@ -50,96 +52,89 @@ when false m = None
 
 -- ---- a call is made
 
+-- the call that a thread makes: it waits, and nothing of it was sent or played
 abbrev pub opens : ℕ → Op → Opened
 opens thread o = record { thread = thread; op = o; waits = true; wired = false; played = 0 }
 
+-- a call of the thread that waits for its answer
 abbrev pub waits_for : ℕ → Opened → Bool
 waits_for thread o = o.waits && (o.thread == thread)
 
 -- calls are numbered from 1, and a thread has one open call
 abbrev pub may_call : ℕ → ℕ → List Opened → Bool
-may_call call thread opened = (call == suc (length opened)) && (number_where (waits_for thread) opened == 0)
+may_call call thread opened = (call == suc (length opened)) && not (list_any (waits_for thread) opened)
 
 -- ---- the wire and the speaker
 
 -- a Send that waits sends its own frame, once
-abbrev pub may_wire : List ℕ → Op → Opened → Bool
-may_wire frame (Send own) o = o.waits && not o.wired && bytes_eq own frame
-may_wire frame other o = false
+abbrev pub may_wire : List ℕ → Opened → Bool
+may_wire frame o = o.waits && not o.wired && sends frame o.op
 
-abbrev pub may_wire_found : List ℕ → Option Opened → Bool
-may_wire_found frame None = false
-may_wire_found frame (Some o) = may_wire frame o.op o
-
+-- the call with its frame on the wire
 abbrev pub wired_once : Opened → Opened
 wired_once o = record o { wired = true }
 
-abbrev pub is_play : Op → Bool
-is_play (Play samples) = true
-is_play o = false
-
+-- a Play that waits, of the thread that has the stream
 abbrev pub plays_for : Option ℕ → Opened → Bool
 plays_for holder o = o.waits && is_play o.op && is_holder holder o.thread
-
--- the word is the next one of a Play of which so many samples were played
-abbrev pub is_next : Op → ℕ → ℕ → Bool
-is_next (Play samples) played word = nat_lt played (length samples) && (slice_index samples played == word)
-is_next o played word = false
-
-abbrev pub is_next_found : ℕ → Option Opened → Bool
-is_next_found word None = false
-is_next_found word (Some o) = is_next o.op o.played word
-
-abbrev pub played_once : Opened → Opened
-played_once o = record o { played = suc o.played }
 
 -- the number of the holder's open Play, 0 where there is none
 abbrev pub play_of : Ideal → ℕ
 play_of m = number_where (plays_for m.holder) m.opened
 
--- the next sample of the holder's Play, at the rate and the volume that are configured
-abbrev pub may_sound : ℕ → ℕ → ℕ → Ideal → Bool
-may_sound word rate volume m =
-    is_next_found word (at_number (play_of m) m.opened)
-    && (slice_index m.config 0 == rate) && (slice_index m.config 1 == volume)
+-- a call's next sample, at the rate and the volume that are configured
+abbrev pub may_sound : ℕ → ℕ → ℕ → Ideal → Opened → Bool
+may_sound word rate volume m o =
+    is_next o.op o.played word && (slice_index m.config 0 == rate) && (slice_index m.config 1 == volume)
+
+-- the call with one sample more played
+abbrev pub played_once : Opened → Opened
+played_once o = record o { played = suc o.played }
 
 -- ---- a call is answered
 
--- the pending frames behind the first that is this one
+-- the pending frames after the first that is this one; None where it is not pending
 abbrev pub after_frame : List ℕ → List (List ℕ) → Option (List (List ℕ))
 after_frame frame [] = None
 after_frame frame (first ∷ pending) = if bytes_eq first frame then Some pending else after_frame frame pending
 
-abbrev pub with_pending : Ideal → Option (List (List ℕ)) → Option Ideal
-with_pending m None = None
-with_pending m (Some pending) = Some (record m { pending = pending })
+-- the answers that may come to a call of a thread, where the static check gives none
+abbrev pub may_answer : Ideal → ℕ → Op → Answer → Bool
+may_answer m thread (Read first count) (answered.Blocks words) = bytes_eq words (get_blocks m.blocks first count)
+may_answer m thread (Read first count) (answered.IoError block) = covers (Read first count) block
+may_answer m thread (Write first words) answered.Done = true
+may_answer m thread (Write first words) (answered.IoError block) = covers (Write first words) block
+may_answer m thread (Send frame) answered.Done = true
+may_answer m thread Recv answered.Empty = true
+may_answer m thread Recv (answered.Frame frame) = is_some (after_frame frame m.pending)
+may_answer m thread Open (answered.Busy stage) = true
+may_answer m thread Open answered.Done = not (is_some m.holder)
+may_answer m thread Open (answered.InUse holder) = is_holder m.holder holder
+may_answer m thread (Play samples) answered.Done = is_holder m.holder thread
+may_answer m thread (Play samples) answered.NotOpen = not (is_holder m.holder thread)
+may_answer m thread Close answered.Done = is_holder m.holder thread
+may_answer m thread Close answered.NotOpen = not (is_holder m.holder thread)
+may_answer m thread (Get key) (answered.Value word) = slice_index m.config key == word
+may_answer m thread (Set key value) answered.Done = true
+may_answer m thread o a = false
 
+-- the device with the chosen blocks of a Write put
 abbrev pub with_blocks : (ℕ → Bool) → Op → Ideal → Ideal
 with_blocks chosen o m = record m { blocks = put_from chosen o 0 m.blocks }
 
--- the device after a thread's call is answered where the static check says nothing; the last list has the blocks of a
--- Write that were stored although the medium failed
-abbrev pub answers_with : Ideal → ℕ → Op → Answer → List ℕ → Option Ideal
-answers_with m thread (Read first count) (answered.Blocks words) kept = when (bytes_eq words (get_blocks m.blocks first count)) m
-answers_with m thread (Read first count) (answered.IoError block) kept = when (covers (Read first count) block) m
-answers_with m thread (Write first words) answered.Done kept =
-    Some (with_blocks (covers (Write first words)) (Write first words) m)
-answers_with m thread (Write first words) (answered.IoError block) kept =
-    when (covers (Write first words) block)
-    (with_blocks (λ b. covers (Write first words) b && has_block b kept) (Write first words) m)
-answers_with m thread (Send frame) answered.Done kept = Some m
-answers_with m thread Recv answered.Empty kept = Some m
-answers_with m thread Recv (answered.Frame frame) kept = with_pending m (after_frame frame m.pending)
-answers_with m thread Open (answered.Busy stage) kept = Some m
-answers_with m thread Open answered.Done kept = when (not (is_some m.holder)) (record m { holder = Some thread })
-answers_with m thread Open (answered.InUse holder) kept = when (is_holder m.holder holder) m
-answers_with m thread (Play samples) answered.Done kept = when (is_holder m.holder thread) m
-answers_with m thread (Play samples) answered.NotOpen kept = when (not (is_holder m.holder thread)) m
-answers_with m thread Close answered.Done kept = when (is_holder m.holder thread) (record m { holder = None })
-answers_with m thread Close answered.NotOpen kept = when (not (is_holder m.holder thread)) m
-answers_with m thread (Get key) (answered.Value word) kept = when (slice_index m.config key == word) m
-answers_with m thread (Set key value) answered.Done kept = Some (record m { config = slice_set m.config key value })
-answers_with m thread o a kept = None
+-- what an answer changes: a Write's blocks are put, a frame leaves with all before it, the stream is taken or freed, a
+-- key gets its value; the last list has the blocks of a Write that were stored although the medium failed
+abbrev pub after_answer : Ideal → ℕ → Op → Answer → List ℕ → Ideal
+after_answer m thread (Write first words) answered.Done stored =
+    with_blocks (covers (Write first words)) (Write first words) m
+after_answer m thread (Write first words) (answered.IoError block) stored =
+    with_blocks (λ b. covers (Write first words) b && has_block b stored) (Write first words) m
+after_answer m thread Recv (answered.Frame frame) stored =
+    record m { pending = unwrap_or (after_frame frame m.pending) m.pending }
+after_answer m thread Open answered.Done stored = record m { holder = Some thread }
+after_answer m thread Close answered.Done stored = record m { holder = None }
+after_answer m thread (Set key value) answered.Done stored = record m { config = slice_set m.config key value }
+after_answer m thread o a stored = m
 
 -- the same answer of the static check
 abbrev pub same_refusal : Answer → Answer → Bool
@@ -150,36 +145,42 @@ same_refusal answered.BadKey answered.BadKey = true
 same_refusal answered.BadValue answered.BadValue = true
 same_refusal a b = false
 
-abbrev pub answers_checked : Option Answer → Ideal → ℕ → Op → Answer → List ℕ → Option Ideal
-answers_checked None m thread o a kept = answers_with m thread o a kept
-answers_checked (Some refusal) m thread o a kept = when (same_refusal refusal a) m
-
+-- the call with its answer given
 abbrev pub stops_waiting : Opened → Opened
 stops_waiting o = record o { waits = false }
 
--- the call waits no more
+-- the device where the call with a number waits no more
 abbrev pub closes : ℕ → Ideal → Ideal
 closes call m = record m { opened = change_number stops_waiting call m.opened }
 
-abbrev pub answers_waiting : Bool → Ideal → Opened → Answer → List ℕ → Option Ideal
-answers_waiting true m o a kept = answers_checked (static_check m.class m.size o.op) m o.thread o.op a kept
-answers_waiting false m o a kept = None
+-- the answer that the static check gives, or else one that may come
+abbrev pub is_due : Ideal → Opened → Answer → Bool
+is_due m o a = elim (static_check m.class m.size o.op) [
+  | (Some refusal) ↦ same_refusal refusal a
+  | None ↦ may_answer m o.thread o.op a
+]
 
-abbrev pub answers_found : Option Opened → Ideal → Answer → List ℕ → Option Ideal
-answers_found None m a kept = None
-answers_found (Some o) m a kept = answers_waiting o.waits m o a kept
+-- the device after a call is answered, from the one in which it waits no more; None where it waits for no such answer
+abbrev pub answers : Ideal → Answer → List ℕ → Opened → Option Ideal
+answers m a stored o = when (o.waits && is_due m o a) (after_answer m o.thread o.op a stored)
 
 -- ---- one thing shown, and all
 
--- the device after it showed something; None where it never does
+-- the device after it showed something; None where it never does: only a link shows arrivals and frames on the wire,
+-- and only a stream shows samples
 abbrev pub shows : Ideal → Visible → Option Ideal
-shows m (called call thread o) = when (may_call call thread m.opened) (record m { opened = m.opened ++ opens thread o ∷ [] })
-shows m (wire call frame) =
-    when (may_wire_found frame (at_number call m.opened)) (record m { opened = change_number wired_once call m.opened })
-shows m (sample word rate volume) =
-    when (may_sound word rate volume m) (record m { opened = change_number played_once (play_of m) m.opened })
-shows m (arrived frame) = Some (record m { pending = m.pending ++ frame ∷ [] })
-shows m (answer call a kept) = answers_found (at_number call m.opened) (closes call m) a kept
+shows m (called call thread o) =
+    when (may_call call thread m.opened) (record m { opened = m.opened ++ opens thread o ∷ [] })
+shows m (wire call frame) = option_and_then
+    (λ o. when (same_class m.class Net && may_wire frame o)
+    (record m { opened = change_number wired_once call m.opened }))
+    (at_number call m.opened)
+shows m (sample word rate volume) = option_and_then
+    (λ o. when (same_class m.class Sound && may_sound word rate volume m o)
+    (record m { opened = change_number played_once (play_of m) m.opened }))
+    (at_number (play_of m) m.opened)
+shows m (arrived frame) = when (same_class m.class Net) (record m { pending = m.pending ++ frame ∷ [] })
+shows m (answer call a stored) = option_and_then (answers (closes call m) a stored) (at_number call m.opened)
 
 -- the device after it showed all of these; None where it never does
 unfoldable pub ran : Ideal → List Visible → Option Ideal
@@ -190,5 +191,6 @@ ran m (v ∷ more) = option_and_then (λ after. ran after more) (shows m v)
 unfoldable pub class_run : Class → ℕ → List Visible → Bool
 class_run class size visible = is_some (ran (never_failing class size) visible)
 
+-- the same as a proposition
 abbrev pub IsClassRun : Class → ℕ → List Visible → Type 0
 IsClassRun class size visible = class_run class size visible ≡ true

@@ -102,7 +102,7 @@ driver_of class d = do
 
 -- ---- bytes
 
--- the image of an image's JSON text, and of an assembler text; or the first fault
+-- the image of an image's JSON text, or its first fault
 unfoldable pub image_from : List ℕ → Result Image Refusal
 image_from bytes = do
   d ← json_of bytes
@@ -112,7 +112,7 @@ image_from bytes = do
 unfoldable pub image_from_asm : List ℕ → Result Image Refusal
 image_from_asm bytes = or_bad_asm (assembled bytes)
 
--- what `asm` writes for the bytes that it reads, and what `dis` writes
+-- what `asm` writes for the bytes that it reads
 abbrev pub asm_output : List ℕ → List ℕ
 asm_output bytes = told image_text (image_from_asm bytes)
 

@@ -30,6 +30,7 @@ abbrev pub is_code_at : ℕ → FaultKind → Bool
 is_code_at address (fault.Code a value) = nat_lt a 2048 && a == address
 is_code_at address _ = false
 
+-- a fault that writes the text word at the address
 abbrev pub writes_code : ℕ → Fault → Bool
 writes_code address f = is_code_at address f.kind
 
@@ -61,6 +62,7 @@ IsGiveBack object words end.Pause = ⊥
 IsGiveBack object words end.Trap = ⊥
 IsGiveBack object words (end.Reply status) = ⊥
 
+-- an event that is a served give_back of an object that moved these words
 abbrev pub GivesBack : ℕ → List ℕ → Event → Type 0
 GivesBack object words (event.Burst context call burst count e acts answer failure) = IsGiveBack object words e
 GivesBack object words _ = ⊥
@@ -71,10 +73,12 @@ KeepsObject object p e q =
     (object_of object q ≡ object_of object p)
     ⊎ ((list_any (is_borrow_of object) p.domain.entries ≡ true) × GivesBack object (object_of object q) e)
 
+-- the answer Done
 abbrev pub is_done : Option Answer → Bool
 is_done (Some answers.Done) = true
 is_done _ = false
 
+-- a Set
 abbrev pub is_set_call : Option CallEntry → Bool
 is_set_call None = false
 is_set_call (Some c) = is_set c.op
@@ -100,6 +104,7 @@ pub record IsIsolatedStep (p : PartState) (e : Event) (q : PartState) : Type 0 w
   -- a burst writes only where its driver may write, but for the code faults of that burst
   pub within : KeepsWithin p e
 
+-- each event changes only what it may, from a part on
 unfoldable pub IsIsolatedFrom : PartState → List Event → Type 0
 IsIsolatedFrom p [] = Unit {0}
 IsIsolatedFrom p (e ∷ events) =

@@ -1,15 +1,10 @@
-pub mod Causes
+pub mod Views
 pub mod Listening
 pub mod Names
-pub mod Room
 pub mod State
-pub mod Streams
 pub mod Machine
 pub mod Pages
-pub mod PageMap
-pub mod Tracker
 pub mod Devices
-pub mod Ports
 pub mod Turn
 pub mod Burst
 pub mod Classes
@@ -29,6 +24,7 @@ pub mod Places
 pub mod Blocks
 pub mod Trace
 pub mod Ideal
+pub mod Answers
 pub mod Contract
 pub mod Losses
 pub mod Licence

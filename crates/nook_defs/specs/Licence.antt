@@ -1,6 +1,7 @@
-use Rattle.std.specs.Prelude.{◌≡◌, ℕ, Bool, true, false, List, [], ◌∷◌, length, Option, Some, None, is_some, is_none, nat_lt, ◌+◌, ◌==◌, ◌&&◌, ◌||◌}
+use Rattle.std.specs.Prelude.{◌≡◌, ℕ, Bool, true, false, List, [], ◌∷◌, length, Option, Some, None, is_some, is_none, nat_lt, not, ◌+◌, ◌==◌, ◌&&◌, ◌||◌}
+use Rattle.std.specs.List.{list_any}
 use Rattle.nook_defs.specs.declared.data.Answer.{Answer}
-use Rattle.nook_defs.specs.declared.data.Answer.TheVariants as answered
+use Rattle.nook_defs.specs.declared.data.Answer.TheVariants as answer
 use Rattle.nook_defs.specs.declared.data.Event.{Event}
 use Rattle.nook_defs.specs.declared.data.Event.TheVariants as event
 use Rattle.nook_defs.specs.declared.data.Losses.{Losses}
@@ -10,26 +11,27 @@ use Rattle.nook_defs.specs.declared.data.Op.{Op}
 use Rattle.nook_defs.specs.declared.data.Op.TheVariants.{Send, Play}
 use Rattle.nook_defs.specs.declared.data.PartSpec.{PartSpec}
 use Rattle.nook_defs.specs.declared.data.Stage.{Stage}
-use Rattle.nook_defs.specs.declared.data.Stage.TheVariants as stages
+use Rattle.nook_defs.specs.declared.data.Stage.TheVariants as stage
+use Rattle.nook_defs.specs.Answers.{answers_of}
 use Rattle.nook_defs.specs.Blocks.{has_block}
-use Rattle.nook_defs.specs.Contract.{Watch, Watched, first_watch, is_empty, sees}
+use Rattle.nook_defs.specs.Contract.{Known, OpenCall, known_first, call_of, is_empty, during, after}
 use Rattle.nook_defs.specs.Losses.{losses}
-use Rattle.nook_defs.specs.Places.{at_number}
 use Rattle.nook_defs.specs.Runs.{state_after, step_of}
 use Rattle.nook_defs.specs.State.{PartState}
 use Rattle.nook_defs.specs.Steps.{opening}
 
 -- Losses and busy answers stand only around a failure, or where a ring or a queue was full.
 
+-- two stages are one
 abbrev pub same_stage : Stage → Stage → Bool
-same_stage stages.Stop stages.Stop = true
-same_stage stages.Collect stages.Collect = true
-same_stage stages.Reset stages.Reset = true
-same_stage stages.Load stages.Load = true
-same_stage stages.Init stages.Init = true
-same_stage (stages.ReplaySet k v) (stages.ReplaySet key value) = (k == key) && (v == value)
-same_stage stages.ReplayOpen stages.ReplayOpen = true
-same_stage stages.Resume stages.Resume = true
+same_stage stage.Stop stage.Stop = true
+same_stage stage.Collect stage.Collect = true
+same_stage stage.Reset stage.Reset = true
+same_stage stage.Load stage.Load = true
+same_stage stage.Init stage.Init = true
+same_stage (stage.ReplaySet k v) (stage.ReplaySet key value) = (k == key) && (v == value)
+same_stage stage.ReplayOpen stage.ReplayOpen = true
+same_stage stage.Resume stage.Resume = true
 same_stage a b = false
 
 -- ---- where the shadow answers
@@ -39,8 +41,9 @@ abbrev pub recovery_stage : Mode → Option Stage
 recovery_stage (mode.Recovering s) = Some s
 recovery_stage m = None
 
+-- the stage Stop alone
 abbrev pub stop_alone : Stage → Option Stage
-stop_alone stages.Stop = Some stages.Stop
+stop_alone stage.Stop = Some stage.Stop
 stop_alone s = None
 
 -- the current stage where the shadow answers: at an invocation while the part recovers, and at Stop
@@ -52,58 +55,49 @@ shadow_stage m e = None
 -- ---- one answer
 
 -- Done of a call whose frame was sent, or of which all samples were played
-abbrev pub is_served : Op → Watched → Bool
+abbrev pub is_served : Op → OpenCall → Bool
 is_served (Send frame) c = nat_lt 0 c.sent
 is_served (Play samples) c = c.played == length samples
 is_served o c = true
 
-abbrev pub is_served_found : Option Watched → Bool
-is_served_found None = true
-is_served_found (Some c) = is_served c.op c
+-- the same of the call with a number, if it is open
+abbrev pub is_served_call : Option OpenCall → Bool
+is_served_call None = true
+is_served_call (Some c) = is_served c.op c
 
+-- this is the current stage where the shadow answers
 abbrev pub is_stage : Option Stage → Stage → Bool
 is_stage None s = false
 is_stage (Some current) s = same_stage current s
 
 -- a command on the block failed in the attempt
-abbrev pub has_failed : ℕ → Option Watched → Bool
+abbrev pub has_failed : ℕ → Option OpenCall → Bool
 has_failed block None = false
 has_failed block (Some c) = has_block block c.failed
 
--- an answer of a call: `shadow` is the current stage where the shadow answers, `queue` is the kernel's queue, and `w` is
--- what the monitor knows after the event
-abbrev pub allows : Option Stage → List (List ℕ) → Watch → ℕ → Answer → Bool
-allows shadow queue w call answered.Done = is_some shadow || is_served_found (at_number call w.calls)
-allows shadow queue w call (answered.Busy s) = is_stage shadow s
-allows shadow queue w call answered.Empty = is_some shadow || is_empty queue && is_empty w.ring
-allows shadow queue w call (answered.IoError block) = is_none shadow && has_failed block (at_number call w.calls)
-allows shadow queue w call a = true
+-- an answer of a call: `shadow` is the current stage where the shadow answers, `queue` is the kernel's queue, and `k` is
+-- what is known with the event, the calls that it answers among them
+abbrev pub allows : Option Stage → List (List ℕ) → Known → ℕ → Answer → Bool
+allows shadow queue k call answer.Done = is_some shadow || is_served_call (call_of call k.calls)
+allows shadow queue k call (answer.Busy s) = is_stage shadow s
+allows shadow queue k call answer.Empty = is_some shadow || is_empty queue && is_empty k.ring
+allows shadow queue k call (answer.IoError block) = is_none shadow && has_failed block (call_of call k.calls)
+allows shadow queue k call a = true
+
+-- an answer that is not allowed
+abbrev pub refuses : Option Stage → List (List ℕ) → Known → ℕ × Answer → Bool
+refuses shadow queue k a = not (allows shadow queue k a.0 a.1)
 
 -- ---- events
 
-abbrev pub allows_option : Option Stage → List (List ℕ) → Watch → ℕ → Option Answer → Bool
-allows_option shadow queue w call None = true
-allows_option shadow queue w call (Some a) = allows shadow queue w call a
+-- an event of a part in this state, with what is known with it: each of its answers is allowed
+abbrev pub licenses : PartState → Known → Event → Bool
+licenses p k e = not (list_any (refuses (shadow_stage p.mode e) p.queue k) (answers_of e))
 
-abbrev pub allows_each : Option Stage → List (List ℕ) → Watch → List (ℕ × Answer) → Bool
-allows_each shadow queue w [] = true
-allows_each shadow queue w (a ∷ answers) = allows shadow queue w a.0 a.1 && allows_each shadow queue w answers
-
-abbrev pub allows_event : Option Stage → List (List ℕ) → Watch → Event → Bool
-allows_event shadow queue w (event.Invoke call thread o a) = allows_option shadow queue w call a
-allows_event shadow queue w (event.Enter call thread attempt a) = allows_option shadow queue w call a
-allows_event shadow queue w (event.Burst context call burst count end acts a failure) = allows_option shadow queue w call a
-allows_event shadow queue w (event.Stage s answers released) = allows_each shadow queue w answers
-allows_event shadow queue w (event.Arrive frame kept) = true
-
--- an event of a part in this state, with what the monitor knows after it
-abbrev pub licenses : PartState → Watch → Event → Bool
-licenses p w e = allows_event (shadow_stage p.mode e) p.queue w e
-
--- events of a part in this state, after which the monitor knows `w`
-unfoldable pub licensed_from : PartState → Watch → List Event → Bool
-licensed_from p w [] = true
-licensed_from p w (e ∷ events) = licenses p (sees w e) e && licensed_from (state_after p (step_of e)) (sees w e) events
+-- events of a part in this state, before which this is known
+unfoldable pub licensed_from : PartState → Known → List Event → Bool
+licensed_from p k [] = true
+licensed_from p k (e ∷ events) = licenses p (during k e) e && licensed_from (state_after p (step_of e)) (after k e) events
 
 -- each frame that arrived was received, or is somewhere, or was lost where it is told
 abbrev pub is_balanced : Losses → Bool
@@ -113,7 +107,8 @@ is_balanced n =
 -- a journal of a part
 unfoldable pub licensed : PartSpec → List Event → Bool
 licensed spec events =
-    licensed_from (opening spec) (first_watch spec.class spec.blocks) events && is_balanced (losses events)
+    licensed_from (opening spec) (known_first spec.class spec.blocks) events && is_balanced (losses events)
 
+-- the same as a proposition
 abbrev pub IsLicensed : PartSpec → List Event → Type 0
 IsLicensed spec events = licensed spec events ≡ true

@@ -43,6 +43,7 @@ masks_meet a b = nat_lt 0 (bit_and a b)
 abbrev pub hears : Listening → ℕ → Event → Bool
 hears l part event = nat_lt part 8 && masks_meet l.part_mask (2 ^ part) && masks_meet l.kind_mask (kinds_of event)
 
+-- 1 where the test holds
 abbrev pub count_if : Bool → ℕ → ℕ
 count_if true n = n + 1
 count_if false n = n

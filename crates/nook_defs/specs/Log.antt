@@ -14,12 +14,15 @@ use Rattle.nook_defs.specs.State.{CallLog}
 
 -- What the shadow keeps while the driver runs: the open calls, the record and the holder.
 
+-- a log at first: no call was made, and the record has the defaults
 unfoldable pub opening_log : List ℕ → CallLog
 opening_log defaults = record { pending = []; count = 0; config = defaults; defaults = defaults; holder = None }
 
+-- a call of the thread
 abbrev pub is_of_thread : ℕ → CallEntry → Bool
 is_of_thread thread c = c.thread == thread
 
+-- the call with the number
 abbrev pub is_call : ℕ → CallEntry → Bool
 is_call call c = c.call == call
 
@@ -52,6 +55,7 @@ entered_call c = record c { inside = true; attempts = c.attempts + 1 }
 abbrev pub held_call : CallEntry → CallEntry
 held_call c = record c { inside = false }
 
+-- a call changed, if it has the number
 abbrev pub change_call : ℕ → (CallEntry → CallEntry) → CallEntry → CallEntry
 change_call call f c = if is_call call c then f c else c
 
@@ -87,6 +91,7 @@ abbrev pub acknowledged_by : Option CallEntry → CallLog → CallLog
 acknowledged_by None log = log
 acknowledged_by (Some c) log = acknowledged c.thread c.op log
 
+-- the record and the holder after an open call is answered as done
 unfoldable pub acknowledged_call : ℕ → CallLog → CallLog
 acknowledged_call call log = acknowledged_by (open_call call log.pending) log
 
@@ -100,10 +105,11 @@ abbrev pub IsNumbered : ℕ → ℕ → List CallEntry → Type 0
 IsNumbered low count [] = low ≤ count
 IsNumbered low count (c ∷ pending) = (low < c.call) × IsNumbered c.call count pending
 
--- the call is blocked: an open call with a smaller number conflicts with it
+-- the earlier of two open calls blocks the other: its number is smaller and they conflict
 abbrev pub blocks_call : Class → CallEntry → CallEntry → Bool
 blocks_call class c earlier = nat_lt earlier.call c.call && conflicts class c.op earlier.op
 
+-- the call is blocked: an open call with a smaller number conflicts with it
 abbrev pub is_blocked : Class → CallEntry → List CallEntry → Bool
 is_blocked class c pending = list_any (blocks_call class c) pending
 
@@ -123,6 +129,7 @@ abbrev pub frame_or_empty : List (List ℕ) → Answer
 frame_or_empty [] = answer.Empty
 frame_or_empty (frame ∷ queue) = answer.Frame frame
 
+-- a Play while the driver is away: its samples are dropped, if its caller has the stream
 abbrev pub play_dropped : Bool → Answer
 play_dropped true = answer.Done
 play_dropped false = answer.NotOpen
@@ -187,17 +194,19 @@ following stage.Resume log = None
 -- Stop: each open call is answered by the shadow's table or held, in order of numbers; where the part is given up,
 -- each is answered Gone
 
--- the answers, with the queue that the calls before left
+-- an answer, where there is one, before those of the later calls
 abbrev pub with_answer : ℕ → Option Answer → List (ℕ × Answer) → List (ℕ × Answer)
 with_answer call None answers = answers
 with_answer call (Some a) answers = (call, a) ∷ answers
 
+-- the answers, each with the queue that the calls before left
 abbrev pub stop_answers : List CallEntry → List ℕ → Option ℕ → List (List ℕ) → List (ℕ × Answer)
 stop_answers [] config holder queue = []
 stop_answers (c ∷ pending) config holder queue =
     with_answer c.call (shadow_answer c.op c.thread config holder stage.Stop queue)
     (stop_answers pending config holder (queue_after c.op queue))
 
+-- the queue that the open calls leave
 abbrev pub stop_queue : List CallEntry → List (List ℕ) → List (List ℕ)
 stop_queue [] queue = queue
 stop_queue (c ∷ pending) queue = stop_queue pending (queue_after c.op queue)
@@ -206,15 +215,18 @@ stop_queue (c ∷ pending) queue = stop_queue pending (queue_after c.op queue)
 abbrev pub stop_calls : List CallEntry → List CallEntry
 stop_calls pending = map held_call (filter (λ c. is_kept c.op) pending)
 
+-- a given-up part's answer to an open call, and to each of them
 abbrev pub gone_answer : ℕ → CallEntry → ℕ × Answer
 gone_answer failures c = (c.call, answer.Gone failures)
 
+-- the same to each of them
 abbrev pub gone_answers : ℕ → List CallEntry → List (ℕ × Answer)
 gone_answers failures pending = map (gone_answer failures) pending
 
--- the log after Stop within the limit, and past it
+-- the log after Stop within the limit
 unfoldable pub held_by_shadow : CallLog → CallLog
 held_by_shadow log = record log { pending = stop_calls log.pending }
 
+-- the log after Stop past the limit
 unfoldable pub no_call_open : CallLog → CallLog
 no_call_open log = record log { pending = [] }

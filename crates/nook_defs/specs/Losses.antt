@@ -1,200 +1,203 @@
-use Rattle.std.specs.Prelude.{ℕ, suc, Bool, true, false, List, [], ◌∷◌, ◌++◌, length, fold, Option, Some, None, ◌+◌, ◌-◌, ◌==◌, not, if◌then◌else◌}
+use Rattle.std.specs.Prelude.{ℕ, suc, Bool, true, false, List, [], ◌∷◌, ◌++◌, map, filter, find, fold, length, count_by, sum_by, flat_map, Option, Some, None, is_some, ◌+◌, ◌-◌, ◌==◌, ◌&&◌, not, if◌then◌else◌}
+use Rattle.std.specs.List.{list_any}
 use Rattle.nook_defs.specs.declared.data.Act.{Act}
 use Rattle.nook_defs.specs.declared.data.Act.TheVariants as act
 use Rattle.nook_defs.specs.declared.data.Answer.{Answer}
-use Rattle.nook_defs.specs.declared.data.Answer.TheVariants as answered
+use Rattle.nook_defs.specs.declared.data.Answer.TheVariants as answer
 use Rattle.nook_defs.specs.declared.data.End.{End}
-use Rattle.nook_defs.specs.declared.data.End.TheVariants as ends
+use Rattle.nook_defs.specs.declared.data.End.TheVariants as end
 use Rattle.nook_defs.specs.declared.data.Event.{Event}
 use Rattle.nook_defs.specs.declared.data.Event.TheVariants as event
 use Rattle.nook_defs.specs.declared.data.Losses.{Losses}
 use Rattle.nook_defs.specs.declared.data.Op.{Op}
 use Rattle.nook_defs.specs.declared.data.Op.TheVariants.{Send, Play}
 use Rattle.nook_defs.specs.declared.data.Stage.{Stage}
-use Rattle.nook_defs.specs.declared.data.Stage.TheVariants as stages
-use Rattle.nook_defs.specs.Places.{at_number, change_number}
+use Rattle.nook_defs.specs.declared.data.Stage.TheVariants as stage
+use Rattle.nook_defs.specs.Answers.{answers_of}
 
--- What was lost, and where frames went: counts over any list of events. A count is kept whole; where a number is a
--- difference it is cut at 0 when it is told, and at each Reset.
+-- What was lost, and where frames went: counts over a journal's events.
 
--- a call: how many frames were sent and how many samples were played in its bursts, and whether it was answered
-pub record Counted : Type 0 where
+-- ---- arrivals
+
+-- a frame arrived
+abbrev pub is_arrival : Event → Bool
+is_arrival (event.Arrive frame kept) = true
+is_arrival e = false
+
+-- the ring was full
+abbrev pub is_lost_arrival : Event → Bool
+is_lost_arrival (event.Arrive frame kept) = not kept
+is_lost_arrival e = false
+
+-- ---- frames handed up: the queue takes one exactly where the service's result is not 0
+
+-- the answer of service 6 that ends a burst, which is not 0 where the queue took the frame
+abbrev pub handed_result : End → Option ℕ
+handed_result (end.Service number first second result moved) = if number == 6 then result else None
+handed_result e = None
+
+-- the same of an event
+abbrev pub result_of : Event → Option ℕ
+result_of (event.Burst context call burst count e acts a failure) = handed_result e
+result_of e = None
+
+-- a frame was handed up, and the queue took it
+abbrev pub is_taken : Event → Bool
+is_taken e = elim (result_of e) [ Some result ↦ not (result == 0) | None ↦ false ]
+
+-- the queue was full
+abbrev pub is_refused : Event → Bool
+is_refused e = elim (result_of e) [ Some result ↦ result == 0 | None ↦ false ]
+
+-- ---- answers
+
+-- all answers, in order
+abbrev pub all_answers : List Event → List (ℕ × Answer)
+all_answers events = flat_map answers_of events
+
+-- an answer Busy
+abbrev pub is_busy : ℕ × Answer → Bool
+is_busy a = elim a.1 [ answer.Busy s ↦ true | _ ↦ false ]
+
+-- a Recv got a frame
+abbrev pub is_received : ℕ × Answer → Bool
+is_received a = elim a.1 [ answer.Frame frame ↦ true | _ ↦ false ]
+
+-- ---- sends and samples that were lost
+
+-- an open call: how many frames were sent and how many samples were played in its bursts
+pub record Tally : Type 0 where
+  pub number : ℕ
   pub op : Op
   pub sent : ℕ
   pub played : ℕ
-  pub answered : Bool
 
--- the counts: Sends that were answered Done with no frame sent, samples that were not played, answers Busy; frames
--- that arrived, that were answered, that the queue took and that it did not; frames that the ring took and that it did
--- not, that were popped, and that a Reset cleared; popped and handed up since the last Reset; and what Resets lost
-pub record Counts : Type 0 where
-  pub calls : List Counted
-  pub sends : ℕ
-  pub samples : ℕ
-  pub busy : ℕ
-  pub arrived : ℕ
-  pub received : ℕ
-  pub taken : ℕ
-  pub refused : ℕ
+-- a frame is sent
+abbrev pub is_sent : Act → Bool
+is_sent (act.Sent frame) = true
+is_sent a = false
+
+-- a sample is played
+abbrev pub is_played : Act → Bool
+is_played (act.Played word rate volume) = true
+is_played a = false
+
+-- the call with the acts of one of its bursts
+abbrev pub with_acts : List Act → Tally → Tally
+with_acts acts t = record t { sent = t.sent + count_by is_sent acts; played = t.played + count_by is_played acts }
+
+-- a call that is made
+abbrev pub new_tally : ℕ → Op → Tally
+new_tally number o = record { number = number; op = o; sent = 0; played = 0 }
+
+-- the open calls with what an event does in them, those that it answers among them
+abbrev pub tallies_during : List Tally → Event → List Tally
+tallies_during ts (event.Invoke call thread o a) = ts ++ new_tally call o ∷ []
+tallies_during ts (event.Burst context call burst count e acts a failure) =
+    map (λ t. if t.number == call then with_acts acts t else t) ts
+tallies_during ts e = ts
+
+-- a call is open until an event answers it
+abbrev pub tallies_after : List Tally → Event → List Tally
+tallies_after ts e = filter (λ t. not (list_any (λ a. a.0 == t.number) (answers_of e))) (tallies_during ts e)
+
+-- the answer Done
+abbrev pub is_done : Answer → Bool
+is_done answer.Done = true
+is_done a = false
+
+-- a Send in which no frame was sent
+abbrev pub unsent : Op → ℕ → ℕ
+unsent (Send frame) sent = if sent == 0 then 1 else 0
+unsent o sent = 0
+
+-- the samples of a Play that were not played
+abbrev pub unplayed : Op → ℕ → ℕ
+unplayed (Play samples) played = length samples - played
+unplayed o played = 0
+
+-- what is lost by an answer of an open call: something only if it is Done
+abbrev pub lost_by : (Tally → ℕ) → List Tally → ℕ × Answer → ℕ
+lost_by lost ts a = elim (find (λ t. t.number == a.0) ts) [ Some t ↦ if is_done a.1 then lost t else 0 | None ↦ 0 ]
+
+-- what is lost by the answers of events that follow
+abbrev pub lost_from : (Tally → ℕ) → List Tally → List Event → ℕ
+lost_from lost ts [] = 0
+lost_from lost ts (e ∷ events) =
+    sum_by (lost_by lost (tallies_during ts e)) (answers_of e) + lost_from lost (tallies_after ts e) events
+
+-- Sends that were answered Done though no frame was sent in them
+abbrev pub lost_sends : List Event → ℕ
+lost_sends events = lost_from (λ t. unsent t.op t.sent) [] events
+
+-- samples that were not played, of Plays that were answered Done
+abbrev pub lost_samples : List Event → ℕ
+lost_samples events = lost_from (λ t. unplayed t.op t.played) [] events
+
+-- ---- where frames are: in the ring, in the driver, or cleared by a Reset
+
+-- frames that the ring took, that were popped, and that Resets cleared; popped and handed up since the last Reset; and
+-- what Resets lost
+pub record Places : Type 0 where
   pub kept : ℕ
-  pub lost : ℕ
   pub popped : ℕ
   pub cleared : ℕ
   pub popped_since : ℕ
   pub handed_since : ℕ
   pub reset : ℕ
 
-abbrev pub no_counts : Counts
-no_counts = record {
-  calls = [];
-  sends = 0;
-  samples = 0;
-  busy = 0;
-  arrived = 0;
-  received = 0;
-  taken = 0;
-  refused = 0;
-  kept = 0;
-  lost = 0;
-  popped = 0;
-  cleared = 0;
-  popped_since = 0;
-  handed_since = 0;
-  reset = 0;
-}
-
-abbrev pub counted : Op → Counted
-counted o = record { op = o; sent = 0; played = 0; answered = false }
-
-abbrev pub count_sent : Counted → Counted
-count_sent c = record c { sent = suc c.sent }
-
-abbrev pub count_played : Counted → Counted
-count_played c = record c { played = suc c.played }
-
-abbrev pub count_answered : Counted → Counted
-count_answered c = record c { answered = true }
-
--- ---- answers
-
--- a first answer Done of a Send in which no frame was sent
-abbrev pub lost_sends : Op → ℕ → ℕ
-lost_sends (Send frame) sent = if sent == 0 then 1 else 0
-lost_sends o sent = 0
-
--- at a first answer Done of a Play, the samples that were not played
-abbrev pub lost_samples : Op → ℕ → ℕ
-lost_samples (Play samples) played = length samples - played
-lost_samples o played = 0
-
-abbrev pub is_done : Answer → Bool
-is_done answered.Done = true
-is_done a = false
-
-abbrev pub is_busy : Answer → Bool
-is_busy (answered.Busy stage) = true
-is_busy a = false
-
-abbrev pub is_frame : Answer → Bool
-is_frame (answered.Frame frame) = true
-is_frame a = false
+-- nowhere at first
+abbrev pub no_places : Places
+no_places = record { kept = 0; popped = 0; cleared = 0; popped_since = 0; handed_since = 0; reset = 0 }
 
 -- 1 where the test holds
 abbrev pub one_if : Bool → ℕ
 one_if true = 1
 one_if false = 0
 
-abbrev pub sends_of : Bool → Option Counted → ℕ
-sends_of true (Some c) = if c.answered then 0 else lost_sends c.op c.sent
-sends_of done c = 0
+-- a frame is popped
+abbrev pub is_popped : Act → Bool
+is_popped (act.Popped frame) = true
+is_popped a = false
 
-abbrev pub samples_of : Bool → Option Counted → ℕ
-samples_of true (Some c) = if c.answered then 0 else lost_samples c.op c.played
-samples_of done c = 0
-
-abbrev pub count_answer : ℕ → Answer → Counts → Counts
-count_answer call a n = record n {
-  calls = change_number count_answered call n.calls;
-  sends = n.sends + sends_of (is_done a) (at_number call n.calls);
-  samples = n.samples + samples_of (is_done a) (at_number call n.calls);
-  busy = n.busy + one_if (is_busy a);
-  received = n.received + one_if (is_frame a);
-}
-
-abbrev pub count_option : ℕ → Option Answer → Counts → Counts
-count_option call None n = n
-count_option call (Some a) n = count_answer call a n
-
-abbrev pub count_answers : List (ℕ × Answer) → Counts → Counts
-count_answers [] n = n
-count_answers (a ∷ answers) n = count_answers answers (count_answer a.0 a.1 n)
-
--- ---- bursts
-
-abbrev pub count_act : ℕ → Act → Counts → Counts
-count_act call (act.Sent frame) n = record n { calls = change_number count_sent call n.calls }
-count_act call (act.Played word rate volume) n = record n { calls = change_number count_played call n.calls }
-count_act call (act.Popped frame) n = record n { popped = suc n.popped; popped_since = suc n.popped_since }
-count_act call a n = n
-
-abbrev pub count_acts : ℕ → List Act → Counts → Counts
-count_acts call [] n = n
-count_acts call (a ∷ acts) n = count_acts call acts (count_act call a n)
-
--- a frame was handed up, and the queue took it exactly where the result is not 0
-abbrev pub count_handed : Option ℕ → Counts → Counts
-count_handed None n = n
-count_handed (Some result) n = record n {
-  handed_since = suc n.handed_since;
-  taken = n.taken + one_if (not (result == 0));
-  refused = n.refused + one_if (result == 0);
-}
-
-abbrev pub handed_result : End → Option ℕ
-handed_result (ends.Service service first second result moved) = if service == 6 then result else None
-handed_result end = None
-
--- ---- stages
-
--- frames in the ring, and frames that the driver popped and did not hand up
-abbrev pub in_ring : Counts → ℕ
+-- frames that the ring took and that are still there
+abbrev pub in_ring : Places → ℕ
 in_ring n = n.kept - n.popped - n.cleared
 
-abbrev pub in_driver : Counts → ℕ
+-- frames that were popped since the last Reset and not handed up
+abbrev pub in_driver : Places → ℕ
 in_driver n = n.popped_since - n.handed_since
 
-abbrev pub count_stage : Stage → Counts → Counts
-count_stage stages.Reset n = record n
+-- a Reset clears the ring and what the driver has
+abbrev pub places_reset : Places → Places
+places_reset n = record n
     { cleared = n.cleared + in_ring n; reset = n.reset + in_ring n + in_driver n; popped_since = 0; handed_since = 0 }
-count_stage s n = n
 
--- ---- events
-
-abbrev pub count_event : Counts → Event → Counts
-count_event n (event.Invoke call thread o a) = count_option call a (record n { calls = n.calls ++ counted o ∷ [] })
-count_event n (event.Enter call thread attempt a) = count_option call a n
-count_event n (event.Burst context call burst count end acts a failure) =
-    count_option call a (count_handed (handed_result end) (count_acts call acts n))
-count_event n (event.Stage stage answers released) = count_answers answers (count_stage stage n)
-count_event n (event.Arrive frame kept) = record n
-    { arrived = suc n.arrived; kept = n.kept + one_if kept; lost = n.lost + one_if (not kept) }
-
--- the numbers that are told
-abbrev pub told : Counts → Losses
-told n = record {
-  sends = n.sends;
-  samples = n.samples;
-  busy = n.busy;
-  arrived = n.arrived;
-  received = n.received;
-  queued = n.taken - n.received;
-  ring = in_ring n;
-  driver = in_driver n;
-  reset = n.reset;
-  full_ring = n.lost;
-  full_queue = n.refused;
+-- where frames are after an event
+abbrev pub places_after : Places → Event → Places
+places_after n (event.Burst context call burst count e acts a failure) = record n {
+  popped = n.popped + count_by is_popped acts;
+  popped_since = n.popped_since + count_by is_popped acts;
+  handed_since = n.handed_since + one_if (is_some (handed_result e));
 }
+places_after n (event.Stage stage.Reset answers released) = places_reset n
+places_after n (event.Arrive frame kept) = record n { kept = n.kept + one_if kept }
+places_after n e = n
+
+-- ---- all of them
 
 -- what was lost in a list of events, and where its frames went
 unfoldable pub losses : List Event → Losses
-losses events = told (fold count_event no_counts events)
+losses events = record {
+  sends = lost_sends events;
+  samples = lost_samples events;
+  busy = count_by is_busy (all_answers events);
+  arrived = count_by is_arrival events;
+  received = count_by is_received (all_answers events);
+  queued = count_by is_taken events - count_by is_received (all_answers events);
+  ring = in_ring (fold places_after no_places events);
+  driver = in_driver (fold places_after no_places events);
+  reset = (fold places_after no_places events).reset;
+  full_ring = count_by is_lost_arrival events;
+  full_queue = count_by is_refused events;
+}

@@ -6,12 +6,15 @@ use Rattle.nook_defs.specs.declared.machine.Instr.TheVariants as instr
 abbrev pub op_field : ℕ → ℕ
 op_field w = w / 2 ^ 24 % 2 ^ 8
 
+-- four bits that name a register
 abbrev pub a_field : ℕ → ℕ
 a_field w = w / 2 ^ 20 % 2 ^ 4
 
+-- four bits that name a register
 abbrev pub b_field : ℕ → ℕ
 b_field w = w / 2 ^ 16 % 2 ^ 4
 
+-- 16 bits: an address, a number or a port
 abbrev pub imm_field : ℕ → ℕ
 imm_field w = w % 2 ^ 16
 

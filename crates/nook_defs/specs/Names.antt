@@ -4,6 +4,7 @@ use Rattle.std.specs.Prelude.{ℕ, Bool, true, List, [], ◌∷◌, length, nat_
 abbrev pub is_name_byte : ℕ → Bool
 is_name_byte b = nat_le 97 b && nat_le b 122 || nat_le 48 b && nat_le b 57 || b == 95
 
+-- each byte may stand in a name
 abbrev pub all_name_bytes : List ℕ → Bool
 all_name_bytes [] = true
 all_name_bytes (b ∷ bs) = is_name_byte b && all_name_bytes bs

@@ -61,10 +61,11 @@ padded_words n words = words ++ replicate (n - length words) 0
 abbrev pub object_words : ℕ → List ℕ → List ℕ
 object_words object memory = slice_range memory (object_start object) (object_start object + 64)
 
--- what a kernel object holds at first: its number and zeros; object 0 the class's defaults
+-- what a kernel object from 1 to 12 holds at first: its number and zeros. What object 0 holds is said by the memory below
 abbrev pub opening_object : ℕ → List ℕ
 opening_object object = object ∷ replicate 63 0
 
+-- so many kernel objects from a number on, one after the other
 abbrev pub opening_objects : ℕ → ℕ → List ℕ
 opening_objects object zero = []
 opening_objects object (suc more) = opening_object object ++ opening_objects (suc object) more

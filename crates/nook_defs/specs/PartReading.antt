@@ -127,7 +127,7 @@ part_bad class.Block blocks d = optional key.Bad (bad_blocks_of blocks) [] d
 part_bad class.Net blocks d = Ok []
 part_bad class.Sound blocks d = Ok []
 
--- a frame of 1 to 64 words, and up to 256 of them
+-- a frame of 1 to 64 words
 abbrev pub frame_of : List (List ℕ) → Data → Result (List ℕ) Refusal
 frame_of earlier d = numbers_of 1 64 4294967295 d
 

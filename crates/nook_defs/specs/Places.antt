@@ -12,6 +12,7 @@ abbrev pub put_number : {X : Type 0} → ℕ → X → List X → List X
 put_number zero x xs = xs
 put_number (suc place) x xs = slice_set xs place x
 
+-- the list with the item that was found changed
 abbrev pub change_found : {X : Type 0} → (X → X) → ℕ → List X → Option X → List X
 change_found f number xs None = xs
 change_found f number xs (Some x) = put_number number (f x) xs
@@ -20,6 +21,7 @@ change_found f number xs (Some x) = put_number number (f x) xs
 abbrev pub change_number : {X : Type 0} → (X → X) → ℕ → List X → List X
 change_number f number xs = change_found f number xs (at_number number xs)
 
+-- a number in a list that got one more item in front; 0 stays 0, which stands for none
 abbrev pub past_one : ℕ → ℕ
 past_one zero = zero
 past_one (suc number) = suc (suc number)

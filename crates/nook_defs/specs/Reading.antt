@@ -85,7 +85,7 @@ abbrev pub value_or : {T : Type 0} → Key → (Data → Result T Refusal) → T
 value_or key of default None = Ok default
 value_or key of default (Some d) = under (step.At key) (of d)
 
--- the value of a key that must be there, and of one that may be left out
+-- the value of a key that must be there
 abbrev pub required : {T : Type 0} → Key → (Data → Result T Refusal) → Data → Result T Refusal
 required key of d = value_at key of (get (key_text key) d)
 

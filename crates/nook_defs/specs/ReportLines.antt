@@ -35,6 +35,7 @@ abbrev pub comma_words : List ℕ → List ℕ
 comma_words [] = []
 comma_words (word ∷ words) = with_number (codes ",") word ++ comma_words words
 
+-- words with commas between them
 abbrev pub inner_words : List ℕ → List ℕ
 inner_words [] = []
 inner_words (word ∷ words) = decimal word ++ comma_words words
@@ -47,11 +48,13 @@ words_text words = codes "[" ++ (inner_words words ++ codes "]")
 abbrev pub with_list : List ℕ → List ℕ → List ℕ
 with_list text words = text ++ words_text words
 
+-- the end of a line
 abbrev pub line_feed : List ℕ
 line_feed = 10 ∷ []
 
 -- ---- names
 
+-- an operation with its numbers
 abbrev pub op_text : Op → List ℕ
 op_text (op.Read first count) = with_number (codes "read ") first ++ spaced count
 op_text (op.Write first words) = with_number (codes "write ") first ++ with_list (codes " ") words
@@ -63,6 +66,7 @@ op_text op.Close = codes "close"
 op_text (op.Get key) = with_number (codes "get ") key
 op_text (op.Set key value) = with_number (codes "set ") key ++ spaced value
 
+-- a stage
 abbrev pub stage_text : Stage → List ℕ
 stage_text stages.Stop = codes "stop"
 stage_text stages.Collect = codes "collect"
@@ -73,6 +77,7 @@ stage_text (stages.ReplaySet key value) = with_number (codes "replay_set ") key 
 stage_text stages.ReplayOpen = codes "replay_open"
 stage_text stages.Resume = codes "resume"
 
+-- an answer
 abbrev pub answer_text : Answer → List ℕ
 answer_text answered.Done = codes "done"
 answer_text (answered.Blocks words) = with_list (codes "data ") words
@@ -90,6 +95,7 @@ answer_text answered.BadClass = codes "bad_class"
 answer_text (answered.IoError block) = with_number (codes "io_error ") block
 answer_text (answered.Gone failures) = with_number (codes "gone ") failures
 
+-- why a burst was trapped
 abbrev pub trap_text : TrapCause → List ℕ
 trap_text trap.BadOpcode = codes "bad_opcode"
 trap_text trap.BadFetch = codes "bad_fetch"
@@ -100,6 +106,7 @@ trap_text trap.Hang = codes "hang"
 trap_text trap.Explicit = codes "explicit"
 trap_text trap.Injected = codes "injected"
 
+-- why a driver failed
 abbrev pub cause_text : FailCause → List ℕ
 cause_text (cause.Trap t) = codes "trap " ++ trap_text t
 cause_text (cause.BadParam service argument) = with_number (codes "bad_param ") service ++ spaced argument
@@ -107,10 +114,12 @@ cause_text cause.TooManyCrossings = codes "too_many_crossings"
 cause_text (cause.BadReply status) = with_number (codes "bad_reply ") status
 cause_text (cause.BadInit status) = with_number (codes "bad_init ") status
 
+-- a command on a block failed
 abbrev pub failed_text : Bool → List ℕ
 failed_text true = codes "failed store "
 failed_text false = codes "failed load "
 
+-- a device act
 abbrev pub act_text : Act → List ℕ
 act_text (act.Load block) = with_number (codes "load ") block
 act_text (act.Store block words) = with_number (codes "store ") block ++ with_list (codes " ") words
@@ -130,6 +139,7 @@ abbrev pub result_text : Option ℕ → List ℕ → List ℕ
 result_text None moved = []
 result_text (Some result) moved = with_number (codes " = ") result ++ moved_text moved
 
+-- how a burst ended
 abbrev pub end_text : End → List ℕ
 end_text (ends.Service service first second result moved) =
     with_number (codes "service ") service ++ (spaced first ++ (spaced second ++ result_text result moved))
@@ -137,10 +147,12 @@ end_text (ends.Reply status) = with_number (codes "reply ") status
 end_text ends.Pause = codes "pause"
 end_text ends.Trap = codes "trap"
 
+-- whether a buffer may be written
 abbrev pub right_text : Bool → List ℕ
 right_text true = codes " write"
 right_text false = codes " read"
 
+-- what a Collect took back
 abbrev pub released_text : Entry → List ℕ
 released_text (entry.Heap start len) = with_number (codes " heap ") start ++ spaced len
 released_text (entry.Borrow object start) = with_number (codes " borrow ") object ++ spaced start
@@ -149,32 +161,39 @@ released_text (entry.Registration live) = []
 
 -- ---- what may stand at the end of a line
 
+-- an answer at the end of a line, where one is given
 abbrev pub answer_tail : Option Answer → List ℕ
 answer_tail None = []
 answer_tail (Some a) = codes " -> " ++ answer_text a
 
+-- a failure at the end of a line, where one is carried
 abbrev pub cause_tail : Option FailCause → List ℕ
 cause_tail None = []
 cause_tail (Some c) = codes " ! " ++ cause_text c
 
+-- acts at the end of a line
 abbrev pub acts_tail : List Act → List ℕ
 acts_tail [] = []
 acts_tail (a ∷ acts) = codes " | " ++ (act_text a ++ acts_tail acts)
 
+-- answers at the end of a line
 abbrev pub answers_tail : List (ℕ × Answer) → List ℕ
 answers_tail [] = []
 answers_tail (a ∷ answers) = with_number (codes " -> c") a.0 ++ (codes " " ++ (answer_text a.1 ++ answers_tail answers))
 
+-- entries at the end of a line
 abbrev pub released_tail : List Entry → List ℕ
 released_tail [] = []
 released_tail (e ∷ released) = released_text e ++ released_tail released
 
+-- whether the ring took a frame
 abbrev pub kept_text : Bool → List ℕ
 kept_text true = codes " kept"
 kept_text false = codes " lost"
 
 -- ---- events
 
+-- an event without its number
 abbrev pub event_text : Event → List ℕ
 event_text (event.Invoke call thread o a) =
     with_number (codes "invoke c") call ++ (with_number (codes " t") thread ++ (codes " " ++ (op_text o ++ answer_tail a)))

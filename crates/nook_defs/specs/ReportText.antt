@@ -56,6 +56,7 @@ abbrev pub block_lines : ℕ → List (List ℕ) → List ℕ
 block_lines block [] = []
 block_lines block (words ∷ medium) = block_line block words ++ block_lines (suc block) medium
 
+-- the acts of a burst
 abbrev pub acts_of_event : Event → List Act
 acts_of_event (event.Burst context call burst count end acts a failure) = acts
 acts_of_event e = []
@@ -84,10 +85,12 @@ device_lines class.Block events p = block_lines 0 (medium_of p.domain.device)
 device_lines class.Net events p = wire_lines (acts_of events)
 device_lines class.Sound events p = played_lines (acts_of events)
 
+-- numbers, each after a space
 abbrev pub spaced_each : List ℕ → List ℕ
 spaced_each [] = []
 spaced_each (word ∷ words) = spaced word ++ spaced_each words
 
+-- the line of the record
 abbrev pub config_line : List ℕ → List ℕ
 config_line config = codes "config" ++ (spaced_each config ++ line_feed)
 
@@ -103,9 +106,11 @@ losses_lines class.Net n =
 losses_lines class.Sound n =
     with_number (codes "losses samples ") n.samples ++ (with_number (codes " busy ") n.busy ++ line_feed)
 
+-- the line of the failures
 abbrev pub failures_line : ℕ → List ℕ
 failures_line failures = with_number (codes "failures ") failures ++ line_feed
 
+-- the line of the verdict on the driver
 abbrev pub contract_line : Option Break → List ℕ
 contract_line None = codes "contract kept" ++ line_feed
 contract_line (Some b) =
@@ -137,6 +142,7 @@ answer_lines place [] = []
 answer_lines place (a ∷ answers) =
     decimal place ++ (with_number (codes " p") a.0 ++ (codes " " ++ (answer_text a.1 ++ (line_feed ++ answer_lines (suc place) answers))))
 
+-- the line of a thread's answers
 abbrev pub thread_line : ℕ → ThreadSpec → List ℕ
 thread_line place t = with_number (codes "thread ") place ++ (codes " " ++ (t.name ++ line_feed))
 
@@ -147,6 +153,7 @@ threads_text place (t ∷ threads) [] = []
 threads_text place (t ∷ threads) (own ∷ answers) =
     thread_line place t ++ (answer_lines 1 own ++ threads_text (suc place) threads answers)
 
+-- the line of a listener
 abbrev pub tap_text : Bool → List ℕ
 tap_text true = codes " kept"
 tap_text false = codes " dropped"
@@ -161,6 +168,7 @@ unfoldable pub taps_text : ℕ → List (ℕ × Bool) → List ℕ
 taps_text place [] = []
 taps_text place (t ∷ taps) = tap_line place t ++ taps_text (suc place) taps
 
+-- the last line
 abbrev pub status_line : ℕ → List ℕ
 status_line status = with_number (codes "status ") status ++ line_feed
 
@@ -194,6 +202,7 @@ abbrev pub events_count : List (List Event) → ℕ
 events_count [] = 0
 events_count (events ∷ journals) = length events + events_count journals
 
+-- how many failures the events carry
 unfoldable pub failures_count : List PartSpec → List (List Event) → ℕ
 failures_count [] journals = 0
 failures_count (s ∷ specs) [] = 0

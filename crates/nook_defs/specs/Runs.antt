@@ -8,6 +8,7 @@ use Rattle.nook_defs.specs.declared.data.PartSpec.{PartSpec}
 use Rattle.nook_defs.specs.declared.data.Step.{Step}
 use Rattle.nook_defs.specs.declared.data.Step.TheVariants as step
 use Rattle.nook_defs.specs.Calls.{Turned}
+use Rattle.nook_defs.specs.Log.{call_of_thread}
 use Rattle.nook_defs.specs.State.{PartState}
 use Rattle.nook_defs.specs.Steps.{opening, enabled, turned}
 
@@ -16,12 +17,15 @@ pub record PartRun : Type 0 where
   pub state : PartState
   pub journal : List Event
 
+-- a part at first: nothing has happened
 abbrev pub opening_run : PartSpec → PartRun
 opening_run spec = record { state = opening spec; journal = [] }
 
+-- the part after a step
 abbrev pub state_after : PartState → Step → PartState
 state_after p s = (turned p s).state
 
+-- the event that a step makes
 abbrev pub event_of : PartState → Step → Event
 event_of p s = (turned p s).event
 
@@ -58,17 +62,22 @@ state_of spec journal = state_from (opening spec) journal
 
 -- What comes next
 
+-- a step where it may be taken, else another
 abbrev pub if_enabled : PartState → Step → Option Step → Option Step
 if_enabled p s others = if enabled p s then Some s else others
 
--- the Enter or Burst of a thread's open call, where it may be taken
+-- the Enter or Burst of a thread's open call, where it may be taken; none where the thread has no open call
 unfoldable pub next_for : PartState → ℕ → Option Step
-next_for p thread = if_enabled p (step.Enter thread) (if_enabled p (step.Burst thread) None)
+next_for p thread =
+    if is_some (call_of_thread thread p.log.pending)
+    then if_enabled p (step.Enter thread) (if_enabled p (step.Burst thread) None)
+    else None
 
 -- the stage or the burst of the shadow's context, where it may be taken
 unfoldable pub next_recovery : PartState → Option Step
 next_recovery p = if_enabled p step.Stage (if_enabled p (step.Burst 16) None)
 
+-- the first step, where there is one, else the second
 abbrev pub or_step : Option Step → Option Step → Option Step
 or_step None others = others
 or_step (Some s) others = Some s
@@ -84,9 +93,11 @@ next_any p = or_step (next_recovery p) (next_of_calls p p.log.pending)
 
 -- Answers
 
+-- an answer, where it is of this call
 abbrev pub if_call : ℕ → ℕ → Option Answer → Option Answer
 if_call call c answer = if c == call then answer else None
 
+-- the answer of a call among answers
 abbrev pub answer_among : ℕ → List (ℕ × Answer) → Option Answer
 answer_among call [] = None
 answer_among call ((c, a) ∷ answers) = if c == call then Some a else answer_among call answers
@@ -99,6 +110,7 @@ answer_at call (event.Burst context c burst count end acts answer failure) = if_
 answer_at call (event.Stage stage answers released) = answer_among call answers
 answer_at call (event.Arrive frame kept) = None
 
+-- the number of the first event from a place on that answers a call
 abbrev pub answered_from : ℕ → ℕ → List Event → Option ℕ
 answered_from place call [] = None
 answered_from place call (e ∷ events) =

@@ -26,9 +26,11 @@ pub record Picked : Type 0 where
 abbrev pub place_from : ℕ → List ℕ → ℕ
 place_from cursor actors = unwrap_or (position (λ a. nat_le cursor a) actors) 0
 
+-- the pick at a place, with the cursor one past the actor that was picked
 abbrev pub round_at : ℕ → List ℕ → Picked
 round_at place actors = record { place = place; order = round (slice_index actors place + 1) }
 
+-- the first actor at or after the cursor, else the first of all
 abbrev pub round_pick : ℕ → List ℕ → Picked
 round_pick cursor actors = round_at (place_from cursor actors) actors
 

@@ -16,6 +16,7 @@ abbrev pub needs : Bool → ℕ → ℕ → Service → Result Service BadParam
 needs passes number argument s =
     if passes then Ok s else Err (record { service = number; argument = argument })
 
+-- a frame has 1 to 64 words
 abbrev pub is_frame_length : ℕ → Bool
 is_frame_length len = nat_le 1 len && nat_le len 64
 
@@ -52,12 +53,14 @@ pub record Served : Type 0 where
   pub answer : ℕ
   pub moved : List ℕ
 
+-- a heap block at the lowest place where it fits; 0 where none does
 abbrev pub alloc_served : ℕ → Option ℕ → List ℕ → List Entry → List (List ℕ) → Served
 alloc_served n None memory entries queue =
     record { memory = memory; entries = entries; queue = queue; answer = 0; moved = [] }
 alloc_served n (Some start) memory entries queue =
     record { memory = memory; entries = with_entry (entry.Heap start n) entries; queue = queue; answer = start; moved = [] }
 
+-- a copy of a kernel object, lent; 0 where there is no room for it
 abbrev pub borrow_served : ℕ → Option ℕ → List ℕ → List Entry → List (List ℕ) → Served
 borrow_served object None memory entries queue =
     record { memory = memory; entries = entries; queue = queue; answer = 0; moved = [] }
@@ -91,6 +94,7 @@ frame_served frame memory entries queue = record {
   moved = frame;
 }
 
+-- a service that answers 0 and moves nothing
 abbrev pub plainly_served : List ℕ → List Entry → List (List ℕ) → Served
 plainly_served memory entries queue =
     record { memory = memory; entries = entries; queue = queue; answer = 0; moved = [] }

@@ -35,9 +35,11 @@ pub record Simulation : Type 0 where
   pub parts : List PartSeat
   pub threads : List ThreadState
 
+-- a thread at first: all its operations are to come
 abbrev pub opening_thread : ThreadSpec → ThreadState
 opening_thread t = record { rest = t.ops; waiting = None; answers = [] }
 
+-- a part at first: all its arrivals are to come
 abbrev pub opening_seat : PartSpec → PartSeat
 opening_seat spec = record { run = opening_run spec; coming = spec.arrivals }
 
@@ -62,10 +64,12 @@ abbrev pub with_choice : ℕ → ℕ → Option Step → List Choice → List Ch
 with_choice actor part None choices = choices
 with_choice actor part (Some s) choices = record { actor = actor; part = part; step = s } ∷ choices
 
+-- the Invoke of an operation, where it may be taken; a valid scenario names no part that is not there
 abbrev pub invocation : ℕ → Op → Option PartSeat → Option Step
 invocation thread o None = None
 invocation thread o (Some seat) = if_enabled seat.run.state (step.Invoke thread o) None
 
+-- the next step of the thread's open call; it is open in a part that is there
 abbrev pub going_on : ℕ → Option PartSeat → Option Step
 going_on thread None = None
 going_on thread (Some seat) = next_for seat.run.state thread
@@ -82,6 +86,7 @@ with_thread thread parts t None choices = with_invocation thread parts t.rest ch
 with_thread thread parts t (Some w) choices =
     with_choice thread w.part (going_on thread (slice_get parts w.part)) choices
 
+-- the next arrival, where it may be taken
 abbrev pub arrival : PartRun → List (List ℕ) → Option Step
 arrival r [] = None
 arrival r (frame ∷ coming) = if_enabled r.state (step.Arrive frame) None
@@ -93,6 +98,7 @@ part_choices actor part (seat ∷ parts) =
     with_choice actor part (next_recovery seat.run.state)
     (with_choice (actor + 1) part (arrival seat.run seat.coming) (part_choices (actor + 2) (part + 1) parts))
 
+-- the choices of threads from a number on, before the later ones
 abbrev pub thread_choices : ℕ → List PartSeat → List ThreadState → List Choice → List Choice
 thread_choices thread parts [] choices = choices
 thread_choices thread parts (t ∷ threads) choices =
@@ -104,9 +110,11 @@ choices_of s = thread_choices 0 s.parts s.threads (part_choices (length s.thread
 
 -- What a step changes
 
+-- the number by which the schedule knows a choice
 abbrev pub actor_of : Choice → ℕ
 actor_of c = c.actor
 
+-- the operations after the first
 abbrev pub tail_ops : List (ℕ × Op) → List (ℕ × Op)
 tail_ops [] = []
 tail_ops (o ∷ rest) = rest
@@ -119,9 +127,11 @@ started thread part (event.Invoke call t o answer) s = record s {
 }
 started thread part _ s = s
 
+-- an answer, where it is of this part
 abbrev pub if_part : ℕ → ℕ → Option Answer → Option Answer
 if_part part p answer = if p == part then answer else None
 
+-- a thread whose call was answered waits no more, and has the answer
 abbrev pub settled_by : ℕ → ThreadState → Option Answer → ThreadState
 settled_by part s None = s
 settled_by part s (Some a) = record s { waiting = None; answers = s.answers ++ (part, a) ∷ [] }
@@ -131,9 +141,11 @@ abbrev pub settled : ℕ → Event → ThreadState → Option Waiting → Thread
 settled part e s None = s
 settled part e s (Some w) = settled_by part s (if_part part w.part (answer_at w.call e))
 
+-- a thread after an event of a part, which may answer its call
 abbrev pub told : ℕ → Event → ThreadState → ThreadState
 told part e s = settled part e s s.waiting
 
+-- the threads after an event of a part; the one that takes the step is told of it as well
 abbrev pub threads_after : ℕ → ℕ → Event → List ThreadState → List ThreadState
 threads_after thread part e [] = []
 threads_after thread part e (s ∷ threads) =
@@ -144,9 +156,11 @@ abbrev pub coming_after : Step → List (List ℕ) → List (List ℕ)
 coming_after (step.Arrive frame) (next ∷ coming) = coming
 coming_after s coming = coming
 
+-- a part after a step of it
 abbrev pub seat_after : Step → PartSeat → PartSeat
 seat_after s seat = record { run = run_after seat.run s; coming = coming_after s seat.coming }
 
+-- the simulation after a choice in a part; there is no choice in a part that is not there
 abbrev pub stepped_by : Simulation → Order → Choice → Option PartSeat → Simulation
 stepped_by s order c None = record s { order = order }
 stepped_by s order c (Some seat) = record {
@@ -155,10 +169,12 @@ stepped_by s order c (Some seat) = record {
   threads = threads_after 0 c.part (event_of seat.run.state c.step) s.threads;
 }
 
+-- the simulation after a choice, with what is left of the schedule
 abbrev pub taken_by : Simulation → Order → Option Choice → Simulation
 taken_by s order None = record s { order = order }
 taken_by s order (Some c) = stepped_by s order c (slice_get s.parts c.part)
 
+-- the simulation after the choice that the schedule picked
 abbrev pub taken_at : Simulation → List Choice → Picked → Simulation
 taken_at s choices p = taken_by s p.order (slice_get choices p.place)
 
@@ -178,9 +194,11 @@ pub record IsScheduledRun (scenario : Scenario) (s : Simulation) : Type 0 where
   pub reached : runs steps (begins scenario) ≡ s
   pub ended : choices_of s ≡ []
 
+-- a part's journal
 abbrev pub journal_of : PartSeat → List Event
 journal_of seat = seat.run.journal
 
+-- a thread's answers
 abbrev pub answers_of : ThreadState → List (ℕ × Answer)
 answers_of t = t.answers
 

@@ -25,11 +25,13 @@ stage_due (mode.Recovering s) = Some s
 stage_due (mode.Dead false) = Some stage.Collect
 stage_due (mode.Dead true) = None
 
+-- another stage of the boot or of the recovery; in the other modes no stage is due
 abbrev pub with_stage : Stage → Mode → Mode
 with_stage s (mode.Boot was) = mode.Boot s
 with_stage s (mode.Recovering was) = mode.Recovering s
 with_stage s m = m
 
+-- the part after a stage, with the event of it
 abbrev pub staged : Stage → PartState → List (ℕ × Answer) → List Entry → Turned
 staged s p answers entries = record { state = p; event = event.Stage s answers entries }
 
@@ -63,31 +65,39 @@ abbrev pub after_collect : Mode → Mode
 after_collect (mode.Dead collected) = mode.Dead true
 after_collect m = with_stage stage.Reset m
 
+-- Collect: all that the driver held goes back, and the event lists it
 unfoldable pub collects : PartState → Turned
 collects p = staged stage.Collect
     (record p { domain = collected_domain p.domain; mode = after_collect p.mode }) [] (released p.domain.entries)
 
+-- a domain whose device is reset
 abbrev pub with_reset : List ℕ → DomainState → DomainState
 with_reset defaults d = record d { device = reset_device defaults d.device }
 
+-- Reset: the device is as at first, but for the medium
 unfoldable pub resets : PartState → Turned
 resets p = staged stage.Reset
     (record p { domain = with_reset p.log.defaults p.domain; mode = with_stage stage.Load p.mode }) [] []
 
+-- Load: text and initial words are written anew
 unfoldable pub loads_image : PartState → Turned
 loads_image p = staged stage.Load
     (record p { domain = loaded_domain p.spec.image p.domain; mode = with_stage stage.Init p.mode }) [] []
 
+-- Init: the driver is entered at its first entry
 unfoldable pub inits : PartState → Turned
 inits p = staged stage.Init (record p { domain = plainly_entered 16 init_place p.domain }) [] []
 
+-- ReplaySet: the driver is told a key of the record once more
 unfoldable pub replays_set : ℕ → ℕ → PartState → Turned
 replays_set key value p = staged (stage.ReplaySet key value)
     (record p { domain = entered_domain 16 (set_place p.spec.class) (op.Set key value) p.domain }) [] []
 
+-- ReplayOpen: the driver is told that the stream is open
 unfoldable pub replays_open : PartState → Turned
 replays_open p = staged stage.ReplayOpen (record p { domain = plainly_entered 16 open_place p.domain }) [] []
 
+-- Resume: applications are served again
 unfoldable pub resumes : PartState → Turned
 resumes p = staged stage.Resume (record p { mode = mode.Running }) [] []
 
@@ -102,6 +112,7 @@ stage_done (stage.ReplaySet key value) p = replays_set key value p
 stage_done stage.ReplayOpen p = replays_open p
 stage_done stage.Resume p = resumes p
 
+-- the stage that is due; where none is due, the step may not be taken
 abbrev pub stage_by : PartState → Option Stage → Turned
 stage_by p None = staged stage.Resume p [] []
 stage_by p (Some s) = stage_done s p

@@ -35,6 +35,7 @@ opening spec = record {
 
 -- Which steps may be taken
 
+-- applications are served by the driver
 abbrev pub is_running : Mode → Bool
 is_running (mode.Boot s) = false
 is_running mode.Running = true
@@ -50,25 +51,31 @@ abbrev pub is_ready : PartState → Option CallEntry → Bool
 is_ready p None = false
 is_ready p (Some c) = not c.inside && not (is_blocked p.spec.class c p.log.pending)
 
+-- a call that is Inside
 abbrev pub is_inside : Option CallEntry → Bool
 is_inside None = false
 is_inside (Some c) = c.inside
 
+-- one of 16 threads that has no open call may invoke, up to 100,000 calls
 abbrev pub can_invoke : PartState → ℕ → Bool
 can_invoke p thread =
     nat_lt thread 16 && is_none (call_of_thread thread p.log.pending) && nat_lt p.log.count 100000
 
+-- a thread's open call may be entered while the driver serves, if it is Held and nothing blocks it
 abbrev pub can_enter : PartState → ℕ → Bool
 can_enter p thread = is_running p.mode && is_ready p (call_of_thread thread p.log.pending)
 
+-- the shadow may run where a stage drives the driver, and a call while it is Inside
 abbrev pub can_burst : PartState → ℕ → Bool
 can_burst p context =
     if context == 16 then is_driven p
     else is_running p.mode && is_inside (call_of_thread context p.log.pending)
 
+-- a stage is due, and the shadow has no call Inside
 abbrev pub can_stage : PartState → Bool
 can_stage p = is_some (stage_due p.mode) && not (is_driven p)
 
+-- a frame of 1 to 64 words may arrive on a link, up to 100,000 of them
 abbrev pub can_arrive : PartState → List ℕ → Bool
 can_arrive p frame =
     same_class p.spec.class class.Net && (nat_le 1 (length frame) && nat_le (length frame) 64) && nat_lt p.arrived 100000
@@ -83,14 +90,16 @@ enabled p (step.Arrive frame) = can_arrive p frame
 
 -- A burst of a context
 
+-- a fault of the burst with this number
 abbrev pub is_of_burst : ℕ → Fault → Bool
 is_of_burst number f = f.burst == number
 
--- a fault before the later ones of a list, behind those of its own place
+-- a fault put before the first of a list that does not come earlier, so before those of its own place, which it preceded
 abbrev pub with_fault : Fault → List Fault → List Fault
 with_fault f [] = f ∷ []
 with_fault f (g ∷ faults) = if nat_le f.after g.after then f ∷ g ∷ faults else g ∷ with_fault f faults
 
+-- faults in rising order of their places, those of one place as they are given
 abbrev pub in_order : List Fault → List Fault
 in_order [] = []
 in_order (f ∷ faults) = with_fault f (in_order faults)
@@ -99,6 +108,7 @@ in_order (f ∷ faults) = with_fault f (in_order faults)
 unfoldable pub faults_of_burst : ℕ → List Fault → List Fault
 faults_of_burst number faults = in_order (filter (is_of_burst number) faults)
 
+-- a call's number; 0 stands for the shadow's own call
 abbrev pub number_of : Option CallEntry → ℕ
 number_of None = 0
 number_of (Some c) = c.call
@@ -107,15 +117,18 @@ number_of (Some c) = c.call
 abbrev pub served_number : ℕ → PartState → ℕ
 served_number context p = if context == 16 then 0 else number_of (call_of_thread context p.log.pending)
 
+-- the part with a domain that ran once more
 abbrev pub with_burst : DomainState → PartState → PartState
 with_burst d p = record p { domain = d; bursts = p.bursts + 1 }
 
+-- the part after a burst and its crossing, with the event of both
 abbrev pub burst_event : ℕ → PartState → DomainBurst → Crossed → Turned
 burst_event context p b c = record {
   state = c.state;
   event = event.Burst context (served_number context p) (p.bursts + 1) b.count c.end b.acts c.answer c.failure;
 }
 
+-- a burst, then what its crossing asks
 abbrev pub past_burst : ℕ → PartState → DomainBurst → Turned
 past_burst context p b = burst_event context p b (crossed context b.ending (with_burst b.domain p))
 
@@ -126,6 +139,7 @@ burst_turned context p =
 
 -- A frame arrives
 
+-- a frame arrives: the ring takes it, or loses it where it is full
 unfoldable pub arrived : List ℕ → PartState → Turned
 arrived frame p = record {
   state = record p {

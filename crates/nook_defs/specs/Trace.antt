@@ -28,9 +28,11 @@ pub record Track : Type 0 where
   pub entered : Bool
   pub stored : List ℕ
 
+-- a call that was made
 abbrev pub first_track : Op → Track
 first_track o = record { op = o; entered = false; stored = [] }
 
+-- a call that was entered
 abbrev pub enter_track : Track → Track
 enter_track t = record t { entered = true }
 
@@ -40,14 +42,17 @@ store_track block t = record t { stored = if t.entered && covers t.op block then
 
 -- ---- each call after an event
 
+-- each call after an act: a stored block belongs to the Writes that cover it
 abbrev pub tracks_after_act : Act → List Track → List Track
 tracks_after_act (act.Store block words) ts = map (store_track block) ts
 tracks_after_act a ts = ts
 
+-- each call after the acts of a burst, in order
 abbrev pub tracks_after_acts : List Act → List Track → List Track
 tracks_after_acts [] ts = ts
 tracks_after_acts (a ∷ acts) ts = tracks_after_acts acts (tracks_after_act a ts)
 
+-- each call after an event
 abbrev pub tracks_after : Event → List Track → List Track
 tracks_after (event.Invoke call thread o a) ts = ts ++ first_track o ∷ []
 tracks_after (event.Enter call thread attempt a) ts = change_number enter_track call ts
@@ -62,13 +67,16 @@ abbrev pub kept_blocks : Answer → Option Track → List ℕ
 kept_blocks (answered.IoError block) (Some t) = if is_write t.op then t.stored else []
 kept_blocks a t = []
 
+-- an answer that an application sees
 abbrev pub shown_answer : ℕ → Answer → List Track → Visible
 shown_answer call a ts = answer call a (kept_blocks a (at_number call ts))
 
+-- the same where an answer is given
 abbrev pub shown_option : ℕ → Option Answer → List Track → List Visible
 shown_option call None ts = []
 shown_option call (Some a) ts = shown_answer call a ts ∷ []
 
+-- answers that applications see, in order
 abbrev pub shown_answers : List (ℕ × Answer) → List Track → List Visible
 shown_answers [] ts = []
 shown_answers (a ∷ answers) ts = shown_answer a.0 a.1 ts ∷ shown_answers answers ts
@@ -80,6 +88,7 @@ shown_acts call (act.Sent frame ∷ acts) = wire call frame ∷ shown_acts call 
 shown_acts call (act.Played word rate volume ∷ acts) = sample word rate volume ∷ shown_acts call acts
 shown_acts call (a ∷ acts) = shown_acts call acts
 
+-- what an event shows, in order
 abbrev pub shown : Event → List Track → List Visible
 shown (event.Invoke call thread o a) ts = called call thread o ∷ shown_option call a ts
 shown (event.Enter call thread attempt a) ts = shown_option call a ts

@@ -43,6 +43,7 @@ with_register cpu a v = record { counter = after cpu.counter; registers = slice_
 
 -- the kinds of effect that a turn has
 
+-- a turn that does nothing but go on
 abbrev pub goes : Machine → Turn
 goes m = record { machine = m; act = None; crossing = None }
 
@@ -63,6 +64,7 @@ jumps m test target =
 abbrev pub crosses : Machine → BurstEnd → Turn
 crosses m crossing = record { machine = record m { cpu = advanced m.cpu }; act = None; crossing = Some crossing }
 
+-- a word that was read goes into a register; an address where there is none traps
 abbrev pub past_read : Machine → ℕ → ℕ → Option ℕ → Turn
 past_read m a address None = trapped m (trap.BadRead address)
 past_read m a address (Some word) = puts m a word
@@ -78,11 +80,13 @@ stores entries m a address =
     then goes (record m { cpu = advanced m.cpu; memory = slice_set m.memory address (r m a) })
     else trapped m (trap.ForeignWrite address)
 
+-- a word from a port goes into a register; a port that is not there traps
 abbrev pub past_input : Machine → ℕ → ℕ → Option Given → Turn
 past_input m a port None = trapped m (trap.BadPort port)
 past_input m a port (Some given) =
     goes (record m { cpu = with_register m.cpu a given.word; device = given.device })
 
+-- a word goes to a port; a port that is not there traps
 abbrev pub past_output : Machine → ℕ → Option Taken → Turn
 past_output m port None = trapped m (trap.BadPort port)
 past_output m port (Some taken) = record {
@@ -119,10 +123,12 @@ executed entries m (instr.Kcall imm) = crosses m (ends.Kcall imm)
 executed entries m (instr.Ret a) = crosses m (ends.Reply (r m a))
 executed entries m instr.Fault = trapped m trap.Explicit
 
+-- an instruction is executed; a word that is none traps
 abbrev pub past_decode : List Entry → Machine → Option Instr → Turn
 past_decode entries m None = trapped m trap.BadOpcode
 past_decode entries m (Some i) = executed entries m i
 
+-- a word of text is decoded; a counter past the text traps
 abbrev pub past_fetch : List Entry → Machine → Option ℕ → Turn
 past_fetch entries m None = trapped m trap.BadFetch
 past_fetch entries m (Some word) = past_decode entries m (decode_of word)

@@ -1,7 +1,7 @@
 //! Copies of the plain data. Each may want memory for the lists inside; an equal value comes back.
 
 ghost use Rattle.std.specs.Prelude.{◌≡◌, ◌≤◌, length};
-ghost use Rattle.nook_defs.specs.Room.{answer_words};
+ghost use Rattle.nook_defs.specs.Views.Room.{answer_words};
 
 use crate::data::{
     Act, Answer, BadBlock, Campaign, End, Entry, Event, Fault, Image, MemberRow, Op, PartSpec,

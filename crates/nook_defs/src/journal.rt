@@ -17,7 +17,7 @@ pub struct Journal {
 
 impl Model for Journal {
     ghost use Rattle.std.specs.Prelude.{◌-◌, vec_capacity, vec_len};
-    ghost use Rattle.nook_defs.specs.Room.{Kept};
+    ghost use Rattle.nook_defs.specs.Views.Room.{Kept};
     ghost use Rattle.nook_defs.specs.declared.data.Event.{Event};
 
     ghost Value = { Kept Event };

@@ -6,6 +6,7 @@
 
 pub mod assembler;
 pub mod classes;
+pub mod clause;
 pub mod copies;
 pub mod data;
 pub mod input;

@@ -3,8 +3,8 @@
 ghost use Rattle.std.specs.Prelude.{◌≡◌, ◌+◌, ◌<◌, ◌≤◌, [], ◌++◌, Some, None, Ok, IsErr, IsOk, IfOk, OnErr, MatchBool, length, take, drop, min};
 ghost use Rattle.std.specs.Io.{ReadsAtMost, WritesAtMost};
 ghost use Rattle.std.specs.Io.KnownBytes.{ReadConsumes, WriteAppends};
-ghost use Rattle.nook_defs.specs.Causes.{HasCause, HasWriteCause};
-ghost use Rattle.nook_defs.specs.Streams.{IsRefusal, given, is_listed as listed, one_more, read_fails, taken, write_fails};
+ghost use Rattle.nook_defs.specs.Views.Causes.{HasCause, HasWriteCause};
+ghost use Rattle.nook_defs.specs.Views.Streams.{IsRefusal, given, is_listed as listed, one_more, read_fails, taken, write_fails};
 
 use crate::lists::{Words, Words8};
 use crate::memory::NoMemory;
@@ -25,7 +25,7 @@ pub struct ListSource {
 
 impl Model for ListSource {
     ghost use Rattle.std.specs.Prelude.{◌≤◌, length, drop};
-    ghost use Rattle.nook_defs.specs.Streams.{ListedSource};
+    ghost use Rattle.nook_defs.specs.Views.Streams.{ListedSource};
 
     ghost Value = { ListedSource };
 
@@ -97,7 +97,7 @@ pub struct ListSink {
 
 impl Model for ListSink {
     ghost use Rattle.std.specs.Prelude.{◌≤◌, length, vec_capacity};
-    ghost use Rattle.nook_defs.specs.Streams.{ListedSink};
+    ghost use Rattle.nook_defs.specs.Views.Streams.{ListedSink};
 
     ghost Value = { ListedSink };
 

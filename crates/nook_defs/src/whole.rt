@@ -2,7 +2,7 @@
 
 ghost use Rattle.std.specs.Prelude.{◌≡◌, ◌+◌, ◌≤◌, ◌<◌, IsErrOf, IfOk, OnErr, OnOk, length};
 ghost use Rattle.std.specs.Io.KnownBytes.{Appends};
-ghost use Rattle.nook_defs.specs.Causes.{AppendsPrefix, HasCause, HoldsMore, ReadsAll, Rose, TakesAtMost};
+ghost use Rattle.nook_defs.specs.Views.Causes.{AppendsPrefix, HasCause, HoldsMore, ReadsAll, Rose, TakesAtMost};
 
 use crate::memory::NoMemory;
 use crate::outside::{Failed, Sink, Source};

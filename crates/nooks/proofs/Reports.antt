@@ -7,7 +7,7 @@ use Rattle.nook_defs.specs.declared.memory.NoMemory.{NoMemory}
 use Rattle.nook_defs.specs.Listening.{Listening}
 use Rattle.nook_defs.specs.Generated.{gen_line, generated}
 use Rattle.nook_defs.specs.ReportText.{events_count, failures_count, has_break, has_given_up, report_text, status_of, summary_line}
-use Rattle.nook_defs.specs.Room.{Kept}
+use Rattle.nook_defs.specs.Views.Room.{Kept}
 use Rattle.nook_defs.specs.Runs.{state_of}
 use Rattle.nook_defs.specs.Simulation.{begins, journals_of}
 use Rattle.nook_defs.specs.Valid.{IsValidScenario}

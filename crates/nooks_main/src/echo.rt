@@ -3,7 +3,7 @@
 ghost use Rattle.std.specs.Prelude.{◌≡◌, ◌<◌, ◌≤◌, length};
 ghost use Rattle.std.specs.Io.{WritesAtMost};
 ghost use Rattle.std.specs.Io.KnownBytes.{WriteAppends};
-ghost use Rattle.nook_defs.specs.Causes.{HasWriteCause};
+ghost use Rattle.nook_defs.specs.Views.Causes.{HasWriteCause};
 
 use nook_defs::outside::{Failed, Sink};
 

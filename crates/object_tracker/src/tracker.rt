@@ -27,7 +27,7 @@ pub struct Tracker {
 }
 
 impl Model for Tracker {
-    ghost use Rattle.nook_defs.specs.Tracker.{Tracker};
+    ghost use Rattle.nook_defs.specs.Views.Tracker.{Tracker};
     ghost use Rattle.object_tracker.specs.Tracked.{IsTracked};
 
     ghost Value = { Tracker };

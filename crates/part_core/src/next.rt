@@ -7,12 +7,14 @@ use crate::state::{SHADOW, State};
 use nook_defs::data::Step;
 
 impl State {
-    /// The Enter or the Burst of a thread's open call, where it may be taken.
+    /// The Enter or the Burst of a thread's open call, where it may be taken. A thread without an open call has none.
     #[tactic(auto, unfolding(nook_defs::specs::Runs::next_for, nook_defs::specs::Steps::enabled))]
     pub fn next_for(&self, thread: u8) -> Option<Step>
         ensures { result ≡ next_for self.now thread }
     {
-        if self.can_enter(thread) {
+        if self.log.call_of_thread(thread).is_none() {
+            None
+        } else if self.can_enter(thread) {
             Some(Step::Enter { thread })
         } else if self.can_burst(thread) {
             Some(Step::Burst { context: thread })

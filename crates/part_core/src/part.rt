@@ -121,7 +121,8 @@ impl Part {
         }
     }
 
-    /// The Enter or the Burst of the thread's open call, where it may be taken.
+    /// The Enter or the Burst of the thread's open call, where it may be taken. A thread without an open call has none,
+    /// thread 16 neither: the shadow's own call is a step of `next_recovery`.
     pub fn next_for(&self, thread: u8) -> Option<Step>
         ensures { result ≡ next_for self.now.state thread }
     {

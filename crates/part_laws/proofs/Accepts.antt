@@ -4,28 +4,30 @@ use Rattle.std.proofs.lemmas.List.{get_or-set_same}
 use Rattle.nook_defs.specs.declared.data.Answer.{Answer}
 use Rattle.nook_defs.specs.declared.data.Answer.TheVariants as answered
 use Rattle.nook_defs.specs.declared.data.Class.{Class}
-use Rattle.nook_defs.specs.declared.data.Class.TheVariants.{Block, Net, Sound}
+use Rattle.nook_defs.specs.declared.data.Class.TheVariants.{Net, Sound}
 use Rattle.nook_defs.specs.declared.data.Mode.TheVariants as mode
 use Rattle.nook_defs.specs.declared.data.Op.{Op}
 use Rattle.nook_defs.specs.declared.data.Op.TheVariants.{Read, Write, Send, Recv, Open, Play, Close, Get, Set}
 use Rattle.nook_defs.specs.Blocks.{get_blocks, has_block, holds_from, put_from, words_for}
 use Rattle.nook_defs.specs.Classes.{conflicts, covers, is_holder, is_of_stream, is_recv, is_set, is_write, static_check}
-use Rattle.nook_defs.specs.Contract.{Watch, is_empty, owes}
-use Rattle.nook_defs.specs.Ideal.{answers_with, closes, with_pending}
-use Rattle.nook_defs.specs.Licence.{allows, is_served_found, has_failed}
+use Rattle.part_laws.specs.Watch.{Watch, owes}
+use Rattle.nook_defs.specs.Ideal.{closes}
+use Rattle.part_laws.specs.Allowed.{allows, is_served_found, has_failed}
 use Rattle.nook_defs.specs.Log.{config_after, holder_after, queue_after, frame_or_empty}
 use Rattle.nook_defs.specs.Devices.{tail_of}
 use Rattle.nook_defs.specs.Places.{at_number}
 use Rattle.nook_defs.specs.Trace.{kept_blocks}
+use Rattle.nook_defs.specs.Contract.{is_empty}
 use Rattle.part_laws.specs.Facts.{At, CallFacts, DiskFacts, HolderFits, IsSetting, KeyIn, Sub, Facts}
 use Rattle.part_laws.specs.Moves.{close_core, with_core}
 use Rattle.part_laws.specs.Views.{View, Past, Core, Call, core_of, cores, as_watched, as_track, watch_of, ideal_of}
 use Rattle.part_laws.proofs.Acting.{set_alone, word_set}
-use Rattle.part_laws.proofs.Acts.{when_true, holder_is}
+use Rattle.part_laws.proofs.Acts.{holder_is}
 use Rattle.part_laws.proofs.Balances.{TakesFrame}
-use Rattle.part_laws.proofs.Closing.{ClosedFacts}
+use Rattle.part_laws.proofs.Closing.{ClosedFacts, Comes, frame_comes}
 use Rattle.part_laws.proofs.Disks.{held_words, same_blocks, disk_plain, disk_put, read_same}
 use Rattle.part_laws.proofs.Keeping.{no_conflict}
+use Rattle.part_laws.proofs.OfClass.{recv_class, stream_class}
 use Rattle.part_laws.proofs.Places.{same_at, get_map}
 use Rattle.part_laws.proofs.Subs.{Taken, sub_front}
 use Rattle.part_laws.proofs.Watching.{wanted_met}
@@ -51,8 +53,8 @@ pub record Accepted (v : View) (b : Past) (k : ℕ) (c : Call) (a : Answer) : Ty
   pub frames : List (List ℕ)
   pub facts : ClosedFacts v b k (closed_call c) (config_after c.core.op v.config) (holder_after c.core.thread c.core.op v.holder)
       (queue_after c.core.op v.queue) plain frames
-  pub answers : answers_with (closes (suc k) (ideal_of v b)) c.core.thread c.core.op a (kept_blocks a (Some (as_track c.core)))
-      ≡ Some (record (closes (suc k) (ideal_of v b))
+  pub comes : Comes (closes (suc k) (ideal_of v b)) c.core.thread c.core.op a (kept_blocks a (Some (as_track c.core)))
+      (record (closes (suc k) (ideal_of v b))
       { blocks = plain; pending = frames; holder = holder_after c.core.thread c.core.op v.holder; config = config_after c.core.op v.config })
   pub allowed : (w : Watch) → at_number (suc k) w.calls ≡ Some (as_watched (closed_call c)) → w.ring ≡ v.dev.ring
       → allows None v.queue w (suc k) a ≡ true
@@ -121,8 +123,10 @@ read_ok v b k c first count words r h = record {
   plain = b.blocks;
   frames = b.frames;
   facts = plain_facts v b k (with_op (Read first count) c) r refl b.blocks (disk_stays v b k (with_op (Read first count) c) r refl);
-  answers = when_true (bytes_eq words (get_blocks b.blocks first count)) (closes (suc k) (ideal_of v b))
-      (ap (λ l. bytes_eq words l) (sym same) ∙ (wanted_met (bytes_eq words (get_blocks v.dev.medium first count)) 4 None h).0);
+  comes = record {
+    may = ap (λ l. bytes_eq words l) (sym same) ∙ (wanted_met (bytes_eq words (get_blocks v.dev.medium first count)) 4 None h).0;
+    after = refl;
+  };
   allowed = λ w e g. refl;
 }
   where
@@ -141,7 +145,7 @@ read_error_ok v b k c first count block r o h = record {
   plain = b.blocks;
   frames = b.frames;
   facts = plain_facts v b k (with_op (Read first count) c) r refl b.blocks (disk_stays v b k (with_op (Read first count) c) r refl);
-  answers = when_true (covers (Read first count) block) (closes (suc k) (ideal_of v b)) o;
+  comes = record { may = o; after = refl };
   allowed = λ w e g. ap (has_failed block) e ∙ (wanted_met (has_block block c.failed) 15 None h).0;
 }
 
@@ -159,7 +163,7 @@ write_ok v b k c first words r h = record {
       (wanted_met (holds_from 0 (Write first words) v.dev.medium) 3 None h).0 l (ap (covers (Write first words)) (omega arith) ∙ o)
       ∙ ap (words_for (Write first words)) (omega arith))
       (λ n o s. o));
-  answers = refl;
+  comes = record { may = refl; after = refl };
   allowed = λ w e g. ap is_served_found e;
 }
 
@@ -178,7 +182,7 @@ write_error_ok v b k c first words block r o h = record {
       ((r.facts.calls.each k (with_op (Write first words) c).core at).opened r.inside) refl
       (and_parts (covers (Write first words) n) (has_block n c.core.stored) t).1)
       (λ n u s. and_from (covers (Write first words) n) (has_block n c.core.stored) u s));
-  answers = when_true (covers (Write first words) block) _ o;
+  comes = record { may = o; after = refl };
   allowed = λ w e g. ap (has_failed block) e ∙ (wanted_met (has_block block c.failed) 15 None h).0;
 }
   where
@@ -198,14 +202,9 @@ send_ok v b k c frame r h = record {
   plain = b.blocks;
   frames = b.frames;
   facts = plain_facts v b k (with_op (Send frame) c) r refl b.blocks (disk_stays v b k (with_op (Send frame) c) r refl);
-  answers = refl;
+  comes = record { may = refl; after = refl };
   allowed = λ w e g. ap is_served_found e ∙ (wanted_met (nat_lt 0 c.sent) 7 None h).0;
 }
-
-pub recv_class : (class : Class) (size : ℕ) → static_check class size Recv ≡ None → class ≡ Net
-recv_class Block size h = absurd cc
-recv_class Net size h = refl
-recv_class Sound size h = absurd cc
 
 pub recvs_conflict : (class : Class) (x y : Op) → class ≡ Net → is_recv x ≡ true → is_recv y ≡ true → conflicts class x y ≡ true
 recvs_conflict class x y e h i = ap (λ z. conflicts z x y) e
@@ -243,7 +242,7 @@ recv_ok v b k c queue q r h = by_queue queue q
       plain = b.blocks;
       frames = b.frames;
       facts = facts b.frames (subst (λ l. Sub (l ++ (b.rest ++ v.dev.ring)) b.frames) (q ∙ sym (ap tail_of q)) r.facts.chain);
-      answers = refl;
+      comes = record { may = refl; after = refl };
       allowed = λ w e g. and_from (is_empty v.queue) (is_empty w.ring) (ap is_empty q) (ap is_empty g ∙ empty (or_cases (is_empty v.dev.ring) c.handed met));
     }
       where
@@ -259,32 +258,11 @@ recv_ok v b k c queue q r h = by_queue queue q
           plain = b.blocks;
           frames = t.rest;
           facts = facts t.rest (subst (λ l. Sub (l ++ (b.rest ++ v.dev.ring)) t.rest) (sym (ap tail_of q)) t.chain);
-          answers = ap (with_pending (closes (suc k) (ideal_of v b))) t.after;
+          comes = frame_comes (closes (suc k) (ideal_of v b)) c.core.thread frame [] t.rest t.after;
           allowed = λ w e g. refl;
         }
 
 -- ---- sound
-
-stream_class : (class : Class) (size : ℕ) (o : Op) → is_of_stream o ≡ true → static_check class size o ≡ None → class ≡ Sound
-stream_class Sound size o s h = refl
-stream_class Block size Open s h = absurd cc
-stream_class Net size Open s h = absurd cc
-stream_class Block size (Play samples) s h = absurd cc
-stream_class Net size (Play samples) s h = absurd cc
-stream_class Block size Close s h = absurd cc
-stream_class Net size Close s h = absurd cc
-stream_class Block size (Read first count) s h = absurd cc
-stream_class Net size (Read first count) s h = absurd cc
-stream_class Block size (Write first words) s h = absurd cc
-stream_class Net size (Write first words) s h = absurd cc
-stream_class Block size (Send frame) s h = absurd cc
-stream_class Net size (Send frame) s h = absurd cc
-stream_class Block size Recv s h = absurd cc
-stream_class Net size Recv s h = absurd cc
-stream_class Block size (Get key) s h = absurd cc
-stream_class Net size (Get key) s h = absurd cc
-stream_class Block size (Set key value) s h = absurd cc
-stream_class Net size (Set key value) s h = absurd cc
 
 streams_conflict : (class : Class) (x y : Op) → class ≡ Sound → is_of_stream x ≡ true → is_of_stream y ≡ true → conflicts class x y ≡ true
 streams_conflict class x y e h i = ap (λ z. conflicts z x y) e
@@ -329,8 +307,10 @@ open_ok v b k c r = record {
   plain = b.blocks;
   frames = b.frames;
   facts = stream_facts v b k (with_op Open c) r refl refl refl (Some c.core.thread);
-  answers = when_true (not (is_some v.holder)) (record (closes (suc k) (ideal_of v b)) { holder = Some c.core.thread })
-      (ap (λ h. not (is_some h)) (r.facts.holders k (with_op Open c).core (core_at v b k (with_op Open c) r) r.inside));
+  comes = record {
+    may = ap (λ h. not (is_some h)) (r.facts.holders k (with_op Open c).core (core_at v b k (with_op Open c) r) r.inside);
+    after = refl;
+  };
   allowed = λ w e g. ap is_served_found e;
 }
 
@@ -342,8 +322,10 @@ play_ok v b k c samples r h = record {
   plain = b.blocks;
   frames = b.frames;
   facts = plain_facts v b k (with_op (Play samples) c) r refl b.blocks (disk_stays v b k (with_op (Play samples) c) r refl);
-  answers = when_true (is_holder v.holder c.core.thread) (closes (suc k) (ideal_of v b))
-      (holder_is v.holder c.core.thread (r.facts.holders k (with_op (Play samples) c).core (core_at v b k (with_op (Play samples) c) r) r.inside));
+  comes = record {
+    may = holder_is v.holder c.core.thread (r.facts.holders k (with_op (Play samples) c).core (core_at v b k (with_op (Play samples) c) r) r.inside);
+    after = refl;
+  };
   allowed = λ w e g. ap is_served_found e ∙ (wanted_met (eqb c.played (length samples)) 11 None h).0;
 }
 
@@ -353,8 +335,10 @@ close_ok v b k c r = record {
   plain = b.blocks;
   frames = b.frames;
   facts = stream_facts v b k (with_op Close c) r refl refl refl None;
-  answers = when_true (is_holder v.holder c.core.thread) (record (closes (suc k) (ideal_of v b)) { holder = None })
-      (holder_is v.holder c.core.thread (r.facts.holders k (with_op Close c).core (core_at v b k (with_op Close c) r) r.inside));
+  comes = record {
+    may = holder_is v.holder c.core.thread (r.facts.holders k (with_op Close c).core (core_at v b k (with_op Close c) r) r.inside);
+    after = refl;
+  };
   allowed = λ w e g. ap is_served_found e;
 }
 
@@ -368,8 +352,11 @@ get_ok v b k c key word r h = record {
   plain = b.blocks;
   frames = b.frames;
   facts = plain_facts v b k (with_op (Get key) c) r refl b.blocks (disk_stays v b k (with_op (Get key) c) r refl);
-  answers = when_true (eqb (slice_index v.config key) word) (closes (suc k) (ideal_of v b))
-      (ap (λ x. eqb x word) (sym (register_is v b k (with_op (Get key) c) r refl key)) ∙ (wanted_met (eqb (slice_index v.dev.registers key) word) 14 None h).0);
+  comes = record {
+    may = ap (λ x. eqb x word) (sym (register_is v b k (with_op (Get key) c) r refl key))
+        ∙ (wanted_met (eqb (slice_index v.dev.registers key) word) 14 None h).0;
+    after = refl;
+  };
   allowed = λ w e g. refl;
 }
 
@@ -388,7 +375,7 @@ set_ok v b k c key value r h = record {
     chain = r.facts.chain;
     handed_up = λ j d h ne i u t. r.facts.handed_up r.running j d h i u t;
   };
-  answers = refl;
+  comes = record { may = refl; after = refl };
   allowed = λ w e g. ap is_served_found e;
 }
   where

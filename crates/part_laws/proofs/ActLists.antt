@@ -2,10 +2,10 @@ use Rattle.std.proofs.Common.{◌≡◌, ℕ, None, List, [], ◌∷◌, ◌++�
 use Rattle.nook_defs.specs.declared.data.Act.{Act}
 use Rattle.nook_defs.specs.declared.data.Act.TheVariants as act
 use Rattle.nook_defs.specs.declared.data.CallEntry.{CallEntry}
-use Rattle.nook_defs.specs.Contract.{sees_act, sees_acts}
+use Rattle.part_laws.specs.Watch.{sees_act, sees_acts}
 use Rattle.nook_defs.specs.Ideal.{ran}
 use Rattle.nook_defs.specs.Trace.{Visible, shown_acts, tracks_after_acts}
-use Rattle.nook_defs.specs.Losses.{Counts, count_act, count_acts}
+use Rattle.part_laws.specs.Counts.{Counts, count_act, count_acts}
 use Rattle.part_laws.specs.Balance.{Balanced}
 use Rattle.part_laws.specs.ActsOn.{act_on, acts_on, Fits, ActsFit}
 use Rattle.part_laws.specs.Facts.{Facts}

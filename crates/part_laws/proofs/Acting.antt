@@ -10,7 +10,7 @@ use Rattle.nook_defs.specs.declared.data.Op.TheVariants.{Read, Write, Send, Recv
 use Rattle.nook_defs.specs.declared.data.Stage.TheVariants as stage
 use Rattle.nook_defs.specs.Blocks.{has_block, words_for}
 use Rattle.nook_defs.specs.Classes.{conflicts, covers, overlap, first_of_op, blocks_of_op, is_set, is_write, is_recv, static_check}
-use Rattle.nook_defs.specs.Contract.{is_empty, is_replaying}
+use Rattle.nook_defs.specs.Contract.{is_empty, is_replay_of}
 use Rattle.part_laws.specs.ActsOn.{Dev}
 use Rattle.part_laws.specs.Facts.{At, CallFacts, CallsFacts, IsStored, DiskFacts, KeyAt, KeyIn, Sub, may_be_inside, is_driving, Facts}
 use Rattle.part_laws.specs.Moves.{store_core}
@@ -352,7 +352,7 @@ word_set xs k j v = by_place (cases_eq j k) (cases_lt k (length xs))
 
 -- a register takes the value of a ReplaySet that is Inside
 pub replay_key : (cs : List Core) (config defaults : List ℕ) (driven : Bool) (m : Mode) (key value : ℕ)
-    → is_replaying key value (replay_of driven m) ≡ true → KeyIn cs config defaults driven m key value
+    → is_replay_of key value (replay_of driven m) ≡ true → KeyIn cs config defaults driven m key value
 replay_key cs config defaults false m key value h = absurd cc
 replay_key cs config defaults true (mode.Boot stage.Stop) key value h = absurd cc
 replay_key cs config defaults true (mode.Boot stage.Collect) key value h = absurd cc

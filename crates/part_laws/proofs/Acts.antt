@@ -3,25 +3,28 @@ use Rattle.std.proofs.lemmas.Bool.{eqb-true, eq-eqb, and_parts, and_from, or_cas
 use Rattle.nook_defs.specs.declared.data.Act.{Act}
 use Rattle.nook_defs.specs.declared.data.Act.TheVariants as act
 use Rattle.nook_defs.specs.declared.data.CallEntry.{CallEntry}
+use Rattle.nook_defs.specs.declared.data.Class.TheVariants.{Net, Sound}
 use Rattle.nook_defs.specs.declared.data.Mode.{Mode}
 use Rattle.nook_defs.specs.declared.data.Mode.TheVariants as mode
 use Rattle.nook_defs.specs.declared.data.Op.{Op}
 use Rattle.nook_defs.specs.declared.data.Op.TheVariants.{Read, Write, Send, Recv, Open, Play, Close, Get, Set}
 use Rattle.nook_defs.specs.Blocks.{words_for}
-use Rattle.nook_defs.specs.Classes.{is_set, is_recv, is_holder, is_write, covers}
-use Rattle.nook_defs.specs.Contract.{Watched, sees_act, wanted, is_covered, is_agreed, is_own_frame, is_first_frame, sends, is_next_of, is_playing, may_register, is_setting, is_replaying, sent_once, played_one, failed_at, is_empty}
-use Rattle.nook_defs.specs.Ideal.{Ideal, Opened, ran, shows, when, may_wire, may_wire_found, wired_once, played_once, plays_for, play_of, may_sound, is_play, is_next, is_next_found}
+use Rattle.nook_defs.specs.Classes.{is_set, is_recv, is_holder, is_next, is_play, is_write, covers, same_class, sends}
+use Rattle.part_laws.specs.Watch.{Watched, sees_act, wanted, is_covered, is_agreed, is_own_frame, is_first_frame, is_next_of, is_playing, may_register, is_setting, sent_once, played_one, failed_at}
+use Rattle.nook_defs.specs.Ideal.{Ideal, Opened, ran, shows, when, may_wire, wired_once, played_once, plays_for, play_of, may_sound}
 use Rattle.nook_defs.specs.Places.{at_number, change_number, number_where}
 use Rattle.nook_defs.specs.Trace.{Visible, wire, sample, tracks_after_act, store_track}
-use Rattle.nook_defs.specs.Losses.{Counts, count_act}
+use Rattle.nook_defs.specs.Contract.{is_empty, is_replay_of}
+use Rattle.part_laws.specs.Counts.{Counts, count_act}
 use Rattle.part_laws.specs.Balance.{held_at, Balanced}
 use Rattle.part_laws.specs.ActsOn.{act_on, Fits}
-use Rattle.part_laws.specs.Facts.{At, CallsFacts, DiskFacts, IsSetting, KeyIn, HolderFits, Sub, Facts}
+use Rattle.part_laws.specs.Facts.{At, CallFacts, CallsFacts, DiskFacts, IsSetting, KeyIn, HolderFits, Sub, Facts}
 use Rattle.part_laws.specs.Moves.{store_core, with_core, send_call, play_call, fail_call}
 use Rattle.part_laws.specs.Views.{View, Past, Core, Call, core_of, cores, entry_of, keep_waiting, open_from, stage_of, replay_of, as_watched, as_opened, as_track, watch_of, ideal_of, tracks_of}
 use Rattle.part_laws.proofs.Acting.{with_dev, redev, told_of, recalled, Active, running_inside, set_alone, store_less, store_disk, word_set, replay_key}
 use Rattle.part_laws.proofs.Balances.{held_active, popped_balance}
 use Rattle.part_laws.proofs.Keeping.{AllLess, calls_less, holders_less}
+use Rattle.part_laws.proofs.OfClass.{of_class, plays_sound, sends_net}
 use Rattle.part_laws.proofs.Places.{some_same, same_at, get_map, from_map, map_join, map_swap, change_map, change_unseen, length_map}
 use Rattle.part_laws.proofs.Watching.{wanted_met, wanted_same, FoundWhere, where_at, where_only, StoresAt, covered_at, agreed_at, SetsAt, setting_at}
 
@@ -97,17 +100,6 @@ failed_ok v b n e block store f s = record {
 
 -- ---- a frame sent
 
-wire_ok : (frame : List ℕ) (o : Op) (r : Opened) → sends frame o ≡ true → r.waits ≡ true → r.wired ≡ false → may_wire frame o r ≡ true
-wire_ok frame (Send own) r h w n = and_from (r.waits && not r.wired) (bytes_eq own frame) (and_from r.waits (not r.wired) w (ap not n)) h
-wire_ok frame (Read first count) r h w n = absurd cc
-wire_ok frame (Write first words) r h w n = absurd cc
-wire_ok frame Recv r h w n = absurd cc
-wire_ok frame Open r h w n = absurd cc
-wire_ok frame (Play samples) r h w n = absurd cc
-wire_ok frame Close r h w n = absurd cc
-wire_ok frame (Get k) r h w n = absurd cc
-wire_ok frame (Set k v) r h w n = absurd cc
-
 opened_sent : (c : Call) → as_opened (send_call c) ≡ wired_once (as_opened c)
 opened_sent c = ap (λ t. record (as_opened c) { wired = t }) (lt-ltb 0 (suc c.sent) (omega arith))
 
@@ -126,13 +118,12 @@ sent_ok v b (suc k) e frame f (c, g, i, x) h = record {
   counted = λ m x. x;
   tracked = told_same b calls same;
   shown = λ more. ran_step (ideal_of v b) (ideal_of v (record b { calls = calls })) (wire (suc k) frame) more
-      (when_true (may_wire_found frame (at_number (suc k) (map as_opened b.calls)))
-      (record (ideal_of v b) { opened = change_number wired_once (suc k) (map as_opened b.calls) })
-      (ap (may_wire_found frame) (get_map as_opened b.calls k c g)
-      ∙ wire_ok frame c.core.op (as_opened c)
-      (sym (ap (is_own_frame frame) (get_map as_watched b.calls k c g)) ∙ met.0)
-      ((f.calls.each k c.core (get_map core_of b.calls k c g)).opened i)
-      (ap (nat_lt 0) (eqb-true c.sent 0 (sym (ap is_first_frame (get_map as_watched b.calls k c g)) ∙ later.0))))
+      (ap (option_and_then (λ o. when (same_class v.class Net && may_wire frame o) next)) (get_map as_opened b.calls k c g)
+      ∙ when_true (same_class v.class Net && may_wire frame (as_opened c)) next
+      (and_from (same_class v.class Net) (may_wire frame (as_opened c))
+      (sends_net v.class frame c.core.op sent (of_class v.class v.size c.core.op (facts.checked waits)))
+      (and_from (c.core.waits && not (nat_lt 0 c.sent)) (sends frame c.core.op)
+      (and_from c.core.waits (not (nat_lt 0 c.sent)) waits (ap not (ap (nat_lt 0) none_sent))) sent))
       ∙ ap (λ os. Some (record (ideal_of v b) { opened = os })) (sym (change_map as_opened send_call wired_once opened_sent (suc k) b.calls)));
 }
   where
@@ -153,6 +144,21 @@ sent_ok v b (suc k) e frame f (c, g, i, x) h = record {
 
     later : (first ≡ true) × (unbroken ≡ None)
     later = wanted_met first 6 None met.1
+
+    next : Ideal
+    next = record (ideal_of v b) { opened = change_number wired_once (suc k) (map as_opened b.calls) }
+
+    facts : CallFacts v.class v.size c.core
+    facts = f.calls.each k c.core (get_map core_of b.calls k c g)
+
+    waits : c.core.waits ≡ true
+    waits = facts.opened i
+
+    sent : sends frame c.core.op ≡ true
+    sent = sym (ap (is_own_frame frame) (get_map as_watched b.calls k c g)) ∙ met.0
+
+    none_sent : c.sent ≡ 0
+    none_sent = eqb-true c.sent 0 (sym (ap is_first_frame (get_map as_watched b.calls k c g)) ∙ later.0)
 
 -- ---- a frame popped
 
@@ -316,7 +322,7 @@ register_ok v b n e key value f a s h = record {
     setting = is_setting key value (map as_watched b.calls)
 
     replaying : Bool
-    replaying = is_replaying key value (replay_of v.driven v.mode)
+    replaying = is_replay_of key value (replay_of v.driven v.mode)
 
     may : Bool
     may = may_register key value (watch_of v b)
@@ -419,6 +425,13 @@ played_ok v b n e word rate volume f a s fit h = by_item (at_number number watch
     same : map told_of (change_number play_call number b.calls) ≡ map told_of b.calls
     same = change_unseen told_of play_call (λ c. refl) number b.calls
 
+    -- the never-failing device with one sample more of the call with a number played
+    next_play : ℕ → Ideal
+    next_play m = record (ideal_of v b) { opened = change_number played_once m (map as_opened b.calls) }
+
+    sounds : ℕ → Opened → Option Ideal
+    sounds m o = when (same_class v.class Sound && may_sound word rate volume (ideal_of v b) o) (next_play m)
+
     with_call : (w : Watched) → is_next_of word (Some w) ≡ true → (p : FoundWhere is_playing watched w)
         → (c : Call) × At b.calls p.place c × (w ≡ as_watched c) → ActOk v b n e (act.Played word rate volume)
     with_call w t p (c, g, x) = record {
@@ -432,17 +445,18 @@ played_ok v b n e word rate volume f a s fit h = by_item (at_number number watch
       counted = λ m x. x;
       tracked = told_same b calls same;
       shown = λ more. ran_step (ideal_of v b) (ideal_of v (record b { calls = calls })) (sample word rate volume) more
-          (when_true (may_sound word rate volume (ideal_of v b))
-          (record (ideal_of v b) { opened = change_number played_once (play_of (ideal_of v b)) (map as_opened b.calls) })
-          (and_from (is_next_found word (at_number (play_of (ideal_of v b)) (map as_opened b.calls)) && eqb (slice_index v.config 0) rate)
+          (ap (λ m. option_and_then (sounds m) (at_number m (map as_opened b.calls))) plays
+          ∙ ap (option_and_then (sounds (suc p.place))) (get_map as_opened b.calls p.place c g)
+          ∙ when_true (same_class v.class Sound && may_sound word rate volume (ideal_of v b) (as_opened c)) (next_play (suc p.place))
+          (and_from (same_class v.class Sound) (may_sound word rate volume (ideal_of v b) (as_opened c))
+          (plays_sound v.class c.core.op passes.1 (of_class v.class v.size c.core.op ((f.calls.each p.place c.core at).checked waits)))
+          (and_from (is_next c.core.op c.played word && eqb (slice_index v.config 0) rate)
           (eqb (slice_index v.config 1) volume)
-          (and_from (is_next_found word (at_number (play_of (ideal_of v b)) (map as_opened b.calls))) (eqb (slice_index v.config 0) rate)
-          (ap (λ m. is_next_found word (at_number m (map as_opened b.calls))) plays
-          ∙ ap (is_next_found word) (get_map as_opened b.calls p.place c g)
-          ∙ ap (λ y. is_next y.op y.played word) (sym x) ∙ t)
+          (and_from (is_next c.core.op c.played word) (eqb (slice_index v.config 0) rate)
+          (ap (λ y. is_next y.op y.played word) (sym x) ∙ t)
           (eq-eqb (slice_index v.config 0) rate (sym (register 0) ∙ fit.0)))
-          (eq-eqb (slice_index v.config 1) volume (sym (register 1) ∙ fit.1)))
-          ∙ ap (λ m. Some (record (ideal_of v b) { opened = change_number played_once m (map as_opened b.calls) })) (plays ∙ sym p.number)
+          (eq-eqb (slice_index v.config 1) volume (sym (register 1) ∙ fit.1))))
+          ∙ ap (λ m. Some (next_play m)) (sym p.number)
           ∙ ap (λ os. Some (record (ideal_of v b) { opened = os })) (sym (change_map as_opened play_call played_once (λ d. refl) number b.calls)));
     }
       where

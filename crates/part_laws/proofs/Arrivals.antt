@@ -1,4 +1,4 @@
-use Rattle.std.proofs.Common.{◌≡◌, ℕ, ◌+◌, ◌&&◌, cond, true, List, [], ◌∷◌, ◌++◌, length, sym, refl, ap, subst, ◌∙◌, nat_lt, nat_le, append_assoc, length-append, arith}
+use Rattle.std.proofs.Common.{◌≡◌, ℕ, ◌+◌, ◌&&◌, cond, true, option_and_then, List, [], ◌∷◌, ◌++◌, length, sym, refl, ap, subst, ◌∙◌, nat_lt, nat_le, append_assoc, length-append, arith}
 use Rattle.std.proofs.lemmas.Bool.{and_parts, cond-true, cond-false}
 use Rattle.nook_defs.specs.declared.data.Class.TheVariants as class
 use Rattle.nook_defs.specs.declared.data.DeviceKind.{DeviceKind}
@@ -8,11 +8,13 @@ use Rattle.nook_defs.specs.Devices.{has_room, with_arrival}
 use Rattle.nook_defs.specs.Ideal.{ran}
 use Rattle.nook_defs.specs.State.{PartState}
 use Rattle.nook_defs.specs.Steps.{can_arrive, arrived}
-use Rattle.nook_defs.specs.Losses.{one_if, count_event}
+use Rattle.nook_defs.specs.Losses.{one_if}
+use Rattle.part_laws.specs.Counts.{count_event}
 use Rattle.part_laws.specs.Balance.{held_at, Balanced}
 use Rattle.part_laws.specs.ActsOn.{dev_of, is_link}
 use Rattle.part_laws.specs.Facts.{Sub, Facts}
 use Rattle.part_laws.specs.Views.{View, Past, stage_of, view_of, watch_of, ideal_of}
+use Rattle.part_laws.proofs.Acts.{when_true}
 use Rattle.part_laws.proofs.Balances.{arrived_balance, one_of}
 use Rattle.part_laws.proofs.Places.{split}
 use Rattle.part_laws.specs.Recovery.{StepKeeps}
@@ -82,7 +84,9 @@ arrive_ok p b frame f l h = record {
   contexts = l;
   seen = ap (λ v. watch_of v past) seen;
   tracked = refl;
-  shown = λ more. ap (λ v. ran (ideal_of v past) more) seen;
+  shown = λ more. ap (option_and_then (λ after. ran after more))
+      (when_true (same_class p.spec.class class.Net) (ideal_of (view_of p) past) net)
+      ∙ ap (λ v. ran (ideal_of v past) more) seen;
   licensed = refl;
 }
   where

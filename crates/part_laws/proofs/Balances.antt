@@ -5,8 +5,9 @@ use Rattle.nook_defs.specs.declared.data.Mode.{Mode}
 use Rattle.nook_defs.specs.declared.data.Mode.TheVariants as mode
 use Rattle.nook_defs.specs.declared.data.Stage.{Stage}
 use Rattle.nook_defs.specs.declared.data.Stage.TheVariants as stage
-use Rattle.nook_defs.specs.Losses.{Counts, count_answer, count_handed, count_stage, in_ring, in_driver, is_frame, one_if, told}
 use Rattle.nook_defs.specs.Licence.{is_balanced}
+use Rattle.nook_defs.specs.Losses.{one_if}
+use Rattle.part_laws.specs.Counts.{Counts, count_answer, count_handed, count_stage, in_ring, in_driver, is_frame, told}
 use Rattle.part_laws.specs.Balance.{tally, held_at, Balance}
 use Rattle.part_laws.specs.Facts.{is_driving}
 use Rattle.part_laws.specs.Views.{stage_of}

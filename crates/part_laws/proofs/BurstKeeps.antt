@@ -1,12 +1,12 @@
-use Rattle.std.proofs.Common.{◌≡◌, ℕ, zero, suc, ◌-◌, ◌==◌, nat_le, Bool, true, false, Option, Some, None, List, [], ◌∷◌, ◌++◌, length, refl}
+use Rattle.std.proofs.Common.{◌≡◌, ℕ, zero, suc, ◌-◌, ◌==◌, Bool, true, false, Option, Some, None, List, [], ◌∷◌, ◌++◌, refl}
 use Rattle.std.specs.List.{AllByRecursion}
 use Rattle.nook_defs.specs.declared.data.Act.{Act}
 use Rattle.nook_defs.specs.declared.data.Entry.{Entry}
 use Rattle.nook_defs.specs.declared.data.Fault.{Fault}
 use Rattle.nook_defs.specs.declared.data.TrapCause.{TrapCause}
-use Rattle.nook_defs.specs.declared.machine.BurstEnd.{BurstEnd}
-use Rattle.nook_defs.specs.Burst.{Burst, Struck, struck_machine, past_trap, strikes_at, acts_of, past_acts, past_crossing, past_turn, past_stop, burst_from, burst, trap_of}
-use Rattle.nook_defs.specs.Turn.{Machine, turn}
+use Rattle.nook_defs.specs.Burst.{Burst, Struck, struck_machine, past_trap, strikes_at, acts_of, burst_from, burst, trap_of}
+use Rattle.nook_defs.specs.Turn.{Machine, Turn, turn}
+use Rattle.nook_defs.proofs.BurstTurns.{turn_cases}
 
 -- a goal by the two answers of a test, each with its equation
 pub split {ℓ} : {G : Type ℓ} → (b : Bool) → (b ≡ true → G) → (b ≡ false → G) → G
@@ -44,36 +44,20 @@ module _ (K : Machine → List Act → Type 0) (Q : Fault → Type 0) (entries :
   abbrev Ends : Burst → Type 0
   Ends b = K b.machine b.acts
 
-  past_acts_keeps : (go : Machine → List Act → Burst) (count : ℕ) (m : Machine) (acts : List Act) (full : Bool)
-      → ((m' : Machine) (acts' : List Act) → K m' acts' → Ends (go m' acts')) → K m acts → Ends (past_acts go count m acts full)
-  past_acts_keeps go count m acts true on k = k
-  past_acts_keeps go count m acts false on k = on m acts k
-
-  past_crossing_keeps : (go : Machine → List Act → Burst) (count : ℕ) (m : Machine) (acts : List Act) (o : Option BurstEnd)
-      → ((m' : Machine) (acts' : List Act) → K m' acts' → Ends (go m' acts')) → K m acts → Ends (past_crossing go count m acts o)
-  past_crossing_keeps go count m acts None on k = past_acts_keeps go count m acts (nat_le 64 (length acts)) on k
-  past_crossing_keeps go count m acts (Some crossing) on k = k
-
-  past_stop_keeps : (go : List Fault → Machine → Burst) (count : ℕ) (acts : List Act) (m : Machine) (rest : List Fault) (o : Option TrapCause)
-      → ((rest' : List Fault) (m' : Machine) → AllByRecursion Q rest' → K m' acts → Ends (go rest' m'))
-      → AllByRecursion Q rest → K m acts → Ends (past_stop go count acts m rest o)
-  past_stop_keeps go count acts m rest None on q k = on rest m q k
-  past_stop_keeps go count acts m rest (Some cause) on q k = k
-
   pub burst_from_keeps : (left : ℕ) (faults : List Fault) (m : Machine) (acts : List Act)
       → AllByRecursion Q faults → K m acts → Ends (burst_from left entries faults m acts)
   unfolding burst_from
   burst_from_keeps zero faults m acts q k = k
   burst_from_keeps (suc left) faults m acts q k =
       let s : Struck = strikes_at (4096 - suc left) entries faults m in
-      let ks : IsKept acts s = strikes_keep (4096 - suc left) faults m acts q k in
-      past_stop_keeps
-      (λ rest struck. past_turn (λ m' acts'. burst_from left entries rest m' acts') (4096 - left) acts (turn entries struck))
-      (4096 - suc left) acts s.machine s.rest s.stopped
-      (λ rest struck q' k'. past_crossing_keeps (λ m' acts'. burst_from left entries rest m' acts') (4096 - left)
-      (turn entries struck).machine (acts ++ acts_of (turn entries struck).act) (turn entries struck).crossing
-      (λ m' acts' k''. burst_from_keeps left rest m' acts' q' k'') (by_turn struck acts k'))
-      ks.rest ks.machine
+      let t : Turn = turn entries s.machine in
+      let struck : IsKept acts s = strikes_keep (4096 - suc left) faults m acts q k in
+      let turned : K t.machine (acts ++ acts_of t.act) = by_turn s.machine acts struck.machine in
+      turn_cases Ends left entries faults m acts s t refl refl
+      (λ cause trap. struck.machine)
+      (λ ending none crossing. turned)
+      (λ none no_crossing many. turned)
+      (λ none no_crossing few. burst_from_keeps left s.rest t.machine (acts ++ acts_of t.act) struck.rest turned)
 
   pub burst_keeps : (faults : List Fault) (m : Machine) → AllByRecursion Q faults → K m [] → Ends (burst entries faults m)
   unfolding burst

@@ -11,7 +11,7 @@ use Rattle.nook_defs.specs.declared.data.Fault.{Fault}
 use Rattle.nook_defs.specs.declared.data.Op.{Op}
 use Rattle.nook_defs.specs.declared.data.Op.TheVariants.{Read, Write, Send, Recv, Play, Get, Set}
 use Rattle.nook_defs.specs.declared.machine.Context.{Context}
-use Rattle.nook_defs.specs.Contract.{Watch, Watched, sees, sees_acts, sees_crossing, owes, owes_found}
+use Rattle.part_laws.specs.Watch.{Watch, Watched, sees, sees_acts, sees_crossing, owes, owes_found}
 use Rattle.nook_defs.specs.Crossing.{Crossed, crossed}
 use Rattle.nook_defs.specs.Domain.{DomainBurst, context_of, domain_burst, burst_by, machine_of}
 use Rattle.nook_defs.specs.Ideal.{ran}
@@ -20,7 +20,7 @@ use Rattle.nook_defs.specs.Places.{at_number}
 use Rattle.nook_defs.specs.State.{DomainState, PartState}
 use Rattle.nook_defs.specs.Steps.{can_burst, is_driven, is_inside, is_running, number_of, served_number, faults_of_burst, with_burst, past_burst, burst_turned}
 use Rattle.nook_defs.specs.Trace.{shown_acts, shown_option}
-use Rattle.nook_defs.specs.Losses.{count_acts}
+use Rattle.part_laws.specs.Counts.{count_acts}
 use Rattle.part_laws.specs.Balance.{held_at, Balanced}
 use Rattle.part_laws.specs.ActsOn.{dev_of, acts_on, Tells}
 use Rattle.part_laws.specs.Facts.{At, Facts}

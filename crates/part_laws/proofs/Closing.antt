@@ -1,14 +1,18 @@
-use Rattle.std.proofs.Common.{◌≡◌, ◌⊎◌, ℕ, suc, not, true, false, Option, Some, None, List, ◌∷◌, ◌++◌, map, filter, length, set, slice_index, sym, ap, subst, ◌∙◌, inl, inr, arith, length-set}
+use Rattle.std.proofs.Common.{◌≡◌, ◌⊎◌, ℕ, suc, ◌&&◌, not, true, false, Option, Some, None, is_some, unwrap_or, option_and_then, List, ◌∷◌, ◌++◌, map, filter, length, set, slice_index, sym, ap, subst, ◌∙◌, inl, inr, arith, length-set}
+use Rattle.std.proofs.lemmas.Bool.{and_from}
 use Rattle.nook_defs.specs.declared.data.Answer.{Answer}
+use Rattle.nook_defs.specs.declared.data.Answer.TheVariants as answered
 use Rattle.nook_defs.specs.declared.data.Mode.TheVariants as mode
+use Rattle.nook_defs.specs.declared.data.Op.{Op}
+use Rattle.nook_defs.specs.declared.data.Op.TheVariants.{Recv}
 use Rattle.nook_defs.specs.Classes.{is_recv, static_check}
-use Rattle.nook_defs.specs.Contract.{is_empty}
-use Rattle.nook_defs.specs.Ideal.{Ideal, Opened, ran, closes, answers_with, answers_found, answers_waiting, answers_checked}
+use Rattle.nook_defs.specs.Ideal.{Ideal, Opened, ran, after_answer, after_frame, answers, closes, is_due, may_answer}
 use Rattle.nook_defs.specs.Log.{is_call}
 use Rattle.nook_defs.specs.Trace.{Visible, answer}
+use Rattle.nook_defs.specs.Contract.{is_empty}
 use Rattle.part_laws.specs.Facts.{At, CallsFacts, DiskFacts, HolderFits, IsSetting, KeyIn, ReplayFits, BootFits, Sub, Facts}
 use Rattle.part_laws.specs.Views.{View, Past, Core, Call, core_of, cores, open_from, stage_of}
-use Rattle.part_laws.proofs.Acts.{ran_step}
+use Rattle.part_laws.proofs.Acts.{ran_step, when_true}
 use Rattle.part_laws.proofs.Keeping.{Less, AllLess, calls_less, all_less_set}
 use Rattle.part_laws.proofs.OpenCalls.{open_close}
 use Rattle.part_laws.proofs.Places.{get_map, get_set, map_set}
@@ -17,14 +21,40 @@ use Rattle.part_laws.proofs.Places.{get_map, get_set, map_set}
 
 -- ---- the never-failing device answers an open call
 
-pub answer_shown : (m m' : Ideal) (k : ℕ) (o : Opened) (a : Answer) (kept : List ℕ) (more : List Visible) → At m.opened k o → o.waits ≡ true
-    → static_check m.class m.size o.op ≡ None → answers_with (closes (suc k) m) o.thread o.op a kept ≡ Some m'
-    → ran m (answer (suc k) a kept ∷ more) ≡ ran m' more
-answer_shown m m' k o a kept more h w c e = ran_step m m' (answer (suc k) a kept) more
-    (ap (λ p. answers_found p (closes (suc k) m) a kept) h
-    ∙ ap (λ t. answers_waiting t (closes (suc k) m) o a kept) w
-    ∙ ap (λ r. answers_checked r (closes (suc k) m) o.thread o.op a kept) c
-    ∙ e)
+-- an answer that is due
+pub due_shown : (m m' : Ideal) (k : ℕ) (o : Opened) (a : Answer) (stored : List ℕ) (more : List Visible) → At m.opened k o
+    → o.waits ≡ true → is_due (closes (suc k) m) o a ≡ true → after_answer (closes (suc k) m) o.thread o.op a stored ≡ m'
+    → ran m (answer (suc k) a stored ∷ more) ≡ ran m' more
+due_shown m m' k o a stored more h w d e = ran_step m m' (answer (suc k) a stored) more
+    (ap (option_and_then (answers (closes (suc k) m) a stored)) h
+    ∙ when_true (o.waits && is_due (closes (suc k) m) o a) (after_answer (closes (suc k) m) o.thread o.op a stored)
+    (and_from o.waits (is_due (closes (suc k) m) o a) w d)
+    ∙ ap Some e)
+
+-- an answer that may come to a call, and the device that it leaves
+pub record Comes (m : Ideal) (thread : ℕ) (o : Op) (a : Answer) (stored : List ℕ) (m' : Ideal) : Type 0 where
+  pub may : may_answer m thread o a ≡ true
+  pub after : after_answer m thread o a stored ≡ m'
+
+-- it is due where the static check gives none
+pub comes_due : (m : Ideal) (o : Opened) (a : Answer) → static_check m.class m.size o.op ≡ None
+    → may_answer m o.thread o.op a ≡ true → is_due m o a ≡ true
+comes_due m o a c e = rw (c, is_due) e
+
+pub answer_shown : (m m' : Ideal) (k : ℕ) (o : Opened) (a : Answer) (stored : List ℕ) (more : List Visible) → At m.opened k o
+    → o.waits ≡ true → static_check m.class m.size o.op ≡ None → Comes (closes (suc k) m) o.thread o.op a stored m'
+    → ran m (answer (suc k) a stored ∷ more) ≡ ran m' more
+answer_shown m m' k o a stored more h w c e =
+    due_shown m m' k o a stored more h w (comes_due (closes (suc k) m) o a c e.may) e.after
+
+-- a pending frame comes to a Recv
+pub frame_comes : (m : Ideal) (thread : ℕ) (frame : List ℕ) (stored : List ℕ) (pending : List (List ℕ))
+    → after_frame frame m.pending ≡ Some pending
+    → Comes m thread Recv (answered.Frame frame) stored (record m { pending = pending })
+frame_comes m thread frame stored pending e = record {
+  may = ap is_some e;
+  after = ap (λ p. record m { pending = unwrap_or p m.pending }) e;
+}
 
 -- ---- the facts
 

@@ -17,13 +17,14 @@ use Rattle.nook_defs.specs.declared.machine.BurstEnd.{BurstEnd}
 use Rattle.nook_defs.specs.declared.machine.BurstEnd.TheVariants as bursts
 use Rattle.nook_defs.specs.declared.machine.Service.{Service}
 use Rattle.nook_defs.specs.Classes.{accept, first_of_op, is_io_status, blocks_of_op, covers}
-use Rattle.nook_defs.specs.Contract.{sees_crossing, owes, owes_found, is_replayed}
+use Rattle.part_laws.specs.Watch.{sees_crossing, owes, owes_found}
 use Rattle.nook_defs.specs.Crossing.{Crossed, fails, failed, goes_on, is_last, refused_service, heap_start, served_call, serve_by, kernel_call, next_mode, is_accepted, shadow_fault, stage_in, next_stage, shadow_replied, reply_answer, noted_set, closes, accepted, reply_by, call_replied, replied, crossed}
 use Rattle.nook_defs.specs.Domain.{no_context, context_of, with_result, result_set, left_domain, noted, first_argument, second_argument}
 use Rattle.nook_defs.specs.Log.{call_of_thread, answered as answered_log, acknowledged, config_after, holder_after, queue_after}
 use Rattle.nook_defs.specs.Services.{Served, checked, served}
 use Rattle.nook_defs.specs.State.{DomainState, PartState}
 use Rattle.nook_defs.specs.Losses.{handed_result}
+use Rattle.nook_defs.specs.Contract.{is_replayed}
 use Rattle.part_laws.specs.Balance.{held_at}
 use Rattle.part_laws.specs.ActsOn.{dev_of}
 use Rattle.part_laws.specs.Facts.{KeyIn, Facts}

@@ -9,15 +9,17 @@ use Rattle.nook_defs.specs.declared.data.Mode.{Mode}
 use Rattle.nook_defs.specs.declared.data.Mode.TheVariants as mode
 use Rattle.nook_defs.specs.declared.data.Stage.{Stage}
 use Rattle.nook_defs.specs.declared.data.Stage.TheVariants as stage
-use Rattle.nook_defs.specs.Contract.{sees_crossing, sees_service, sees_reply, wanted, is_prefix, is_empty, is_replayed, hands_up, handed_one, leaves, owes_found}
+use Rattle.part_laws.specs.Watch.{sees_crossing, sees_service, sees_reply, wanted, hands_up, handed_one, leaves, owes_found}
 use Rattle.nook_defs.specs.Crossing.{next_mode}
 use Rattle.nook_defs.specs.Ideal.{ran, stops_waiting}
-use Rattle.nook_defs.specs.Licence.{allows_option}
+use Rattle.part_laws.specs.Allowed.{allows_option}
 use Rattle.nook_defs.specs.Log.{next_replay, replay_stream, replay_after, config_after, holder_after, queue_after}
 use Rattle.nook_defs.specs.Places.{at_number, change_number}
 use Rattle.nook_defs.specs.State.{PartState}
 use Rattle.nook_defs.specs.Trace.{Visible, shown_option, kept_blocks, answer}
-use Rattle.nook_defs.specs.Losses.{Counts, count_option, count_handed, handed_result}
+use Rattle.nook_defs.specs.Losses.{handed_result}
+use Rattle.nook_defs.specs.Contract.{is_empty, is_front, is_replayed}
+use Rattle.part_laws.specs.Counts.{Counts, count_option, count_handed}
 use Rattle.part_laws.specs.Balance.{tally, held_at, Balance, Balanced}
 use Rattle.part_laws.specs.Facts.{At, CallsFacts, DiskFacts, KeyAt, KeyIn, ReplayFits, BootFits, Sub, may_be_inside, is_driving, Facts}
 use Rattle.part_laws.specs.Moves.{hand_call, close_core}
@@ -110,11 +112,11 @@ pub rx_cross : (v : View) (b : Past) (n service first second r : ℕ) (result : 
     → CrossOk v b n (ends.Service service first second result moved) None None (record v { queue = taken_up moved v.queue })
 rx_cross v b n service first second r result moved f ir er held u h = with_rest (prefix_next b.handed b.rest moved met)
   where
-    kept : (wanted (is_prefix (b.handed ++ moved ∷ []) (b.handed ++ b.rest)) 8 None) ≡ None
+    kept : (wanted (is_front (b.handed ++ moved ∷ []) (b.handed ++ b.rest)) 8 None) ≡ None
     kept = sym (ap (λ up. (sees_service up n moved (watch_of v b)).clause) u) ∙ h
 
-    met : is_prefix (b.handed ++ moved ∷ []) (b.handed ++ b.rest) ≡ true
-    met = (wanted_met (is_prefix (b.handed ++ moved ∷ []) (b.handed ++ b.rest)) 8 None kept).0
+    met : is_front (b.handed ++ moved ∷ []) (b.handed ++ b.rest) ≡ true
+    met = (wanted_met (is_front (b.handed ++ moved ∷ []) (b.handed ++ b.rest)) 8 None kept).0
 
     same : map core_of (change_number hand_call n b.calls) ≡ cores b
     same = change_unseen core_of hand_call (λ c. refl) n b.calls
@@ -167,7 +169,7 @@ rx_cross v b n service first second r result moved f ir er held u h = with_rest 
     }
       where
         prefix : Bool
-        prefix = is_prefix (b.handed ++ moved ∷ []) (b.handed ++ b.rest)
+        prefix = is_front (b.handed ++ moved ∷ []) (b.handed ++ b.rest)
 
 -- ---- the shadow's own call is accepted
 
@@ -343,7 +345,7 @@ accepted_cross v b k status c a r h g = record {
         config = config_after c.core.op v.config;
       })
       k (as_opened c) a (kept_blocks a (Some (as_track c.core))) more (get_map as_opened b.calls k c r.at)
-      ((call_facts v b k c r).opened r.inside) (checks v b k c r) g.answers
+      ((call_facts v b k c r).opened r.inside) (checks v b k c r) g.comes
       ∙ ap (λ os. ran (record (ideal_of v b) {
         opened = os;
         blocks = g.plain;

@@ -12,27 +12,29 @@ use Rattle.nook_defs.specs.declared.data.Op.{Op}
 use Rattle.nook_defs.specs.declared.data.Op.TheVariants.{Read, Write, Send, Recv, Open, Play, Close, Get, Set}
 use Rattle.nook_defs.specs.Calls.{admitted, entered_by, entered_part}
 use Rattle.nook_defs.specs.Classes.{conflicts, is_holder, is_recv, is_write, admit, admit_open, admit_holder, entry_place}
-use Rattle.nook_defs.specs.Contract.{Watch, enters, is_empty}
+use Rattle.part_laws.specs.Watch.{Watch, enters}
 use Rattle.nook_defs.specs.Devices.{head_of, tail_of}
 use Rattle.nook_defs.specs.Domain.{entered_domain, entry_context, arguments_of}
-use Rattle.nook_defs.specs.Ideal.{ran, answers_with, closes, stops_waiting, with_pending}
-use Rattle.nook_defs.specs.Licence.{allows}
+use Rattle.nook_defs.specs.Ideal.{ran, closes, stops_waiting}
+use Rattle.part_laws.specs.Allowed.{allows}
 use Rattle.nook_defs.specs.Log.{is_of_thread, change_call, call_of_thread, entered, entered_call, answered as answered_log, is_blocked, blocks_call}
 use Rattle.nook_defs.specs.Places.{at_number, change_number}
 use Rattle.nook_defs.specs.State.{PartState}
 use Rattle.nook_defs.specs.Steps.{can_enter, is_ready, is_running}
 use Rattle.nook_defs.specs.Trace.{Visible, answer, enter_track, kept_blocks}
+use Rattle.nook_defs.specs.Contract.{is_empty}
 use Rattle.part_laws.specs.Balance.{held_at, Balanced}
 use Rattle.part_laws.specs.Facts.{At, CallsFacts, DiskFacts, HolderFits, IsSetting, KeyIn, Sub, may_be_inside, Facts}
 use Rattle.part_laws.specs.Moves.{enter_core, enter_call}
 use Rattle.part_laws.specs.Views.{View, Past, Core, Call, core_of, cores, entry_of, open_from, stage_of, view_of, as_watched, as_opened, as_track, watch_of, ideal_of, tracks_of}
-use Rattle.part_laws.proofs.Accepts.{with_op, recv_class, recvs_conflict}
-use Rattle.part_laws.proofs.Acts.{when_true, key_forward, is_the_holder}
+use Rattle.part_laws.proofs.Accepts.{with_op, recvs_conflict}
+use Rattle.part_laws.proofs.Acts.{key_forward, is_the_holder}
 use Rattle.part_laws.proofs.Balances.{TakesFrame, answered_balance}
-use Rattle.part_laws.proofs.Closing.{closed_facts, closed_view, answer_shown}
+use Rattle.part_laws.proofs.Closing.{Comes, closed_facts, closed_view, answer_shown, frame_comes}
 use Rattle.part_laws.proofs.Contexts.{other_set}
 use Rattle.part_laws.proofs.Disks.{disk_plain}
 use Rattle.part_laws.proofs.Keeping.{calls_enter, disk_same, writes_set}
+use Rattle.part_laws.proofs.OfClass.{recv_class}
 use Rattle.part_laws.proofs.OpenCalls.{Found, open_find, open_change, open_apart}
 use Rattle.part_laws.proofs.Places.{split, same_at, get_map, from_map, get_set, get_set_other, map_set, set_get, change_at}
 use Rattle.part_laws.specs.Recovery.{StepKeeps}
@@ -167,7 +169,7 @@ record Replied (v : View) (b : Past) (k : ℕ) (c : Call) (a : Answer) (queue : 
   plain : is_write c.core.op ≡ false
   chain : Sub (queue ++ (b.rest ++ v.dev.ring)) frames
   handed : (j : ℕ) (d : Call) → At b.calls j d → (j ≡ k → ⊥) → d.core.inside ≡ true → is_recv d.core.op ≡ true → d.handed ≡ true → is_empty queue ≡ false
-  answers : answers_with (closes (suc k) (ideal_of v b)) c.core.thread c.core.op a [] ≡ Some (record (closes (suc k) (ideal_of v b)) { pending = frames })
+  comes : Comes (closes (suc k) (ideal_of v b)) c.core.thread c.core.op a [] (record (closes (suc k) (ideal_of v b)) { pending = frames })
   blocks : (t : _) → kept_blocks a t ≡ []
   allowed : (q : List (List ℕ)) (w : Watch) → allows None q w (suc k) a ≡ true
   takes : TakesFrame a v.queue queue
@@ -200,7 +202,7 @@ replied_shown : (v : View) (b : Past) (k : ℕ) (c : Call) (a : Answer) (queue :
 replied_shown v b k c a queue u r t more =
     ap (λ l. ran (ideal_of v b) (answer (suc k) a l ∷ more)) (r.blocks t)
     ∙ answer_shown (ideal_of v b) (record (closes (suc k) (ideal_of v b)) { pending = r.frames }) k (as_opened c) a [] more
-    (get_map as_opened b.calls k c u.at) u.waits ((u.facts.calls.each k c.core (enter_at v b k c u)).checked u.waits) r.answers
+    (get_map as_opened b.calls k c u.at) u.waits ((u.facts.calls.each k c.core (enter_at v b k c u)).checked u.waits) r.comes
     ∙ ap (λ os. ran (record (ideal_of v b) { opened = os; pending = r.frames }) more)
     (change_at stops_waiting k (map as_opened b.calls) (as_opened c) (get_map as_opened b.calls k c u.at) ∙ sym (map_set as_opened b.calls k (enter_call false c)))
 
@@ -242,14 +244,14 @@ take_ok p b k c u l r = record {
 -- ---- what the class does, by operation
 
 plain_reply : (v : View) (b : Past) (k : ℕ) (c : Call) (a : Answer) → MayEnter v b k c → is_write c.core.op ≡ false
-    → answers_with (closes (suc k) (ideal_of v b)) c.core.thread c.core.op a [] ≡ Some (closes (suc k) (ideal_of v b))
+    → Comes (closes (suc k) (ideal_of v b)) c.core.thread c.core.op a [] (closes (suc k) (ideal_of v b))
     → ((t : _) → kept_blocks a t ≡ []) → ((q : List (List ℕ)) (w : Watch) → allows None q w (suc k) a ≡ true) → TakesFrame a v.queue v.queue → Replied v b k c a v.queue
 plain_reply v b k c a u n e t w x = record {
   frames = b.frames;
   plain = n;
   chain = u.facts.chain;
   handed = λ j d h ne i r s. u.facts.handed_up u.running j d h i r s;
-  answers = e;
+  comes = e;
   blocks = t;
   allowed = w;
   takes = x;
@@ -260,7 +262,7 @@ open_enters : (p : PartState) (b : Past) (k : ℕ) (c : Call) → MayEnter (view
 open_enters p b k c u l None e = enters_ok p b k _ (with_op Open c) u l e
 open_enters p b k c u l (Some h) e = reply_ok p b k (with_op Open c) (answered.InUse h) u l
     (plain_reply (view_of p) b k (with_op Open c) (answered.InUse h) u refl
-    (when_true (is_holder p.log.holder h) (closes (suc k) (ideal_of (view_of p) b)) (ap (λ x. is_holder x h) e ∙ eq-eqb h h refl))
+    (record { may = ap (λ x. is_holder x h) e ∙ eq-eqb h h refl; after = refl })
     (λ t. refl) (λ q w. refl) (omega arith))
 
 play_enters : (p : PartState) (b : Past) (k place : ℕ) (samples : List ℕ) (c : Call) → MayEnter (view_of p) b k (with_op (Play samples) c) → length p.domain.contexts ≡ 17
@@ -269,7 +271,7 @@ play_enters : (p : PartState) (b : Past) (k place : ℕ) (samples : List ℕ) (c
 play_enters p b k place samples c u l true e = enters_ok p b k place (with_op (Play samples) c) u l (is_the_holder p.log.holder c.core.thread e)
 play_enters p b k place samples c u l false e = reply_ok p b k (with_op (Play samples) c) answered.NotOpen u l
     (plain_reply (view_of p) b k (with_op (Play samples) c) answered.NotOpen u refl
-    (when_true (not (is_holder p.log.holder c.core.thread)) (closes (suc k) (ideal_of (view_of p) b)) (ap not e))
+    (record { may = ap not e; after = refl })
     (λ t. refl) (λ q w. refl) (omega arith))
 
 close_enters : (p : PartState) (b : Past) (k place : ℕ) (c : Call) → MayEnter (view_of p) b k (with_op Close c) → length p.domain.contexts ≡ 17
@@ -278,7 +280,7 @@ close_enters : (p : PartState) (b : Past) (k place : ℕ) (c : Call) → MayEnte
 close_enters p b k place c u l true e = enters_ok p b k place (with_op Close c) u l (is_the_holder p.log.holder c.core.thread e)
 close_enters p b k place c u l false e = reply_ok p b k (with_op Close c) answered.NotOpen u l
     (plain_reply (view_of p) b k (with_op Close c) answered.NotOpen u refl
-    (when_true (not (is_holder p.log.holder c.core.thread)) (closes (suc k) (ideal_of (view_of p) b)) (ap not e))
+    (record { may = ap not e; after = refl })
     (λ t. refl) (λ q w. refl) (omega arith))
 
 -- a Recv takes the front of the queue
@@ -311,7 +313,7 @@ recv_takes p b k c u (frame ∷ queue) e n = taken (sub_front frame (queue ++ (b
       plain = refl;
       chain = t.chain;
       handed = λ j d h ne i r s. absurd (other j d h i r (cases_order j k) ne);
-      answers = ap (with_pending (closes (suc k) (ideal_of (view_of p) b))) t.after;
+      comes = frame_comes (closes (suc k) (ideal_of (view_of p) b)) c.core.thread frame [] t.rest t.after;
       blocks = λ t. refl;
       allowed = λ q w. refl;
       takes = omega arith ∙ sym (ap length e);

@@ -1,5 +1,5 @@
-use Rattle.std.proofs.Common.{◌≡◌, ◌<◌, ◌⊎◌, ℕ, suc, ◌+◌, ◌&&◌, cond, eqb, Bool, true, false, Option, Some, None, is_none, List, [], ◌∷◌, ◌++◌, map, length, slice_index, sym, refl, ap, ap₂, subst, ◌∙◌, inl, inr, arith, nat_lt, nat_le, append-nil, length-append}
-use Rattle.std.specs.List.{find}
+use Rattle.std.proofs.Common.{◌≡◌, ◌<◌, ◌⊎◌, ℕ, suc, ◌+◌, ◌&&◌, cond, eqb, not, Bool, true, false, Option, Some, None, is_none, List, [], ◌∷◌, ◌++◌, map, length, slice_index, sym, refl, ap, ap₂, subst, ◌∙◌, inl, inr, arith, nat_lt, nat_le, append-nil, length-append}
+use Rattle.std.specs.List.{find, list_any}
 use Rattle.std.proofs.lemmas.Bool.{and_parts, and_from, eq-eqb, ltb-true}
 use Rattle.nook_defs.specs.declared.data.Answer.{Answer}
 use Rattle.nook_defs.specs.declared.data.Answer.TheVariants as answered
@@ -12,21 +12,24 @@ use Rattle.nook_defs.specs.declared.data.Op.TheVariants.{Read, Write, Send, Recv
 use Rattle.nook_defs.specs.declared.data.Stage.{Stage}
 use Rattle.nook_defs.specs.Calls.{answer_in, queue_in, invoked_with, invoked_by, invoked}
 use Rattle.nook_defs.specs.Classes.{is_of_class, is_recv, check_op, check_range, is_block_length, maximum_of, static_check}
-use Rattle.nook_defs.specs.Contract.{Watch, is_empty}
-use Rattle.nook_defs.specs.Ideal.{Ideal, ran, opens, may_call, waits_for, answers_found, answers_checked, answers_with, same_refusal, closes, stops_waiting}
-use Rattle.nook_defs.specs.Licence.{allows, recovery_stage}
+use Rattle.part_laws.specs.Watch.{Watch}
+use Rattle.nook_defs.specs.Ideal.{Ideal, Opened, ran, opens, after_answer, is_due, may_call, waits_for, same_refusal, closes, stops_waiting}
+use Rattle.part_laws.specs.Allowed.{allows}
 use Rattle.nook_defs.specs.Log.{is_of_thread, call_of_thread, with_call, numbered, new_call, shadow_answer, queue_after}
-use Rattle.nook_defs.specs.Places.{at_number, change_number, number_where}
+use Rattle.nook_defs.specs.Places.{at_number, change_number}
 use Rattle.nook_defs.specs.State.{PartState}
 use Rattle.nook_defs.specs.Steps.{can_invoke}
 use Rattle.nook_defs.specs.Trace.{Visible, Track, called, answer, kept_blocks, first_track}
-use Rattle.nook_defs.specs.Losses.{counted}
+use Rattle.nook_defs.specs.Licence.{recovery_stage}
+use Rattle.nook_defs.specs.Contract.{is_empty}
+use Rattle.part_laws.specs.Counts.{counted}
 use Rattle.part_laws.specs.Balance.{held_at}
 use Rattle.part_laws.specs.Facts.{At, CallsFacts, DiskFacts, HolderFits, IsSetting, KeyIn, Sub, may_be_inside, is_dead, Facts}
 use Rattle.part_laws.specs.Moves.{new_core, made_call}
 use Rattle.part_laws.specs.Views.{View, Past, Core, Call, core_of, cores, entry_of, keep_waiting, open_from, stage_of, view_of, as_watched, as_opened, as_track, watch_of, ideal_of, tracks_of}
 use Rattle.part_laws.proofs.Acts.{ran_step, when_true, key_forward}
 use Rattle.part_laws.proofs.Balances.{TakesFrame, answered_balance}
+use Rattle.part_laws.proofs.Closing.{comes_due, due_shown}
 use Rattle.part_laws.proofs.Keeping.{calls_push, disk_same, writes_push}
 use Rattle.part_laws.proofs.OpenCalls.{open_none, none_waits, open_push}
 use Rattle.part_laws.proofs.Places.{get_push, get_keep, get_mid, set_mid, map_push, length_map, change_at}
@@ -64,40 +67,55 @@ op_refuses class size (Set key value) = either (nat_le key 3) (cond (nat_le valu
 refuses : (class : Class) (size : ℕ) (o : Op) → Refuses (static_check class size o)
 refuses class size o = either (is_of_class class o) (check_op class size o) (Some answered.BadClass) (op_refuses class size o) refl
 
+-- what holds of each answer of the static check
+by_refusal : (P : Answer → Type 0) (a : Answer) → same_refusal a a ≡ true → P answered.BadClass → P answered.BadLength
+    → P answered.BadRange → P answered.BadKey → P answered.BadValue → P a
+by_refusal P answered.BadClass h c l r k v = c
+by_refusal P answered.BadLength h c l r k v = l
+by_refusal P answered.BadRange h c l r k v = r
+by_refusal P answered.BadKey h c l r k v = k
+by_refusal P answered.BadValue h c l r k v = v
+by_refusal P answered.Done h c l r k v = absurd cc
+by_refusal P (answered.Blocks words) h c l r k v = absurd cc
+by_refusal P (answered.Value word) h c l r k v = absurd cc
+by_refusal P (answered.Frame frame) h c l r k v = absurd cc
+by_refusal P answered.Empty h c l r k v = absurd cc
+by_refusal P (answered.Busy stage) h c l r k v = absurd cc
+by_refusal P (answered.InUse holder) h c l r k v = absurd cc
+by_refusal P answered.NotOpen h c l r k v = absurd cc
+by_refusal P (answered.IoError block) h c l r k v = absurd cc
+by_refusal P (answered.Gone failures) h c l r k v = absurd cc
+
 refusal_allowed : (s : Option Stage) (q : List (List ℕ)) (w : Watch) (n : ℕ) (a : Answer) → same_refusal a a ≡ true → allows s q w n a ≡ true
-refusal_allowed s q w n answered.BadClass h = refl
-refusal_allowed s q w n answered.BadLength h = refl
-refusal_allowed s q w n answered.BadRange h = refl
-refusal_allowed s q w n answered.BadKey h = refl
-refusal_allowed s q w n answered.BadValue h = refl
-refusal_allowed s q w n answered.Done h = absurd cc
-refusal_allowed s q w n (answered.Blocks words) h = absurd cc
-refusal_allowed s q w n (answered.Value word) h = absurd cc
-refusal_allowed s q w n (answered.Frame frame) h = absurd cc
-refusal_allowed s q w n answered.Empty h = absurd cc
-refusal_allowed s q w n (answered.Busy stage) h = absurd cc
-refusal_allowed s q w n (answered.InUse holder) h = absurd cc
-refusal_allowed s q w n answered.NotOpen h = absurd cc
-refusal_allowed s q w n (answered.IoError block) h = absurd cc
-refusal_allowed s q w n (answered.Gone failures) h = absurd cc
+refusal_allowed s q w n a h = by_refusal (λ a. allows s q w n a ≡ true) a h refl refl refl refl refl
 
 -- it takes no frame
 refusal_takes : (q : List (List ℕ)) (a : Answer) → same_refusal a a ≡ true → TakesFrame a q q
-refusal_takes q (answered.Frame frame) h = absurd cc
-refusal_takes q answered.BadClass h = omega arith
-refusal_takes q answered.BadLength h = omega arith
-refusal_takes q answered.BadRange h = omega arith
-refusal_takes q answered.BadKey h = omega arith
-refusal_takes q answered.BadValue h = omega arith
-refusal_takes q answered.Done h = omega arith
-refusal_takes q (answered.Blocks words) h = omega arith
-refusal_takes q (answered.Value word) h = omega arith
-refusal_takes q answered.Empty h = omega arith
-refusal_takes q (answered.Busy stage) h = omega arith
-refusal_takes q (answered.InUse holder) h = omega arith
-refusal_takes q answered.NotOpen h = omega arith
-refusal_takes q (answered.IoError block) h = omega arith
-refusal_takes q (answered.Gone failures) h = omega arith
+refusal_takes q a h = by_refusal (λ a. TakesFrame a q q) a h (omega arith) (omega arith) (omega arith) (omega arith) (omega arith)
+
+-- the never-failing device gives it too, and stays as it is
+refusal_due : (m : Ideal) (o : Opened) (a : Answer) → static_check m.class m.size o.op ≡ Some a → same_refusal a a ≡ true → is_due m o a ≡ true
+refusal_due m o a e h = rw (e, is_due) h
+
+refusal_leaves : (m : Ideal) (thread : ℕ) (o : Op) (stored : List ℕ) (a : Answer) → same_refusal a a ≡ true → after_answer m thread o a stored ≡ m
+refusal_leaves m thread (Read first count) stored a h =
+    by_refusal (λ a. after_answer m thread (Read first count) a stored ≡ m) a h refl refl refl refl refl
+refusal_leaves m thread (Write first words) stored a h =
+    by_refusal (λ a. after_answer m thread (Write first words) a stored ≡ m) a h refl refl refl refl refl
+refusal_leaves m thread (Send frame) stored a h =
+    by_refusal (λ a. after_answer m thread (Send frame) a stored ≡ m) a h refl refl refl refl refl
+refusal_leaves m thread Recv stored a h =
+    by_refusal (λ a. after_answer m thread Recv a stored ≡ m) a h refl refl refl refl refl
+refusal_leaves m thread Open stored a h =
+    by_refusal (λ a. after_answer m thread Open a stored ≡ m) a h refl refl refl refl refl
+refusal_leaves m thread (Play samples) stored a h =
+    by_refusal (λ a. after_answer m thread (Play samples) a stored ≡ m) a h refl refl refl refl refl
+refusal_leaves m thread Close stored a h =
+    by_refusal (λ a. after_answer m thread Close a stored ≡ m) a h refl refl refl refl refl
+refusal_leaves m thread (Get key) stored a h =
+    by_refusal (λ a. after_answer m thread (Get key) a stored ≡ m) a h refl refl refl refl refl
+refusal_leaves m thread (Set key value) stored a h =
+    by_refusal (λ a. after_answer m thread (Set key value) a stored ≡ m) a h refl refl refl refl refl
 
 -- ---- the facts behind a call that is made
 
@@ -165,9 +183,9 @@ called_shown : (v : View) (b : Past) (t : ℕ) (o : Op) (more : List Visible) �
     → ran (ideal_of v b) (called (v.count + 1) t o ∷ more) ≡ ran (record (ideal_of v b) { opened = map as_opened b.calls ++ opens t o ∷ [] }) more
 called_shown v b t o more n alone = ran_step (ideal_of v b) (record (ideal_of v b) { opened = map as_opened b.calls ++ opens t o ∷ [] }) (called (v.count + 1) t o) more
     (when_true (may_call (v.count + 1) t (map as_opened b.calls)) (record (ideal_of v b) { opened = map as_opened b.calls ++ opens t o ∷ [] })
-    (and_from (eqb (v.count + 1) (suc (length (map as_opened b.calls)))) (eqb (number_where (waits_for t) (map as_opened b.calls)) 0)
+    (and_from (eqb (v.count + 1) (suc (length (map as_opened b.calls)))) (not (list_any (waits_for t) (map as_opened b.calls)))
     (eq-eqb (v.count + 1) (suc (length (map as_opened b.calls))) (omega (arith, n, length_map as_opened b.calls)))
-    (eq-eqb (number_where (waits_for t) (map as_opened b.calls)) 0 (none_waits t b.calls alone))))
+    (ap not (none_waits t b.calls alone))))
 
 -- it is answered at once
 closed_made : (v : View) (b : Past) (t : ℕ) (o : Op)
@@ -220,17 +238,22 @@ held_ok p b t o u e l = record {
     tracked : tracks_of b ++ first_track o ∷ [] ≡ map as_track (map core_of (b.calls ++ made_call t o true ∷ []))
     tracked = sym (ap (map as_track) (map_push core_of b.calls (made_call t o true)) ∙ map_push as_track (cores b) (new_core t o true))
 
+-- the never-failing device with the call made, and closed
+abbrev made_device : PartState → Past → ℕ → Op → Ideal
+made_device p b t o = closes (suc (length (map as_opened b.calls)))
+    (record (ideal_of (view_of p) b) { opened = map as_opened b.calls ++ opens t o ∷ [] })
+
 -- it is answered at once
 answered_ok : (p : PartState) (b : Past) (t : ℕ) (o : Op) (a : Answer) (queue frames : List (List ℕ)) → MayInvoke (view_of p) b t
     → length p.domain.contexts ≡ 17 → Sub (queue ++ (b.rest ++ (view_of p).dev.ring)) frames → (p.mode ≡ mode.Running → queue ≡ p.queue)
-    → (answers_checked (static_check p.spec.class p.spec.blocks o)
-    (closes (suc (length (map as_opened b.calls))) (record (ideal_of (view_of p) b) { opened = map as_opened b.calls ++ opens t o ∷ [] })) t o a
+    → is_due (made_device p b t o) (opens t o) a ≡ true
+    → (after_answer (made_device p b t o) t o a
     (kept_blocks a (at_number (p.log.count + 1) (map as_track (map core_of (b.calls ++ made_call t o false ∷ [])))))
-    ≡ Some (record (closes (suc (length (map as_opened b.calls))) (record (ideal_of (view_of p) b) { opened = map as_opened b.calls ++ opens t o ∷ [] })) { pending = frames }))
+    ≡ record (made_device p b t o) { pending = frames })
     → ((w : Watch) → allows (recovery_stage p.mode) p.queue w (p.log.count + 1) a ≡ true) → TakesFrame a p.queue queue
     → StepKeeps p b (invoked_with p t o (Some a) queue)
 unfolding numbered
-answered_ok p b t o a queue frames u l chain running answers allowed takes = record {
+answered_ok p b t o a queue frames u l chain running due after allowed takes = record {
   counted = λ n x. answered_balance (length (view_of p).dev.ring) (held_at (stage_of p.mode) b.rest) (p.log.count + 1) p.queue queue a
       (record n { calls = n.calls ++ counted o ∷ [] }) takes x;
   after = made_past t o false frames b;
@@ -240,8 +263,7 @@ answered_ok p b t o a queue frames u l chain running answers allowed takes = rec
   tracked = sym (ap (map as_track) (map_push core_of b.calls (made_call t o false)) ∙ map_push as_track (cores b) (new_core t o false));
   shown = λ more. called_shown (view_of p) b t o (answer (p.log.count + 1) a kept ∷ more) u.facts.count u.alone
       ∙ ap (λ n. ran now (answer n a kept ∷ more)) number
-      ∙ ran_step now then (answer (suc (length (map as_opened b.calls))) a kept) more
-      (ap (λ x. answers_found x (closes (suc (length (map as_opened b.calls))) now) a kept) (get_mid (map as_opened b.calls) [] (opens t o)) ∙ answers)
+      ∙ due_shown now then (length (map as_opened b.calls)) (opens t o) a kept more (get_mid (map as_opened b.calls) [] (opens t o)) refl due after
       ∙ ap (λ os. ran (record (ideal_of (view_of p) b) { opened = os; pending = frames }) more) (closed_made (view_of p) b t o);
   licensed = allowed (watch_of (view_of (invoked_with p t o (Some a) queue).state) (made_past t o false frames b));
 }
@@ -250,7 +272,7 @@ answered_ok p b t o a queue frames u l chain running answers allowed takes = rec
     now = record (ideal_of (view_of p) b) { opened = map as_opened b.calls ++ opens t o ∷ [] }
 
     then : Ideal
-    then = record (closes (suc (length (map as_opened b.calls))) (record (ideal_of (view_of p) b) { opened = map as_opened b.calls ++ opens t o ∷ [] })) { pending = frames }
+    then = record (made_device p b t o) { pending = frames }
 
     kept : List ℕ
     kept = kept_blocks a (at_number (p.log.count + 1) (map as_track (map core_of (b.calls ++ made_call t o false ∷ []))))
@@ -261,17 +283,13 @@ answered_ok p b t o a queue frames u l chain running answers allowed takes = rec
 -- the shadow answers or holds it
 shadow_step : (p : PartState) (b : Past) (t : ℕ) (o : Op) (s : Stage) → MayInvoke (view_of p) b t → static_check p.spec.class p.spec.blocks o ≡ None
     → length p.domain.contexts ≡ 17 → (p.mode ≡ mode.Running → ⊥) → recovery_stage p.mode ≡ Some s
-    → (r : Option Answer) → ShadowSays (closes (suc (length (map as_opened b.calls))) (record (ideal_of (view_of p) b) { opened = map as_opened b.calls ++ opens t o ∷ [] }))
-    t o s p.queue (b.rest ++ (view_of p).dev.ring) r
+    → (r : Option Answer) → ShadowSays (made_device p b t o) t o s p.queue (b.rest ++ (view_of p).dev.ring) r
     → StepKeeps p b (invoked_with p t o r (queue_after o p.queue))
 shadow_step p b t o s u e l n m None (k, q) = subst (λ x. StepKeeps p b (invoked_with p t o None x)) (sym q) (held_ok p b t o u e l)
 shadow_step p b t o s u e l n m (Some a) g = answered_ok p b t o a (queue_after o p.queue) g.frames u l g.chain (λ r. absurd (n r))
-    (ap (λ r. answers_checked r now t o a (kept_blocks a track)) e ∙ ap (λ k. answers_with now t o a k) (g.blocks track) ∙ g.answers)
+    (comes_due (made_device p b t o) (opens t o) a e g.comes.may) (ap (after_answer (made_device p b t o) t o a) (g.blocks track) ∙ g.comes.after)
     (λ w. ap (λ x. allows x p.queue w (p.log.count + 1) a) m ∙ g.allowed p.queue w (p.log.count + 1)) g.counted
   where
-    now : Ideal
-    now = closes (suc (length (map as_opened b.calls))) (record (ideal_of (view_of p) b) { opened = map as_opened b.calls ++ opens t o ∷ [] })
-
     track : Option Track
     track = at_number (p.log.count + 1) (map as_track (map core_of (b.calls ++ made_call t o false ∷ [])))
 
@@ -283,7 +301,7 @@ checked_step mode.Running p b t o u e l d = held_ok (with_mode mode.Running p) b
 checked_step (mode.Dead collected) p b t o u e l d = absurd cc
 checked_step (mode.Recovering s) p b t o u e l d = shadow_step (with_mode (mode.Recovering s) p) b t o s u e l (λ r. absurd cc) refl
     (shadow_answer o t p.log.config p.log.holder s p.queue)
-    (shadow_says (closes (suc (length (map as_opened b.calls))) (record (ideal_of (view_of (with_mode (mode.Recovering s) p)) b) { opened = map as_opened b.calls ++ opens t o ∷ [] }))
+    (shadow_says (made_device (with_mode (mode.Recovering s) p) b t o)
     t o s p.queue (b.rest ++ (view_of p).dev.ring) u.facts.chain)
 
 pub invoke_ok : (p : PartState) (b : Past) (t : ℕ) (o : Op) → Facts (view_of p) b → length p.domain.contexts ≡ 17 → is_dead p.mode ≡ false
@@ -297,9 +315,10 @@ invoke_ok p b t o f l d h = by_check (static_check p.spec.class p.spec.blocks o)
     by_check : (r : Option Answer) → static_check p.spec.class p.spec.blocks o ≡ r → StepKeeps p b (invoked_by p t o r)
     by_check None e = checked_step p.mode p b t o u e l d
     by_check (Some a) e = answered_ok p b t o a p.queue b.frames u l f.chain (λ m. refl)
-        (ap (λ r. answers_checked r (closes (suc (length (map as_opened b.calls))) (record (ideal_of (view_of p) b) { opened = map as_opened b.calls ++ opens t o ∷ [] })) t o a
-        (kept_blocks a (at_number (p.log.count + 1) (map as_track (map core_of (b.calls ++ made_call t o false ∷ [])))))) e
-        ∙ when_true (same_refusal a a) (closes (suc (length (map as_opened b.calls))) (record (ideal_of (view_of p) b) { opened = map as_opened b.calls ++ opens t o ∷ [] }))
-        (subst Refuses e (refuses p.spec.class p.spec.blocks o)))
-        (λ w. refusal_allowed (recovery_stage p.mode) p.queue w (p.log.count + 1) a (subst Refuses e (refuses p.spec.class p.spec.blocks o)))
-        (refusal_takes p.queue a (subst Refuses e (refuses p.spec.class p.spec.blocks o)))
+        (refusal_due (made_device p b t o) (opens t o) a e same)
+        (refusal_leaves (made_device p b t o) t o _ a same)
+        (λ w. refusal_allowed (recovery_stage p.mode) p.queue w (p.log.count + 1) a same)
+        (refusal_takes p.queue a same)
+      where
+        same : same_refusal a a ≡ true
+        same = subst Refuses e (refuses p.spec.class p.spec.blocks o)

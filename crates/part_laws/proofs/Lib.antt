@@ -19,6 +19,7 @@ pub mod Counts
 pub mod RunSmall
 pub mod ValidFits
 pub mod Places
+pub mod OfClass
 pub mod OpenCalls
 pub mod Subs
 pub mod Balances
@@ -42,5 +43,19 @@ pub mod Enters
 pub mod Arrivals
 pub mod Bursting
 pub mod Recovered
+pub mod Smallest
+pub mod Picked
+pub mod Known
+pub mod Replies
+pub mod Deeds
+pub mod Breaks
+pub mod Licences
+pub mod Numbers
+pub mod OrderlyRuns
+pub mod Tallies
+pub mod Counting
+pub mod Lost
+pub mod Judged
+pub mod ReadAloud
 pub mod Safe
 pub mod Answered

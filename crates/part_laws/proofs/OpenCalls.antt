@@ -1,4 +1,4 @@
-use Rattle.std.proofs.Common.{◌≡◌, ◌<◌, ℕ, zero, suc, ◌+◌, ◌&&◌, not, eqb, Bool, true, false, Some, None, List, [], ◌∷◌, ◌++◌, map, length, set, filter, find, sym, refl, ap, ap₂, ◌∙◌, arith, nat_lt}
+use Rattle.std.proofs.Common.{◌≡◌, ◌<◌, ℕ, zero, suc, ◌+◌, ◌&&◌, ◌||◌, not, eqb, Bool, true, false, Some, None, List, [], ◌∷◌, ◌++◌, map, length, set, filter, find, sym, refl, ap, ap₂, ◌∙◌, arith, nat_lt}
 use Rattle.std.specs.List.{list_any}
 use Rattle.std.proofs.lemmas.Bool.{eqb-true, ne_eqb, eq-eqb, cond-true, cond-false, or_parts}
 use Rattle.nook_defs.specs.declared.data.CallEntry.{CallEntry}
@@ -6,7 +6,6 @@ use Rattle.nook_defs.specs.declared.data.Class.{Class}
 use Rattle.nook_defs.specs.Classes.{conflicts}
 use Rattle.nook_defs.specs.Ideal.{waits_for}
 use Rattle.nook_defs.specs.Log.{is_of_thread, is_call, change_call, blocks_call, held_call, is_kept, stop_calls}
-use Rattle.nook_defs.specs.Places.{number_where, past_one}
 use Rattle.part_laws.specs.Facts.{At}
 use Rattle.part_laws.specs.Moves.{stop_core}
 use Rattle.part_laws.specs.Views.{Core, Call, core_of, entry_of, keep_waiting, open_from, as_opened}
@@ -76,12 +75,10 @@ open_none n (d ∷ cs) t h k c i w m = by_waits d.waits refl h k i (open_none (s
 -- the same of the never-failing device
 pub none_waits : (t : ℕ) (calls : List Call)
     → ((k : ℕ) (c : Core) → At (map core_of calls) k c → c.waits ≡ true → c.thread ≡ t → ⊥)
-    → number_where (waits_for t) (map as_opened calls) ≡ 0
+    → list_any (waits_for t) (map as_opened calls) ≡ false
 none_waits t [] h = refl
-none_waits t (c ∷ calls) h =
-    cond-false (c.core.waits && eqb c.core.thread t) 1 (past_one (number_where (waits_for t) (map as_opened calls)))
-    (by_waits c.core.waits refl (eqb c.core.thread t) refl)
-    ∙ ap past_one (none_waits t calls (λ k d i w m. h (suc k) d i w m))
+none_waits t (c ∷ calls) h = ap₂ (λ x y. x || y) (by_waits c.core.waits refl (eqb c.core.thread t) refl)
+    (none_waits t calls (λ k d i w m. h (suc k) d i w m))
   where
     by_waits : (w : Bool) → c.core.waits ≡ w → (m : Bool) → eqb c.core.thread t ≡ m → (w && m) ≡ false
     by_waits false w m e = refl

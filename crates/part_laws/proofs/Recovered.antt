@@ -18,22 +18,23 @@ use Rattle.nook_defs.specs.declared.data.Step.TheVariants as step
 use Rattle.nook_defs.specs.Blocks.{blank_blocks}
 use Rattle.nook_defs.specs.Calls.{invoked, invoked_by}
 use Rattle.nook_defs.specs.Classes.{defaults_of, is_set, same_class, static_check}
-use Rattle.nook_defs.specs.Contract.{sees, break_at, break_from, first_break, first_watch}
+use Rattle.part_laws.specs.Watch.{sees, break_at, break_from, first_watch, watched_break}
 use Rattle.nook_defs.specs.Devices.{opening_device}
 use Rattle.nook_defs.specs.Domain.{opening_domain, collected_domain}
 use Rattle.nook_defs.specs.Ideal.{Ideal, IsClassRun, class_run, ran}
-use Rattle.nook_defs.specs.Licence.{IsLicensed, is_balanced, licenses, licensed, licensed_from}
-use Rattle.nook_defs.specs.Losses.{Counts, count_event, no_counts, losses}
+use Rattle.part_laws.specs.Allowed.{IsAllowed, licenses, licensed, licensed_from}
+use Rattle.part_laws.specs.Counts.{Counts, count_event, no_counts, counted_losses}
 use Rattle.nook_defs.specs.Log.{opening_log, call_of_thread}
-use Rattle.nook_defs.specs.Runs.{IsRunFrom, state_after, state_from, state_of, step_of}
+use Rattle.nook_defs.specs.Runs.{IsRun, IsRunFrom, state_after, state_from, state_of, step_of}
 use Rattle.nook_defs.specs.Stages.{collects, stage_turned, stage_due}
 use Rattle.nook_defs.specs.State.{PartState}
 use Rattle.nook_defs.specs.Steps.{opening, enabled, turned, is_driven, is_running, is_ready, is_inside, arrived}
 use Rattle.nook_defs.specs.Trace.{shown, trace, trace_from, tracks_after}
+use Rattle.nook_defs.specs.Licence.{is_balanced}
 use Rattle.part_laws.specs.Balance.{Balanced}
 use Rattle.part_laws.specs.ActsOn.{dev_of}
 use Rattle.part_laws.specs.Facts.{At, IsStored, IsSetting, KeyIn, Facts, is_dead, is_driving}
-use Rattle.part_laws.specs.Recovery.{Gone, StepKeeps, IsKeptRun, HasFacts, ShowsDevice, Agrees, has_write, has_set_inside, is_write_call, is_set_inside}
+use Rattle.part_laws.specs.Recovery.{Gone, StepKeeps, HasFacts, ShowsDevice, Agrees, has_write, has_set_inside, is_write_call, is_set_inside}
 use Rattle.part_laws.specs.Views.{View, Past, Core, cores, entry_of, keep_waiting, open_from, stage_of, view_of, watch_of, ideal_of, tracks_of}
 use Rattle.part_laws.proofs.Arrivals.{arrive_ok}
 use Rattle.part_laws.proofs.Balances.{balance_told}
@@ -241,13 +242,19 @@ opening_alive spec = refl
 
 -- ---- the recovery theorem
 
-pub recovered : (spec : PartSpec) (journal : List Event) → IsKeptRun spec journal → RunKeeps (opening spec) (opening_past spec) journal
-unfolding first_break
+-- a run in which the fold breaks no clause, and which does not end given up
+pub record IsWatchedRun (spec : PartSpec) (journal : List Event) : Type 0 where
+  pub run : IsRun spec journal
+  pub contract : watched_break spec.class spec.blocks journal ≡ None
+  pub alive : is_dead (state_of spec journal).mode ≡ false
+
+pub recovered : (spec : PartSpec) (journal : List Event) → IsWatchedRun spec journal → RunKeeps (opening spec) (opening_past spec) journal
+unfolding watched_break
 recovered spec journal h = run_keeps journal (opening spec) (opening_past spec) 1
     (subst (λ v. Facts v (opening_past spec)) (opening_seen spec) (opening_facts spec)) (opening_room spec) (opening_alive spec) h.run
     (subst (λ v. break_from 1 (watch_of v (opening_past spec)) journal ≡ None) (opening_seen spec) h.contract) h.alive
 
-pub has_facts : (spec : PartSpec) (journal : List Event) → IsKeptRun spec journal → HasFacts spec journal
+pub has_facts : (spec : PartSpec) (journal : List Event) → IsWatchedRun spec journal → HasFacts spec journal
 unfolding trace
 has_facts spec journal h = record {
   past = (recovered spec journal h).after;
@@ -257,27 +264,27 @@ has_facts spec journal h = record {
   shown = ap (λ v. ran (ideal_of v (opening_past spec)) (trace_from [] journal)) (opening_seen spec) ∙ (recovered spec journal h).shown;
 }
 
-pub sees_one_run : (spec : PartSpec) (journal : List Event) → IsKeptRun spec journal → IsClassRun spec.class spec.blocks (trace journal)
+pub sees_one_run : (spec : PartSpec) (journal : List Event) → IsWatchedRun spec journal → IsClassRun spec.class spec.blocks (trace journal)
 unfolding class_run
 sees_one_run spec journal h = ap is_some (has_facts spec journal h).shown
 
 -- each answer is licensed; the balance of frames is another law
-pub answers_licensed : (spec : PartSpec) (journal : List Event) → IsKeptRun spec journal
+pub answers_licensed : (spec : PartSpec) (journal : List Event) → IsWatchedRun spec journal
     → licensed_from (opening spec) (first_watch spec.class spec.blocks) journal ≡ true
 answers_licensed spec journal h =
     ap (λ v. licensed_from (opening spec) (watch_of v (opening_past spec)) journal) (opening_seen spec) ∙ (recovered spec journal h).licensed
 
 -- frames are in balance
-pub frames_balanced : (spec : PartSpec) (journal : List Event) → IsKeptRun spec journal → is_balanced (losses journal) ≡ true
-unfolding losses
+pub frames_balanced : (spec : PartSpec) (journal : List Event) → IsWatchedRun spec journal → is_balanced (counted_losses journal) ≡ true
+unfolding counted_losses
 frames_balanced spec journal h = balance_told _ _ _ (fold count_event no_counts journal)
     ((recovered spec journal h).counted no_counts
     (subst (λ v. Balanced v (opening_past spec) no_counts) (opening_seen spec)
     (record { arrived = refl; kept = refl; taken = refl; driver = refl; flow = refl })))
 
-pub losses_licensed : (spec : PartSpec) (journal : List Event) → IsKeptRun spec journal → IsLicensed spec journal
+pub losses_licensed : (spec : PartSpec) (journal : List Event) → IsWatchedRun spec journal → IsAllowed spec journal
 unfolding licensed
-losses_licensed spec journal h = and_from (licensed_from (opening spec) (first_watch spec.class spec.blocks) journal) (is_balanced (losses journal))
+losses_licensed spec journal h = and_from (licensed_from (opening spec) (first_watch spec.class spec.blocks) journal) (is_balanced (counted_losses journal))
     (answers_licensed spec journal h) (frames_balanced spec journal h)
 
 -- ---- what is the device's
@@ -318,7 +325,7 @@ facts_agree p b f = record {
         (λ m. and_from s.call.inside (is_set s.call.op) s.inside (ap is_set s.sets))) ∙ w))
 
 -- where the trace leads the never-failing device, the part agrees with it
-pub agrees : (spec : PartSpec) (journal : List Event) (device : Ideal) → IsKeptRun spec journal → ShowsDevice spec journal device
+pub agrees : (spec : PartSpec) (journal : List Event) (device : Ideal) → IsWatchedRun spec journal → ShowsDevice spec journal device
     → Agrees (state_of spec journal) device
 agrees spec journal device h s = subst (λ d. Agrees (state_of spec journal) d)
     (one_device (ideal_of (view_of (state_of spec journal)) (has_facts spec journal h).past) device (sym (has_facts spec journal h).shown ∙ s))

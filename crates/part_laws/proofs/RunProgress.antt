@@ -15,6 +15,7 @@ use Rattle.nook_defs.specs.Runs.{if_enabled, next_for, next_recovery, or_step, n
 use Rattle.nook_defs.specs.Stages.{stage_due}
 use Rattle.nook_defs.specs.State.{PartState}
 use Rattle.nook_defs.specs.Steps.{opening, enabled, is_running, is_driven, is_ready, is_inside}
+use Rattle.nook_defs.proofs.NextSteps.{next_for_case, next_for_none}
 use Rattle.part_laws.proofs.BurstKeeps.{split}
 use Rattle.part_laws.proofs.RunBound.{run_tied}
 use Rattle.part_laws.proofs.StepsFit.{run_fit}
@@ -52,10 +53,8 @@ unfolding IsOkNext
 none_ok p s h = some_step h
 
 next_for_ok : (p : PartState) (thread : ℕ) → IsOkNext p (next_for p thread)
-unfolding next_for
-next_for_ok p thread =
-    if_enabled_ok p (step.Enter thread) (if_enabled p (step.Burst thread) None)
-    (if_enabled_ok p (step.Burst thread) None (none_ok p))
+unfolding IsOkNext
+next_for_ok p thread next h = next_for_case (λ s. enabled p s ≡ true) p thread next (λ may. may) (λ may. may) h
 
 next_recovery_ok : (p : PartState) → IsOkNext p (next_recovery p)
 unfolding next_recovery
@@ -131,7 +130,6 @@ not_due p a b = elim (and_cases (is_some (stage_due p.mode)) (not (is_driven p))
 
 no_call_open : (p : PartState) (pending : List CallEntry) (m : Mode) → IsFit p → IsTied p → p.log.pending ≡ pending → p.mode ≡ m
     → is_some (stage_due m) ≡ false → next_of_calls p pending ≡ None → p.log.pending ≡ []
-unfolding next_for
 no_call_open p [] m f t e mode' due none' = e
 no_call_open p (c ∷ pending) (mode.Boot s) f t e mode' due none' = absurd (true≢false due)
 no_call_open p (c ∷ pending) (mode.Recovering s) f t e mode' due none' = absurd (true≢false due)
@@ -140,12 +138,12 @@ no_call_open p (c ∷ pending) (mode.Dead collected) f t e mode' due none' =
     (subst (λ m. AllByRecursion (IsTiedCall m p.failures p.domain.contexts) p.log.pending) mode' t.calls)).0)
 no_call_open p (c ∷ pending) mode.Running f t e mode' due none' =
     let mine = or_none (next_for p c.thread) (next_of_calls p pending) none' in
-    let enter = if_none p (step.Enter c.thread) (if_enabled p (step.Burst c.thread) None) mine.0 in
-    let burst = if_none p (step.Burst c.thread) None enter.1 in
+    let found : call_of_thread c.thread p.log.pending ≡ Some c = ap (call_of_thread c.thread) e ∙ first_found c pending in
+    let neither = next_for_none p c.thread c found mine.0 in
     let low : c.thread < 16 = (subst (λ xs. AllByRecursion (λ z. z.thread < 16) xs) e (threads_of_fit p f)).0 in
     elim (first_enabled p c pending e mode' (subst (IsRising 0 p.log.count) e t.rising) low) [
-      | inl h ↦ absurd (both_ways (enabled p (step.Enter c.thread)) enter.0 h)
-      | inr h ↦ absurd (both_ways (enabled p (step.Burst c.thread)) burst.0 h)
+      | inl h ↦ absurd (both_ways (enabled p (step.Enter c.thread)) neither.0 h)
+      | inr h ↦ absurd (both_ways (enabled p (step.Burst c.thread)) neither.1 h)
     ]
 
 still_enter : (p : PartState) (thread : ℕ) → p.log.pending ≡ [] → enabled p (step.Enter thread) ≡ false

@@ -3,7 +3,7 @@ use Rattle.nook_defs.specs.declared.data.Event.{Event}
 use Rattle.nook_defs.specs.declared.data.PartSpec.{PartSpec}
 use Rattle.nook_defs.specs.Runs.{IsRun}
 use Rattle.nook_defs.specs.Valid.{IsValidPart}
-use Rattle.part_laws.proofs.Recovered.{agrees, losses_licensed, sees_one_run}
+use Rattle.part_laws.proofs.ReadAloud.{kept_agrees, kept_licensed, kept_shows_one_run}
 use Rattle.part_laws.proofs.RunBound.{run_bound}
 use Rattle.part_laws.proofs.StepsFit.{run_collecting, run_isolated}
 use Rattle.part_laws.proofs.ValidFits.{valid_fits}
@@ -15,9 +15,9 @@ use Rattle.part_laws.specs.Recovery.{IsKeptRun}
 
 kept_transparent : (spec : PartSpec) (journal : List Event) → IsKeptRun spec journal → IsTransparent spec journal
 kept_transparent spec journal kept = record {
-  class_run = sees_one_run spec journal kept;
-  licensed = losses_licensed spec journal kept;
-  agrees = λ device shown. agrees spec journal device kept shown;
+  class_run = kept_shows_one_run spec journal kept;
+  licensed = kept_licensed spec journal kept;
+  agrees = λ device shown. kept_agrees spec journal device kept shown;
 }
 
 pub run_safe : (spec : PartSpec) (journal : List Event) → IsValidPart spec → IsRun spec journal → IsSafe spec journal

@@ -7,14 +7,15 @@ use Rattle.nook_defs.specs.declared.data.Op.TheVariants.{Read, Write, Send, Recv
 use Rattle.nook_defs.specs.declared.data.Stage.{Stage}
 use Rattle.nook_defs.specs.declared.data.Stage.TheVariants as stage
 use Rattle.nook_defs.specs.Classes.{is_holder}
-use Rattle.nook_defs.specs.Contract.{Watch}
-use Rattle.nook_defs.specs.Ideal.{Ideal, answers_with, with_pending}
-use Rattle.nook_defs.specs.Licence.{allows, same_stage}
+use Rattle.part_laws.specs.Watch.{Watch}
+use Rattle.nook_defs.specs.Ideal.{Ideal}
+use Rattle.part_laws.specs.Allowed.{allows}
 use Rattle.nook_defs.specs.Log.{shadow_answer, is_kept, queue_after, frame_or_empty, play_dropped}
 use Rattle.nook_defs.specs.Trace.{Track, kept_blocks}
+use Rattle.nook_defs.specs.Licence.{same_stage}
 use Rattle.part_laws.specs.Facts.{Sub}
-use Rattle.part_laws.proofs.Acts.{when_true}
 use Rattle.part_laws.proofs.Balances.{TakesFrame}
+use Rattle.part_laws.proofs.Closing.{Comes, frame_comes}
 use Rattle.part_laws.proofs.Subs.{Taken, sub_front}
 
 -- Every answer of the shadow's table is one of the never-failing device, and is licensed.
@@ -33,7 +34,7 @@ same_stage_refl stage.Resume = refl
 pub record Says (m : Ideal) (thread : ℕ) (o : Op) (s : Stage) (queue tail : List (List ℕ)) (a : Answer) : Type 0 where
   pub kept : is_kept o ≡ false
   pub frames : List (List ℕ)
-  pub answers : answers_with m thread o a [] ≡ Some (record m { pending = frames })
+  pub comes : Comes m thread o a [] (record m { pending = frames })
   pub chain : Sub (queue_after o queue ++ tail) frames
   pub blocks : (t : Option Track) → kept_blocks a t ≡ []
   pub allowed : (q : List (List ℕ)) (w : Watch) (n : ℕ) → allows (Some s) q w n a ≡ true
@@ -47,19 +48,19 @@ ShadowSays m thread o s queue tail (Some a) = Says m thread o s queue tail a
 recv_says : (m : Ideal) (thread : ℕ) (s : Stage) (queue tail : List (List ℕ)) → Sub (queue ++ tail) m.pending
     → Says m thread Recv s queue tail (frame_or_empty queue)
 recv_says m thread s [] tail h = record
-    { kept = refl; frames = m.pending; answers = refl; chain = h; blocks = λ t. refl; allowed = λ q w n. refl; counted = omega arith }
+    { kept = refl; frames = m.pending; comes = record { may = refl; after = refl }; chain = h; blocks = λ t. refl; allowed = λ q w n. refl; counted = omega arith }
 recv_says m thread s (frame ∷ queue) tail h = taken (sub_front frame (queue ++ tail) m.pending h)
   where
     taken : Taken frame (queue ++ tail) m.pending → Says m thread Recv s (frame ∷ queue) tail (answered.Frame frame)
     taken t = record
-        { kept = refl; frames = t.rest; answers = ap (with_pending m) t.after; chain = t.chain; blocks = λ t. refl; allowed = λ q w n. refl; counted = omega arith }
+        { kept = refl; frames = t.rest; comes = frame_comes m thread frame [] t.rest t.after; chain = t.chain; blocks = λ t. refl; allowed = λ q w n. refl; counted = omega arith }
 
 play_says : (m : Ideal) (thread : ℕ) (samples : List ℕ) (s : Stage) (queue tail : List (List ℕ)) → Sub (queue ++ tail) m.pending
     → (h : Bool) → is_holder m.holder thread ≡ h → Says m thread (Play samples) s queue tail (play_dropped h)
 play_says m thread samples s queue tail c true e = record
-    { kept = refl; frames = m.pending; answers = when_true (is_holder m.holder thread) m e; chain = c; blocks = λ t. refl; allowed = λ q w n. refl; counted = omega arith }
+    { kept = refl; frames = m.pending; comes = record { may = e; after = refl }; chain = c; blocks = λ t. refl; allowed = λ q w n. refl; counted = omega arith }
 play_says m thread samples s queue tail c false e = record
-    { kept = refl; frames = m.pending; answers = when_true (not (is_holder m.holder thread)) m (ap not e); chain = c; blocks = λ t. refl; allowed = λ q w n. refl; counted = omega arith }
+    { kept = refl; frames = m.pending; comes = record { may = ap not e; after = refl }; chain = c; blocks = λ t. refl; allowed = λ q w n. refl; counted = omega arith }
 
 pub shadow_says : (m : Ideal) (thread : ℕ) (o : Op) (s : Stage) (queue tail : List (List ℕ)) → Sub (queue ++ tail) m.pending
     → ShadowSays m thread o s queue tail (shadow_answer o thread m.config m.holder s queue)
@@ -67,16 +68,16 @@ unfolding shadow_answer
 shadow_says m thread (Read first count) s queue tail h = (refl, refl)
 shadow_says m thread (Write first words) s queue tail h = (refl, refl)
 shadow_says m thread (Send frame) s queue tail h = record
-    { kept = refl; frames = m.pending; answers = refl; chain = h; blocks = λ t. refl; allowed = λ q w n. refl; counted = omega arith }
+    { kept = refl; frames = m.pending; comes = record { may = refl; after = refl }; chain = h; blocks = λ t. refl; allowed = λ q w n. refl; counted = omega arith }
 shadow_says m thread Recv s queue tail h = recv_says m thread s queue tail h
 shadow_says m thread Open s queue tail h = record
-    { kept = refl; frames = m.pending; answers = refl; chain = h; blocks = λ t. refl; allowed = λ q w n. same_stage_refl s; counted = omega arith }
+    { kept = refl; frames = m.pending; comes = record { may = refl; after = refl }; chain = h; blocks = λ t. refl; allowed = λ q w n. same_stage_refl s; counted = omega arith }
 shadow_says m thread (Play samples) s queue tail h = play_says m thread samples s queue tail h (is_holder m.holder thread) refl
 shadow_says m thread Close s queue tail h = (refl, refl)
 shadow_says m thread (Get key) s queue tail h = record {
   kept = refl;
   frames = m.pending;
-  answers = when_true (eqb (slice_index m.config key) (slice_index m.config key)) m (eq-eqb (slice_index m.config key) (slice_index m.config key) refl);
+  comes = record { may = eq-eqb (slice_index m.config key) (slice_index m.config key) refl; after = refl };
   chain = h;
   blocks = λ t. refl;
   allowed = λ q w n. refl;

@@ -11,14 +11,14 @@ use Rattle.nook_defs.specs.declared.data.Stage.{Stage}
 use Rattle.nook_defs.specs.declared.data.Stage.TheVariants as stage
 use Rattle.nook_defs.specs.declared.machine.Context.{Context}
 use Rattle.nook_defs.specs.Calls.{Turned}
-use Rattle.nook_defs.specs.Contract.{Watch, sees_stage}
+use Rattle.part_laws.specs.Watch.{Watch, sees_stage}
 use Rattle.nook_defs.specs.Devices.{reset_device, reset_kind, medium_of_kind, ring_of_kind}
 use Rattle.nook_defs.specs.Domain.{context_of, entered_domain, plainly_entered, stopped_domain, collected_domain, loaded_domain}
 use Rattle.nook_defs.specs.Ideal.{ran}
 use Rattle.nook_defs.specs.Stages.{is_given_up, stopped, given_up, collects, resets, loads_image, inits, replays_set, replays_open, resumes, stage_due, stage_turned}
 use Rattle.nook_defs.specs.State.{PartState}
 use Rattle.nook_defs.specs.Steps.{is_driven}
-use Rattle.nook_defs.specs.Losses.{Counts, count_stage}
+use Rattle.part_laws.specs.Counts.{Counts, count_stage}
 use Rattle.part_laws.specs.Balance.{tally, held_at, Balance, Balanced}
 use Rattle.part_laws.specs.ActsOn.{Dev, dev_of, is_link}
 use Rattle.part_laws.specs.Recovery.{Gone, StepKeeps}

@@ -6,24 +6,24 @@ use Rattle.nook_defs.specs.declared.data.Op.{Op}
 use Rattle.nook_defs.specs.declared.data.Op.TheVariants.{Read, Write, Send, Recv, Open, Play, Close, Get, Set}
 use Rattle.nook_defs.specs.declared.data.Stage.TheVariants as stage
 use Rattle.nook_defs.specs.Classes.{is_write, static_check}
-use Rattle.nook_defs.specs.Contract.{Watch, leaves}
+use Rattle.part_laws.specs.Watch.{Watch, leaves}
 use Rattle.nook_defs.specs.Domain.{stopped_domain}
-use Rattle.nook_defs.specs.Ideal.{Ideal, Opened, answers_with, ran, closes, stops_waiting}
-use Rattle.nook_defs.specs.Licence.{allows, allows_each}
+use Rattle.nook_defs.specs.Ideal.{Ideal, Opened, ran, closes, stops_waiting}
+use Rattle.part_laws.specs.Allowed.{allows, allows_each}
 use Rattle.nook_defs.specs.Log.{shadow_answer, is_kept, queue_after, with_answer, stop_answers, stop_calls, stop_queue}
 use Rattle.nook_defs.specs.Places.{at_number, change_number}
 use Rattle.nook_defs.specs.Stages.{stopped}
 use Rattle.nook_defs.specs.State.{PartState}
 use Rattle.nook_defs.specs.Steps.{is_driven}
 use Rattle.nook_defs.specs.Trace.{Visible, Track, answer, kept_blocks, shown_answers}
-use Rattle.nook_defs.specs.Losses.{Counts, count_answer, count_answers}
+use Rattle.part_laws.specs.Counts.{Counts, count_answer, count_answers}
 use Rattle.part_laws.specs.Balance.{tally, held_at, Balance}
 use Rattle.part_laws.specs.Recovery.{StepKeeps}
 use Rattle.part_laws.specs.Facts.{At, CallsFacts, DiskFacts, Sub, is_once, Facts}
 use Rattle.part_laws.specs.Moves.{stop_core, with_core}
 use Rattle.part_laws.specs.Views.{Past, Core, Call, core_of, cores, entry_of, keep_waiting, open_from, stage_of, replay_of, view_of, as_watched, as_opened, as_track, watch_of, ideal_of, tracks_of}
 use Rattle.part_laws.proofs.Balances.{answered_balance}
-use Rattle.part_laws.proofs.Closing.{answer_shown}
+use Rattle.part_laws.proofs.Closing.{Comes, answer_shown}
 use Rattle.part_laws.proofs.Keeping.{Less, AllLess, calls_less, SameWrite, SameWrites, disk_same}
 use Rattle.part_laws.proofs.OpenCalls.{open_stop}
 use Rattle.part_laws.proofs.Places.{get_map, from_map, get_mid, set_mid, map_swap, map_join, length_map, change_at}
@@ -161,11 +161,10 @@ one_stop m front n c o os os' es queue tail frames ts e et eo w ch (Some x) a s 
       ∙ ap (λ k. ran (with_opened m (front ++ (o ∷ os)) frames) (answer k x (kept_blocks x (at_number n ts)) ∷ (rest ++ more))) e
       ∙ answer_shown (with_opened m (front ++ (o ∷ os)) frames) (record (closes n (with_opened m (front ++ (o ∷ os)) frames)) { pending = s.frames })
       (length front) o x (kept_blocks x (at_number n ts)) (rest ++ more) (get_mid front os o) w ch
-      (ap (λ k. answers_with (closes k (with_opened m (front ++ (o ∷ os)) frames)) o.thread o.op x (kept_blocks x (at_number n ts))) (sym e)
-      ∙ ap (λ l. answers_with (closes n (with_opened m (front ++ (o ∷ os)) frames)) o.thread o.op x l) (s.blocks (at_number n ts))
-      ∙ ap (λ t. answers_with (closes n (with_opened m (front ++ (o ∷ os)) frames)) t o.op x []) et
-      ∙ ap (λ p. answers_with (closes n (with_opened m (front ++ (o ∷ os)) frames)) c.thread p x []) eo
-      ∙ s.answers)
+      (subst (λ k. Comes (closes k (with_opened m (front ++ (o ∷ os)) frames)) o.thread o.op x (kept_blocks x (at_number n ts)) left) e
+      (subst (λ l. Comes (closes n (with_opened m (front ++ (o ∷ os)) frames)) o.thread o.op x l left) (sym (s.blocks (at_number n ts)))
+      (subst (λ t. Comes (closes n (with_opened m (front ++ (o ∷ os)) frames)) t o.op x [] left) (sym et)
+      (subst (λ p. Comes (closes n (with_opened m (front ++ (o ∷ os)) frames)) c.thread p x [] left) (sym eo) s.comes))))
       ∙ ap (λ l. ran (with_opened m l s.frames) (rest ++ more))
       (ap (λ k. change_number stops_waiting k (front ++ (o ∷ os))) e
       ∙ change_at stops_waiting (length front) (front ++ (o ∷ os)) o (get_mid front os o) ∙ set_mid front os o (stops_waiting o)
@@ -178,6 +177,9 @@ one_stop m front n c o os os' es queue tail frames ts e et eo w ch (Some x) a s 
       (next.counted ring held (count_answer n x t) (answered_balance ring held n queue (queue_after c.op queue) x t s.counted y));
 }
   where
+    left : Ideal
+    left = record (closes n (with_opened m (front ++ (o ∷ os)) frames)) { pending = s.frames }
+
     rest : List Visible
     rest = shown_answers (stop_answers es m.config m.holder (queue_after c.op queue)) ts
 

@@ -1,8 +1,8 @@
 use Rattle.std.proofs.Common.{◌≡◌, ℕ, true, false, Some, List, [], ◌∷◌, ◌++◌, sym, refl, ap, subst, ◌∙◌, inl, inr, bytes_eq, drop}
 use Rattle.std.proofs.lemmas.Bool.{cond-true, cond-false, and_parts}
 use Rattle.std.proofs.lemmas.Slice.Eq.{bytes_eq-Decides}
-use Rattle.nook_defs.specs.Contract.{is_prefix}
 use Rattle.nook_defs.specs.Ideal.{after_frame}
+use Rattle.nook_defs.specs.Contract.{is_front}
 use Rattle.part_laws.specs.Facts.{Sub}
 use Rattle.part_laws.proofs.Places.{split}
 
@@ -98,9 +98,9 @@ sub_front f xs (y ∷ ys) h = split (bytes_eq y f)
     later e (inr (more, d, i)) go = absurd cc (e, bytes_same y f (sym (ap (head_or f) d)))
 
 -- the frame that goes up is the first that was popped and not handed up
-pub prefix_next : (handed rest : List (List ℕ)) (f : List ℕ) → is_prefix (handed ++ f ∷ []) (handed ++ rest) ≡ true
+pub prefix_next : (handed rest : List (List ℕ)) (f : List ℕ) → is_front (handed ++ f ∷ []) (handed ++ rest) ≡ true
     → (more : List (List ℕ)) × (rest ≡ f ∷ more)
 prefix_next [] [] f h = absurd cc
 prefix_next [] (x ∷ rest) f h = (rest, ap (λ y. y ∷ rest) (sym (same_bytes f x (and_parts (bytes_eq f x) true h).0)))
 prefix_next (y ∷ handed) rest f h =
-    prefix_next handed rest f (and_parts (bytes_eq y y) (is_prefix (handed ++ f ∷ []) (handed ++ rest)) h).1
+    prefix_next handed rest f (and_parts (bytes_eq y y) (is_front (handed ++ f ∷ []) (handed ++ rest)) h).1

@@ -6,8 +6,9 @@ use Rattle.nook_defs.specs.declared.data.Op.{Op}
 use Rattle.nook_defs.specs.declared.data.Op.TheVariants.{Read, Write, Send, Recv, Open, Play, Close, Get, Set}
 use Rattle.nook_defs.specs.Blocks.{words_for}
 use Rattle.nook_defs.specs.Classes.{covers, is_write}
-use Rattle.nook_defs.specs.Contract.{Watch, Watched, wanted, stores_at, is_covered, is_agreed, sets, is_setting, sees_act, sees_acts}
+use Rattle.part_laws.specs.Watch.{Watch, Watched, wanted, stores_at, is_covered, is_agreed, is_setting, sees_act, sees_acts}
 use Rattle.nook_defs.specs.Places.{at_number, number_where, past_one}
+use Rattle.nook_defs.specs.Contract.{sets}
 use Rattle.part_laws.specs.Facts.{At}
 use Rattle.part_laws.proofs.Places.{split, some_same}
 use Rattle.part_laws.proofs.Subs.{same_bytes}

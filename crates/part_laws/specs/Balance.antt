@@ -1,7 +1,7 @@
 use Rattle.std.specs.Prelude.{◌≡◌, ℕ, ◌+◌, Option, Some, List, length}
 use Rattle.nook_defs.specs.declared.data.Stage.{Stage}
 use Rattle.nook_defs.specs.declared.data.Stage.TheVariants as stage
-use Rattle.nook_defs.specs.Losses.{Counts}
+use Rattle.part_laws.specs.Counts.{Counts}
 use Rattle.part_laws.specs.Views.{View, Past, stage_of}
 
 -- Where the frames that arrived are: each was lost, or is in the ring, or was popped or cleared; and each of these is in

@@ -1,4 +1,8 @@
 pub mod BurstLaws
+pub mod Watch
+pub mod Counts
+pub mod Allowed
+pub mod Orderly
 pub mod ActsOn
 pub mod Fit
 pub mod Collection

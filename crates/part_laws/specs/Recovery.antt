@@ -6,11 +6,12 @@ use Rattle.nook_defs.specs.declared.data.Mode.TheVariants as mode
 use Rattle.nook_defs.specs.declared.data.PartSpec.{PartSpec}
 use Rattle.nook_defs.specs.Calls.{Turned}
 use Rattle.nook_defs.specs.Classes.{is_set, is_write}
-use Rattle.nook_defs.specs.Contract.{first_break, first_watch, sees}
+use Rattle.nook_defs.specs.Contract.{first_break}
+use Rattle.part_laws.specs.Watch.{first_watch, sees}
 use Rattle.nook_defs.specs.Devices.{medium_of}
 use Rattle.nook_defs.specs.Ideal.{Ideal, never_failing, ran}
-use Rattle.nook_defs.specs.Licence.{licenses}
-use Rattle.nook_defs.specs.Losses.{Counts, count_event}
+use Rattle.part_laws.specs.Allowed.{licenses}
+use Rattle.part_laws.specs.Counts.{Counts, count_event}
 use Rattle.nook_defs.specs.Runs.{IsRun, state_of}
 use Rattle.nook_defs.specs.State.{PartState}
 use Rattle.nook_defs.specs.Steps.{is_driven}

@@ -6,7 +6,7 @@ use Rattle.nook_defs.specs.declared.data.Mode.TheVariants as mode
 use Rattle.nook_defs.specs.declared.data.Op.{Op}
 use Rattle.nook_defs.specs.declared.data.Stage.{Stage}
 use Rattle.nook_defs.specs.declared.data.Stage.TheVariants as stage
-use Rattle.nook_defs.specs.Contract.{Watch, Watched}
+use Rattle.part_laws.specs.Watch.{Watch, Watched}
 use Rattle.nook_defs.specs.Ideal.{Ideal, Opened}
 use Rattle.nook_defs.specs.State.{PartState}
 use Rattle.nook_defs.specs.Steps.{is_driven}

@@ -1,7 +1,7 @@
 //! The recovery theorem: of a part whose driver kept its class's contract and which was not given up, the applications
 //! see one run of a device that never fails, wherever the driver's failures fall.
 
-ghost use Rattle.nook_defs.specs.Contract.{sees};
+ghost use Rattle.part_laws.specs.Watch.{sees};
 ghost use Rattle.nook_defs.specs.Ideal.{Ideal, IsClassRun};
 ghost use Rattle.nook_defs.specs.Licence.{IsLicensed};
 ghost use Rattle.nook_defs.specs.Runs.{state_of};

@@ -19,6 +19,7 @@ use Rattle.nook_defs.specs.Runs.{PartRun, IsRun, answer_at, answered_from, event
 use Rattle.nook_defs.specs.State.{PartState}
 use Rattle.nook_defs.specs.Steps.{can_invoke, enabled}
 use Rattle.nook_defs.specs.Valid.{IsValidPart}
+use Rattle.nook_defs.proofs.NextSteps.{next_for_case}
 use Rattle.desk_like.specs.Desks.{IsAt, Answers, IsInvoke, IsArrive, IsOther, HasOpen, HasNoneOpen}
 use Rattle.device_laws.proofs.DeviceStays.{spec_after}
 use Rattle.part_core.proofs.Kept.{kept_after}
@@ -112,8 +113,7 @@ if_own p s x others own more h = split (enabled p s)
     (λ e. more (rw e at h))
 
 pub for_own : (p : PartState) (t : ℕ) (x : Step) → next_for p t ≡ Some x → IsOwn x
-unfolding next_for
-for_own p t x h = if_own p (step.Enter t) x (if_enabled p (step.Burst t) None) tt (λ i. if_own p (step.Burst t) x None tt (λ j. no_some j) i) h
+for_own p t x h = next_for_case IsOwn p t x (λ e. tt) (λ e. tt) h
 
 recovery_own : (p : PartState) (x : Step) → next_recovery p ≡ Some x → IsOwn x
 unfolding next_recovery
@@ -132,15 +132,8 @@ unfolding next_any
 any_own p x h = either_own (next_recovery p) (next_of_calls p p.log.pending) x (recovery_own p x) (calls_own p p.log.pending x) h
 
 -- a thread's next step may be taken
-for_enabled_by : (p : PartState) (s x : Step) (others : Option Step) → (others ≡ Some x → enabled p x ≡ true) → if_enabled p s others ≡ Some x → enabled p x ≡ true
-for_enabled_by p s x others more h = split (enabled p s)
-    (λ e. subst (λ (z : Step). enabled p z ≡ true) (inner (rw e at h)) e)
-    (λ e. more (rw e at h))
-
 pub for_enabled : (p : PartState) (t : ℕ) (x : Step) → next_for p t ≡ Some x → enabled p x ≡ true
-unfolding next_for
-for_enabled p t x h = for_enabled_by p (step.Enter t) x (if_enabled p (step.Burst t) None)
-    (λ i. for_enabled_by p (step.Burst t) x None (λ j. no_some j) i) h
+for_enabled p t x h = next_for_case (λ (z : Step). enabled p z ≡ true) p t x (λ e. e) (λ e. e) h
 
 -- ---- refusals
 

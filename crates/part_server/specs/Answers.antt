@@ -4,7 +4,7 @@ use Rattle.nook_defs.specs.declared.data.Answer.{Answer}
 use Rattle.nook_defs.specs.declared.data.Event.{Event}
 use Rattle.nook_defs.specs.declared.data.Event.TheVariants as event
 use Rattle.nook_defs.specs.declared.data.Op.{Op}
-use Rattle.nook_defs.specs.Room.{answer_words}
+use Rattle.nook_defs.specs.Views.Room.{answer_words}
 use Rattle.nook_defs.specs.Runs.{answer_at}
 use Rattle.desk_like.specs.Desks.{IsInvoke}
 

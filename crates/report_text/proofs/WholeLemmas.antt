@@ -18,7 +18,7 @@ use Rattle.nook_defs.specs.Losses.{losses}
 use Rattle.nook_defs.specs.Pages.{object_words}
 use Rattle.nook_defs.specs.ReportLines.{event_lines, line_feed, spaced, with_list, with_number}
 use Rattle.nook_defs.specs.ReportText.{acts_of, acts_of_event, block_lines, config_line, contract_line, device_lines, failures_line, final_lines, has_break, has_given_up, losses_lines, object_line, object_lines, part_line, part_text, parts_text, played_lines, report_text, status_line, status_of, taps_text, thread_line, threads_text, wire_lines}
-use Rattle.nook_defs.specs.Room.{Kept}
+use Rattle.nook_defs.specs.Views.Room.{Kept}
 use Rattle.nook_defs.specs.Runs.{state_of}
 use Rattle.nook_defs.specs.Stages.{is_given_up}
 use Rattle.nook_defs.specs.State.{PartState}

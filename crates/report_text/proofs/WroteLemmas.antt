@@ -4,7 +4,7 @@ use Rattle.std.proofs.lemmas.List.{drop_all}
 use Rattle.std.proofs.Math.Seq.{drop-cons}
 use Rattle.std.proofs.Math.Nat.{le_refl, le_trans}
 use Rattle.std.specs.Io.KnownBytes.{Appends}
-use Rattle.nook_defs.specs.Causes.{AppendsPrefix, Rose}
+use Rattle.nook_defs.specs.Views.Causes.{AppendsPrefix, Rose}
 use Rattle.nook_defs.specs.declared.data.Answer.{Answer}
 use Rattle.nook_defs.specs.declared.data.Event.{Event}
 use Rattle.nook_defs.specs.ReportLines.{answer_text, event_line, event_lines, line_feed, with_number}

@@ -14,7 +14,7 @@ use Rattle.nook_defs.specs.Losses.{losses}
 use Rattle.nook_defs.specs.Pages.{object_words}
 use Rattle.nook_defs.specs.ReportLines.{event_lines, line_feed, spaced, with_list, with_number}
 use Rattle.nook_defs.specs.ReportText.{acts_of_event, block_lines, config_line, contract_line, failures_line, losses_lines, object_line, part_line, played_lines, status_line, status_of, taps_text, threads_text, wire_lines}
-use Rattle.nook_defs.specs.Room.{Kept}
+use Rattle.nook_defs.specs.Views.Room.{Kept}
 use Rattle.nook_defs.specs.Runs.{state_of}
 use Rattle.nook_defs.specs.State.{PartState}
 use Rattle.report_text.specs.declared.whole_report.PartEnd.{PartEnd}

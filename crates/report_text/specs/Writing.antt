@@ -1,7 +1,7 @@
 -- What the writing of a text leaves in a sink.
 use Rattle.std.specs.Prelude.{◌≡◌, ℕ, suc, ◌<◌, ◌≤◌, List, [], ◌∷◌, ◌++◌, Option, Result, OnOk, OnErr, IsErrOf, IsOk, length}
 use Rattle.std.specs.Io.KnownBytes.{Appends}
-use Rattle.nook_defs.specs.Causes.{AppendsPrefix, Rose}
+use Rattle.nook_defs.specs.Views.Causes.{AppendsPrefix, Rose}
 use Rattle.report_text.specs.declared.write.WriteStop.{WriteStop}
 use Rattle.report_text.specs.declared.write.WriteStop.TheVariants.{Fault}
 

@@ -9,7 +9,7 @@ use Rattle.nook_defs.specs.Runs.{if_enabled, next_for, next_recovery}
 use Rattle.nook_defs.specs.Simulation.{Choice, PartSeat, Simulation, ThreadState, Waiting, arrival, going_on, invocation, with_choice, with_invocation, with_thread, thread_choices, part_choices, choices_of}
 use Rattle.nook_defs.specs.State.{PartState}
 use Rattle.nook_defs.specs.Steps.{enabled}
-use Rattle.part_laws.proofs.BurstKeeps.{split}
+use Rattle.nook_defs.proofs.NextSteps.{if_enabled_case, next_for_case}
 
 -- the thread waits nowhere, and the operation is its next
 pub record IsNext (threads : List ThreadState) (thread part : ℕ) (o : Op) : Type 0 where
@@ -35,33 +35,23 @@ no_some h = cc
 inner : {X : Type 0} {x y : X} → Some x ≡ Some y → x ≡ y
 inner h = cc
 
--- a step that is told is the first or one of the others
-if_case : (P : Step → Type 0) (p : PartState) (s s' : Step) (others : Option Step) → (enabled p s ≡ true → P s) → (others ≡ Some s' → P s')
-    → if_enabled p s others ≡ Some s' → P s'
-if_case P p s s' others here more h = split (enabled p s)
-    (λ e. subst P (inner (rw e at h)) (here e))
-    (λ e. more (rw e at h))
-
 abbrev IsFine : List ThreadState → ℕ → PartState → Step → Type 0
 IsFine threads part p s = (enabled p s ≡ true) × IsOwn threads part s
 
 fine_for : (threads : List ThreadState) (part : ℕ) (p : PartState) (thread : ℕ) (s : Step) → next_for p thread ≡ Some s → IsFine threads part p s
-unfolding next_for
-fine_for threads part p thread s h =
-    if_case (IsFine threads part p) p (step.Enter thread) s (if_enabled p (step.Burst thread) None) (λ e. (e, tt))
-    (if_case (IsFine threads part p) p (step.Burst thread) s None (λ e. (e, tt)) no_some) h
+fine_for threads part p thread s h = next_for_case (IsFine threads part p) p thread s (λ e. (e, tt)) (λ e. (e, tt)) h
 
 fine_recovery : (threads : List ThreadState) (part : ℕ) (p : PartState) (s : Step) → next_recovery p ≡ Some s → IsFine threads part p s
 unfolding next_recovery
 fine_recovery threads part p s h =
-    if_case (IsFine threads part p) p step.Stage s (if_enabled p (step.Burst 16) None) (λ e. (e, tt))
-    (if_case (IsFine threads part p) p (step.Burst 16) s None (λ e. (e, tt)) no_some) h
+    if_enabled_case (IsFine threads part p) p step.Stage s (if_enabled p (step.Burst 16) None) (λ e. (e, tt))
+    (if_enabled_case (IsFine threads part p) p (step.Burst 16) s None (λ e. (e, tt)) no_some) h
 
 fine_arrival : (threads : List ThreadState) (part : ℕ) (seat : PartSeat) (coming : List (List ℕ)) (s : Step) → arrival seat.run coming ≡ Some s
     → IsFine threads part seat.run.state s
 fine_arrival threads part seat [] s h = no_some h
 fine_arrival threads part seat (frame ∷ coming) s h =
-    if_case (IsFine threads part seat.run.state) seat.run.state (step.Arrive frame) s None (λ e. (e, tt)) no_some h
+    if_enabled_case (IsFine threads part seat.run.state) seat.run.state (step.Arrive frame) s None (λ e. (e, tt)) no_some h
 
 module _ (parts : List PartSeat) (whole : List ThreadState) where
   abbrev Good : Choice → Type 0
@@ -85,7 +75,7 @@ module _ (parts : List PartSeat) (whole : List ThreadState) where
   good_invoking thread part o None choices at next more = more
   good_invoking thread part o (Some seat) choices at next more =
       good_with thread part seat (if_enabled seat.run.state (step.Invoke thread o) None) choices at
-      (λ s. if_case (IsFine whole part seat.run.state) seat.run.state (step.Invoke thread o) s None (λ e. (e, next)) no_some) more
+      (λ s. if_enabled_case (IsFine whole part seat.run.state) seat.run.state (step.Invoke thread o) s None (λ e. (e, next)) no_some) more
 
   good_thread : (thread : ℕ) (t : ThreadState) (w : Option Waiting) (rest : List (ℕ × Op)) (choices : List Choice) → slice_get whole thread ≡ Some t
       → t.waiting ≡ w → t.rest ≡ rest → AllByRecursion Good choices → AllByRecursion Good (with_thread thread parts t w choices)

@@ -10,6 +10,7 @@ use Rattle.nook_defs.specs.Runs.{if_enabled, next_for, next_recovery}
 use Rattle.nook_defs.specs.Simulation.{actor_of, Choice, PartSeat, Simulation, ThreadState, Waiting, arrival, going_on, invocation, with_choice, with_invocation, with_thread, thread_choices, part_choices, choices_of}
 use Rattle.nook_defs.specs.State.{PartState}
 use Rattle.nook_defs.specs.Steps.{enabled}
+use Rattle.nook_defs.proofs.NextSteps.{next_for_case}
 use Rattle.part_laws.proofs.BurstKeeps.{split}
 use Rattle.sim_run.specs.Actors.{choice_by, invocation_of, choice_when, choice_of_thread, step_of_seat, choice_of_seat, choice_at, named_if, actors_of_seat, actors_of_seats, actor_of_thread, actors_of_threads}
 use Rattle.sim_run.specs.Reached.{MayTake, IsOpenChoice}
@@ -176,11 +177,9 @@ may_invoke thread o None s h = cc
 may_invoke thread o (Some seat) s h = if_ok seat.run.state (step.Invoke thread o) s None (none_ok seat.run.state s) h
 
 may_go_on : (thread : ℕ) (q : Option PartSeat) (s : Step) → going_on thread q ≡ Some s → MayTake q s
-unfolding next_for
 may_go_on thread None s h = cc
 may_go_on thread (Some seat) s h =
-    if_ok seat.run.state (step.Enter thread) s (if_enabled seat.run.state (step.Burst thread) None)
-    (if_ok seat.run.state (step.Burst thread) s None (none_ok seat.run.state s)) h
+    next_for_case (λ x. enabled seat.run.state x ≡ true) seat.run.state thread s (λ e. e) (λ e. e) h
 
 may_recover : (p : PartState) (s : Step) → next_recovery p ≡ Some s → enabled p s ≡ true
 unfolding next_recovery

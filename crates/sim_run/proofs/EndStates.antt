@@ -5,7 +5,7 @@ use Rattle.nook_defs.specs.declared.data.PartSpec.{PartSpec}
 use Rattle.nook_defs.specs.declared.data.Scenario.{Scenario}
 use Rattle.nook_defs.specs.declared.memory.NoMemory.{NoMemory}
 use Rattle.nook_defs.specs.Devices.{medium_of}
-use Rattle.nook_defs.specs.Room.{Kept}
+use Rattle.nook_defs.specs.Views.Room.{Kept}
 use Rattle.nook_defs.specs.Runs.{state_of}
 use Rattle.nook_defs.specs.Simulation.{IsScheduledRun, PartSeat, Simulation, journal_of, journals_of}
 use Rattle.nook_defs.specs.State.{PartState}

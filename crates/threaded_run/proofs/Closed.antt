@@ -9,7 +9,7 @@ use Rattle.desk_like.specs.Desks.{DeskView, IsAlone, IsAt, IsOther, Waits}
 use Rattle.nook_defs.specs.declared.data.Event.{Event}
 use Rattle.nook_defs.specs.declared.data.PartSpec.{PartSpec}
 use Rattle.nook_defs.specs.Places.{at_number}
-use Rattle.nook_defs.specs.Room.{Kept}
+use Rattle.nook_defs.specs.Views.Room.{Kept}
 use Rattle.nook_defs.specs.Runs.{IsRun, PartRun, next_any, state_of}
 use Rattle.nook_defs.specs.State.{PartState}
 use Rattle.part_laws.proofs.Places.{some_same}

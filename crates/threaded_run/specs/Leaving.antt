@@ -6,7 +6,7 @@ use Rattle.nook_defs.specs.declared.data.Event.{Event}
 use Rattle.nook_defs.specs.declared.data.PartSpec.{PartSpec}
 use Rattle.nook_defs.specs.declared.data.Receipt.{Receipt}
 use Rattle.nook_defs.specs.declared.data.ThreadSpec.{ThreadSpec}
-use Rattle.nook_defs.specs.Room.{Kept}
+use Rattle.nook_defs.specs.Views.Room.{Kept}
 use Rattle.nook_defs.specs.Runs.{IsRun, PartRun, next_any, state_of}
 use Rattle.report_text.specs.declared.whole_report.PartEnd.{PartEnd}
 use Rattle.report_text.specs.Whole.{ShowsState}

@@ -9,12 +9,13 @@ use Rattle.nook_defs.specs.declared.machine.BurstEnd.{BurstEnd}
 use Rattle.nook_defs.specs.declared.machine.BurstEnd.TheVariants as ends
 use Rattle.nook_defs.specs.declared.machine.Instr.{Instr}
 use Rattle.nook_defs.specs.declared.machine.Instr.TheVariants as instr
-use Rattle.nook_defs.specs.Burst.{Burst, Struck, acts_of, burst, burst_from, count_at, ended, past_acts, past_crossing, past_stop, past_trap, past_turn, strikes_at, struck_machine, trap_of}
+use Rattle.nook_defs.specs.Burst.{Burst, Struck, acts_of, burst, burst_from, count_at, ended, past_trap, strikes_at, struck_machine, trap_of}
 use Rattle.nook_defs.specs.Devices.{Given, Taken, input_of, output_of}
 use Rattle.nook_defs.specs.Machine.{decode_of}
 use Rattle.nook_defs.specs.Pages.{fetch_word, may_write, read_word}
+use Rattle.nook_defs.proofs.BurstTurns.{turn_cases}
 use Rattle.nook_defs.specs.Turn.{Machine, Turn, executed, past_decode, past_fetch, past_input, past_output, past_read, r, stores, turn}
-use Rattle.turn_trace.specs.Bursts.{TracedBurst, TracedStep, behind, behind_acts, behind_crossing, behind_stop, behind_turn, burst_trace, finished, strike, struck_at, taken, trace_from, up_to_trap}
+use Rattle.turn_trace.specs.Bursts.{TracedBurst, TracedStep, behind, behind_crossing, behind_stop, behind_turn, burst_trace, finished, strike, struck_at, taken, trace_from, up_to_trap}
 use Rattle.turn_trace.specs.Retelling.{AreNumbered, Retells, acts_of_turn, counted, strikes_of, turns_of}
 use Rattle.turn_trace.specs.Turns.{traced}
 use Rattle.turn_trace.specs.declared.traced.TracedTurn.{TracedTurn}
@@ -165,44 +166,17 @@ struck_and_rest place entries (f ∷ faults) m =
     (struck_and_rest place entries faults (struck_machine entries f.kind m)))))
     (λ e. rw (e, strikes_at, struck_at) refl)
 
--- ---- each step of the two definitions
-
-acts_told : (go : Machine → ℕ → TracedBurst) (go' : Machine → List Act → Burst) (number : ℕ) (rest : List Fault) (m : Machine)
-    (acts : List Act) (n : ℕ) (full : Bool)
-    → number ≤ 4096 → Told number rest acts (go m n) (go' m acts)
-    → Told number rest acts (behind_acts go rest m n full) (past_acts go' number m acts full)
-acts_told go go' number rest m acts n true h more = ends_told number rest m acts ends.Pause number h (counts_turns number ends.Pause tt)
-acts_told go go' number rest m acts n false h more = more
-
-crossing_told : (go : Machine → ℕ → TracedBurst) (go' : Machine → List Act → Burst) (number : ℕ) (rest : List Fault) (m : Machine)
-    (acts : List Act) (n : ℕ) (crossing : Option BurstEnd)
-    → number ≤ 4096 → n ≡ length acts → IsOwn crossing → Told number rest acts (go m n) (go' m acts)
-    → Told number rest acts (behind_crossing go rest m n crossing) (past_crossing go' number m acts crossing)
-crossing_told go go' number rest m acts n None h e own more =
-    rw (← e) (acts_told go go' number rest m acts n (nat_le 64 n) h more)
-crossing_told go go' number rest m acts n (Some ending) h e own more =
-    ends_told number rest m acts ending number h (counts_turns number ending own)
-
-behind_turn_told : (go : Machine → ℕ → TracedBurst) (go' : Machine → List Act → Burst) (place number : ℕ) (rest : List Fault) (m : Machine)
-    (acts : List Act) (n : ℕ) (t : Turn)
-    → number ≡ place + 1 → number ≤ 4096 → n ≡ length acts → IsOwn t.crossing
-    → Told number rest (acts ++ acts_of t.act) (go t.machine (n + length (acts_of t.act))) (go' t.machine (acts ++ acts_of t.act))
-    → Told place rest acts (behind_turn go rest number m n t) (past_turn go' number acts t)
-behind_turn_told go go' place number rest m acts n t e h k own more =
-    let all : n + length (acts_of t.act) ≡ length (acts ++ acts_of t.act) = rw (length-append acts (acts_of t.act), k) refl in
+-- a turn that is the last
+last_turn_told : (go : Machine → ℕ → TracedBurst) (place number : ℕ) (rest : List Fault) (m : Machine) (acts : List Act) (n : ℕ)
+    (t : Turn) (ending : BurstEnd)
+    → number ≡ place + 1 → number ≤ 4096 → IsOwn (Some ending)
+    → behind_crossing go rest t.machine (n + length (acts_of t.act)) t.crossing ≡ finished rest t.machine ending
+    → Told place rest acts (behind_turn go rest number m n t) (ended number t.machine (acts ++ acts_of t.act) ending)
+last_turn_told go place number rest m acts n t ending next h own last =
     turn_told place number rest acts (acts_of t.act) (traced number m t)
     (behind_crossing go rest t.machine (n + length (acts_of t.act)) t.crossing)
-    (past_crossing go' number t.machine (acts ++ acts_of t.act) t.crossing)
-    e refl refl
-    (crossing_told go go' number rest t.machine (acts ++ acts_of t.act) (n + length (acts_of t.act)) t.crossing h all own more)
-
-stop_told : (go : List Fault → Machine → TracedBurst) (go' : List Fault → Machine → Burst) (place : ℕ) (acts : List Act) (m : Machine)
-    (rest : List Fault) (stopped : Option TrapCause)
-    → place ≤ 4096 → Told place rest acts (go rest m) (go' rest m)
-    → Told place rest acts (behind_stop go m rest stopped) (past_stop go' place acts m rest stopped)
-stop_told go go' place acts m rest None h more = more
-stop_told go go' place acts m rest (Some cause) h more =
-    ends_told place rest m acts (ends.Trap cause) (count_at place cause) h (counts_stop place cause)
+    (ended number t.machine (acts ++ acts_of t.act) ending) next refl refl
+    (rw last (ends_told number rest t.machine (acts ++ acts_of t.act) ending number h (counts_turns number ending own)))
 
 -- ---- the whole
 
@@ -218,14 +192,24 @@ from_told (suc left) entries faults m acts n h e =
     let s : Struck = strikes_at place entries faults m in
     let t : Turn = turn entries s.machine in
     let all : n + length (acts_of t.act) ≡ length (acts ++ acts_of t.act) = rw (length-append acts (acts_of t.act), e) refl in
+    let traced_on = λ (m' : Machine) (n' : ℕ). trace_from left entries s.rest m' n' in
+    let told : TracedBurst = behind_stop
+    (λ rest struck. behind_turn (λ m' n'. trace_from left entries rest m' n') rest number struck n (turn entries struck))
+    s.machine s.rest s.stopped in
     strikes_told place (struck_at place faults) s.rest faults acts _ _ (struck_and_rest place entries faults m)
-    (stop_told
-    (λ rest struck. behind_turn (λ m' acts'. trace_from left entries rest m' acts') rest number struck n (turn entries struck))
-    (λ rest struck. past_turn (λ m' acts'. burst_from left entries rest m' acts') number acts (turn entries struck))
-    place acts s.machine s.rest s.stopped (omega arith)
-    (behind_turn_told (λ m' acts'. trace_from left entries s.rest m' acts') (λ m' acts'. burst_from left entries s.rest m' acts')
-    place number s.rest s.machine acts n t next (omega arith) e (turn_own entries s.machine)
-    (from_told left entries s.rest t.machine (acts ++ acts_of t.act) (n + length (acts_of t.act)) (omega arith) all)))
+    (turn_cases (Told place s.rest acts told) left entries faults m acts s t refl refl
+    (λ cause stopped. rw stopped
+    (ends_told place s.rest s.machine acts (ends.Trap cause) (count_at place cause) (omega arith) (counts_stop place cause)))
+    (λ ending none crossing. rw none
+    (last_turn_told traced_on place number s.rest s.machine acts n t ending next (omega arith)
+    (rw crossing at (turn_own entries s.machine)) (rw crossing refl)))
+    (λ none no_crossing many. rw none
+    (last_turn_told traced_on place number s.rest s.machine acts n t ends.Pause next (omega arith) tt (rw (no_crossing, all, many) refl)))
+    (λ none no_crossing few. rw none
+    (turn_told place number s.rest acts (acts_of t.act) (traced number s.machine t)
+    (behind_crossing traced_on s.rest t.machine (n + length (acts_of t.act)) t.crossing) _ next refl refl
+    (rw (no_crossing, all, few)
+    (from_told left entries s.rest t.machine (acts ++ acts_of t.act) (length (acts ++ acts_of t.act)) (omega arith) refl)))))
 
 pub retold : (entries : List Entry) (faults : List Fault) (m : Machine) → Retells faults (burst_trace entries faults m) (burst entries faults m)
 unfolding burst_trace burst

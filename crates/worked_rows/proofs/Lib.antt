@@ -4,3 +4,5 @@ pub mod LinkCases
 pub mod StreamCases
 pub mod ClassLaws
 pub mod BurstBounds
+pub mod OtherClasses
+pub mod ClauseCases

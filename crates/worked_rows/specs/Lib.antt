@@ -12,3 +12,5 @@ pub mod StreamCases
 pub mod EntryNames
 pub mod MachineLaws
 pub mod Verdicts
+pub mod OtherClasses
+pub mod Clauses

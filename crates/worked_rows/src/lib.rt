@@ -2,6 +2,7 @@
 #![tactic(auto)]
 
 pub mod assembling;
+pub mod clauses;
 pub mod inputs;
 pub mod machine;
 pub mod recovered;

@@ -1,15 +1,17 @@
 //! Runs of one part of each class: their journals and reports, what is seen of them, and whether the driver kept its
 //! contract.
 
-ghost use Rattle.std.specs.Prelude.{◌≡◌, false, Some};
+ghost use Rattle.std.specs.Prelude.{◌≡◌, false, Some, true};
 ghost use Rattle.nook_defs.specs.Contract.{first_break};
 ghost use Rattle.nook_defs.specs.Ideal.{class_run};
 ghost use Rattle.nook_defs.specs.Trace.{trace};
-ghost use Rattle.nook_defs.specs.declared.data.Class.TheVariants.{Block};
+ghost use Rattle.nook_defs.specs.declared.data.Answer.TheVariants.{BadClass, Done};
+ghost use Rattle.nook_defs.specs.declared.data.Class.TheVariants.{Block, Net, Sound};
 ghost use Rattle.worked_rows.specs.Cases.{MakesRun, KeepsContract};
 ghost use Rattle.worked_rows.specs.DiskCases.{write_and_read_part, write_and_read_threads, write_and_read_journal, write_and_read_report, write_cut_part, write_cut_threads, write_cut_journal, write_cut_report, wide_write_cut_part, wide_write_cut_threads, wide_write_cut_journal, wide_write_cut_report};
 ghost use Rattle.worked_rows.specs.FailingDiskCases.{bad_block_part, bad_block_threads, bad_block_journal, bad_block_report, bad_block_later_part, bad_block_later_threads, bad_block_later_journal, bad_block_later_report, read_invented_part, read_invented_threads, read_invented_journal, read_invented_report};
 ghost use Rattle.worked_rows.specs.LinkCases.{send_cut_part, send_cut_threads, send_cut_journal, send_cut_report, ring_full_part, ring_full_threads, ring_full_journal, ring_full_report};
+ghost use Rattle.worked_rows.specs.OtherClasses.{frame_arrives, frame_is_sent, sample_is_played};
 ghost use Rattle.worked_rows.specs.StreamCases.{play_cut_part, play_cut_threads, play_cut_journal, play_cut_report, init_cut_part, init_cut_threads, init_cut_journal, init_cut_report};
 
 /// A block is written and read.
@@ -81,4 +83,18 @@ pub fn read_invented()
     ensures run { MakesRun read_invented_part read_invented_threads read_invented_journal read_invented_report }
     ensures broken { first_break Block 1 read_invented_journal ≡ Some (record { event = 8; clause = 4 }) }
     ensures seen { class_run Block 1 (trace read_invented_journal) ≡ false }
+{}
+
+/// Only a link shows arrivals and frames on the wire, and only a stream shows samples, whatever was called.
+#[tactic(auto, using(crate::proofs::OtherClasses::arrivals_of_a_link, crate::proofs::OtherClasses::frames_of_a_link, crate::proofs::OtherClasses::samples_of_a_stream))]
+pub fn other_classes()
+    ensures arrives { (class_run Net 0 frame_arrives ≡ true)
+        × (class_run Block 1 frame_arrives ≡ false)
+        × (class_run Sound 0 frame_arrives ≡ false) }
+    ensures sends { (class_run Net 0 (frame_is_sent Done) ≡ true)
+        × (class_run Block 1 (frame_is_sent BadClass) ≡ false)
+        × (class_run Sound 0 (frame_is_sent BadClass) ≡ false) }
+    ensures plays { (class_run Sound 0 (sample_is_played Done 8000 5) ≡ true)
+        × (class_run Block 1 (sample_is_played BadClass 0 0) ≡ false)
+        × (class_run Net 0 (sample_is_played BadClass 100 1) ≡ false) }
 {}

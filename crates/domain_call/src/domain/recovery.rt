@@ -5,7 +5,7 @@ ghost use Rattle.nook_defs.specs.Classes.{defaults_of};
 ghost use Rattle.nook_defs.specs.Devices.{has_room, with_arrival};
 ghost use Rattle.nook_defs.specs.Domain.{collected_domain, loaded_domain, stopped_domain};
 ghost use Rattle.nook_defs.specs.Entries.{released};
-ghost use Rattle.nook_defs.specs.PageMap.{none_lent};
+ghost use Rattle.nook_defs.specs.Views.PageMap.{none_lent};
 ghost use Rattle.nook_defs.specs.Stages.{with_reset};
 ghost use Rattle.domain_call.specs.Standing.{with_device};
 

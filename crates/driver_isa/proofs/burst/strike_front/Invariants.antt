@@ -1,13 +1,14 @@
 use Rattle.std.proofs.Common.{◌≡◌, length}
+use Rattle.driver_isa.specs.Steps.{cpu_of}
 use Rattle.driver_isa.specs.Turns.{machine_of}
 use Rattle.nook_defs.specs.Burst.{strikes_at}
 use Rattle.driver_isa.proofs.burst.strike_front.Given as goal
 
 abbrev pub invariant-loop-rest : goal.invariant-loop-rest
 invariant-loop-rest g l =
-    (strikes_at l.place (g.B.Bus.entries l.bus) l.rest (machine_of l.cpu (g.B.Bus.words l.bus) (g.B.Bus.device l.bus))
+    (strikes_at l.place (g.B.Bus.entries l.bus) l.rest (machine_of (cpu_of l.counter l.registers) (g.B.Bus.words l.bus) (g.B.Bus.device l.bus))
     ≡ strikes_at l.place (g.B.Bus.entries l.initial.bus) l.initial.rest
-    (machine_of l.initial.cpu (g.B.Bus.words l.initial.bus) (g.B.Bus.device l.initial.bus)))
+    (machine_of (cpu_of l.counter l.initial.registers) (g.B.Bus.words l.initial.bus) (g.B.Bus.device l.initial.bus)))
     × (g.B.Bus.entries l.bus ≡ g.B.Bus.entries l.initial.bus)
     × (g.B.Bus.held l.bus ≡ g.B.Bus.held l.initial.bus)
 

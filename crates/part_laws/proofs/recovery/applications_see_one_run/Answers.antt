@@ -1,5 +1,5 @@
-use Rattle.part_laws.proofs.Recovered.{sees_one_run}
+use Rattle.part_laws.proofs.ReadAloud.{kept_shows_one_run}
 use Rattle.part_laws.proofs.recovery.applications_see_one_run.Goals as goal
 
 pub returns : goal.returns
-returns c = sees_one_run
+returns c = kept_shows_one_run

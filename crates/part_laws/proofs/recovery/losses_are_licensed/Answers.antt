@@ -1,5 +1,5 @@
-use Rattle.part_laws.proofs.Recovered.{losses_licensed}
+use Rattle.part_laws.proofs.ReadAloud.{kept_licensed}
 use Rattle.part_laws.proofs.recovery.losses_are_licensed.Goals as goal
 
 pub returns : goal.returns
-returns c = losses_licensed
+returns c = kept_licensed

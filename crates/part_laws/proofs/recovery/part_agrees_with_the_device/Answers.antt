@@ -1,5 +1,5 @@
-use Rattle.part_laws.proofs.Recovered.{agrees}
+use Rattle.part_laws.proofs.ReadAloud.{kept_agrees}
 use Rattle.part_laws.proofs.recovery.part_agrees_with_the_device.Goals as goal
 
 pub returns : goal.returns
-returns c = agrees
+returns c = kept_agrees

@@ -1,0 +1,17 @@
+use Rattle.std.specs.Prelude.{ℕ, List, [], ◌∷◌, Option, Some, None, flat_map}
+use Rattle.nook_defs.specs.declared.data.Answer.{Answer}
+use Rattle.nook_defs.specs.declared.data.Event.{Event}
+use Rattle.nook_defs.specs.declared.data.Event.TheVariants as event
+
+-- one answer, where there is one
+abbrev pub one_answer : ℕ → Option Answer → List (ℕ × Answer)
+one_answer call None = []
+one_answer call (Some a) = (call, a) ∷ []
+
+-- the calls that an event answers, each with its answer
+abbrev pub answers_of : Event → List (ℕ × Answer)
+answers_of (event.Invoke call thread o a) = one_answer call a
+answers_of (event.Enter call thread attempt a) = one_answer call a
+answers_of (event.Burst context call burst count e done a failure) = one_answer call a
+answers_of (event.Stage s answers released) = answers
+answers_of (event.Arrive frame kept) = []

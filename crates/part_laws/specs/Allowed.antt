@@ -1,0 +1,87 @@
+use Rattle.std.specs.Prelude.{◌≡◌, ℕ, Bool, true, false, List, [], ◌∷◌, length, Option, Some, None, is_some, is_none, nat_lt, ◌+◌, ◌==◌, ◌&&◌, ◌||◌}
+use Rattle.nook_defs.specs.declared.data.Answer.{Answer}
+use Rattle.nook_defs.specs.declared.data.Answer.TheVariants as answered
+use Rattle.nook_defs.specs.declared.data.Event.{Event}
+use Rattle.nook_defs.specs.declared.data.Event.TheVariants as event
+use Rattle.nook_defs.specs.declared.data.Losses.{Losses}
+use Rattle.nook_defs.specs.declared.data.Mode.{Mode}
+use Rattle.nook_defs.specs.declared.data.Mode.TheVariants as mode
+use Rattle.nook_defs.specs.declared.data.Op.{Op}
+use Rattle.nook_defs.specs.declared.data.Op.TheVariants.{Send, Play}
+use Rattle.nook_defs.specs.declared.data.PartSpec.{PartSpec}
+use Rattle.nook_defs.specs.declared.data.Stage.{Stage}
+use Rattle.nook_defs.specs.declared.data.Stage.TheVariants as stages
+use Rattle.nook_defs.specs.Blocks.{has_block}
+use Rattle.part_laws.specs.Watch.{Watch, Watched, first_watch, sees}
+use Rattle.part_laws.specs.Counts.{counted_losses}
+use Rattle.nook_defs.specs.Places.{at_number}
+use Rattle.nook_defs.specs.Runs.{state_after, step_of}
+use Rattle.nook_defs.specs.State.{PartState}
+use Rattle.nook_defs.specs.Steps.{opening}
+use Rattle.nook_defs.specs.Licence.{is_balanced, is_stage, recovery_stage, same_stage, shadow_stage, stop_alone}
+use Rattle.nook_defs.specs.Contract.{is_empty}
+
+-- The licence of losses and busy answers by the fold of the contract: what is proved first. Over a run it is the licence
+-- that nook_defs defines.
+
+-- ---- where the shadow answers
+
+-- ---- one answer
+
+-- Done of a call whose frame was sent, or of which all samples were played
+abbrev pub is_served : Op → Watched → Bool
+is_served (Send frame) c = nat_lt 0 c.sent
+is_served (Play samples) c = c.played == length samples
+is_served o c = true
+
+abbrev pub is_served_found : Option Watched → Bool
+is_served_found None = true
+is_served_found (Some c) = is_served c.op c
+
+-- a command on the block failed in the attempt
+abbrev pub has_failed : ℕ → Option Watched → Bool
+has_failed block None = false
+has_failed block (Some c) = has_block block c.failed
+
+-- an answer of a call: `shadow` is the current stage where the shadow answers, `queue` is the kernel's queue, and `w` is
+-- what the monitor knows after the event
+abbrev pub allows : Option Stage → List (List ℕ) → Watch → ℕ → Answer → Bool
+allows shadow queue w call answered.Done = is_some shadow || is_served_found (at_number call w.calls)
+allows shadow queue w call (answered.Busy s) = is_stage shadow s
+allows shadow queue w call answered.Empty = is_some shadow || is_empty queue && is_empty w.ring
+allows shadow queue w call (answered.IoError block) = is_none shadow && has_failed block (at_number call w.calls)
+allows shadow queue w call a = true
+
+-- ---- events
+
+abbrev pub allows_option : Option Stage → List (List ℕ) → Watch → ℕ → Option Answer → Bool
+allows_option shadow queue w call None = true
+allows_option shadow queue w call (Some a) = allows shadow queue w call a
+
+abbrev pub allows_each : Option Stage → List (List ℕ) → Watch → List (ℕ × Answer) → Bool
+allows_each shadow queue w [] = true
+allows_each shadow queue w (a ∷ answers) = allows shadow queue w a.0 a.1 && allows_each shadow queue w answers
+
+abbrev pub allows_event : Option Stage → List (List ℕ) → Watch → Event → Bool
+allows_event shadow queue w (event.Invoke call thread o a) = allows_option shadow queue w call a
+allows_event shadow queue w (event.Enter call thread attempt a) = allows_option shadow queue w call a
+allows_event shadow queue w (event.Burst context call burst count end acts a failure) = allows_option shadow queue w call a
+allows_event shadow queue w (event.Stage s answers released) = allows_each shadow queue w answers
+allows_event shadow queue w (event.Arrive frame kept) = true
+
+-- an event of a part in this state, with what the monitor knows after it
+abbrev pub licenses : PartState → Watch → Event → Bool
+licenses p w e = allows_event (shadow_stage p.mode e) p.queue w e
+
+-- events of a part in this state, after which the monitor knows `w`
+unfoldable pub licensed_from : PartState → Watch → List Event → Bool
+licensed_from p w [] = true
+licensed_from p w (e ∷ events) = licenses p (sees w e) e && licensed_from (state_after p (step_of e)) (sees w e) events
+
+-- a journal of a part
+unfoldable pub licensed : PartSpec → List Event → Bool
+licensed spec events =
+    licensed_from (opening spec) (first_watch spec.class spec.blocks) events && is_balanced (counted_losses events)
+
+abbrev pub IsAllowed : PartSpec → List Event → Type 0
+IsAllowed spec events = licensed spec events ≡ true

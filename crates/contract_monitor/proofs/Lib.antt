@@ -1,4 +1,7 @@
+pub mod Bursts
 pub mod Changes
-pub mod Listed
+pub mod Judged
+pub mod Numbers
+pub mod OneBlock
 pub mod Stands
 pub mod Tracking

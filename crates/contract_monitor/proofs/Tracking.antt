@@ -1,24 +1,30 @@
--- What is kept follows what the contract's monitor knows.
-use Rattle.std.proofs.Common.{◌≡◌, ◌≤◌, ℕ, Bool, true, false, Option, Some, None, List, [], ◌∷◌, ◌++◌, length, drop, ◌&&◌, bytes_eq, refl, sym, ap, ap₂, ◌∙◌, subst, arith, length-append}
+-- What is kept follows what is known, as long as each frame was handed up as it was popped.
+use Rattle.std.proofs.Common.{◌≡◌, ◌≤◌, ◌==◌, ℕ, Bool, true, false, not, if◌then◌else◌, Option, Some, None, is_some, List, [], ◌∷◌, ◌++◌, length, map, drop, ◌&&◌, bytes_eq, refl, sym, ap, ap₂, ◌∙◌, subst, arith, length-append, nat_lt}
+use Rattle.std.specs.List.{filter, fold}
 use Rattle.std.proofs.lemmas.List.{drop-drop, drop-append-le}
+use Rattle.std.proofs.lemmas.List.Sums.{fold-append}
 use Rattle.nook_defs.specs.declared.data.Act.{Act}
 use Rattle.nook_defs.specs.declared.data.Act.TheVariants as act
 use Rattle.nook_defs.specs.declared.data.Answer.{Answer}
-use Rattle.nook_defs.specs.declared.data.Answer.TheVariants as answered
-use Rattle.nook_defs.specs.declared.data.Break.{Break}
+use Rattle.nook_defs.specs.declared.data.Answer.TheVariants as answer
 use Rattle.nook_defs.specs.declared.data.End.{End}
-use Rattle.nook_defs.specs.declared.data.End.TheVariants as ends
+use Rattle.nook_defs.specs.declared.data.End.TheVariants as end
 use Rattle.nook_defs.specs.declared.data.Event.{Event}
 use Rattle.nook_defs.specs.declared.data.Event.TheVariants as event
 use Rattle.nook_defs.specs.declared.data.FailCause.{FailCause}
 use Rattle.nook_defs.specs.declared.data.Op.{Op}
 use Rattle.nook_defs.specs.declared.data.Op.TheVariants.{Read, Write, Send, Recv, Play, Get, Set}
 use Rattle.nook_defs.specs.declared.data.Stage.{Stage}
-use Rattle.nook_defs.specs.declared.data.Stage.TheVariants as stages
-use Rattle.nook_defs.specs.Contract.{Watch, Watched, hands_up, is_prefix, owes, owes_found, sees, sees_act, sees_acts, sees_crossing, sees_reply, sees_service, sees_stage, wanted}
-use Rattle.nook_defs.specs.Places.{at_number}
-use Rattle.contract_monitor.specs.Knowing.{Knows, saw_act, saw_event, watch_of}
-use Rattle.contract_monitor.specs.Monitors.{Tracks, break_of, or_break, shorter}
+use Rattle.nook_defs.specs.declared.data.Stage.TheVariants as stage
+use Rattle.nook_defs.specs.Answers.{one_answer}
+use Rattle.nook_defs.specs.declared.clause.Clause.{Clause}
+use Rattle.nook_defs.specs.declared.clause.Clause.TheVariants.{OutOfOrder}
+use Rattle.nook_defs.specs.Contract.{Deed, Known, OpenCall, acts, after, after_deed, after_deeds, after_failure, after_stage, call_of, crossing_deeds, deeds_of, hands_up, is_answered_in, is_front, number_of, replays, replies}
+use Rattle.contract_monitor.specs.Judging.{act_broken, event_broken, first_broken, least, reply_broken, reply_broken_of, smaller, unless}
+use Rattle.contract_monitor.specs.Keeping.{kept_deed, known_after, shorter}
+use Rattle.contract_monitor.specs.Monitors.{Tracks}
+use Rattle.contract_monitor.proofs.Bursts.{acts_kept}
+use Rattle.contract_monitor.proofs.Judged.{act_least, broken_first, broken_more, handed_first, replays_first, reply_first}
 
 -- ---- the frames at the front
 
@@ -30,33 +36,33 @@ rest_same : (a b : Bool) → a && b ≡ true → b ≡ true
 rest_same true b h = h
 rest_same false b h = absurd cc
 
-front_within : (xs ys : List (List ℕ)) → is_prefix xs ys ≡ true → length xs ≤ length ys
+front_within : (xs ys : List (List ℕ)) → is_front xs ys ≡ true → length xs ≤ length ys
 front_within [] ys h = omega arith
 front_within (x ∷ xs) [] h = absurd cc
 front_within (x ∷ xs) (y ∷ ys) h =
-    let within = front_within xs ys (rest_same (bytes_eq x y) (is_prefix xs ys) h) in omega (arith, within)
+    let within = front_within xs ys (rest_same (bytes_eq x y) (is_front xs ys) h) in omega (arith, within)
 
-front_more : (xs ys zs : List (List ℕ)) → is_prefix xs ys ≡ true → is_prefix xs (ys ++ zs) ≡ true
+front_more : (xs ys zs : List (List ℕ)) → is_front xs ys ≡ true → is_front xs (ys ++ zs) ≡ true
 front_more [] ys zs h = refl
 front_more (x ∷ xs) [] zs h = absurd cc
 front_more (x ∷ xs) (y ∷ ys) zs h =
-    rw (first_same (bytes_eq x y) (is_prefix xs ys) h) (front_more xs ys zs (rest_same (bytes_eq x y) (is_prefix xs ys) h))
+    rw (first_same (bytes_eq x y) (is_front xs ys) h) (front_more xs ys zs (rest_same (bytes_eq x y) (is_front xs ys) h))
 
--- a frame more is at the front exactly if it is the first behind those that are
-front_next : (xs ys : List (List ℕ)) (x : List ℕ) → is_prefix xs ys ≡ true
-    → is_prefix (x ∷ []) (drop (length xs) ys) ≡ is_prefix (xs ++ x ∷ []) ys
+-- a frame more is at the front exactly if it is the first after those that are
+front_next : (xs ys : List (List ℕ)) (x : List ℕ) → is_front xs ys ≡ true
+    → is_front (x ∷ []) (drop (length xs) ys) ≡ is_front (xs ++ x ∷ []) ys
 front_next [] ys x h = refl
 front_next (z ∷ xs) [] x h = absurd cc
 front_next (z ∷ xs) (y ∷ ys) x h =
-    rw (first_same (bytes_eq z y) (is_prefix xs ys) h) (front_next xs ys x (rest_same (bytes_eq z y) (is_prefix xs ys) h))
+    rw (first_same (bytes_eq z y) (is_front xs ys) h) (front_next xs ys x (rest_same (bytes_eq z y) (is_front xs ys) h))
 
 drop_next : (xs ys : List (List ℕ)) (x : List ℕ) → drop 1 (drop (length xs) ys) ≡ drop (length (xs ++ x ∷ [])) ys
 drop_next xs ys x = drop-drop 1 (length xs) ys ∙ ap (λ n. drop n ys) (sym (length-append xs (x ∷ [])))
 
 -- ---- acts
 
-act_front : (call : ℕ) (a : Act) (w : Watch) → is_prefix w.handed w.popped ≡ true
-    → is_prefix (sees_act call a w).handed (sees_act call a w).popped ≡ true
+act_front : (call : ℕ) (a : Act) (w : Known) → is_front w.handed w.popped ≡ true
+    → is_front (after_deed call w (acts a)).handed (after_deed call w (acts a)).popped ≡ true
 act_front call (act.Popped frame) w h = front_more w.handed w.popped (frame ∷ []) h
 act_front call (act.Load block) w h = h
 act_front call (act.Failed block store) w h = h
@@ -65,8 +71,8 @@ act_front call (act.Sent frame) w h = h
 act_front call (act.Played word rate volume) w h = h
 act_front call (act.Register key value) w h = h
 
-act_same : (call : ℕ) (a : Act) (w : Watch) → is_prefix w.handed w.popped ≡ true
-    → sees_act call a (shorter w) ≡ shorter (sees_act call a w)
+act_same : (call : ℕ) (a : Act) (w : Known) → is_front w.handed w.popped ≡ true
+    → after_deed call (shorter w) (acts a) ≡ shorter (after_deed call w (acts a))
 act_same call (act.Popped frame) w h =
     ap (λ frames. record (shorter w) { ring = drop 1 w.ring; popped = frames })
     (sym (drop-append-le (length w.handed) w.popped (frame ∷ []) (front_within w.handed w.popped h)))
@@ -77,129 +83,204 @@ act_same call (act.Sent frame) w h = refl
 act_same call (act.Played word rate volume) w h = refl
 act_same call (act.Register key value) w h = refl
 
-acts_front : (call : ℕ) (acts : List Act) (w : Watch) → is_prefix w.handed w.popped ≡ true
-    → is_prefix (sees_acts call acts w).handed (sees_acts call acts w).popped ≡ true
+act_judged : (w : Known) (c : Option OpenCall) (a : Act) → act_broken (shorter w) c a ≡ act_broken w c a
+act_judged w c (act.Load block) = refl
+act_judged w c (act.Failed block store) = refl
+act_judged w c (act.Store block words) = refl
+act_judged w c (act.Sent frame) = refl
+act_judged w c (act.Popped frame) = refl
+act_judged w c (act.Played word rate volume) = refl
+act_judged w c (act.Register key value) = refl
+
+acts_front : (call : ℕ) (done : List Act) (w : Known) → is_front w.handed w.popped ≡ true
+    → is_front (after_deeds call w (map acts done)).handed (after_deeds call w (map acts done)).popped ≡ true
 acts_front call [] w h = h
-acts_front call (a ∷ acts) w h = acts_front call acts (sees_act call a w) (act_front call a w h)
+acts_front call (a ∷ done) w h = acts_front call done (after_deed call w (acts a)) (act_front call a w h)
 
-acts_same : (call : ℕ) (acts : List Act) (w : Watch) → is_prefix w.handed w.popped ≡ true
-    → sees_acts call acts (shorter w) ≡ shorter (sees_acts call acts w)
+acts_same : (call : ℕ) (done : List Act) (w : Known) → is_front w.handed w.popped ≡ true
+    → after_deeds call (shorter w) (map acts done) ≡ shorter (after_deeds call w (map acts done))
 acts_same call [] w h = refl
-acts_same call (a ∷ acts) w h =
-    ap (sees_acts call acts) (act_same call a w h) ∙ acts_same call acts (sees_act call a w) (act_front call a w h)
+acts_same call (a ∷ done) w h =
+    ap (λ k. after_deeds call k (map acts done)) (act_same call a w h)
+    ∙ acts_same call done (after_deed call w (acts a)) (act_front call a w h)
 
--- what is kept after an act is what its watch leaves
-pub kept_act : (call : ℕ) (a : Act) (k : Knows) → watch_of (saw_act call a k) ≡ sees_act call a (watch_of k)
-kept_act call (act.Popped frame) k = refl
-kept_act call (act.Load block) k = refl
-kept_act call (act.Failed block store) k = refl
-kept_act call (act.Store block words) k = refl
-kept_act call (act.Sent frame) k = refl
-kept_act call (act.Played word rate volume) k = refl
-kept_act call (act.Register key value) k = refl
+acts_judged : (call : ℕ) (done : List Act) (w : Known) → is_front w.handed w.popped ≡ true
+    → first_broken call (shorter w) (map acts done) ≡ first_broken call w (map acts done)
+acts_judged call [] w h = refl
+acts_judged call (a ∷ done) w h =
+    let c : Option OpenCall = call_of call w.calls in
+    let now : least (shorter w) c (acts a) ≡ least w c (acts a) =
+        act_least (shorter w) c a ∙ (act_judged w c a ∙ sym (act_least w c a)) in
+    let later : first_broken call (after_deed call (shorter w) (acts a)) (map acts done)
+        ≡ first_broken call (after_deed call w (acts a)) (map acts done) =
+        ap (λ k. first_broken call k (map acts done)) (act_same call a w h)
+        ∙ acts_judged call done (after_deed call w (acts a)) (act_front call a w h) in
+    broken_first call (shorter w) (acts a) (map acts done)
+    ∙ (ap₂ smaller now later ∙ sym (broken_first call w (acts a) (map acts done)))
 
 -- ---- crossings
 
-owes_same : (c : Watched) (o : Op) (a : Answer) (w : Watch) → owes c o a (shorter w) ≡ owes c o a w
-owes_same c (Write first words) answered.Done w = refl
-owes_same c (Read first count) (answered.Blocks words) w = refl
-owes_same c (Send frame) answered.Done w = refl
-owes_same c Recv a w = refl
-owes_same c (Play samples) answered.Done w = refl
-owes_same c (Set key value) answered.Done w = refl
-owes_same c (Get key) (answered.Value word) w = refl
-owes_same c (Read first count) (answered.IoError block) w = refl
-owes_same c (Write first words) (answered.IoError block) w = refl
-owes_same c o a w = refl
+reply_judged : (w : Known) (c : OpenCall) (o : Op) (a : Answer) → reply_broken (shorter w) c o a ≡ reply_broken w c o a
+reply_judged w c (Write first words) answer.Done = refl
+reply_judged w c (Read first count) (answer.Blocks words) = refl
+reply_judged w c (Send frame) answer.Done = refl
+reply_judged w c Recv a = refl
+reply_judged w c (Play samples) answer.Done = refl
+reply_judged w c (Set key value) answer.Done = refl
+reply_judged w c (Get key) (answer.Value word) = refl
+reply_judged w c (Read first count) (answer.IoError block) = refl
+reply_judged w c (Write first words) (answer.IoError block) = refl
+reply_judged w c o a = refl
 
-owes_found_same : (c : Option Watched) (a : Answer) (w : Watch) → owes_found c a (shorter w) ≡ owes_found c a w
-owes_found_same None a w = refl
-owes_found_same (Some c) a w = owes_same c c.op a w
+found_judged : (w : Known) (c : Option OpenCall) (a : Answer) → reply_broken_of (shorter w) c a ≡ reply_broken_of w c a
+found_judged w None a = refl
+found_judged w (Some c) a = reply_judged w c c.op a
 
--- the watch that is kept breaks what the whole one breaks, and is kept of what the whole one becomes; as long as
--- nothing is broken, each frame was handed up as it was popped
-record Together (s w : Watch) : Type 0 where
-  clause : s.clause ≡ w.clause
-  same : shorter s ≡ shorter w
-  front : w.clause ≡ None → is_prefix w.handed w.popped ≡ true
+-- deeds break of what is kept what they break of what is known, and leave the same; if they break nothing, each frame
+-- was handed up as it was popped
+record Crossed (call : ℕ) (ds : List Deed) (w : Known) : Type 0 where
+  broken : first_broken call (shorter w) ds ≡ first_broken call w ds
+  same : fold (kept_deed call) (shorter w) ds ≡ shorter (after_deeds call w ds)
+  front : first_broken call w ds ≡ None → is_front (after_deeds call w ds).handed (after_deeds call w ds).popped ≡ true
 
--- where the frames stay and one watch is the other's shorter one
-together : (w : Watch) → is_prefix w.handed w.popped ≡ true → Together (shorter w) w
-together w h = record { clause = refl; same = refl; front = λ _. h }
+kept_if : (b : Bool) (clause : Clause) → unless b clause ≡ None → b ≡ true
+kept_if true clause h = refl
+kept_if false clause h = absurd cc
 
-kept_if : (b : Bool) (clause : ℕ) (broken : Option ℕ) → wanted b clause broken ≡ None → b ≡ true
-kept_if true clause broken h = refl
-kept_if false clause broken h = absurd cc
+nothing : (call : ℕ) (w : Known) → is_front w.handed w.popped ≡ true → Crossed call [] w
+nothing call w h = record { broken = refl; same = refl; front = λ _. h }
 
-service_together : (up : Bool) (call : ℕ) (moved : List ℕ) (w : Watch) → is_prefix w.handed w.popped ≡ true
-    → Together (sees_service up call moved (shorter w)) (sees_service up call moved w)
-service_together false call moved w h = record { clause = refl; same = refl; front = λ _. h }
-service_together true call moved w h = record {
-  clause = ap (λ b. wanted b 8 w.clause) (front_next w.handed w.popped moved h);
-  same = ap₂ (λ b frames. record (shorter (sees_service true call moved w)) { clause = wanted b 8 w.clause; popped = frames })
-      (front_next w.handed w.popped moved h) (drop_next w.handed w.popped moved);
-  front = λ none. kept_if (is_prefix (w.handed ++ moved ∷ []) w.popped) 8 w.clause none;
+handed : (call : ℕ) (frame : List ℕ) (w : Known) → is_front w.handed w.popped ≡ true → Crossed call (hands_up frame ∷ []) w
+handed call frame w h = record {
+  broken = handed_first call (shorter w) frame
+      ∙ (ap (λ b. unless b OutOfOrder) (front_next w.handed w.popped frame h) ∙ sym (handed_first call w frame));
+  same = ap (λ frames. record (shorter (after_deed call w (hands_up frame))) { popped = frames }) (drop_next w.handed w.popped frame);
+  front = λ none. kept_if (is_front (w.handed ++ frame ∷ []) w.popped) OutOfOrder (sym (handed_first call w frame) ∙ none);
 }
 
-reply_together : (call : ℕ) (a : Option Answer) (w : Watch) → is_prefix w.handed w.popped ≡ true
-    → Together (sees_reply call a (shorter w)) (sees_reply call a w)
-reply_together call None w h = record { clause = refl; same = refl; front = λ _. h }
-reply_together call (Some a) w h =
-    let owed = owes_found_same (at_number call w.calls) a w in record {
-      clause = owed;
-      same = ap (λ clause. record (shorter (sees_reply call (Some a) w)) { clause = clause }) owed;
-      front = λ _. h;
-    }
+replied : (call : ℕ) (a : Answer) (w : Known) → is_front w.handed w.popped ≡ true → Crossed call (replies a ∷ []) w
+replied call a w h = record {
+  broken = reply_first call (shorter w) a ∙ (found_judged w (call_of call w.calls) a ∙ sym (reply_first call w a));
+  same = refl;
+  front = λ _. h;
+}
 
-crossing_together : (call : ℕ) (end : End) (a : Option Answer) (failure : Option FailCause) (w : Watch) → is_prefix w.handed w.popped ≡ true
-    → Together (sees_crossing call end a failure (shorter w)) (sees_crossing call end a failure w)
-crossing_together call end a (Some cause) w h = record { clause = refl; same = refl; front = λ _. h }
-crossing_together call (ends.Service service first second result moved) a None w h = service_together (hands_up service result) call moved w h
-crossing_together call (ends.Reply status) a None w h = reply_together call a w h
-crossing_together call ends.Pause a None w h = together w h
-crossing_together call ends.Trap a None w h = together w h
+replayed : (call : ℕ) (w : Known) → is_front w.handed w.popped ≡ true → Crossed call (replays ∷ []) w
+replayed call w h = record {
+  broken = replays_first call (shorter w) ∙ sym (replays_first call w);
+  same = refl;
+  front = λ _. h;
+}
+
+served : (up : Bool) (call : ℕ) (moved : List ℕ) (w : Known) → is_front w.handed w.popped ≡ true
+    → Crossed call (if up then hands_up moved ∷ [] else []) w
+served true call moved w h = handed call moved w h
+served false call moved w h = nothing call w h
+
+crossed : (call : ℕ) (e : End) (a : Option Answer) (failure : Option FailCause) (w : Known) → is_front w.handed w.popped ≡ true
+    → Crossed call (crossing_deeds e a failure) w
+crossed call (end.Service number first second result moved) a failure w h = served (number == 6 && is_some result) call moved w h
+crossed call (end.Reply status) (Some a) None w h = replied call a w h
+crossed call (end.Reply status) None None w h = replayed call w h
+crossed call (end.Reply status) (Some a) (Some cause) w h = nothing call w h
+crossed call (end.Reply status) None (Some cause) w h = nothing call w h
+crossed call end.Pause a failure w h = nothing call w h
+crossed call end.Trap a failure w h = nothing call w h
+
+some_chosen : (t : Bool) (a b : Clause) → (if t then Some b else Some a) ≡ None → ⊥
+some_chosen true a b h = cc
+some_chosen false a b h = cc
+
+second_none : (a b : Option Clause) → smaller a b ≡ None → b ≡ None
+second_none None b h = h
+second_none (Some a) None h = refl
+second_none (Some a) (Some b) h = absurd (some_chosen (nat_lt (number_of b) (number_of a)) a b h)
+
+-- the deeds of a burst
+burst_crossed : (call : ℕ) (done : List Act) (e : End) (a : Option Answer) (failure : Option FailCause) (w : Known)
+    → is_front w.handed w.popped ≡ true → Crossed call (deeds_of done e a failure) w
+burst_crossed call done e a failure w h =
+    let first : List Deed = map acts done in
+    let last : List Deed = crossing_deeds e a failure in
+    let reached : Known = after_deeds call w first in
+    let c = crossed call e a failure reached (acts_front call done w h) in
+    let all : after_deeds call w (first ++ last) ≡ after_deeds call reached last = fold-append (after_deed call) w first last in
+    record {
+      broken = broken_more call (shorter w) first last
+          ∙ (ap₂ smaller (acts_judged call done w h) (ap (λ k. first_broken call k last) (acts_same call done w h) ∙ c.broken)
+          ∙ sym (broken_more call w first last));
+      same = fold-append (kept_deed call) (shorter w) first last
+          ∙ (ap (λ k. fold (kept_deed call) k last) (acts_kept call (shorter w) done ∙ acts_same call done w h)
+          ∙ (c.same ∙ ap shorter (sym all)));
+      front = λ none. subst (λ k. is_front k.handed k.popped ≡ true) (sym all)
+          (c.front (second_none (first_broken call w first) (first_broken call reached last) (sym (broken_more call w first last) ∙ none)));
+    }
 
 -- ---- events
 
-stage_together : (s : Stage) (w : Watch) → is_prefix w.handed w.popped ≡ true → Together (sees_stage s (shorter w)) (sees_stage s w)
-stage_together stages.Load w h = record { clause = refl; same = refl; front = λ _. refl }
-stage_together stages.Stop w h = record { clause = refl; same = refl; front = λ _. h }
-stage_together stages.Reset w h = record { clause = refl; same = refl; front = λ _. h }
-stage_together (stages.ReplaySet key value) w h = record { clause = refl; same = refl; front = λ _. h }
-stage_together s w h = record { clause = refl; same = refl; front = λ _. h }
+-- what is kept breaks what the whole breaks, and is kept of what the whole becomes
+record Together (e : Event) (w : Known) : Type 0 where
+  broken : event_broken (shorter w) e ≡ event_broken w e
+  same : known_after (shorter w) e ≡ shorter (after w e)
+  front : event_broken w e ≡ None → is_front (after w e).handed (after w e).popped ≡ true
 
-event_together : (e : Event) (w : Watch) → is_prefix w.handed w.popped ≡ true → Together (sees (shorter w) e) (sees w e)
-event_together (event.Invoke call thread o a) w h = record { clause = refl; same = refl; front = λ _. h }
-event_together (event.Enter call thread attempt a) w h = record { clause = refl; same = refl; front = λ _. h }
-event_together (event.Burst context call burst count end acts a failure) w h =
-    subst (λ v. Together (sees_crossing call end a failure v) (sees_crossing call end a failure (sees_acts call acts w)))
-    (sym (acts_same call acts w h)) (crossing_together call end a failure (sees_acts call acts w) (acts_front call acts w h))
-event_together (event.Stage stage answers released) w h = stage_together stage w h
-event_together (event.Arrive frame kept) w h = record { clause = refl; same = refl; front = λ _. h }
+abbrev closed : Option FailCause → List (ℕ × Answer) → Known → Known
+closed failure answers k =
+    record (after_failure failure k) { calls = filter (λ c. not (is_answered_in answers c)) (after_failure failure k).calls }
 
--- what is kept follows the whole watch over one more event
-follows : (e : Event) (k : Knows) (w : Watch) → Tracks k w → Together (sees (watch_of k) e) (sees w e)
-follows e k w t = rw t.same (event_together e w t.front)
+closed_shorter : (failure : Option FailCause) (answers : List (ℕ × Answer)) (k : Known) →
+    shorter (closed failure answers k) ≡ closed failure answers (shorter k)
+closed_shorter None answers k = refl
+closed_shorter (Some cause) answers k = refl
 
-pub clause_tracked : (e : Event) (k : Knows) (w : Watch) → Tracks k w → (sees (watch_of k) e).clause ≡ (sees w e).clause
-clause_tracked e k w t = (follows e k w t).clause
+closed_front : (failure : Option FailCause) (answers : List (ℕ × Answer)) (k : Known) → is_front k.handed k.popped ≡ true
+    → is_front (closed failure answers k).handed (closed failure answers k).popped ≡ true
+closed_front None answers k h = h
+closed_front (Some cause) answers k h = h
 
-pub tracked : (e : Event) (k : Knows) (w : Watch) → Tracks k w → (sees (watch_of k) e).clause ≡ None → Tracks (saw_event e k) (sees w e)
-tracked e k w t none =
-    let f = follows e k w t in record { same = f.same; front = f.front (sym f.clause ∙ none) }
+burst_together : (context call burst count : ℕ) (e : End) (done : List Act) (a : Option Answer) (failure : Option FailCause) (w : Known)
+    → is_front w.handed w.popped ≡ true → Together (event.Burst context call burst count e done a failure) w
+burst_together context call burst count e done a failure w h =
+    let c = burst_crossed call done e a failure w h in
+    let answers : List (ℕ × Answer) = one_answer call a in
+    record {
+      broken = c.broken;
+      same = ap (closed failure answers) c.same
+          ∙ sym (closed_shorter failure answers (after_deeds call w (deeds_of done e a failure)));
+      front = λ none. closed_front failure answers (after_deeds call w (deeds_of done e a failure)) (c.front none);
+    }
 
--- ---- the first break
+stage_together : (s : Stage) (answers : List (ℕ × Answer)) (w : Known) → is_front w.handed w.popped ≡ true
+    → record (after_stage s (shorter w)) { calls = filter (λ c. not (is_answered_in answers c)) (after_stage s (shorter w)).calls }
+    ≡ shorter (record (after_stage s w) { calls = filter (λ c. not (is_answered_in answers c)) (after_stage s w).calls })
+stage_together stage.Load answers w h = refl
+stage_together stage.Stop answers w h = refl
+stage_together stage.Reset answers w h = refl
+stage_together (stage.ReplaySet key value) answers w h = refl
+stage_together s answers w h = refl
 
-pub or_none : (a b : Option Break) → or_break a b ≡ None → a ≡ None
-or_none None b h = refl
-or_none (Some x) b h = h
+stage_front : (s : Stage) (w : Known) → is_front w.handed w.popped ≡ true
+    → is_front (after_stage s w).handed (after_stage s w).popped ≡ true
+stage_front stage.Load w h = refl
+stage_front stage.Stop w h = h
+stage_front stage.Reset w h = h
+stage_front (stage.ReplaySet key value) w h = h
+stage_front s w h = h
 
-pub none_later : (broken : Option Break) (place : ℕ) (clause : Option ℕ) → or_break broken (break_of place clause) ≡ None → clause ≡ None
-none_later None place None h = refl
-none_later None place (Some clause) h = absurd cc
-none_later (Some b) place clause h = absurd cc
+event_together : (e : Event) (w : Known) → is_front w.handed w.popped ≡ true → Together e w
+event_together (event.Invoke call thread o a) w h = record { broken = refl; same = refl; front = λ _. h }
+event_together (event.Enter call thread attempt a) w h = record { broken = refl; same = refl; front = λ _. h }
+event_together (event.Burst context call burst count e done a failure) w h = burst_together context call burst count e done a failure w h
+event_together (event.Stage s answers released) w h =
+    record { broken = refl; same = stage_together s answers w h; front = λ _. stage_front s w h }
+event_together (event.Arrive frame kept) w h = record { broken = refl; same = refl; front = λ _. h }
 
-pub or_same : (broken : Option Break) (place : ℕ) (a b : Option ℕ) → (broken ≡ None → a ≡ b)
-    → or_break broken (break_of place a) ≡ or_break broken (break_of place b)
-or_same None place a b h = ap (break_of place) (h refl)
-or_same (Some x) place a b h = refl
+-- what is kept follows the whole over one more event
+pub clause_tracked : (e : Event) (k w : Known) → Tracks k w → event_broken k e ≡ event_broken w e
+clause_tracked e k w t = ap (λ x. event_broken x e) t.same ∙ (event_together e w t.front).broken
+
+pub tracked : (e : Event) (k w : Known) → Tracks k w → event_broken k e ≡ None → Tracks (known_after k e) (after w e)
+tracked e k w t none = record {
+  same = ap (λ x. known_after x e) t.same ∙ (event_together e w t.front).same;
+  front = (event_together e w t.front).front (sym (clause_tracked e k w t) ∙ none);
+}

@@ -1,4 +1,5 @@
 pub mod Calls
-pub mod Knowing
+pub mod Judging
+pub mod Keeping
 pub mod Monitors
 pub mod Questions

@@ -1,20 +1,22 @@
-use Rattle.std.specs.Prelude.{◌≡◌, ℕ, ◌+◌, true, List, [], length, drop, fold, Option, Some, None}
+use Rattle.std.specs.Prelude.{◌≡◌, ℕ, ◌+◌, true, List, [], length, fold, count_by, Option, Some, None}
 use Rattle.nook_defs.specs.declared.data.Break.{Break}
 use Rattle.nook_defs.specs.declared.data.Class.{Class}
 use Rattle.nook_defs.specs.declared.data.Event.{Event}
-use Rattle.nook_defs.specs.Contract.{Watch, first_break, first_watch, is_prefix, sees}
-use Rattle.nook_defs.specs.Losses.{no_counts, count_event}
-use Rattle.contract_monitor.specs.Knowing.{Knows, saw_event, watch_of}
+use Rattle.nook_defs.specs.declared.clause.Clause.{Clause}
+use Rattle.nook_defs.specs.Contract.{Known, after, first_break, is_front, known_first, number_of}
+use Rattle.nook_defs.specs.Losses.{all_answers, is_arrival, is_busy, is_lost_arrival, is_received, is_refused, is_taken, lost_samples, lost_sends, no_places, places_after, tallies_after}
+use Rattle.contract_monitor.specs.Judging.{event_broken}
+use Rattle.contract_monitor.specs.Keeping.{Counts, Kept, kept_after, shorter}
 
--- a monitor: what it knows, how many events it has seen, and the first break
+-- a monitor: what it keeps, how many events it has seen, and the first break
 pub record Monitored : Type 0 where
-  pub knows : Knows
+  pub kept : Kept
   pub seen : ℕ
   pub broken : Option Break
 
-abbrev pub break_of : ℕ → Option ℕ → Option Break
+abbrev pub break_of : ℕ → Option Clause → Option Break
 break_of event None = None
-break_of event (Some clause) = Some (record { event = event; clause = clause })
+break_of event (Some clause) = Some (record { event = event; clause = number_of clause })
 
 -- the first break, where an event may be it
 abbrev pub or_break : Option Break → Option Break → Option Break
@@ -24,24 +26,35 @@ or_break None later = later
 -- the monitor after one more event
 abbrev pub after_event : Event → Monitored → Monitored
 after_event e m = record {
-  knows = saw_event e m.knows;
+  kept = kept_after m.kept e;
   seen = m.seen + 1;
-  broken = or_break m.broken (break_of (m.seen + 1) (sees (watch_of m.knows) e).clause);
+  broken = or_break m.broken (break_of (m.seen + 1) (event_broken m.kept.known e));
 }
 
--- a watch with the frames that were handed up taken off those that were popped
-abbrev pub shorter : Watch → Watch
-shorter w = record w { popped = drop (length w.handed) w.popped; handed = [] }
+-- what is kept is what is known, by which each frame was handed up as it was popped
+pub record Tracks (kept known : Known) : Type 0 where
+  pub same : kept ≡ shorter known
+  pub front : is_front known.handed known.popped ≡ true
 
--- what is kept of a watch by which each frame was handed up as it was popped
-pub record Tracks (k : Knows) (w : Watch) : Type 0 where
-  pub same : watch_of k ≡ shorter w
-  pub front : is_prefix w.handed w.popped ≡ true
+-- what is counted in a list of events
+abbrev pub counts_of : List Event → Counts
+counts_of events = record {
+  sends = lost_sends events;
+  samples = lost_samples events;
+  busy = count_by is_busy (all_answers events);
+  arrived = count_by is_arrival events;
+  received = count_by is_received (all_answers events);
+  taken = count_by is_taken events;
+  refused = count_by is_refused events;
+  lost = count_by is_lost_arrival events;
+  places = fold places_after no_places events;
+}
 
--- the monitor has seen these events of a part of this class with a disk of so many blocks; what it keeps of them is
--- told up to the first break
+-- the monitor has seen these events of a part of this class with a disk of so many blocks; what it keeps of them for
+-- the contract is told up to the first break
 pub record StandsFor (class : Class) (size : ℕ) (events : List Event) (m : Monitored) : Type 0 where
-  pub watch : m.broken ≡ None → Tracks m.knows (fold sees (first_watch class size) events)
-  pub counts : m.knows.counts ≡ fold count_event no_counts events
+  pub known : m.broken ≡ None → Tracks m.kept.known (fold after (known_first class size) events)
+  pub tallies : m.kept.tallies ≡ fold tallies_after [] events
+  pub counts : m.kept.counts ≡ counts_of events
   pub seen : m.seen ≡ length events
   pub broken : m.broken ≡ first_break class size events

@@ -1,110 +1,130 @@
 //! The acts of a burst.
 
-ghost use Rattle.std.specs.Prelude.{◌≡◌, slice_set, OnOk};
-ghost use Rattle.nook_defs.specs.Contract.{sees_acts};
-ghost use Rattle.nook_defs.specs.Losses.{count_acts};
-ghost use Rattle.contract_monitor.specs.Knowing.{saw_act, saw_played, saw_popped, saw_register, saw_sent, saw_store, watch_of};
+ghost use Rattle.std.specs.Prelude.{◌≡◌, fold, map, slice_set, IfOk, OnOk};
+ghost use Rattle.nook_defs.specs.Contract.{acts as acted, call_of, is_asked};
+ghost use Rattle.contract_monitor.specs.Judging.{act_broken, first_broken, register_broken, sent_broken, store_broken};
+ghost use Rattle.contract_monitor.specs.Keeping.{kept_act};
+ghost use Rattle.nook_defs.specs.declared.data.Act.{Act};
 
 use crate::blocks::set_block;
-use crate::calls::{Change, more};
-use crate::clauses::wanted;
+use crate::calls::{Change, change_calls, more, play_one};
+use crate::clauses::{smaller, unless};
 use crate::known::Known;
 use crate::watching::{
-    is_agreed, is_covered, is_first_frame, is_next_of, is_own_frame, is_replaying, is_setting,
-    playing, register,
+    had_frame, is_asked_for_other, is_asked_to_set, is_asked_to_store, is_next_sample,
+    is_replay_of, is_send_of, register,
 };
+use nook_defs::clause::Clause;
 use nook_defs::data::Act;
 use nook_defs::lists::{TryCopy, Words};
 use nook_defs::memory::NoMemory;
 
 impl Known {
-    /// The acts of a burst of a call.
-    pub fn see_acts(&mut self, call: u32, acts: &[Act]) -> Result<(), NoMemory>
-        ensures watch { OnOk result (watch_of self.new ≡ sees_acts call acts.now (watch_of self.old)) }
-        ensures counts { OnOk result (self.new.counts ≡ count_acts call acts.now self.old.counts) }
+    /// The acts of a burst of a call, and the smallest clause that they break.
+    pub fn see_acts(&mut self, call: u32, acts: &[Act]) -> Result<Option<Clause>, NoMemory>
+        ensures kept { OnOk result (self.new ≡ fold (kept_act call) self.old acts.now) }
+        ensures broken { IfOk result (λ clause. clause ≡ first_broken call self.old.known (map acted acts.now)) }
     {
+        let mut broken = None;
         for act in acts {
+            let clause = self.judge_act(call, act);
             self.see_act(call, act)?;
+            broken = smaller(broken, clause);
         }
-        Ok(())
+        Ok(broken)
+    }
+
+    /// The smallest clause that an act breaks, in a burst of a call.
+    fn judge_act(&self, call: u32, act: &Act) -> Option<Clause>
+        ensures { result ≡ act_broken self.now.known (call_of call self.now.known.calls) act.now }
+    {
+        match act {
+            Act::Store { block, words } => self.judge_store(u64::from(*block), words.as_slice()),
+            Act::Sent { frame } => self.judge_sent(call, frame.as_slice()),
+            Act::Played { sample, .. } => {
+                unless(is_next_sample(*sample, &self.calls), Clause::OtherSample)
+            }
+            Act::Register { key, value } => self.judge_register(*key, *value),
+            Act::Load { .. } | Act::Failed { .. } | Act::Popped { .. } => None,
+        }
+    }
+
+    /// A block is stored.
+    fn judge_store(&self, block: u64, words: &[u32]) -> Option<Clause>
+        ensures { result ≡ store_broken block words.now self.now.known }
+    {
+        if !is_asked_to_store(block, &self.calls) {
+            return Some(Clause::UnaskedStore);
+        }
+        if is_asked_for_other(block, words, &self.calls) {
+            return Some(Clause::OtherStore);
+        }
+        None
+    }
+
+    /// A frame is sent.
+    fn judge_sent(&self, call: u32, frame: &[u32]) -> Option<Clause>
+        ensures { result ≡ sent_broken frame.now (call_of call self.now.known.calls) }
+    {
+        if !is_send_of(frame, &self.calls, call) {
+            return Some(Clause::UnaskedFrame);
+        }
+        if had_frame(&self.calls, call) {
+            return Some(Clause::SecondFrame);
+        }
+        None
+    }
+
+    /// A register gets a value.
+    fn judge_register(&self, key: u32, value: u32) -> Option<Clause>
+        ensures { result ≡ register_broken key value self.now.known }
+    {
+        let may = register(&self.registers, key) == value || self.is_asked(key, value);
+        unless(may, Clause::UnaskedRegister)
+    }
+
+    /// Whether a Set or a ReplaySet that is Inside gives the register this value.
+    fn is_asked(&self, key: u32, value: u32) -> bool
+        ensures { result ≡ is_asked key value self.now.known }
+    {
+        is_asked_to_set(key, value, &self.calls) || is_replay_of(key, value, &self.replay)
     }
 
     /// One act of a burst of a call.
     fn see_act(&mut self, call: u32, act: &Act) -> Result<(), NoMemory>
-        ensures { OnOk result (self.new ≡ saw_act call act.now self.old) }
+        ensures { OnOk result (self.new ≡ kept_act call self.old act.now) }
     {
         match act {
             Act::Load { .. } => Ok(()),
             Act::Failed { block, .. } => {
-                self.calls
-                    .change(u64::from(call), Change::Failed { block: *block })
+                change_calls(&mut self.calls, call, Change::Failed { block: *block })
             }
-            Act::Store { block, words } => self.see_store(*block, words),
-            Act::Sent { frame } => self.see_sent(call, frame),
+            Act::Store { block, words } => {
+                set_block(&mut self.medium, *block, words.copy(self.alloc)?);
+                Ok(())
+            }
+            Act::Sent { .. } => change_calls(&mut self.calls, call, Change::Sent),
             Act::Popped { frame } => self.see_popped(frame),
-            Act::Played { sample, .. } => self.see_played(call, *sample),
+            Act::Played { .. } => {
+                play_one(&mut self.calls)?;
+                change_calls(&mut self.calls, call, Change::OwnPlayed)
+            }
             Act::Register { key, value } => {
-                self.see_register(*key, *value);
+                set_register(&mut self.registers, *key, *value);
                 Ok(())
             }
         }
     }
 
-    /// A block was written.
-    fn see_store(&mut self, block: u32, words: &Words) -> Result<(), NoMemory>
-        ensures { OnOk result (self.new ≡ saw_store block words.now self.old) }
-    {
-        let copy = words.copy(self.alloc)?;
-        let place = u64::from(block);
-        let agreed = is_agreed(place, words.as_slice(), &self.calls);
-        let covered = is_covered(place, &self.calls);
-        self.clause = wanted(covered, 1, wanted(agreed, 2, self.clause));
-        set_block(&mut self.medium, block, copy);
-        Ok(())
-    }
-
-    /// A frame was sent.
-    fn see_sent(&mut self, call: u32, frame: &Words) -> Result<(), NoMemory>
-        ensures { OnOk result (self.new ≡ saw_sent call frame.now self.old) }
-    {
-        let number = u64::from(call);
-        let own = is_own_frame(frame.as_slice(), &self.calls, number);
-        let first = is_first_frame(&self.calls, number);
-        self.clause = wanted(own, 5, wanted(first, 6, self.clause));
-        self.calls.change(number, Change::Sent)
-    }
-
     /// The driver took the ring's first frame.
     fn see_popped(&mut self, frame: &Words) -> Result<(), NoMemory>
-        ensures { OnOk result (self.new ≡ saw_popped frame.now self.old) }
+        ensures { OnOk result (self.new ≡ kept_act 0 self.old (Act.Popped frame.now)) }
     {
         let _first = self.ring.pop_front();
         self.pending.push_back(frame.copy(self.alloc)?)?;
         self.tally.popped = more(self.tally.popped, 1)?;
         self.tally.popped_since = more(self.tally.popped_since, 1)?;
         Ok(())
-    }
-
-    /// A sample was played.
-    fn see_played(&mut self, call: u32, sample: u32) -> Result<(), NoMemory>
-        ensures { OnOk result (self.new ≡ saw_played call sample self.old) }
-    {
-        let number = playing(&self.calls);
-        let next = is_next_of(sample, &self.calls, number);
-        self.clause = wanted(next, 10, self.clause);
-        self.calls.change(number, Change::Played)?;
-        self.calls.change(u64::from(call), Change::Counted)
-    }
-
-    /// A register got a value.
-    fn see_register(&mut self, key: u32, value: u32)
-        ensures { self.new ≡ saw_register key value self.old }
-    {
-        let may = register(&self.registers, key) == value
-            || is_setting(key, value, &self.calls)
-            || is_replaying(key, value, &self.replay);
-        self.clause = wanted(may, 12, self.clause);
-        set_register(&mut self.registers, key, value);
     }
 }
 

@@ -1,47 +1,64 @@
-//! Every call at the place of its number, with what the contract's monitor knows of it and what is counted of it.
+//! The calls that are open, in the order in which they were made, with what the contract and the losses know of them.
 
-ghost use Rattle.std.specs.Prelude.{◌≡◌, ◌+◌, ◌++◌, ◌∷◌, ◌==◌, [], ℕ, List, None, Some, true, false, MatchOption, length, map, OnOk, IfOk};
-ghost use Rattle.nook_defs.specs.Contract.{enters, leaves, failed_at, handed_one, played_one, sent_once, watched};
-ghost use Rattle.nook_defs.specs.Losses.{count_answered, count_played, count_sent, counted};
-ghost use Rattle.nook_defs.specs.Places.{at_number, change_number};
-ghost use Rattle.contract_monitor.specs.Calls.{IsPlaceOf, are_listed, counted_calls, counted_change, counted_of, is_listed, watched_calls, watched_change, watched_of};
+ghost use Rattle.std.specs.Prelude.{◌≡◌, ◌+◌, ◌<◌, ◌==◌, None, Some, MatchOption, OnOk, IfOk, map, filter, find, length, not, slice_get, if◌then◌else◌};
+ghost use Rattle.std.specs.List.{list_any};
+ghost use Rattle.nook_defs.specs.Contract.{call_of, change_first, is_answered_in, is_playing, leave_call, new_call, play_inside, played_more};
+ghost use Rattle.nook_defs.specs.Losses.{new_tally};
+ghost use Rattle.contract_monitor.specs.Calls.{open_calls, open_change, open_of, tally_calls, tally_change, tally_of};
 
 use crate::blocks::copy_queue;
-use nook_defs::data::Op;
+use nook_defs::data::{Answer, Op};
 use nook_defs::lists::TryCopy;
 use nook_defs::memory::NoMemory;
 use std::alloc::Global;
 use std::collections::VecDeque;
-use std::marker::Model;
 
-/// A call. `counted` are the samples that were played in its bursts, and `played` those that were its next ones.
+/// A call that is open. `played` are its next samples that were played while it was the first Play Inside, and
+/// `own_played` the samples that were played in its own bursts.
 #[derive(Drop)]
 pub struct Call {
+    pub number: u32,
     pub op: Op,
     pub inside: bool,
     pub sent: u64,
     pub played: u64,
+    pub own_played: u64,
     pub handed: bool,
     pub failed: VecDeque<u32>,
-    pub counted: u64,
-    pub answered: bool,
 }
 
 impl Call {
-    /// An equal call of its own.
-    fn copy(&self, alloc: Global) -> Result<Call, NoMemory>
-        ensures watched { IfOk result (λ made. watched_of made ≡ watched_of self.now) }
-        ensures counted { IfOk result (λ made. counted_of made ≡ counted_of self.now) }
+    /// A call that was made and was not entered yet.
+    pub fn new(alloc: Global, number: u32, op: &Op) -> Result<Call, NoMemory>
+        ensures opened { IfOk result (λ made. open_of made ≡ new_call number op.now) }
+        ensures tallied { IfOk result (λ made. tally_of made ≡ new_tally number op.now) }
     {
         Ok(Call {
+            number,
+            op: op.copy(alloc)?,
+            inside: false,
+            sent: 0,
+            played: 0,
+            own_played: 0,
+            handed: false,
+            failed: VecDeque::new(alloc),
+        })
+    }
+
+    /// An equal call of its own.
+    fn copy(&self, alloc: Global) -> Result<Call, NoMemory>
+        ensures opened { IfOk result (λ made. open_of made ≡ open_of self.now) }
+        ensures tallied { IfOk result (λ made. tally_of made ≡ tally_of self.now) }
+    {
+        Ok(Call {
+            number: self.number,
             op: self.op.copy(alloc)?,
             inside: self.inside,
             sent: self.sent,
             played: self.played,
+            own_played: self.own_played,
             handed: self.handed,
             failed: copy_queue(alloc, &self.failed)?,
-            counted: self.counted,
-            answered: self.answered,
         })
     }
 }
@@ -49,17 +66,16 @@ impl Call {
 /// What becomes of a call.
 #[derive(Clone, Copy)]
 pub enum Change {
+    /// A new attempt begins.
+    Entered,
     /// A frame was sent in one of its bursts.
     Sent,
-    /// Its next sample was played.
-    Played,
-    /// A frame was handed up.
+    /// A frame was handed up in one of its bursts.
     Handed,
     /// A command on the block failed.
     Failed { block: u32 },
     /// A sample was played in one of its bursts.
-    Counted,
-    Answered,
+    OwnPlayed,
 }
 
 /// A count and `by` more. A count that has no room in 64 bits is refused as memory is.
@@ -69,222 +85,155 @@ pub fn more(count: u64, by: u64) -> Result<u64, NoMemory>
     count.checked_add(by).ok_or(NoMemory)
 }
 
-/// The place in a list of `count` calls that a number stands for.
-fn place_of(number: u64, count: usize) -> Option<usize>
-    ensures { IsPlaceOf number count result }
+/// Equal calls of their own.
+pub fn copy_calls(alloc: Global, calls: &[Call]) -> Result<Vec<Call>, NoMemory>
+    ensures opened { IfOk result (λ made. map open_of made.items ≡ map open_of calls.now) }
+    ensures tallied { IfOk result (λ made. map tally_of made.items ≡ map tally_of calls.now) }
 {
-    if number == 0 || (count as u64) < number {
-        return None;
-    }
-    Some(number as usize - 1)
-}
-
-/// Every call at the place of its number, and the numbers of those that are Inside. Contracts see the calls.
-#[derive(Drop)]
-pub struct Calls {
-    all: Vec<Call>,
-    /// The number of each call that is Inside is among these.
-    open: Vec<u64>,
-}
-
-impl Model for Calls {
-    ghost use Rattle.std.specs.Prelude.{◌≡◌, List, map, true};
-    ghost use Rattle.contract_monitor.specs.Calls.{are_listed, watched_of};
-    ghost use Rattle.contract_monitor.specs.declared.calls.Call.{Call};
-
-    ghost Value = { List Call };
-
-    ghost view = { λ s. s.all.items };
-
-    ghost invariant = { λ s. are_listed 1 s.open.items (map watched_of s.all.items) ≡ true };
-}
-
-impl Calls {
-    /// No calls.
-    pub fn new(alloc: Global) -> Calls
-        ensures { result ≡ [] }
-    {
-        Calls {
-            all: Vec::new(alloc),
-            open: Vec::new(alloc),
-        }
-    }
-
-    /// Equal calls of their own.
-    pub fn copy(&self, alloc: Global) -> Result<Calls, NoMemory>
-        ensures watched { IfOk result (λ made. map watched_of made ≡ map watched_of self.now) }
-        ensures counted { IfOk result (λ made. map counted_of made ≡ map counted_of self.now) }
-    {
-        let mut all = Vec::with_capacity(alloc, self.all.len())?;
-        for call in &self.all {
-            all.push(call.copy(alloc)?)?;
-        }
-        Ok(Calls {
-            all,
-            open: copy_numbers(alloc, &self.open)?,
-        })
-    }
-
-    /// The call with a number.
-    pub fn find(&self, number: u64) -> Option<&Call>
-        ensures watched { MatchOption result (at_number number (map watched_of self.now) ≡ None) (λ c. at_number number (map watched_of self.now) ≡ Some (watched_of c.now)) }
-        ensures counted { MatchOption result (at_number number (map counted_of self.now) ≡ None) (λ c. at_number number (map counted_of self.now) ≡ Some (counted_of c.now)) }
-    {
-        let place = place_of(number, self.all.len())?;
-        Some(&self.all[place])
-    }
-
-    /// The numbers of the calls that are Inside, in no order; others may be among them.
-    pub fn open(&self) -> &[u64]
-        ensures { are_listed 1 result.now (map watched_of self.now) ≡ true }
-    {
-        self.open.as_slice()
-    }
-
-    /// Adds an invoked call.
-    pub fn add(&mut self, alloc: Global, op: &Op) -> Result<(), NoMemory>
-        ensures watched { OnOk result (map watched_of self.new ≡ map watched_of self.old ++ watched op.now ∷ []) }
-        ensures counted { OnOk result (map counted_of self.new ≡ map counted_of self.old ++ counted op.now ∷ []) }
-    {
-        self.all.push(Call {
-            op: op.copy(alloc)?,
-            inside: false,
-            sent: 0,
-            played: 0,
-            handed: false,
-            failed: VecDeque::new(alloc),
-            counted: 0,
-            answered: false,
-        })?;
-        Ok(())
-    }
-
-    /// The call with a number is entered, where there is one; `inside` tells that it got no answer.
-    pub fn enter(&mut self, number: u64, inside: bool) -> Result<(), NoMemory>
-        ensures watched { OnOk result (map watched_of self.new ≡ change_number (enters inside) number (map watched_of self.old)) }
-        ensures counted { OnOk result (map counted_of self.new ≡ map counted_of self.old) }
-    {
-        let Some(place) = place_of(number, self.all.len()) else {
-            return Ok(());
-        };
-        if inside {
-            self.open.push(number)?;
-            enter_one(&mut self.all[place], true);
-        } else {
-            enter_one(&mut self.all[place], false);
-            forget(&mut self.open, number);
-        }
-        Ok(())
-    }
-
-    /// The call with a number is Inside no more, where there is one.
-    pub fn leave(&mut self, number: u64)
-        ensures watched { map watched_of self.new ≡ change_number leaves number (map watched_of self.old) }
-        ensures counted { map counted_of self.new ≡ map counted_of self.old }
-    {
-        if let Some(place) = place_of(number, self.all.len()) {
-            leave_one(&mut self.all[place]);
-            forget(&mut self.open, number);
-        }
-    }
-
-    /// Changes the call with a number, where there is one.
-    pub fn change(&mut self, number: u64, change: Change) -> Result<(), NoMemory>
-        ensures watched { OnOk result (map watched_of self.new ≡ watched_calls change number (map watched_of self.old)) }
-        ensures counted { OnOk result (map counted_of self.new ≡ counted_calls change number (map counted_of self.old)) }
-    {
-        match place_of(number, self.all.len()) {
-            Some(place) => change_one(&mut self.all[place], change),
-            None => Ok(()),
-        }
-    }
-
-    /// No call is Inside any more.
-    pub fn leave_all(&mut self)
-        ensures watched { map watched_of self.new ≡ map leaves (map watched_of self.old) }
-        ensures counted { map counted_of self.new ≡ map counted_of self.old }
-    {
-        leave_listed(&mut self.all, &self.open);
-        self.open.clear();
-    }
-}
-
-/// An equal list of its own.
-fn copy_numbers(alloc: Global, numbers: &[u64]) -> Result<Vec<u64>, NoMemory>
-    ensures { IfOk result (λ made. made.items ≡ numbers.now) }
-{
-    let mut made = Vec::with_capacity(alloc, numbers.len())?;
-    for number in numbers {
-        made.push(*number)?;
+    let mut made = Vec::with_capacity(alloc, calls.len())?;
+    for call in calls {
+        made.push(call.copy(alloc)?)?;
     }
     Ok(made)
 }
 
-/// A call is entered.
-fn enter_one(call: &mut Call, inside: bool)
-    ensures watched { watched_of call.new ≡ enters inside (watched_of call.old) }
-    ensures counted { counted_of call.new ≡ counted_of call.old }
+/// The call with a number, where it is open.
+pub fn find_call(calls: &[Call], number: u32) -> Option<&Call>
+    ensures opened { MatchOption result (call_of number (map open_of calls.now) ≡ None) (λ c. call_of number (map open_of calls.now) ≡ Some (open_of c.now)) }
+    ensures tallied { MatchOption result (find (λ t. t.number == number) (map tally_of calls.now) ≡ None) (λ c. find (λ t. t.number == number) (map tally_of calls.now) ≡ Some (tally_of c.now)) }
 {
-    call.inside = inside;
-    call.handed = false;
-    call.failed.clear();
+    for call in calls {
+        if call.number == number {
+            return Some(call);
+        }
+    }
+    None
 }
 
-/// A call is Inside no more.
-fn leave_one(call: &mut Call)
-    ensures watched { watched_of call.new ≡ leaves (watched_of call.old) }
-    ensures counted { counted_of call.new ≡ counted_of call.old }
+/// Changes the call with a number, where it is open.
+pub fn change_calls(calls: &mut Vec<Call>, number: u32, change: Change) -> Result<(), NoMemory>
+    ensures opened { OnOk result (map open_of calls.new.items ≡ open_calls change number (map open_of calls.old.items)) }
+    ensures tallied { OnOk result (map tally_of calls.new.items ≡ tally_calls change number (map tally_of calls.old.items)) }
 {
-    call.inside = false;
-}
-
-/// Changes a call. It is Inside exactly where it was.
-fn change_one(call: &mut Call, change: Change) -> Result<(), NoMemory>
-    ensures watched { OnOk result (watched_of call.new ≡ watched_change change (watched_of call.old)) }
-    ensures counted { OnOk result (counted_of call.new ≡ counted_change change (counted_of call.old)) }
-    ensures inside { call.new.inside ≡ call.old.inside }
-{
-    match change {
-        Change::Sent => call.sent = more(call.sent, 1)?,
-        Change::Played => call.played = more(call.played, 1)?,
-        Change::Handed => call.handed = true,
-        Change::Failed { block } => call.failed.push_front(block)?,
-        Change::Counted => call.counted = more(call.counted, 1)?,
-        Change::Answered => call.answered = true,
+    for i in 0..calls.len() {
+        change_if(&mut calls[i], number, change)?;
     }
     Ok(())
 }
 
-/// Takes a number off a list; the others stay.
-fn forget(numbers: &mut Vec<u64>, number: u64)
-    ensures { (other : ℕ) → (number == other) ≡ false → is_listed other numbers.old.items ≡ true → is_listed other numbers.new.items ≡ true }
+/// Changes a call, if it has this number.
+fn change_if(call: &mut Call, number: u32, change: Change) -> Result<(), NoMemory>
+    ensures opened { OnOk result (open_of call.new ≡ (if call.old.number == number then open_change change (open_of call.old) else open_of call.old)) }
+    ensures tallied { OnOk result (tally_of call.new ≡ (if call.old.number == number then tally_change change (tally_of call.old) else tally_of call.old)) }
 {
-    for i in 0..numbers.len() {
-        if numbers[i] == number {
-            numbers.remove(i);
-            return;
+    if call.number == number {
+        change_one(call, change)?;
+    }
+    Ok(())
+}
+
+/// Changes a call.
+fn change_one(call: &mut Call, change: Change) -> Result<(), NoMemory>
+    ensures opened { OnOk result (open_of call.new ≡ open_change change (open_of call.old)) }
+    ensures tallied { OnOk result (tally_of call.new ≡ tally_change change (tally_of call.old)) }
+{
+    match change {
+        Change::Entered => {
+            call.inside = true;
+            call.handed = false;
+            call.failed.clear();
+        }
+        Change::Sent => call.sent = more(call.sent, 1)?,
+        Change::Handed => call.handed = true,
+        Change::Failed { block } => call.failed.push_front(block)?,
+        Change::OwnPlayed => call.own_played = more(call.own_played, 1)?,
+    }
+    Ok(())
+}
+
+/// No call is Inside any more.
+pub fn leave_calls(calls: &mut Vec<Call>)
+    ensures opened { map open_of calls.new.items ≡ map leave_call (map open_of calls.old.items) }
+    ensures tallied { map tally_of calls.new.items ≡ map tally_of calls.old.items }
+{
+    for i in 0..calls.len() {
+        leave_one(&mut calls[i]);
+    }
+}
+
+/// A call is Inside no more.
+fn leave_one(call: &mut Call)
+    ensures opened { open_of call.new ≡ leave_call (open_of call.old) }
+    ensures tallied { tally_of call.new ≡ tally_of call.old }
+{
+    call.inside = false;
+}
+
+/// Whether a call is a Play that is Inside.
+fn is_playing(call: &Call) -> bool
+    ensures { result ≡ is_playing (open_of call.now) }
+{
+    call.inside && matches!(call.op, Op::Play { .. })
+}
+
+/// The first Play that is Inside.
+pub fn find_playing(calls: &[Call]) -> Option<&Call>
+    ensures { MatchOption result (play_inside (map open_of calls.now) ≡ None) (λ c. play_inside (map open_of calls.now) ≡ Some (open_of c.now)) }
+{
+    for call in calls {
+        if is_playing(call) {
+            return Some(call);
         }
     }
+    None
 }
 
-/// The calls with these numbers are Inside no more.
-fn leave_listed(calls: &mut Vec<Call>, numbers: &[u64])
-    requires { are_listed 1 numbers.now (map watched_of calls.old.items) ≡ true }
-    ensures watched { map watched_of calls.new.items ≡ map leaves (map watched_of calls.old.items) }
-    ensures counted { map counted_of calls.new.items ≡ map counted_of calls.old.items }
+/// A sample more of the first Play that is Inside was played.
+pub fn play_one(calls: &mut Vec<Call>) -> Result<(), NoMemory>
+    ensures opened { OnOk result (map open_of calls.new.items ≡ change_first is_playing played_more (map open_of calls.old.items)) }
+    ensures tallied { OnOk result (map tally_of calls.new.items ≡ map tally_of calls.old.items) }
 {
-    for number in numbers {
-        leave_number(calls, *number);
+    for i in 0..calls.len() {
+        if is_playing(&calls[i]) {
+            return play_more(&mut calls[i]);
+        }
     }
+    Ok(())
 }
 
-/// The call with a number is Inside no more, where there is one.
-fn leave_number(calls: &mut Vec<Call>, number: u64)
-    ensures left { map leaves (map watched_of calls.new.items) ≡ map leaves (map watched_of calls.old.items) }
-    ensures counted { map counted_of calls.new.items ≡ map counted_of calls.old.items }
-    ensures listed { (others : List ℕ) → are_listed 1 (number ∷ others) (map watched_of calls.old.items) ≡ true → are_listed 1 others (map watched_of calls.new.items) ≡ true }
+/// A sample more of a Play was played.
+fn play_more(call: &mut Call) -> Result<(), NoMemory>
+    ensures opened { OnOk result (open_of call.new ≡ played_more (open_of call.old)) }
+    ensures tallied { OnOk result (tally_of call.new ≡ tally_of call.old) }
 {
-    if let Some(place) = place_of(number, calls.len()) {
-        leave_one(&mut calls[place]);
+    call.played = more(call.played, 1)?;
+    Ok(())
+}
+
+/// The call with a number is open no more.
+pub fn close_call(calls: &mut Vec<Call>, number: u32)
+    ensures opened { map open_of calls.new.items ≡ filter (λ c. not (number == c.number)) (map open_of calls.old.items) }
+    ensures tallied { map tally_of calls.new.items ≡ filter (λ t. not (number == t.number)) (map tally_of calls.old.items) }
+{
+    calls.retain(|call| number != call.number);
+}
+
+/// Whether the call with a number is among those that were answered.
+fn is_answered(answers: &[(u32, Answer)], number: u32) -> bool
+    ensures { result ≡ list_any (λ a. a.0 == number) answers.now }
+{
+    for answer in answers {
+        if answer.0 == number {
+            return true;
+        }
     }
+    false
+}
+
+/// Calls that are answered are open no more.
+pub fn close_calls(calls: &mut Vec<Call>, answers: &[(u32, Answer)])
+    ensures opened { map open_of calls.new.items ≡ filter (λ c. not (is_answered_in answers.now c)) (map open_of calls.old.items) }
+    ensures tallied { map tally_of calls.new.items ≡ filter (λ t. not (list_any (λ a. a.0 == t.number) answers.now)) (map tally_of calls.old.items) }
+{
+    calls.retain(|call| !is_answered(answers, call.number));
 }

@@ -1,17 +1,30 @@
 //! The smallest clause that is broken.
 
-ghost use Rattle.std.specs.Prelude.{◌≡◌, IfOk, MatchOption, map};
-ghost use Rattle.nook_defs.specs.Contract.{wanted};
+ghost use Rattle.std.specs.Prelude.{◌≡◌};
+ghost use Rattle.contract_monitor.specs.Judging.{smaller, unless};
 
-/// The smallest broken clause, where `clause` is kept exactly if `kept`.
-pub fn wanted(kept: bool, clause: u8, broken: Option<u8>) -> Option<u8>
-    ensures { result ≡ wanted kept clause broken }
+use nook_defs::clause::Clause;
+
+/// The clause, unless it is kept.
+pub fn unless(kept: bool, clause: Clause) -> Option<Clause>
+    ensures { result ≡ unless kept clause }
 {
-    if kept {
-        return broken;
-    }
-    match broken {
-        Some(other) => Some(clause.min(other)),
-        None => Some(clause),
+    if kept { None } else { Some(clause) }
+}
+
+/// The clause with the smaller number of those that are broken.
+pub fn smaller(broken: Option<Clause>, other: Option<Clause>) -> Option<Clause>
+    ensures { result ≡ smaller broken other }
+{
+    match (broken, other) {
+        (Some(first), Some(second)) => {
+            if second.number() < first.number() {
+                other
+            } else {
+                broken
+            }
+        }
+        (Some(_), None) => broken,
+        (None, _) => other,
     }
 }

@@ -1,12 +1,12 @@
 //! Calls that come and their answers, frames handed up, and arrivals.
 
-ghost use Rattle.std.specs.Prelude.{◌≡◌, true, Some, map, OnOk};
-ghost use Rattle.nook_defs.specs.Losses.{count_answer, count_answers, count_handed, count_option, handed_result, is_busy, is_done, is_frame, one_if, samples_of, sends_of};
-ghost use Rattle.nook_defs.specs.Places.{at_number};
-ghost use Rattle.contract_monitor.specs.Calls.{counted_of};
-ghost use Rattle.contract_monitor.specs.Knowing.{saw_arrival, saw_enter, saw_invoke, watch_of};
+ghost use Rattle.std.specs.Prelude.{◌≡◌, ◌∷◌, [], fold, map, OnOk};
+ghost use Rattle.nook_defs.specs.Answers.{one_answer};
+ghost use Rattle.nook_defs.specs.Losses.{handed_result, is_busy, is_done, is_received, lost_by, one_if};
+ghost use Rattle.contract_monitor.specs.Calls.{tally_of};
+ghost use Rattle.contract_monitor.specs.Keeping.{count_answer, count_handed, kept_answered, kept_arrival, kept_enter, kept_invoke, samples_lost, sends_lost, with_counts};
 
-use crate::calls::{Call, Calls, Change, more};
+use crate::calls::{Call, Change, change_calls, close_call, close_calls, find_call, more};
 use crate::known::Known;
 use nook_defs::data::{Answer, End, Op};
 use nook_defs::lists::{TryCopy, Words};
@@ -14,22 +14,23 @@ use nook_defs::memory::NoMemory;
 
 impl Known {
     /// A call is invoked.
-    pub fn add(&mut self, op: &Op) -> Result<(), NoMemory>
-        ensures { OnOk result (self.new ≡ saw_invoke op.now self.old) }
+    pub fn add(&mut self, call: u32, op: &Op) -> Result<(), NoMemory>
+        ensures { OnOk result (self.new ≡ kept_invoke call op.now self.old) }
     {
-        self.calls.add(self.alloc, op)
+        self.calls.push(Call::new(self.alloc, call, op)?)?;
+        Ok(())
     }
 
-    /// A call is entered; `inside` tells that it got no answer.
-    pub fn enter(&mut self, call: u32, inside: bool) -> Result<(), NoMemory>
-        ensures { OnOk result (self.new ≡ saw_enter call inside self.old) }
+    /// A call is entered.
+    pub fn enter(&mut self, call: u32) -> Result<(), NoMemory>
+        ensures { OnOk result (self.new ≡ kept_enter call self.old) }
     {
-        self.calls.enter(u64::from(call), inside)
+        change_calls(&mut self.calls, call, Change::Entered)
     }
 
     /// A frame arrived, and the ring kept it or had no room.
     pub fn see_arrival(&mut self, frame: &Words, kept: bool) -> Result<(), NoMemory>
-        ensures { OnOk result (self.new ≡ saw_arrival frame.now kept self.old) }
+        ensures { OnOk result (self.new ≡ kept_arrival frame.now kept self.old) }
     {
         self.tally.arrived = more(self.tally.arrived, 1)?;
         if kept {
@@ -43,8 +44,7 @@ impl Known {
 
     /// A burst ended, and may have handed a frame up.
     pub fn count_handed(&mut self, end: &End) -> Result<(), NoMemory>
-        ensures watch { OnOk result (watch_of self.new ≡ watch_of self.old) }
-        ensures counts { OnOk result (self.new.counts ≡ count_handed (handed_result end.now) self.old.counts) }
+        ensures { OnOk result (self.new ≡ with_counts (count_handed (handed_result end.now) self.old.counts) self.old) }
     {
         let Some(given) = handed_result(end) else {
             return Ok(());
@@ -58,10 +58,18 @@ impl Known {
         Ok(())
     }
 
-    /// Calls are answered.
-    pub fn count_answers(&mut self, answers: &[(u32, Answer)]) -> Result<(), NoMemory>
-        ensures watch { OnOk result (watch_of self.new ≡ watch_of self.old) }
-        ensures counts { OnOk result (self.new.counts ≡ count_answers answers.now self.old.counts) }
+    /// Calls are answered: they are counted, and open no more.
+    pub fn answer_all(&mut self, answers: &[(u32, Answer)]) -> Result<(), NoMemory>
+        ensures { OnOk result (self.new ≡ kept_answered answers.now self.old) }
+    {
+        self.count_answers(answers)?;
+        close_calls(&mut self.calls, answers);
+        Ok(())
+    }
+
+    /// Counts answers of calls that are open still.
+    fn count_answers(&mut self, answers: &[(u32, Answer)]) -> Result<(), NoMemory>
+        ensures { OnOk result (self.new ≡ with_counts (fold (count_answer self.old.tallies) self.old.counts answers.now) self.old) }
     {
         for answer in answers {
             self.count_answer(answer.0, &answer.1)?;
@@ -69,30 +77,36 @@ impl Known {
         Ok(())
     }
 
-    /// A call may be answered.
-    pub fn count_option(&mut self, call: u32, answer: &Option<Answer>) -> Result<(), NoMemory>
-        ensures watch { OnOk result (watch_of self.new ≡ watch_of self.old) }
-        ensures counts { OnOk result (self.new.counts ≡ count_option call answer.now self.old.counts) }
+    /// A call may be answered: then it is counted, and open no more.
+    pub fn answer_one(&mut self, call: u32, answer: &Option<Answer>) -> Result<(), NoMemory>
+        ensures { OnOk result (self.new ≡ kept_answered (one_answer call answer.now) self.old) }
     {
         match answer {
-            Some(answer) => self.count_answer(call, answer),
+            Some(answer) => self.answer_call(call, answer),
             None => Ok(()),
         }
     }
 
-    /// A call is answered.
-    fn count_answer(&mut self, call: u32, answer: &Answer) -> Result<(), NoMemory>
-        ensures watch { OnOk result (watch_of self.new ≡ watch_of self.old) }
-        ensures counts { OnOk result (self.new.counts ≡ count_answer call answer.now self.old.counts) }
+    /// A call is answered: it is counted, and open no more.
+    fn answer_call(&mut self, call: u32, answer: &Answer) -> Result<(), NoMemory>
+        ensures { OnOk result (self.new ≡ kept_answered ((call, answer.now) ∷ []) self.old) }
     {
-        let number = u64::from(call);
-        let sends = lost_sends(&self.calls, number, answer);
-        let samples = lost_samples(&self.calls, number, answer);
+        self.count_answer(call, answer)?;
+        close_call(&mut self.calls, call);
+        Ok(())
+    }
+
+    /// Counts the answer of a call that is open still.
+    fn count_answer(&mut self, call: u32, answer: &Answer) -> Result<(), NoMemory>
+        ensures { OnOk result (self.new ≡ with_counts (count_answer self.old.tallies self.old.counts (call, answer.now)) self.old) }
+    {
+        let sends = lost_sends(&self.calls, call, answer);
+        let samples = lost_samples(&self.calls, call, answer);
         self.tally.sends = more(self.tally.sends, sends)?;
         self.tally.samples = more(self.tally.samples, samples)?;
         self.tally.busy = more(self.tally.busy, busy_in(answer))?;
         self.tally.received = more(self.tally.received, frames_in(answer))?;
-        self.calls.change(number, Change::Answered)
+        Ok(())
     }
 }
 
@@ -105,7 +119,7 @@ fn is_done(answer: &Answer) -> bool
 
 /// 1 for an answer Busy.
 fn busy_in(answer: &Answer) -> u64
-    ensures { result ≡ one_if (is_busy answer.now) }
+    ensures { result ≡ one_if (is_busy (0, answer.now)) }
 {
     match answer {
         Answer::Busy { .. } => 1,
@@ -115,7 +129,7 @@ fn busy_in(answer: &Answer) -> u64
 
 /// 1 for an answer with a frame.
 fn frames_in(answer: &Answer) -> u64
-    ensures { result ≡ one_if (is_frame answer.now) }
+    ensures { result ≡ one_if (is_received (0, answer.now)) }
 {
     match answer {
         Answer::Frame(_) => 1,
@@ -123,54 +137,54 @@ fn frames_in(answer: &Answer) -> u64
     }
 }
 
-/// 1 where this is a Send's first answer, and Done, and no frame was sent.
-fn lost_sends(calls: &Calls, number: u64, answer: &Answer) -> u64
-    ensures { result ≡ sends_of (is_done answer.now) (at_number number (map counted_of calls.now)) }
+/// 1 where a Send is answered Done in which no frame was sent.
+fn lost_sends(calls: &[Call], number: u32, answer: &Answer) -> u64
+    ensures { result ≡ lost_by sends_lost (map tally_of calls.now) (number, answer.now) }
 {
-    if !is_done(answer) {
-        return 0;
-    }
-    match calls.find(number) {
-        Some(call) => sends_lost_by(call),
+    match find_call(calls, number) {
+        Some(call) => {
+            if is_done(answer) {
+                sends_lost_by(call)
+            } else {
+                0
+            }
+        }
         None => 0,
     }
 }
 
-/// What a Send loses that is answered Done now.
+/// What a Send loses that is answered Done.
 fn sends_lost_by(call: &Call) -> u64
-    ensures { result ≡ sends_of true (Some (counted_of call.now)) }
+    ensures { result ≡ sends_lost (tally_of call.now) }
 {
-    if call.answered || call.sent > 0 {
-        return 0;
-    }
     match &call.op {
-        Op::Send { .. } => 1,
+        Op::Send { .. } => u64::from(call.sent == 0),
         _ => 0,
     }
 }
 
-/// Where this is a Play's first answer, and Done, the samples that were not played.
-fn lost_samples(calls: &Calls, number: u64, answer: &Answer) -> u64
-    ensures { result ≡ samples_of (is_done answer.now) (at_number number (map counted_of calls.now)) }
+/// Where a Play is answered Done, its samples that were not played.
+fn lost_samples(calls: &[Call], number: u32, answer: &Answer) -> u64
+    ensures { result ≡ lost_by samples_lost (map tally_of calls.now) (number, answer.now) }
 {
-    if !is_done(answer) {
-        return 0;
-    }
-    match calls.find(number) {
-        Some(call) => samples_lost_by(call),
+    match find_call(calls, number) {
+        Some(call) => {
+            if is_done(answer) {
+                samples_lost_by(call)
+            } else {
+                0
+            }
+        }
         None => 0,
     }
 }
 
-/// What a Play loses that is answered Done now.
+/// What a Play loses that is answered Done.
 fn samples_lost_by(call: &Call) -> u64
-    ensures { result ≡ samples_of true (Some (counted_of call.now)) }
+    ensures { result ≡ samples_lost (tally_of call.now) }
 {
-    if call.answered {
-        return 0;
-    }
     match &call.op {
-        Op::Play { samples } => (samples.len() as u64).saturating_sub(call.counted),
+        Op::Play { samples } => (samples.len() as u64).saturating_sub(call.own_played),
         _ => 0,
     }
 }

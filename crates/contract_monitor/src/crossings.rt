@@ -1,38 +1,55 @@
 //! The crossings of bursts, and the stages.
 
-ghost use Rattle.std.specs.Prelude.{◌≡◌, true, OnOk, IfOk, if◌then◌else◌};
-ghost use Rattle.nook_defs.specs.Contract.{Watched, owes, owes_found, sees_crossing, sees_reply, sees_service, sees_stage, wanted};
+ghost use Rattle.std.specs.Prelude.{◌≡◌, ◌∷◌, [], fold, None, true, OnOk, IfOk, if◌then◌else◌};
 ghost use Rattle.nook_defs.specs.Classes.{is_write};
-ghost use Rattle.nook_defs.specs.Losses.{count_stage, is_done};
-ghost use Rattle.nook_defs.specs.Places.{at_number};
-ghost use Rattle.contract_monitor.specs.Calls.{watched_of};
-ghost use Rattle.contract_monitor.specs.Knowing.{kept, watch_of};
+ghost use Rattle.nook_defs.specs.Contract.{OpenCall, call_of, crossing_deeds, hands_up};
+ghost use Rattle.nook_defs.specs.Losses.{is_done};
+ghost use Rattle.contract_monitor.specs.Calls.{open_of};
+ghost use Rattle.contract_monitor.specs.Judging.{first_broken, reply_broken, reply_broken_of, reply_deeds, unless};
+ghost use Rattle.contract_monitor.specs.Keeping.{kept_crossing, kept_deed, kept_stage, with_known};
 
 use crate::blocks::{get_blocks, has_block, holds};
-use crate::calls::{Call, Change, more};
-use crate::clauses::wanted;
+use crate::calls::{Call, Change, change_calls, find_call, leave_calls, more};
+use crate::clauses::unless;
 use crate::known::{Known, in_driver, in_ring};
-use crate::watching::{hands_up, is_replayed, register};
+use crate::watching::{is_replayed, register};
+use nook_defs::clause::Clause;
 use class_table::defaults_of;
 use nook_defs::data::{Answer, End, FailCause, Op, Stage};
 use nook_defs::lists::{TryCopy, Words};
 use nook_defs::memory::NoMemory;
 
 impl Known {
-    /// The crossing of a burst.
+    /// The crossing of a burst, and the smallest clause that it breaks.
     pub fn see_crossing(
         &mut self,
         call: u32,
         end: &End,
         answer: &Option<Answer>,
         failure: &Option<FailCause>,
-    ) -> Result<(), NoMemory>
-        ensures { OnOk result (self.new ≡ kept (sees_crossing call end.now answer.now failure.now (watch_of self.old)) self.old.counts) }
+    ) -> Result<Option<Clause>, NoMemory>
+        ensures kept { OnOk result (self.new ≡ kept_crossing call end.now answer.now failure.now self.old) }
+        ensures broken { IfOk result (λ clause. clause ≡ first_broken call self.old.known (crossing_deeds end.now answer.now failure.now)) }
     {
+        let broken = self.see_end(call, end, answer, failure)?;
+        self.count_handed(end)?;
         if failure.is_some() {
             self.replay = None;
-            return Ok(());
         }
+        Ok(broken)
+    }
+
+    /// What a crossing does, but that a failure ends the ReplaySet.
+    fn see_end(
+        &mut self,
+        call: u32,
+        end: &End,
+        answer: &Option<Answer>,
+        failure: &Option<FailCause>,
+    ) -> Result<Option<Clause>, NoMemory>
+        ensures kept { OnOk result (self.new ≡ with_known (fold (kept_deed call) self.old.known (crossing_deeds end.now answer.now failure.now)) self.old) }
+        ensures broken { IfOk result (λ clause. clause ≡ first_broken call self.old.known (crossing_deeds end.now answer.now failure.now)) }
+    {
         match end {
             End::Service {
                 service,
@@ -40,140 +57,144 @@ impl Known {
                 moved,
                 ..
             } => {
-                if hands_up(*service, *given) {
+                if *service == 6 && given.is_some() {
                     self.see_handed(call, moved)
                 } else {
-                    Ok(())
+                    Ok(None)
                 }
             }
-            End::Reply { .. } => self.see_reply(call, answer),
-            End::Pause | End::Trap => Ok(()),
+            End::Reply { .. } => {
+                if failure.is_some() {
+                    Ok(None)
+                } else {
+                    self.see_reply(call, answer)
+                }
+            }
+            End::Pause | End::Trap => Ok(None),
         }
     }
 
-    /// A frame was handed up.
-    fn see_handed(&mut self, call: u32, moved: &Words) -> Result<(), NoMemory>
-        ensures { OnOk result (self.new ≡ kept (sees_service true call moved.now (watch_of self.old)) self.old.counts) }
+    /// A frame is handed up.
+    fn see_handed(&mut self, call: u32, moved: &Words) -> Result<Option<Clause>, NoMemory>
+        ensures kept { OnOk result (self.new ≡ with_known (kept_deed call self.old.known (hands_up moved.now)) self.old) }
+        ensures broken { IfOk result (λ clause. clause ≡ first_broken call self.old.known (hands_up moved.now ∷ [])) }
     {
         let due = match self.pending.pop_front() {
             Some(frame) => moved.as_slice() == frame.as_slice(),
             None => false,
         };
-        self.clause = wanted(due, 8, self.clause);
-        self.calls.change(u64::from(call), Change::Handed)
+        change_calls(&mut self.calls, call, Change::Handed)?;
+        Ok(unless(due, Clause::OutOfOrder))
     }
 
-    /// A reply was accepted.
-    fn see_reply(&mut self, call: u32, answer: &Option<Answer>) -> Result<(), NoMemory>
-        ensures { OnOk result (self.new ≡ kept (sees_reply call answer.now (watch_of self.old)) self.old.counts) }
+    /// A reply is accepted.
+    fn see_reply(
+        &mut self,
+        call: u32,
+        answer: &Option<Answer>,
+    ) -> Result<Option<Clause>, NoMemory>
+        ensures kept { OnOk result (self.new ≡ with_known (fold (kept_deed call) self.old.known (reply_deeds answer.now)) self.old) }
+        ensures broken { IfOk result (λ clause. clause ≡ first_broken call self.old.known (reply_deeds answer.now)) }
     {
         match answer {
-            Some(answer) => {
-                self.clause = self.owed(call, answer)?;
-                self.calls.leave(u64::from(call));
-                Ok(())
-            }
+            Some(answer) => self.judge_reply(call, answer),
             None => {
                 let replayed = is_replayed(&self.replay, &self.registers);
-                self.clause = wanted(replayed, 13, self.clause);
                 self.replay = None;
-                Ok(())
+                Ok(unless(replayed, Clause::UnmadeSet))
             }
         }
     }
 
-    /// The smallest broken clause at a call's answer.
-    fn owed(&self, call: u32, answer: &Answer) -> Result<Option<u8>, NoMemory>
-        ensures { IfOk result (λ clause. clause ≡ owes_found (at_number call self.now.calls) answer.now (watch_of self.now)) }
+    /// The smallest clause that is broken by a call's answer.
+    fn judge_reply(&self, call: u32, answer: &Answer) -> Result<Option<Clause>, NoMemory>
+        ensures { IfOk result (λ clause. clause ≡ reply_broken_of self.now.known (call_of call self.now.known.calls) answer.now) }
     {
-        match self.calls.find(u64::from(call)) {
-            Some(call) => self.owes(call, answer),
-            None => Ok(self.clause),
+        match find_call(&self.calls, call) {
+            Some(call) => self.judge_answer(call, answer),
+            None => Ok(None),
         }
     }
 
-    /// The smallest broken clause at the answer of this call.
-    fn owes(&self, call: &Call, answer: &Answer) -> Result<Option<u8>, NoMemory>
-        ensures { IfOk result (λ clause. clause ≡ owes (watched_of call.now) call.now.op answer.now (watch_of self.now)) }
+    /// The smallest clause that is broken by the answer of this call.
+    fn judge_answer(&self, call: &Call, answer: &Answer) -> Result<Option<Clause>, NoMemory>
+        ensures { IfOk result (λ clause. clause ≡ reply_broken self.now.known (open_of call.now) call.now.op answer.now) }
     {
         match &call.op {
-            Op::Read { first, count } => self.owes_read(call, *first, *count, answer),
-            Op::Write { .. } => Ok(self.owes_write(call, answer)),
-            Op::Send { .. } => Ok(self.owes_done(call.sent > 0, 7, answer)),
-            Op::Recv => Ok(wanted(self.ring.is_empty() || call.handed, 9, self.clause)),
+            Op::Read { first, count } => self.judge_read(call, *first, *count, answer),
+            Op::Write { .. } => Ok(self.judge_write(call, answer)),
+            Op::Send { .. } => Ok(judge_done(call.sent > 0, Clause::UnsentSend, answer)),
+            Op::Recv => {
+                let kept = self.ring.is_empty() || call.handed;
+                Ok(unless(kept, Clause::LeftInRing))
+            }
             Op::Play { samples } => {
-                Ok(self.owes_done(call.played == samples.len() as u64, 11, answer))
+                let kept = call.played == samples.len() as u64;
+                Ok(judge_done(kept, Clause::UnplayedPlay, answer))
             }
             Op::Set { key, value } => {
-                Ok(self.owes_done(register(&self.registers, *key) == *value, 13, answer))
+                let kept = register(&self.registers, *key) == *value;
+                Ok(judge_done(kept, Clause::UnmadeSet, answer))
             }
-            Op::Get { key } => Ok(self.owes_value(*key, answer)),
-            Op::Open | Op::Close => Ok(self.clause),
+            Op::Get { key } => Ok(self.judge_get(*key, answer)),
+            Op::Open | Op::Close => Ok(None),
         }
     }
 
     /// A Read's answer: the words of its blocks, or a block on which a command failed.
-    fn owes_read(
+    fn judge_read(
         &self,
         call: &Call,
         first: u32,
         count: u32,
         answer: &Answer,
-    ) -> Result<Option<u8>, NoMemory>
-        ensures { IfOk result (λ clause. clause ≡ owes (watched_of call.now) (Op.Read first count) answer.now (watch_of self.now)) }
+    ) -> Result<Option<Clause>, NoMemory>
+        ensures { IfOk result (λ clause. clause ≡ reply_broken self.now.known (open_of call.now) (Op.Read first count) answer.now) }
     {
         match answer {
             Answer::Blocks(words) => {
                 let own = get_blocks(self.alloc, &self.medium, first, count)?;
-                Ok(wanted(words.as_slice() == own.as_slice(), 4, self.clause))
+                Ok(unless(words.as_slice() == own.as_slice(), Clause::OtherRead))
             }
             Answer::IoError { block } => {
-                Ok(wanted(has_block(*block, &call.failed), 15, self.clause))
+                Ok(unless(has_block(*block, &call.failed), Clause::UnseenFailure))
             }
-            _ => Ok(self.clause),
+            _ => Ok(None),
         }
     }
 
     /// A Write's answer: its blocks have its words, or a command failed on the block.
-    fn owes_write(&self, call: &Call, answer: &Answer) -> Option<u8>
+    fn judge_write(&self, call: &Call, answer: &Answer) -> Option<Clause>
         requires { is_write call.now.op ≡ true }
-        ensures { result ≡ owes (watched_of call.now) call.now.op answer.now (watch_of self.now) }
+        ensures { result ≡ reply_broken self.now.known (open_of call.now) call.now.op answer.now }
     {
         match answer {
-            Answer::Done => wanted(holds(&call.op, &self.medium), 3, self.clause),
-            Answer::IoError { block } => wanted(has_block(*block, &call.failed), 15, self.clause),
-            _ => self.clause,
-        }
-    }
-
-    /// What an answer Done owes.
-    fn owes_done(&self, kept: bool, clause: u8, answer: &Answer) -> Option<u8>
-        ensures { result ≡ (if is_done answer.now then wanted kept clause self.now.clause else self.now.clause) }
-    {
-        match answer {
-            Answer::Done => wanted(kept, clause, self.clause),
-            _ => self.clause,
+            Answer::Done => unless(holds(&call.op, &self.medium), Clause::UnstoredWrite),
+            Answer::IoError { block } => {
+                unless(has_block(*block, &call.failed), Clause::UnseenFailure)
+            }
+            _ => None,
         }
     }
 
     /// A Get's answer: the register's value.
-    fn owes_value(&self, key: u32, answer: &Answer) -> Option<u8>
-        ensures { (c : Watched) → result ≡ owes c (Op.Get key) answer.now (watch_of self.now) }
+    fn judge_get(&self, key: u32, answer: &Answer) -> Option<Clause>
+        ensures { (c : OpenCall) → result ≡ reply_broken self.now.known c (Op.Get key) answer.now }
     {
         match answer {
             Answer::Value(word) => {
-                wanted(register(&self.registers, key) == *word, 14, self.clause)
+                unless(register(&self.registers, key) == *word, Clause::OtherGet)
             }
-            _ => self.clause,
+            _ => None,
         }
     }
 
     /// A stage of the boot or of a recovery.
     pub fn see_stage(&mut self, stage: Stage) -> Result<(), NoMemory>
-        ensures { OnOk result (self.new ≡ kept (sees_stage stage (watch_of self.old)) (count_stage stage self.old.counts)) }
+        ensures { OnOk result (self.new ≡ kept_stage stage self.old) }
     {
         match stage {
-            Stage::Stop => self.calls.leave_all(),
+            Stage::Stop => leave_calls(&mut self.calls),
             Stage::Reset => self.see_reset()?,
             Stage::Load => self.pending.clear(),
             Stage::ReplaySet { key, value } => self.replay = Some((key, value)),
@@ -184,7 +205,7 @@ impl Known {
 
     /// The device was reset.
     fn see_reset(&mut self) -> Result<(), NoMemory>
-        ensures { OnOk result (self.new ≡ kept (sees_stage Stage.Reset (watch_of self.old)) (count_stage Stage.Reset self.old.counts)) }
+        ensures { OnOk result (self.new ≡ kept_stage Stage.Reset self.old) }
     {
         let ring = in_ring(&self.tally);
         let driver = in_driver(&self.tally);
@@ -195,5 +216,15 @@ impl Known {
         self.ring.clear();
         self.registers = defaults_of(self.class);
         Ok(())
+    }
+}
+
+/// What an answer Done breaks, unless the clause is kept.
+fn judge_done(kept: bool, clause: Clause, answer: &Answer) -> Option<Clause>
+    ensures { result ≡ (if is_done answer.now then unless kept clause else None) }
+{
+    match answer {
+        Answer::Done => unless(kept, clause),
+        _ => None,
     }
 }

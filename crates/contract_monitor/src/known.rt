@@ -1,20 +1,24 @@
 //! What is known of a part after some of its events.
 
 ghost use Rattle.std.specs.Prelude.{◌≡◌, ◌-◌, IfOk, OnOk};
-ghost use Rattle.nook_defs.specs.Losses.{told};
-ghost use Rattle.contract_monitor.specs.Knowing.{knows_first, saw_event};
+ghost use Rattle.nook_defs.specs.Contract.{deeds_of};
+ghost use Rattle.contract_monitor.specs.Judging.{event_broken, first_broken};
+ghost use Rattle.contract_monitor.specs.Keeping.{kept_after, kept_burst, kept_first, told};
 
 use crate::blocks::{blank_blocks, copy_blocks, copy_queue};
-use crate::calls::Calls;
+use crate::calls::{Call, copy_calls};
+use crate::clauses::smaller;
+use nook_defs::clause::Clause;
 use class_table::defaults_of;
-use nook_defs::data::{Class, Event, Losses};
+use nook_defs::data::{Act, Answer, Class, End, Event, FailCause, Losses};
 use nook_defs::lists::{TryCopy, Words};
 use nook_defs::memory::NoMemory;
 use std::alloc::Global;
 use std::collections::VecDeque;
 use std::marker::Model;
 
-/// The counts beside those of each call.
+/// The counts beside those of each call. `kept`, `popped` and `cleared` are frames that the ring took, that the driver
+/// took from it and that Resets cleared; `popped_since` and `handed_since` count from the last Reset on.
 #[derive(Clone, Copy)]
 pub struct Tally {
     pub sends: u64,
@@ -34,8 +38,8 @@ pub struct Tally {
 }
 
 /// The medium, ring and registers as the events leave them, the frames popped since the last Load that were not handed
-/// up, the calls, and the counts. Contracts see what is kept of what the definitions of the contract and of the losses
-/// know.
+/// up, the calls that are open, and the counts. Contracts see what is kept of what the definitions of the contract and
+/// of the losses know.
 #[derive(Drop)]
 pub struct Known {
     pub alloc: Global,
@@ -43,32 +47,33 @@ pub struct Known {
     pub medium: Vec<Words>,
     pub ring: VecDeque<Words>,
     pub registers: [u32; 4],
-    /// The frames popped since the last Load, behind as many as were handed up.
+    /// The frames popped since the last Load, after as many as were handed up.
     pub pending: VecDeque<Words>,
-    pub calls: Calls,
+    pub calls: Vec<Call>,
     pub replay: Option<(u32, u32)>,
-    pub clause: Option<u8>,
     pub tally: Tally,
 }
 
 impl Model for Known {
-    ghost use Rattle.std.specs.Prelude.{map};
-    ghost use Rattle.contract_monitor.specs.Calls.{counted_of, watched_of};
-    ghost use Rattle.contract_monitor.specs.Knowing.{Knows};
+    ghost use Rattle.std.specs.Prelude.{[], map};
+    ghost use Rattle.contract_monitor.specs.Calls.{open_of, tally_of};
+    ghost use Rattle.contract_monitor.specs.Keeping.{Kept};
 
-    ghost Value = { Knows };
+    ghost Value = { Kept };
 
     ghost view = { λ s. record {
-      class = s.class;
-      medium = s.medium.items;
-      ring = s.ring.items;
-      registers = s.registers;
-      pending = s.pending.items;
-      calls = map watched_of s.calls;
-      replay = s.replay;
-      clause = s.clause;
+      known = record {
+        class = s.class;
+        medium = s.medium.items;
+        ring = s.ring.items;
+        registers = s.registers;
+        popped = s.pending.items;
+        handed = [];
+        calls = map open_of s.calls.items;
+        replay = s.replay;
+      };
+      tallies = map tally_of s.calls.items;
       counts = record {
-        calls = map counted_of s.calls;
         sends = s.tally.sends;
         samples = s.tally.samples;
         busy = s.tally.busy;
@@ -76,13 +81,15 @@ impl Model for Known {
         received = s.tally.received;
         taken = s.tally.taken;
         refused = s.tally.refused;
-        kept = s.tally.kept;
         lost = s.tally.lost;
-        popped = s.tally.popped;
-        cleared = s.tally.cleared;
-        popped_since = s.tally.popped_since;
-        handed_since = s.tally.handed_since;
-        reset = s.tally.reset;
+        places = record {
+          kept = s.tally.kept;
+          popped = s.tally.popped;
+          cleared = s.tally.cleared;
+          popped_since = s.tally.popped_since;
+          handed_since = s.tally.handed_since;
+          reset = s.tally.reset;
+        };
       };
     } };
 }
@@ -90,7 +97,7 @@ impl Model for Known {
 impl Known {
     /// What is known before the first event, of a disk with so many blocks.
     pub fn new(alloc: Global, class: Class, blocks: u32) -> Result<Known, NoMemory>
-        ensures { IfOk result (λ known. known ≡ knows_first class blocks) }
+        ensures { IfOk result (λ known. known ≡ kept_first class blocks) }
     {
         Ok(Known {
             alloc,
@@ -99,9 +106,8 @@ impl Known {
             ring: VecDeque::new(alloc),
             registers: defaults_of(class),
             pending: VecDeque::new(alloc),
-            calls: Calls::new(alloc),
+            calls: Vec::new(alloc),
             replay: None,
-            clause: None,
             tally: Tally {
                 sends: 0,
                 samples: 0,
@@ -119,13 +125,6 @@ impl Known {
                 reset: 0,
             },
         })
-    }
-
-    /// The smallest clause that was broken.
-    pub fn clause(&self) -> Option<u8>
-        ensures { result ≡ self.now.clause }
-    {
-        self.clause
     }
 
     /// The numbers of losses and frames.
@@ -148,9 +147,10 @@ impl Known {
         }
     }
 
-    /// One event more.
-    pub fn see(&mut self, event: &Event) -> Result<(), NoMemory>
-        ensures { OnOk result (self.new ≡ saw_event event.now self.old) }
+    /// One event more, and the smallest clause that it breaks.
+    pub fn see(&mut self, event: &Event) -> Result<Option<Clause>, NoMemory>
+        ensures kept { OnOk result (self.new ≡ kept_after self.old event.now) }
+        ensures broken { IfOk result (λ clause. clause ≡ event_broken self.old.known event.now) }
     {
         match event {
             Event::Invoke {
@@ -159,12 +159,14 @@ impl Known {
                 answer,
                 ..
             } => {
-                self.add(op)?;
-                self.count_option(*call, answer)
+                self.add(*call, op)?;
+                self.answer_one(*call, answer)?;
+                Ok(None)
             }
             Event::Enter { call, answer, .. } => {
-                self.enter(*call, answer.is_none())?;
-                self.count_option(*call, answer)
+                self.enter(*call)?;
+                self.answer_one(*call, answer)?;
+                Ok(None)
             }
             Event::Burst {
                 call,
@@ -174,17 +176,37 @@ impl Known {
                 failure,
                 ..
             } => {
-                self.see_acts(*call, acts.as_slice())?;
-                self.see_crossing(*call, end, answer, failure)?;
-                self.count_handed(end)?;
-                self.count_option(*call, answer)
+                let broken = self.see_burst(*call, acts.as_slice(), end, answer, failure)?;
+                self.answer_one(*call, answer)?;
+                Ok(broken)
             }
             Event::Stage { stage, answers, .. } => {
                 self.see_stage(*stage)?;
-                self.count_answers(answers.as_slice())
+                self.answer_all(answers.as_slice())?;
+                Ok(None)
             }
-            Event::Arrive { frame, kept } => self.see_arrival(frame, *kept),
+            Event::Arrive { frame, kept } => {
+                self.see_arrival(frame, *kept)?;
+                Ok(None)
+            }
         }
+    }
+
+    /// A burst of a call, and the smallest clause that it breaks; the call is open still.
+    fn see_burst(
+        &mut self,
+        call: u32,
+        acts: &[Act],
+        end: &End,
+        answer: &Option<Answer>,
+        failure: &Option<FailCause>,
+    ) -> Result<Option<Clause>, NoMemory>
+        ensures kept { OnOk result (self.new ≡ kept_burst call acts.now end.now answer.now failure.now self.old) }
+        ensures broken { IfOk result (λ clause. clause ≡ first_broken call self.old.known (deeds_of acts.now end.now answer.now failure.now)) }
+    {
+        let at_acts = self.see_acts(call, acts)?;
+        let at_crossing = self.see_crossing(call, end, answer, failure)?;
+        Ok(smaller(at_acts, at_crossing))
     }
 }
 
@@ -197,9 +219,8 @@ impl TryCopy for Known {
             ring: copy_queue(alloc, &self.ring)?,
             registers: self.registers,
             pending: copy_queue(alloc, &self.pending)?,
-            calls: self.calls.copy(alloc)?,
+            calls: copy_calls(alloc, &self.calls)?,
             replay: self.replay,
-            clause: self.clause,
             tally: self.tally,
         })
     }

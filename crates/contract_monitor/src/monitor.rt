@@ -5,12 +5,13 @@ ghost use Rattle.std.specs.Option.{ForSome};
 ghost use Rattle.nook_defs.specs.declared.data.Class.{Class};
 ghost use Rattle.nook_defs.specs.declared.data.Event.{Event};
 ghost use Rattle.nook_defs.specs.Contract.{first_break};
-ghost use Rattle.nook_defs.specs.Losses.{losses, told};
-ghost use Rattle.contract_monitor.specs.Knowing.{saw_event};
+ghost use Rattle.nook_defs.specs.Losses.{losses};
+ghost use Rattle.contract_monitor.specs.Keeping.{kept_after, told};
 ghost use Rattle.contract_monitor.specs.Monitors.{StandsFor, after_event, break_of, or_break};
 
 use crate::calls::more;
 use crate::known::Known;
+use nook_defs::clause::Clause;
 use nook_defs::data::{Break, Class, Event, Losses};
 use nook_defs::lists::TryCopy;
 use nook_defs::memory::NoMemory;
@@ -35,7 +36,7 @@ impl Model for Monitor {
 
     ghost Value = { Monitored };
 
-    ghost view = { λ s. record { knows = s.known; seen = s.seen; broken = s.broken } };
+    ghost view = { λ s. record { kept = s.known; seen = s.seen; broken = s.broken } };
 
     ghost invariant = { λ s. IfSome s.spare (λ same. same ≡ s.known) };
 }
@@ -77,9 +78,9 @@ impl Monitor {
     {
         let seen = more(self.seen, 1)?;
         self.spare = None;
-        self.known.see(event)?;
+        let clause = self.known.see(event)?;
         self.seen = seen;
-        self.broken = or_break(self.broken, seen, self.known.clause());
+        self.broken = or_break(self.broken, seen, clause);
         Ok(())
     }
 
@@ -92,9 +93,9 @@ impl Monitor {
     {
         let seen = more(self.seen, 1)?;
         let mut next = same_again(&self.known, self.spare.take())?;
-        next.see(event)?;
+        let clause = next.see(event)?;
         self.seen = seen;
-        self.broken = or_break(self.broken, seen, next.clause());
+        self.broken = or_break(self.broken, seen, clause);
         let before = mem::replace(&mut self.known, next);
         self.spare = caught_up(before, event);
         Ok(())
@@ -110,7 +111,7 @@ impl Monitor {
 
     /// What was lost, and where frames went.
     pub fn losses(&self) -> Losses
-        ensures value { result ≡ told self.now.knows.counts }
+        ensures value { result ≡ told self.now.kept.counts }
         ensures stands { (class : Class) (size : ℕ) (events : List Event) → StandsFor class size events self.now → result ≡ losses events }
     {
         self.known.losses()
@@ -137,24 +138,24 @@ fn same_again(known: &Known, spare: Option<Known>) -> Result<Known, NoMemory>
 
 /// What is known with this event too; none where memory was wanting.
 fn caught_up(before: Known, event: &Event) -> Option<Known>
-    ensures { IfSome result (λ known. known ≡ saw_event event.now before) }
+    ensures { IfSome result (λ known. known ≡ kept_after before event.now) }
 {
     let mut known = before;
     match known.see(event) {
-        Ok(()) => Some(known),
+        Ok(_) => Some(known),
         Err(NoMemory) => None,
     }
 }
 
 /// The first break, where event number `event` may be it.
-fn or_break(broken: Option<Break>, event: u64, clause: Option<u8>) -> Option<Break>
+fn or_break(broken: Option<Break>, event: u64, clause: Option<Clause>) -> Option<Break>
     ensures { result ≡ or_break broken (break_of event clause) }
 {
     if broken.is_some() {
         return broken;
     }
     match clause {
-        Some(clause) => Some(Break { event, clause }),
+        Some(clause) => Some(Break { event, clause: clause.number() }),
         None => None,
     }
 }

@@ -198,6 +198,39 @@ fn write_beyond_a_stop(alloc: Global) -> Result<Vec<Event>, Fail> {
     ]?)
 }
 
+/// A Write that is answered when it is entered, and stores nevertheless.
+fn write_after_its_answer(alloc: Global) -> Result<Vec<Event>, Fail> {
+    let op = Op::Write {
+        first: 1,
+        words: words(alloc, 16, 7)?,
+    };
+    let store = Act::Store {
+        block: 1,
+        words: words(alloc, 16, 7)?,
+    };
+    let refused = Event::Enter {
+        call: 1,
+        thread: 0,
+        attempt: 1,
+        answer: Some(Answer::Busy { stage: Stage::Stop }),
+    };
+    Ok(vec![in alloc;
+        invoke(1, op),
+        refused,
+        burst(alloc, 1, Some(store), End::Pause, None)?,
+    ]?)
+}
+
+/// A Set of key 0 to some value, in which the driver gives the register the value 300.
+fn one_set(alloc: Global, value: u32) -> Result<Vec<Event>, Fail> {
+    let act = Act::Register { key: 0, value: 300 };
+    Ok(vec![in alloc;
+        invoke(4, Op::Set { key: 0, value }),
+        enter(4),
+        reply(alloc, 4, Some(act), Answer::Done)?,
+    ]?)
+}
+
 /// A Play of three samples of which one was played, and two answers.
 fn one_play(alloc: Global) -> Result<Vec<Event>, Fail> {
     let op = Op::Play {
@@ -248,85 +281,55 @@ fn told(alloc: Global, monitor: &Monitor) -> Result<String, Fail> {
     Ok(text)
 }
 
+/// Whether a monitor tells this of some events, shown one by one and all at once.
+fn tells(alloc: Global, class: Class, events: &[Event], want: &str) -> Result<bool, Fail> {
+    let one_by_one = told(alloc, &shown(alloc, class, events)?)?;
+    let at_once = told(alloc, &Monitor::of_events(alloc, class, 2, events)?)?;
+    Ok(one_by_one.as_str() == want && at_once.as_str() == want)
+}
+
 #[test]
-fn judges_and_counts(rt: HostRuntime) -> Result<(), Fail> {
+fn judges_disks(rt: HostRuntime) -> Result<(), Fail> {
     let alloc = rt.alloc();
-    for (class, events, want) in [
-        (
-            Class::Block,
-            one_write(alloc, 7, 1)?,
-            "kept 0 0 0 / 0 0 0 0 0 0 0 0",
-        ),
-        (
-            Class::Block,
-            one_write(alloc, 8, 1)?,
-            "3.2 0 0 0 / 0 0 0 0 0 0 0 0",
-        ),
-        (
-            Class::Block,
-            one_write(alloc, 7, 0)?,
-            "3.1 0 0 0 / 0 0 0 0 0 0 0 0",
-        ),
-        (
-            Class::Net,
-            one_send(alloc, 1)?,
-            "kept 0 0 0 / 0 0 0 0 0 0 0 0",
-        ),
-        (
-            Class::Net,
-            one_send(alloc, 2)?,
-            "4.6 0 0 0 / 0 0 0 0 0 0 0 0",
-        ),
-        (
-            Class::Net,
-            one_send(alloc, 0)?,
-            "3.7 1 0 0 / 0 0 0 0 0 0 0 0",
-        ),
-        (
-            Class::Net,
-            frames_and_a_reset(alloc)?,
-            "kept 0 0 0 / 3 0 0 0 0 2 1 0",
-        ),
-        (
-            Class::Net,
-            hand_ups(alloc, [4, 5])?,
-            "kept 0 0 0 / 2 0 2 0 0 0 0 0",
-        ),
-        (
-            Class::Net,
-            hand_ups(alloc, [5, 4])?,
-            "7.8 0 0 0 / 2 0 2 0 0 0 0 0",
-        ),
-        (
-            Class::Net,
-            hand_ups(alloc, [4, 4])?,
-            "8.8 0 0 0 / 2 0 2 0 0 0 0 0",
-        ),
-        (
-            Class::Block,
-            one_write_of_many(alloc, 7)?,
-            "kept 0 0 0 / 0 0 0 0 0 0 0 0",
-        ),
-        (
-            Class::Block,
-            one_write_of_many(alloc, 8)?,
-            "117.2 0 0 0 / 0 0 0 0 0 0 0 0",
-        ),
-        (
-            Class::Block,
-            write_beyond_a_stop(alloc)?,
-            "4.1 0 0 0 / 0 0 0 0 0 0 0 0",
-        ),
-        (
-            Class::Sound,
-            one_play(alloc)?,
-            "5.11 0 2 1 / 0 0 0 0 0 0 0 0",
-        ),
+    for (events, want) in [
+        (one_write(alloc, 7, 1)?, "kept"),
+        (one_write(alloc, 8, 1)?, "3.2"),
+        (one_write(alloc, 7, 0)?, "3.1"),
+        (one_write_of_many(alloc, 7)?, "kept"),
+        (one_write_of_many(alloc, 8)?, "117.2"),
+        (write_beyond_a_stop(alloc)?, "4.1"),
     ] {
-        let one_by_one = told(alloc, &shown(alloc, class, &events)?)?;
-        assert_eq!(rt; one_by_one.as_str(), want);
-        let at_once = told(alloc, &Monitor::of_events(alloc, class, 2, &events)?)?;
-        assert_eq!(rt; at_once.as_str(), want);
+        let want = format!(in alloc; "{want} 0 0 0 / 0 0 0 0 0 0 0 0")?;
+        assert!(rt; tells(alloc, Class::Block, &events, want.as_str())?);
     }
+    let busy = "3.1 0 0 1 / 0 0 0 0 0 0 0 0";
+    assert!(rt; tells(alloc, Class::Block, &write_after_its_answer(alloc)?, busy)?);
+    Ok(())
+}
+
+#[test]
+fn judges_links(rt: HostRuntime) -> Result<(), Fail> {
+    let alloc = rt.alloc();
+    for (events, want) in [
+        (one_send(alloc, 1)?, "kept 0 0 0 / 0 0 0 0 0 0 0 0"),
+        (one_send(alloc, 2)?, "4.6 0 0 0 / 0 0 0 0 0 0 0 0"),
+        (one_send(alloc, 0)?, "3.7 1 0 0 / 0 0 0 0 0 0 0 0"),
+        (frames_and_a_reset(alloc)?, "kept 0 0 0 / 3 0 0 0 0 2 1 0"),
+        (hand_ups(alloc, [4, 5])?, "kept 0 0 0 / 2 0 2 0 0 0 0 0"),
+        (hand_ups(alloc, [5, 4])?, "7.8 0 0 0 / 2 0 2 0 0 0 0 0"),
+        (hand_ups(alloc, [4, 4])?, "8.8 0 0 0 / 2 0 2 0 0 0 0 0"),
+        (one_set(alloc, 300)?, "kept 0 0 0 / 0 0 0 0 0 0 0 0"),
+        (one_set(alloc, 200)?, "3.12 0 0 0 / 0 0 0 0 0 0 0 0"),
+    ] {
+        assert!(rt; tells(alloc, Class::Net, &events, want)?);
+    }
+    Ok(())
+}
+
+#[test]
+fn judges_streams(rt: HostRuntime) -> Result<(), Fail> {
+    let alloc = rt.alloc();
+    let want = "5.11 0 2 1 / 0 0 0 0 0 0 0 0";
+    assert!(rt; tells(alloc, Class::Sound, &one_play(alloc)?, want)?);
     Ok(())
 }

@@ -1,11 +1,12 @@
-use Rattle.std.proofs.Common.{◌≡◌, drop}
-use Rattle.nook_defs.specs.Contract.{sees_acts}
-use Rattle.nook_defs.specs.Losses.{count_acts}
-use Rattle.contract_monitor.specs.Knowing.{watch_of}
+use Rattle.std.proofs.Common.{◌≡◌, take, map}
+use Rattle.std.specs.List.{fold}
+use Rattle.nook_defs.specs.Contract.{acts}
+use Rattle.contract_monitor.specs.Judging.{first_broken}
+use Rattle.contract_monitor.specs.Keeping.{kept_act}
 use Rattle.contract_monitor.proofs.known.Known.see_acts.Given as goal
 
 abbrev pub invariant-loop-act : goal.invariant-loop-act
 invariant-loop-act l = record {
-  watch : sees_acts l.call (drop l.act-index l.acts) (watch_of l.self) ≡ sees_acts l.call l.acts (watch_of l.initial.self);
-  counts : count_acts l.call (drop l.act-index l.acts) l.self.counts ≡ count_acts l.call l.acts l.initial.self.counts;
+  kept : l.self ≡ fold (kept_act l.call) l.initial.self (take l.act-index l.acts);
+  broken : l.broken ≡ first_broken l.call l.initial.self.known (map acts (take l.act-index l.acts));
 }

@@ -4,5 +4,5 @@ use Rattle.contract_monitor.proofs.monitor.Monitor.see_or_give_up.Goals as goal
 pub returns : goal.returns
 returns c = λ class size events s.
     stands_more class size events c.args.event.now c.args.self.now _ s
-    (is_after c.args.event.now c.args.self.now _ _ _ _ _ _ _ c.self.view_is c.in_ok-see.ensures c.in_ok-seen.ensures c.clause.ensures
-    c.or_break-self-inside.ensures)
+    (is_after c.args.event.now c.args.self.now _ _ _ _ _ _ _ c.self.view_is c.in_ok-clause.ensures.kept c.in_ok-seen.ensures
+    c.in_ok-clause.ensures.broken c.or_break-self-inside.ensures)

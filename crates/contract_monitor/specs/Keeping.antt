@@ -1,0 +1,203 @@
+use Rattle.std.specs.Prelude.{ℕ, suc, Bool, List, [], ◌∷◌, ◌++◌, filter, fold, length, drop, Option, Some, None, ◌+◌, ◌-◌, ◌==◌, not, if◌then◌else◌}
+use Rattle.std.specs.List.{list_any}
+use Rattle.nook_defs.specs.declared.data.Act.{Act}
+use Rattle.nook_defs.specs.declared.data.Act.TheVariants as act
+use Rattle.nook_defs.specs.declared.data.Answer.{Answer}
+use Rattle.nook_defs.specs.declared.data.Class.{Class}
+use Rattle.nook_defs.specs.declared.data.End.{End}
+use Rattle.nook_defs.specs.declared.data.Event.{Event}
+use Rattle.nook_defs.specs.declared.data.Event.TheVariants as event
+use Rattle.nook_defs.specs.declared.data.FailCause.{FailCause}
+use Rattle.nook_defs.specs.declared.data.Losses.{Losses}
+use Rattle.nook_defs.specs.declared.data.Op.{Op}
+use Rattle.nook_defs.specs.declared.data.Stage.{Stage}
+use Rattle.nook_defs.specs.declared.data.Stage.TheVariants as stage
+use Rattle.nook_defs.specs.Answers.{answers_of}
+use Rattle.nook_defs.specs.Contract.{Deed, Known, acts, after_deed, after_failure, after_stage, change_call, crossing_deeds, deeds_of, during, enter_call, hands_up, is_answered_in, known_first, new_call, replays, replies}
+use Rattle.nook_defs.specs.Losses.{Places, Tally, handed_result, in_driver, in_ring, is_busy, is_received, lost_by, new_tally, no_places, one_if, places_reset, tallies_after, tallies_during, unplayed, unsent}
+use Rattle.contract_monitor.specs.Calls.{change_tally, tally_played, tally_sent}
+
+-- what is counted: Sends and samples that were lost, answers Busy; frames that arrived, that were answered, that the
+-- queue took and that it did not, and that the ring did not take; and where frames are
+pub record Counts : Type 0 where
+  pub sends : ℕ
+  pub samples : ℕ
+  pub busy : ℕ
+  pub arrived : ℕ
+  pub received : ℕ
+  pub taken : ℕ
+  pub refused : ℕ
+  pub lost : ℕ
+  pub places : Places
+
+-- what a monitor keeps of some events: what is known of them, but of the frames popped since the last Load only those
+-- after as many as were handed up; the open calls as the losses see them; and the counts
+pub record Kept : Type 0 where
+  pub known : Known
+  pub tallies : List Tally
+  pub counts : Counts
+
+-- ---- frames
+
+-- the frames that were handed up are taken off those that were popped
+abbrev pub shorter : Known → Known
+shorter k = record k { popped = drop (length k.handed) k.popped; handed = [] }
+
+-- what is kept after a deed: a frame that is handed up is taken off at once
+abbrev pub kept_deed : ℕ → Known → Deed → Known
+kept_deed call k (acts a) = after_deed call k (acts a)
+kept_deed call k (hands_up frame) = shorter (after_deed call k (hands_up frame))
+kept_deed call k (replies a) = after_deed call k (replies a)
+kept_deed call k replays = after_deed call k replays
+
+-- what is kept after an event, but that the calls which it answers are still there
+abbrev pub known_during : Known → Event → Known
+known_during k (event.Burst context call burst count e done a failure) =
+    after_failure failure (fold (kept_deed call) k (deeds_of done e a failure))
+known_during k e = during k e
+
+abbrev pub known_after : Known → Event → Known
+known_after k e = record (known_during k e)
+    { calls = filter (λ c. not (is_answered_in (answers_of e) c)) (known_during k e).calls }
+
+-- ---- counts
+
+abbrev pub no_counts : Counts
+no_counts = record
+    { sends = 0; samples = 0; busy = 0; arrived = 0; received = 0; taken = 0; refused = 0; lost = 0; places = no_places }
+
+abbrev pub sends_lost : Tally → ℕ
+sends_lost t = unsent t.op t.sent
+
+abbrev pub samples_lost : Tally → ℕ
+samples_lost t = unplayed t.op t.played
+
+-- one of these calls is answered
+abbrev pub count_answer : List Tally → Counts → ℕ × Answer → Counts
+count_answer ts n a = record n {
+  sends = n.sends + lost_by sends_lost ts a;
+  samples = n.samples + lost_by samples_lost ts a;
+  busy = n.busy + one_if (is_busy a);
+  received = n.received + one_if (is_received a);
+}
+
+abbrev pub count_act : Counts → Act → Counts
+count_act n (act.Popped frame) = record n
+    { places = record n.places { popped = suc n.places.popped; popped_since = suc n.places.popped_since } }
+count_act n a = n
+
+-- a frame was handed up, and the queue took it exactly where the result is not 0
+abbrev pub count_handed : Option ℕ → Counts → Counts
+count_handed None n = n
+count_handed (Some result) n = record n {
+  taken = n.taken + one_if (not (result == 0));
+  refused = n.refused + one_if (result == 0);
+  places = record n.places { handed_since = suc n.places.handed_since };
+}
+
+abbrev pub count_stage : Stage → Counts → Counts
+count_stage stage.Reset n = record n { places = places_reset n.places }
+count_stage s n = n
+
+abbrev pub count_arrival : Bool → Counts → Counts
+count_arrival kept n = record n {
+  arrived = suc n.arrived;
+  lost = n.lost + one_if (not kept);
+  places = record n.places { kept = n.places.kept + one_if kept };
+}
+
+-- the numbers that are told
+abbrev pub told : Counts → Losses
+told n = record {
+  sends = n.sends;
+  samples = n.samples;
+  busy = n.busy;
+  arrived = n.arrived;
+  received = n.received;
+  queued = n.taken - n.received;
+  ring = in_ring n.places;
+  driver = in_driver n.places;
+  reset = n.places.reset;
+  full_ring = n.lost;
+  full_queue = n.refused;
+}
+
+-- what an event counts, but for its answers
+abbrev pub counts_during : Counts → Event → Counts
+counts_during n (event.Burst context call burst count e done a failure) = count_handed (handed_result e) (fold count_act n done)
+counts_during n (event.Stage s answers released) = count_stage s n
+counts_during n (event.Arrive frame kept) = count_arrival kept n
+counts_during n e = n
+
+abbrev pub counts_after : List Tally → Counts → Event → Counts
+counts_after ts n e = fold (count_answer (tallies_during ts e)) (counts_during n e) (answers_of e)
+
+-- ---- what is kept
+
+abbrev pub kept_first : Class → ℕ → Kept
+kept_first class size = record { known = known_first class size; tallies = []; counts = no_counts }
+
+abbrev pub tally_act : ℕ → List Tally → Act → List Tally
+tally_act call ts (act.Sent frame) = change_tally call tally_sent ts
+tally_act call ts (act.Played word rate volume) = change_tally call tally_played ts
+tally_act call ts a = ts
+
+-- after an act in a burst of a call
+abbrev pub kept_act : ℕ → Kept → Act → Kept
+kept_act call k a = record {
+  known = after_deed call k.known (acts a);
+  tallies = tally_act call k.tallies a;
+  counts = count_act k.counts a;
+}
+
+-- after the crossing of a burst of a call
+abbrev pub kept_crossing : ℕ → End → Option Answer → Option FailCause → Kept → Kept
+kept_crossing call e a failure k = record k {
+  known = after_failure failure (fold (kept_deed call) k.known (crossing_deeds e a failure));
+  counts = count_handed (handed_result e) k.counts;
+}
+
+-- after a burst of a call, but for its answer
+abbrev pub kept_burst : ℕ → List Act → End → Option Answer → Option FailCause → Kept → Kept
+kept_burst call done e a failure k = kept_crossing call e a failure (fold (kept_act call) k done)
+
+-- after a call was made
+abbrev pub kept_invoke : ℕ → Op → Kept → Kept
+kept_invoke call o k = record k {
+  known = record k.known { calls = k.known.calls ++ new_call call o ∷ [] };
+  tallies = k.tallies ++ new_tally call o ∷ [];
+}
+
+abbrev pub kept_enter : ℕ → Kept → Kept
+kept_enter call k = record k { known = record k.known { calls = change_call call enter_call k.known.calls } }
+
+abbrev pub kept_stage : Stage → Kept → Kept
+kept_stage s k = record k { known = after_stage s k.known; counts = count_stage s k.counts }
+
+abbrev pub kept_arrival : List ℕ → Bool → Kept → Kept
+kept_arrival frame kept k = record k {
+  known = record k.known { ring = if kept then k.known.ring ++ frame ∷ [] else k.known.ring };
+  counts = count_arrival kept k.counts;
+}
+
+-- after calls were answered: they are counted, and open no more
+abbrev pub kept_answered : List (ℕ × Answer) → Kept → Kept
+kept_answered answers k = record {
+  known = record k.known { calls = filter (λ c. not (is_answered_in answers c)) k.known.calls };
+  tallies = filter (λ t. not (list_any (λ a. a.0 == t.number) answers)) k.tallies;
+  counts = fold (count_answer k.tallies) k.counts answers;
+}
+
+-- after an event
+abbrev pub kept_after : Kept → Event → Kept
+kept_after k e = record {
+  known = known_after k.known e;
+  tallies = tallies_after k.tallies e;
+  counts = counts_after k.tallies k.counts e;
+}
+
+abbrev pub with_known : Known → Kept → Kept
+with_known known k = record k { known = known }
+
+abbrev pub with_counts : Counts → Kept → Kept
+with_counts n k = record k { counts = n }

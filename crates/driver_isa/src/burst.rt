@@ -1,13 +1,16 @@
 //! Bursts: turns up to a crossing, with the faults that strike among them.
 
-ghost use Rattle.std.specs.Prelude.{◌≡◌, ◌<◌, []};
+ghost use Rattle.std.specs.Prelude.{◌≡◌, ◌<◌, ◌≤◌, ◌-◌, ℕ, None, false, length, []};
+ghost use Rattle.driver_isa.specs.Runs.{is_due, past_run};
+ghost use Rattle.driver_isa.specs.Steps.{cpu_of};
 ghost use Rattle.driver_isa.specs.Turns.{machine_of};
-ghost use Rattle.nook_defs.specs.Burst.{burst as burst_of, strikes_at, count_at, struck_machine, trap_of};
+ghost use Rattle.nook_defs.specs.Burst.{burst as burst_of, burst_from, strikes_at, count_at, struck_machine, trap_of};
 
 use crate::bus::Bus;
-use crate::turn::turn;
+use crate::turn::{Step, take_turn};
 use nook_defs::data::{Fault, FaultKind, TrapCause};
 use nook_defs::journal::ActLog;
+use nook_defs::lists::Word;
 use nook_defs::machine::{BurstEnd, Cpu};
 
 /// The turns after which a burst without a crossing is a Hang.
@@ -24,6 +27,22 @@ const TEXT_WORDS: u32 = 2048;
 pub struct BurstDone {
     pub count: u32,
     pub end: BurstEnd,
+}
+
+/// How far turns in a row went: the turns of the burst so far, the counter, and the end where they came to it.
+#[derive(Clone, Copy)]
+struct Run {
+    count: u32,
+    counter: Word,
+    end: Option<BurstEnd>,
+}
+
+/// A whole burst: its turns, the counter as it is left, and its end.
+#[derive(Clone, Copy)]
+struct Whole {
+    count: u32,
+    counter: Word,
+    end: BurstEnd,
 }
 
 /// What the faults of one place left: the faults behind them, and the trap that one of them is.
@@ -56,40 +75,142 @@ pub fn run_burst<B: Bus>(
     ensures entries { B.entries bus.new ≡ B.entries bus.old }
     ensures held { B.held bus.new ≡ B.held bus.old }
 {
+    let run = run_turns(cpu.counter, &mut cpu.registers, bus, faults, acts);
+    cpu.counter = run.counter;
+    BurstDone {
+        count: run.count,
+        end: run.end,
+    }
+}
+
+/// The burst of a machine whose counter is passed and told by value: so it stays in a register.
+#[inline(always)]
+fn run_turns<B: Bus>(
+    first: Word,
+    registers: &mut [Word; 16],
+    bus: &mut B,
+    faults: &[Fault],
+    acts: &mut ActLog,
+) -> Whole
+    requires { acts.old ≡ [] }
+    ensures burst { burst_from 4096 (B.entries bus.old) faults.now (machine_of (cpu_of first registers.old) (B.words bus.old) (B.device bus.old)) acts.old
+        ≡ record {
+          machine = machine_of (cpu_of result.counter registers.new) (B.words bus.new) (B.device bus.new);
+          acts = acts.new;
+          count = result.count;
+          ending = result.end;
+        } }
+    ensures entries { B.entries bus.new ≡ B.entries bus.old }
+    ensures held { B.held bus.new ≡ B.held bus.old }
+{
     let mut pending = faults;
-    for count in 0..MOST_TURNS {
-        let struck = strike_due(pending, count, cpu, bus);
+    let mut counter = first;
+    let mut count = 0;
+    while count < MOST_TURNS {
+        let struck = strike_due(pending, count, counter, registers, bus);
         if let Some(cause) = struck.stopped {
-            return stopped(count, cause);
+            return stopped(count, counter, cause);
         }
         pending = struck.rest;
-        if let Some(end) = turn(cpu, bus, acts) {
-            return BurstDone {
-                count: count + 1,
+        let stop = next_stop(pending, count);
+        let run = run_straight(counter, count, stop, pending, registers, bus, acts);
+        count = run.count;
+        counter = run.counter;
+        if let Some(end) = run.end {
+            return Whole {
+                count,
+                counter,
                 end,
             };
         }
-        if acts.len() >= MOST_ACTS {
-            return BurstDone {
-                count: count + 1,
-                end: BurstEnd::Pause,
-            };
-        }
     }
-    stopped(MOST_TURNS, TrapCause::Hang)
+    stopped(MOST_TURNS, counter, TrapCause::Hang)
+}
+
+/// Turns in a row up to a jump, a crossing or the place `stop`; no fault is due before that.
+// A jump leaves the loop, so that its target is a branch and not a conditional move, for which the next fetch waits.
+#[inline(always)]
+fn run_straight<B: Bus>(
+    first: Word,
+    before: u32,
+    stop: u32,
+    pending: &[Fault],
+    registers: &mut [Word; 16],
+    bus: &mut B,
+    acts: &mut ActLog,
+) -> Run
+    requires room { length acts.old < 64 }
+    requires some { before < stop }
+    requires within { stop ≤ 4096 }
+    requires quiet { (k : ℕ) → before ≤ k → k < stop → is_due k pending.now ≡ false }
+    ensures went { burst_from (4096 - before) (B.entries bus.old) pending.now (machine_of (cpu_of first registers.old) (B.words bus.old) (B.device bus.old)) acts.old
+        ≡ past_run result.count (B.entries bus.new) pending.now (machine_of (cpu_of result.counter registers.new) (B.words bus.new) (B.device bus.new)) acts.new result.end }
+    ensures room { result.end ≡ None → length acts.new < 64 }
+    ensures further { before < result.count }
+    ensures within { result.count ≤ stop }
+    ensures entries { B.entries bus.new ≡ B.entries bus.old }
+    ensures held { B.held bus.new ≡ B.held bus.old }
+{
+    let mut counter = first;
+    for count in before..stop {
+        match take_turn(counter, registers, bus, acts) {
+            Step::Next => {}
+            Step::Acted => {
+                if acts.len() >= MOST_ACTS {
+                    return Run {
+                        count: count + 1,
+                        counter: counter.wrapping_add(1),
+                        end: Some(BurstEnd::Pause),
+                    };
+                }
+            }
+            Step::To(target) => return Run {
+                count: count + 1,
+                counter: target,
+                end: None,
+            },
+            Step::Ended { last, end } => return Run {
+                count: count + 1,
+                counter: last,
+                end: Some(end),
+            },
+        }
+        counter = counter.wrapping_add(1);
+    }
+    Run {
+        count: stop,
+        counter,
+        end: None,
+    }
+}
+
+/// The place of the next fault, or that of the last turn's end where none is due any more.
+fn next_stop(pending: &[Fault], count: u32) -> u32
+    requires within { count < 4096 }
+    requires clear { is_due count pending.now ≡ false }
+    ensures further { count < result }
+    ensures within { result ≤ 4096 }
+    ensures quiet { (k : ℕ) → count ≤ k → k < result → is_due k pending.now ≡ false }
+{
+    match pending {
+        [fault, ..] if count < fault.after && fault.after < MOST_TURNS => fault.after,
+        _ => MOST_TURNS,
+    }
 }
 
 /// The end of a burst that a trap stops at a turn; a Hang counts as a whole burst.
-fn stopped(count: u32, cause: TrapCause) -> BurstDone
+fn stopped(count: u32, counter: Word, cause: TrapCause) -> Whole
     ensures count { result.count ≡ count_at count cause }
+    ensures counter { result.counter ≡ counter }
     ensures cause { result.end ≡ BurstEnd.Trap cause }
 {
     let count = match cause {
         TrapCause::Hang => MOST_TURNS,
         _ => count,
     };
-    BurstDone {
+    Whole {
         count,
+        counter,
         end: BurstEnd::Trap(cause),
     }
 }
@@ -97,13 +218,20 @@ fn stopped(count: u32, cause: TrapCause) -> BurstDone
 /// Strikes the faults at the front that stand at this place, in their order, up to one that is a trap.
 // Most bursts have no faults left, and each turn asks.
 #[inline(always)]
-fn strike_due<'a, B: Bus>(faults: &'a [Fault], place: u32, cpu: &mut Cpu, bus: &mut B) -> Struck<'a>
-    ensures struck { strikes_at place (B.entries bus.old) faults.now (machine_of cpu.old (B.words bus.old) (B.device bus.old))
+fn strike_due<'a, B: Bus>(
+    faults: &'a [Fault],
+    place: u32,
+    counter: Word,
+    registers: &mut [Word; 16],
+    bus: &mut B,
+) -> Struck<'a>
+    ensures struck { strikes_at place (B.entries bus.old) faults.now (machine_of (cpu_of counter registers.old) (B.words bus.old) (B.device bus.old))
         ≡ record {
-          machine = machine_of cpu.new (B.words bus.new) (B.device bus.new);
+          machine = machine_of (cpu_of counter registers.new) (B.words bus.new) (B.device bus.new);
           rest = result.rest.now;
           stopped = result.stopped;
         } }
+    ensures clear { result.stopped ≡ None → is_due place result.rest.now ≡ false }
     ensures entries { B.entries bus.new ≡ B.entries bus.old }
     ensures held { B.held bus.new ≡ B.held bus.old }
 {
@@ -113,7 +241,7 @@ fn strike_due<'a, B: Bus>(faults: &'a [Fault], place: u32, cpu: &mut Cpu, bus: &
             stopped: None,
         };
     }
-    strike_front(faults, place, cpu, bus)
+    strike_front(faults, place, counter, registers, bus)
 }
 
 /// The same of any faults, one after the other.
@@ -121,15 +249,17 @@ fn strike_due<'a, B: Bus>(faults: &'a [Fault], place: u32, cpu: &mut Cpu, bus: &
 fn strike_front<'a, B: Bus>(
     faults: &'a [Fault],
     place: u32,
-    cpu: &mut Cpu,
+    counter: Word,
+    registers: &mut [Word; 16],
     bus: &mut B,
 ) -> Struck<'a>
-    ensures struck { strikes_at place (B.entries bus.old) faults.now (machine_of cpu.old (B.words bus.old) (B.device bus.old))
+    ensures struck { strikes_at place (B.entries bus.old) faults.now (machine_of (cpu_of counter registers.old) (B.words bus.old) (B.device bus.old))
         ≡ record {
-          machine = machine_of cpu.new (B.words bus.new) (B.device bus.new);
+          machine = machine_of (cpu_of counter registers.new) (B.words bus.new) (B.device bus.new);
           rest = result.rest.now;
           stopped = result.stopped;
         } }
+    ensures clear { result.stopped ≡ None → is_due place result.rest.now ≡ false }
     ensures entries { B.entries bus.new ≡ B.entries bus.old }
     ensures held { B.held bus.new ≡ B.held bus.old }
 {
@@ -139,7 +269,7 @@ fn strike_front<'a, B: Bus>(
             break;
         }
         rest = more;
-        if let Some(cause) = strike(fault.kind, cpu, bus) {
+        if let Some(cause) = strike(fault.kind, counter, registers, bus) {
             return Struck {
                 rest,
                 stopped: Some(cause),
@@ -153,9 +283,14 @@ fn strike_front<'a, B: Bus>(
 }
 
 /// Strikes one fault, and gives the trap that it is. A Poke, a Code or a Reg with no such place does nothing.
-fn strike<B: Bus>(kind: FaultKind, cpu: &mut Cpu, bus: &mut B) -> Option<TrapCause>
-    ensures struck { struck_machine (B.entries bus.old) kind (machine_of cpu.old (B.words bus.old) (B.device bus.old))
-        ≡ machine_of cpu.new (B.words bus.new) (B.device bus.new) }
+fn strike<B: Bus>(
+    kind: FaultKind,
+    counter: Word,
+    registers: &mut [Word; 16],
+    bus: &mut B,
+) -> Option<TrapCause>
+    ensures struck { struck_machine (B.entries bus.old) kind (machine_of (cpu_of counter registers.old) (B.words bus.old) (B.device bus.old))
+        ≡ machine_of (cpu_of counter registers.new) (B.words bus.new) (B.device bus.new) }
     ensures trap { result ≡ trap_of kind }
     ensures entries { B.entries bus.new ≡ B.entries bus.old }
     ensures held { B.held bus.new ≡ B.held bus.old }
@@ -175,7 +310,7 @@ fn strike<B: Bus>(kind: FaultKind, cpu: &mut Cpu, bus: &mut B) -> Option<TrapCau
         }
         FaultKind::Reg { register, value } => {
             if register < 16 {
-                cpu.registers[register as usize] = value;
+                registers[register as usize] = value;
             }
             None
         }

@@ -3,7 +3,7 @@
 ghost use Rattle.std.specs.Prelude.{◌≡◌, ◌<◌, ℕ, List, IsNone, length, slice_set};
 ghost use Rattle.std.specs.Borrow.{GName};
 ghost use Rattle.nook_defs.specs.Devices.{input_of, output_of};
-ghost use Rattle.nook_defs.specs.Ports.{IsTaken, given_by};
+ghost use Rattle.nook_defs.specs.Views.Ports.{IsTaken, given_by};
 ghost use Rattle.nook_defs.specs.Pages.{fetch_word, may_write, read_word, written};
 ghost use Rattle.nook_defs.specs.declared.data.DeviceState.{DeviceState};
 ghost use Rattle.nook_defs.specs.declared.data.Entry.{Entry};

@@ -2,7 +2,7 @@
 
 ghost use Rattle.std.specs.Prelude.{◌≡◌, ◌<◌, Some, true, IfSome};
 ghost use Rattle.driver_isa.specs.Fields.{has_registers};
-ghost use Rattle.nook_defs.specs.Machine.{decode_of, encode_of, word_of};
+ghost use Rattle.nook_defs.specs.Machine.{a_field, b_field, decode_of, encode_of, imm_field, word_of};
 
 use nook_defs::lists::Word;
 use nook_defs::machine::Instr;
@@ -17,36 +17,120 @@ pub fn decode(word: Word) -> Option<Instr>
     ensures encodes { IfSome result (λ instr. encode_of instr ≡ word) }
 {
     let op = (word >> 24) % 0x100;
-    let a = ((word >> 20) % 0x10) as u8;
-    let b = ((word >> 16) % 0x10) as u8;
-    let imm = (word % 0x1_0000) as u16;
     match op {
-        0x01 if b == 0 => Some(Instr::Li { a, imm }),
-        0x02 if b == 0 => Some(Instr::Lui { a, imm }),
-        0x03 if imm == 0 => Some(Instr::Mov { a, b }),
-        0x04 if imm == 0 => Some(Instr::Add { a, b }),
-        0x05 if imm == 0 => Some(Instr::Sub { a, b }),
-        0x06 if imm == 0 => Some(Instr::And { a, b }),
-        0x07 if imm == 0 => Some(Instr::Or { a, b }),
-        0x08 if imm == 0 => Some(Instr::Xor { a, b }),
-        0x09 if imm == 0 => Some(Instr::Shl { a, b }),
-        0x0a if imm == 0 => Some(Instr::Shr { a, b }),
-        0x0b => Some(Instr::Addi { a, b, imm }),
-        0x0c => Some(Instr::Ld { a, b, imm }),
-        0x0d => Some(Instr::St { a, b, imm }),
-        0x0e if a == 0 && b == 0 => Some(Instr::Jmp { imm }),
-        0x0f => Some(Instr::Beq { a, b, imm }),
-        0x10 => Some(Instr::Bne { a, b, imm }),
-        0x11 => Some(Instr::Blt { a, b, imm }),
-        0x12 if b == 0 => Some(Instr::Jal { a, imm }),
-        0x13 if b == 0 && imm == 0 => Some(Instr::Jr { a }),
-        0x14 if b == 0 => Some(Instr::In { a, imm }),
-        0x15 if b == 0 => Some(Instr::Out { a, imm }),
-        0x16 if a == 0 && b == 0 => Some(Instr::Kcall { imm }),
-        0x17 if b == 0 && imm == 0 => Some(Instr::Ret { a }),
-        0x18 if a == 0 && b == 0 && imm == 0 => Some(Instr::Fault),
+        0x01 if b_of(word) == 0 => Some(Instr::Li {
+            a: a_of(word),
+            imm: imm_of(word),
+        }),
+        0x02 if b_of(word) == 0 => Some(Instr::Lui {
+            a: a_of(word),
+            imm: imm_of(word),
+        }),
+        0x03 if imm_of(word) == 0 => Some(Instr::Mov {
+            a: a_of(word),
+            b: b_of(word),
+        }),
+        0x04 if imm_of(word) == 0 => Some(Instr::Add {
+            a: a_of(word),
+            b: b_of(word),
+        }),
+        0x05 if imm_of(word) == 0 => Some(Instr::Sub {
+            a: a_of(word),
+            b: b_of(word),
+        }),
+        0x06 if imm_of(word) == 0 => Some(Instr::And {
+            a: a_of(word),
+            b: b_of(word),
+        }),
+        0x07 if imm_of(word) == 0 => Some(Instr::Or {
+            a: a_of(word),
+            b: b_of(word),
+        }),
+        0x08 if imm_of(word) == 0 => Some(Instr::Xor {
+            a: a_of(word),
+            b: b_of(word),
+        }),
+        0x09 if imm_of(word) == 0 => Some(Instr::Shl {
+            a: a_of(word),
+            b: b_of(word),
+        }),
+        0x0a if imm_of(word) == 0 => Some(Instr::Shr {
+            a: a_of(word),
+            b: b_of(word),
+        }),
+        0x0b => Some(Instr::Addi {
+            a: a_of(word),
+            b: b_of(word),
+            imm: imm_of(word),
+        }),
+        0x0c => Some(Instr::Ld {
+            a: a_of(word),
+            b: b_of(word),
+            imm: imm_of(word),
+        }),
+        0x0d => Some(Instr::St {
+            a: a_of(word),
+            b: b_of(word),
+            imm: imm_of(word),
+        }),
+        0x0e if a_of(word) == 0 && b_of(word) == 0 => Some(Instr::Jmp { imm: imm_of(word) }),
+        0x0f => Some(Instr::Beq {
+            a: a_of(word),
+            b: b_of(word),
+            imm: imm_of(word),
+        }),
+        0x10 => Some(Instr::Bne {
+            a: a_of(word),
+            b: b_of(word),
+            imm: imm_of(word),
+        }),
+        0x11 => Some(Instr::Blt {
+            a: a_of(word),
+            b: b_of(word),
+            imm: imm_of(word),
+        }),
+        0x12 if b_of(word) == 0 => Some(Instr::Jal {
+            a: a_of(word),
+            imm: imm_of(word),
+        }),
+        0x13 if b_of(word) == 0 && imm_of(word) == 0 => Some(Instr::Jr { a: a_of(word) }),
+        0x14 if b_of(word) == 0 => Some(Instr::In {
+            a: a_of(word),
+            imm: imm_of(word),
+        }),
+        0x15 if b_of(word) == 0 => Some(Instr::Out {
+            a: a_of(word),
+            imm: imm_of(word),
+        }),
+        0x16 if a_of(word) == 0 && b_of(word) == 0 => Some(Instr::Kcall { imm: imm_of(word) }),
+        0x17 if b_of(word) == 0 && imm_of(word) == 0 => Some(Instr::Ret { a: a_of(word) }),
+        0x18 if a_of(word) == 0 && b_of(word) == 0 && imm_of(word) == 0 => Some(Instr::Fault),
         _ => None,
     }
+}
+
+/// Field a of a word. The fields are taken in each arm: taken before the `match` they cost each turn more.
+#[inline(always)]
+fn a_of(word: Word) -> u8
+    ensures { result ≡ a_field word }
+{
+    ((word >> 20) % 0x10) as u8
+}
+
+/// Field b of a word.
+#[inline(always)]
+fn b_of(word: Word) -> u8
+    ensures { result ≡ b_field word }
+{
+    ((word >> 16) % 0x10) as u8
+}
+
+/// The immediate of a word.
+#[inline(always)]
+fn imm_of(word: Word) -> u16
+    ensures { result ≡ imm_field word }
+{
+    (word % 0x1_0000) as u16
 }
 
 /// The one word of an instruction, whose register numbers are at most 15.

@@ -1,9 +1,10 @@
 //! One machine turn: the word at the counter is fetched and its instruction done.
 
-ghost use Rattle.std.specs.Prelude.{◌≡◌, ◌+◌, ◌*◌, ◌%◌, ◌^◌, ◌<◌, None, Some, true, if◌then◌else◌, length, slice_index, slice_set};
+ghost use Rattle.std.specs.Prelude.{◌≡◌, ◌+◌, ◌*◌, ◌%◌, ◌^◌, ◌<◌, None, Some, true, length, slice_index, slice_set};
 ghost use Rattle.driver_isa.specs.Fields.{has_registers};
+ghost use Rattle.driver_isa.specs.Steps.{cpu_of, crossing_of, is_quiet, next_of, target_where};
 ghost use Rattle.driver_isa.specs.Turns.{IsTurn, machine_of, quiet};
-ghost use Rattle.nook_defs.specs.Turn.{after, advanced, executed, loads, past_input, past_output, stores, turn as machine_turn, with_register};
+ghost use Rattle.nook_defs.specs.Turn.{after, executed, loads, past_input, past_output, stores, turn as machine_turn};
 ghost use Rattle.nook_defs.specs.Devices.{input_of, output_of};
 
 use crate::bus::Bus;
@@ -13,8 +14,20 @@ use nook_defs::journal::ActLog;
 use nook_defs::lists::Word;
 use nook_defs::machine::{BurstEnd, Cpu, Instr};
 
+/// What a turn leads to.
+#[derive(Clone, Copy)]
+pub enum Step {
+    /// The next word.
+    Next,
+    /// The next word, with perhaps an act more.
+    Acted,
+    /// Another word.
+    To(Word),
+    /// A crossing, with the counter as it is left.
+    Ended { last: Word, end: BurstEnd },
+}
+
 /// One turn, and the crossing that it is. A turn that traps changes nothing else.
-#[tactic(auto, unfolding(nook_defs::specs::Turn::turn))]
 pub fn turn<B: Bus>(cpu: &mut Cpu, bus: &mut B, acts: &mut ActLog) -> Option<BurstEnd>
     requires { length acts.old < 64 }
     ensures turned { IsTurn
@@ -23,67 +36,149 @@ pub fn turn<B: Bus>(cpu: &mut Cpu, bus: &mut B, acts: &mut ActLog) -> Option<Bur
     ensures entries { B.entries bus.new ≡ B.entries bus.old }
     ensures held { B.held bus.new ≡ B.held bus.old }
 {
-    let Some(word) = bus.fetch(cpu.counter) else {
-        return Some(BurstEnd::Trap(TrapCause::BadFetch));
+    let counter = cpu.counter;
+    match take_turn(counter, &mut cpu.registers, bus, acts) {
+        Step::Next | Step::Acted => {
+            cpu.counter = counter.wrapping_add(1);
+            None
+        }
+        Step::To(target) => {
+            cpu.counter = target;
+            None
+        }
+        Step::Ended { last, end } => {
+            cpu.counter = last;
+            Some(end)
+        }
+    }
+}
+
+/// The turn of the word at a counter. The counter is passed and told by value: so a loop keeps it in a register.
+#[inline(always)]
+#[tactic(auto, unfolding(nook_defs::specs::Turn::turn))]
+pub fn take_turn<B: Bus>(
+    counter: Word,
+    registers: &mut [Word; 16],
+    bus: &mut B,
+    acts: &mut ActLog,
+) -> Step
+    requires { length acts.old < 64 }
+    ensures turned { IsTurn
+        (machine_turn (B.entries bus.old) (machine_of (cpu_of counter registers.old) (B.words bus.old) (B.device bus.old)))
+        (machine_of (cpu_of (next_of counter result) registers.new) (B.words bus.new) (B.device bus.new))
+        acts.old acts.new (crossing_of result) }
+    ensures quiet { is_quiet result ≡ true → acts.new ≡ acts.old }
+    ensures entries { B.entries bus.new ≡ B.entries bus.old }
+    ensures held { B.held bus.new ≡ B.held bus.old }
+{
+    let Some(word) = bus.fetch(counter) else {
+        return trap(counter, TrapCause::BadFetch);
     };
     let Some(instr) = decode(word) else {
-        return Some(BurstEnd::Trap(TrapCause::BadOpcode));
+        return trap(counter, TrapCause::BadOpcode);
     };
-    perform(instr, cpu, bus, acts)
+    perform(instr, counter, registers, bus, acts)
 }
 
 /// Does one instruction.
-fn perform<B: Bus>(instr: Instr, cpu: &mut Cpu, bus: &mut B, acts: &mut ActLog) -> Option<BurstEnd>
+#[inline(always)]
+fn perform<B: Bus>(
+    instr: Instr,
+    counter: Word,
+    registers: &mut [Word; 16],
+    bus: &mut B,
+    acts: &mut ActLog,
+) -> Step
     requires fields { has_registers instr ≡ true }
     requires room { length acts.old < 64 }
     ensures turned { IsTurn
-        (executed (B.entries bus.old) (machine_of cpu.old (B.words bus.old) (B.device bus.old)) instr)
-        (machine_of cpu.new (B.words bus.new) (B.device bus.new)) acts.old acts.new result }
+        (executed (B.entries bus.old) (machine_of (cpu_of counter registers.old) (B.words bus.old) (B.device bus.old)) instr)
+        (machine_of (cpu_of (next_of counter result) registers.new) (B.words bus.new) (B.device bus.new))
+        acts.old acts.new (crossing_of result) }
+    ensures quiet { is_quiet result ≡ true → acts.new ≡ acts.old }
     ensures entries { B.entries bus.new ≡ B.entries bus.old }
     ensures held { B.held bus.new ≡ B.held bus.old }
 {
     match instr {
-        Instr::Li { a, imm } => put(cpu, a, u32::from(imm)),
-        Instr::Lui { a, imm } => put(cpu, a, with_upper(register(cpu, a), imm)),
-        Instr::Mov { a, b } => put(cpu, a, register(cpu, b)),
-        Instr::Add { a, b } => put(cpu, a, register(cpu, a).wrapping_add(register(cpu, b))),
-        Instr::Sub { a, b } => put(cpu, a, register(cpu, a).wrapping_sub(register(cpu, b))),
-        Instr::And { a, b } => put(cpu, a, register(cpu, a) & register(cpu, b)),
-        Instr::Or { a, b } => put(cpu, a, register(cpu, a) | register(cpu, b)),
-        Instr::Xor { a, b } => put(cpu, a, register(cpu, a) ^ register(cpu, b)),
-        Instr::Shl { a, b } => put(cpu, a, register(cpu, a) << (register(cpu, b) % 32)),
-        Instr::Shr { a, b } => put(cpu, a, register(cpu, a) >> (register(cpu, b) % 32)),
-        Instr::Addi { a, b, imm } => put(cpu, a, offset(cpu, b, imm)),
-        Instr::Ld { a, b, imm } => load(cpu, bus, a, offset(cpu, b, imm)),
-        Instr::St { a, b, imm } => store(cpu, bus, a, offset(cpu, b, imm)),
-        Instr::Jmp { imm } => jump(cpu, u32::from(imm)),
-        Instr::Beq { a, b, imm } => branch(cpu, register(cpu, a) == register(cpu, b), imm),
-        Instr::Bne { a, b, imm } => branch(cpu, register(cpu, a) != register(cpu, b), imm),
-        Instr::Blt { a, b, imm } => branch(cpu, register(cpu, a) < register(cpu, b), imm),
-        Instr::Jal { a, imm } => link(cpu, a, imm),
-        Instr::Jr { a } => jump(cpu, register(cpu, a)),
-        Instr::In { a, imm } => take(cpu, bus, a, imm),
-        Instr::Out { a, imm } => give(cpu, bus, acts, a, imm),
-        Instr::Kcall { imm } => call_kernel(cpu, imm),
-        Instr::Ret { a } => reply(cpu, register(cpu, a)),
-        Instr::Fault => Some(BurstEnd::Trap(TrapCause::Explicit)),
+        Instr::Li { a, imm } => put(registers, a, u32::from(imm)),
+        Instr::Lui { a, imm } => put(registers, a, with_upper(register(registers, a), imm)),
+        Instr::Mov { a, b } => put(registers, a, register(registers, b)),
+        Instr::Add { a, b } => put(
+            registers,
+            a,
+            register(registers, a).wrapping_add(register(registers, b)),
+        ),
+        Instr::Sub { a, b } => put(
+            registers,
+            a,
+            register(registers, a).wrapping_sub(register(registers, b)),
+        ),
+        Instr::And { a, b } => put(
+            registers,
+            a,
+            register(registers, a) & register(registers, b),
+        ),
+        Instr::Or { a, b } => put(
+            registers,
+            a,
+            register(registers, a) | register(registers, b),
+        ),
+        Instr::Xor { a, b } => put(
+            registers,
+            a,
+            register(registers, a) ^ register(registers, b),
+        ),
+        Instr::Shl { a, b } => put(
+            registers,
+            a,
+            register(registers, a) << (register(registers, b) % 32),
+        ),
+        Instr::Shr { a, b } => put(
+            registers,
+            a,
+            register(registers, a) >> (register(registers, b) % 32),
+        ),
+        Instr::Addi { a, b, imm } => put(registers, a, offset(registers, b, imm)),
+        Instr::Ld { a, b, imm } => load(counter, registers, bus, a, offset(registers, b, imm)),
+        Instr::St { a, b, imm } => store(counter, registers, bus, a, offset(registers, b, imm)),
+        Instr::Jmp { imm } => Step::To(u32::from(imm)),
+        Instr::Beq { a, b, imm } => branch(register(registers, a) == register(registers, b), imm),
+        Instr::Bne { a, b, imm } => branch(register(registers, a) != register(registers, b), imm),
+        Instr::Blt { a, b, imm } => branch(register(registers, a) < register(registers, b), imm),
+        Instr::Jal { a, imm } => link(counter, registers, a, imm),
+        Instr::Jr { a } => Step::To(register(registers, a)),
+        Instr::In { a, imm } => take(counter, registers, bus, a, imm),
+        Instr::Out { a, imm } => give(counter, registers, bus, acts, a, imm),
+        Instr::Kcall { imm } => cross(
+            counter,
+            BurstEnd::Kcall {
+                service: u32::from(imm),
+            },
+        ),
+        Instr::Ret { a } => cross(
+            counter,
+            BurstEnd::Reply {
+                status: register(registers, a),
+            },
+        ),
+        Instr::Fault => trap(counter, TrapCause::Explicit),
     }
 }
 
 /// A register's word.
-fn register(cpu: &Cpu, a: u8) -> Word
+fn register(registers: &[Word; 16], a: u8) -> Word
     requires { a < 16 }
-    ensures { result ≡ slice_index cpu.now.registers a }
+    ensures { result ≡ slice_index registers.now a }
 {
-    cpu.registers[a as usize]
+    registers[a as usize]
 }
 
 /// A register's word and an immediate, modulo 2^32.
-fn offset(cpu: &Cpu, b: u8, imm: u16) -> Word
+fn offset(registers: &[Word; 16], b: u8, imm: u16) -> Word
     requires { b < 16 }
-    ensures { result ≡ (slice_index cpu.now.registers b + imm) % 2 ^ 32 }
+    ensures { result ≡ (slice_index registers.now b + imm) % 2 ^ 32 }
 {
-    register(cpu, b).wrapping_add(u32::from(imm))
+    register(registers, b).wrapping_add(u32::from(imm))
 }
 
 /// The word with other upper 16 bits.
@@ -93,136 +188,123 @@ fn with_upper(word: Word, upper: u16) -> Word
     u32::from(upper) * 0x1_0000 + word % 0x1_0000
 }
 
-/// The counter goes on to the next word.
-fn advance(cpu: &mut Cpu)
-    ensures { cpu.new ≡ advanced cpu.old }
+/// A trap, which leaves the counter.
+fn trap(counter: Word, cause: TrapCause) -> Step
+    ensures { result ≡ Step.Ended counter (BurstEnd.Trap cause) }
 {
-    cpu.counter = cpu.counter.wrapping_add(1);
+    Step::Ended {
+        last: counter,
+        end: BurstEnd::Trap(cause),
+    }
+}
+
+/// A crossing with the counter on the next word.
+fn cross(counter: Word, end: BurstEnd) -> Step
+    ensures { result ≡ Step.Ended (after counter) end }
+{
+    Step::Ended {
+        last: counter.wrapping_add(1),
+        end,
+    }
 }
 
 /// A register gets a word.
-fn put(cpu: &mut Cpu, a: u8, word: Word) -> Option<BurstEnd>
+fn put(registers: &mut [Word; 16], a: u8, word: Word) -> Step
     requires { a < 16 }
-    ensures processor { cpu.new ≡ with_register cpu.old a word }
-    ensures goes_on { result ≡ None }
+    ensures registers { registers.new ≡ slice_set registers.old a word }
+    ensures goes_on { result ≡ Step.Next }
 {
-    cpu.registers[a as usize] = word;
-    advance(cpu);
-    None
+    registers[a as usize] = word;
+    Step::Next
 }
 
-/// The counter becomes `target`.
-fn jump(cpu: &mut Cpu, target: u32) -> Option<BurstEnd>
-    ensures processor { cpu.new ≡ record cpu.old { counter = target } }
-    ensures goes_on { result ≡ None }
-{
-    cpu.counter = target;
-    None
-}
-
-/// The counter becomes `target` where the comparison holds.
-fn branch(cpu: &mut Cpu, holds: bool, target: u16) -> Option<BurstEnd>
-    ensures processor { cpu.new ≡ record cpu.old { counter = (if holds then target else after cpu.old.counter) } }
-    ensures goes_on { result ≡ None }
+/// On to `target` where the comparison holds.
+fn branch(holds: bool, target: u16) -> Step
+    ensures { result ≡ target_where holds target }
 {
     if holds {
-        cpu.counter = u32::from(target);
+        Step::To(u32::from(target))
     } else {
-        advance(cpu);
+        Step::Next
     }
-    None
 }
 
-/// The counter becomes `target`, and a register gets the next word's address.
-fn link(cpu: &mut Cpu, a: u8, target: u16) -> Option<BurstEnd>
+/// On to `target`, and a register gets the next word's address.
+fn link(counter: Word, registers: &mut [Word; 16], a: u8, target: u16) -> Step
     requires { a < 16 }
-    ensures processor { cpu.new ≡ record { counter = target; registers = slice_set cpu.old.registers a (after cpu.old.counter) } }
-    ensures goes_on { result ≡ None }
+    ensures registers { registers.new ≡ slice_set registers.old a (after counter) }
+    ensures goes { result ≡ Step.To target }
 {
-    cpu.registers[a as usize] = cpu.counter.wrapping_add(1);
-    cpu.counter = u32::from(target);
-    None
+    registers[a as usize] = counter.wrapping_add(1);
+    Step::To(u32::from(target))
 }
 
 /// A register gets the word at `address`.
-fn load<B: Bus>(cpu: &mut Cpu, bus: &B, a: u8, address: u32) -> Option<BurstEnd>
+fn load<B: Bus>(counter: Word, registers: &mut [Word; 16], bus: &B, a: u8, address: u32) -> Step
     requires { a < 16 }
-    ensures { loads (machine_of cpu.old (B.words bus.now) (B.device bus.now)) a address
-        ≡ quiet (machine_of cpu.new (B.words bus.now) (B.device bus.now)) result }
+    ensures loaded { loads (machine_of (cpu_of counter registers.old) (B.words bus.now) (B.device bus.now)) a address
+        ≡ quiet (machine_of (cpu_of (next_of counter result) registers.new) (B.words bus.now) (B.device bus.now)) (crossing_of result) }
 {
     match bus.read(address) {
-        Some(word) => put(cpu, a, word),
-        None => Some(BurstEnd::Trap(TrapCause::BadRead { address })),
+        Some(word) => put(registers, a, word),
+        None => trap(counter, TrapCause::BadRead { address }),
     }
 }
 
 /// The word at `address` gets a register's.
-fn store<B: Bus>(cpu: &mut Cpu, bus: &mut B, a: u8, address: u32) -> Option<BurstEnd>
+fn store<B: Bus>(counter: Word, registers: &[Word; 16], bus: &mut B, a: u8, address: u32) -> Step
     requires { a < 16 }
-    ensures stored { stores (B.entries bus.old) (machine_of cpu.old (B.words bus.old) (B.device bus.old)) a address
-        ≡ quiet (machine_of cpu.new (B.words bus.new) (B.device bus.new)) result }
+    ensures stored { stores (B.entries bus.old) (machine_of (cpu_of counter registers.now) (B.words bus.old) (B.device bus.old)) a address
+        ≡ quiet (machine_of (cpu_of (next_of counter result) registers.now) (B.words bus.new) (B.device bus.new)) (crossing_of result) }
     ensures entries { B.entries bus.new ≡ B.entries bus.old }
     ensures held { B.held bus.new ≡ B.held bus.old }
 {
-    if bus.write(address, register(cpu, a)) {
-        advance(cpu);
-        None
+    if bus.write(address, register(registers, a)) {
+        Step::Next
     } else {
-        Some(BurstEnd::Trap(TrapCause::ForeignWrite { address }))
+        trap(counter, TrapCause::ForeignWrite { address })
     }
 }
 
 /// A register gets what the device gives at `port`.
-fn take<B: Bus>(cpu: &mut Cpu, bus: &mut B, a: u8, port: u16) -> Option<BurstEnd>
+fn take<B: Bus>(counter: Word, registers: &mut [Word; 16], bus: &mut B, a: u8, port: u16) -> Step
     requires { a < 16 }
-    ensures taken { past_input (machine_of cpu.old (B.words bus.old) (B.device bus.old)) a port (input_of port (B.device bus.old))
-        ≡ quiet (machine_of cpu.new (B.words bus.new) (B.device bus.new)) result }
+    ensures taken { past_input (machine_of (cpu_of counter registers.old) (B.words bus.old) (B.device bus.old)) a port (input_of port (B.device bus.old))
+        ≡ quiet (machine_of (cpu_of (next_of counter result) registers.new) (B.words bus.new) (B.device bus.new)) (crossing_of result) }
     ensures entries { B.entries bus.new ≡ B.entries bus.old }
     ensures held { B.held bus.new ≡ B.held bus.old }
 {
     let port = u32::from(port);
     match bus.input(port) {
-        Some(word) => put(cpu, a, word),
-        None => Some(BurstEnd::Trap(TrapCause::BadPort { port })),
+        Some(word) => put(registers, a, word),
+        None => trap(counter, TrapCause::BadPort { port }),
     }
 }
 
 /// The device gets a register's word at `port`.
-fn give<B: Bus>(cpu: &mut Cpu, bus: &mut B, acts: &mut ActLog, a: u8, port: u16) -> Option<BurstEnd>
+fn give<B: Bus>(
+    counter: Word,
+    registers: &[Word; 16],
+    bus: &mut B,
+    acts: &mut ActLog,
+    a: u8,
+    port: u16,
+) -> Step
     requires register { a < 16 }
     requires room { length acts.old < 64 }
     ensures turned { IsTurn
-        (past_output (machine_of cpu.old (B.words bus.old) (B.device bus.old)) port
-        (output_of port (slice_index cpu.old.registers a) (B.device bus.old)))
-        (machine_of cpu.new (B.words bus.new) (B.device bus.new)) acts.old acts.new result }
+        (past_output (machine_of (cpu_of counter registers.now) (B.words bus.old) (B.device bus.old)) port
+        (output_of port (slice_index registers.now a) (B.device bus.old)))
+        (machine_of (cpu_of (next_of counter result) registers.now) (B.words bus.new) (B.device bus.new))
+        acts.old acts.new (crossing_of result) }
+    ensures quiet { is_quiet result ≡ true → acts.new ≡ acts.old }
     ensures entries { B.entries bus.new ≡ B.entries bus.old }
     ensures held { B.held bus.new ≡ B.held bus.old }
 {
     let port = u32::from(port);
-    if bus.output(port, register(cpu, a), acts) {
-        advance(cpu);
-        None
+    if bus.output(port, register(registers, a), acts) {
+        Step::Acted
     } else {
-        Some(BurstEnd::Trap(TrapCause::BadPort { port }))
+        trap(counter, TrapCause::BadPort { port })
     }
-}
-
-/// The burst ends with a kernel call, the counter on the next word.
-fn call_kernel(cpu: &mut Cpu, service: u16) -> Option<BurstEnd>
-    ensures processor { cpu.new ≡ advanced cpu.old }
-    ensures told { result ≡ Some (BurstEnd.Kcall service) }
-{
-    advance(cpu);
-    Some(BurstEnd::Kcall {
-        service: u32::from(service),
-    })
-}
-
-/// The burst ends with a reply, the counter on the next word.
-fn reply(cpu: &mut Cpu, status: u32) -> Option<BurstEnd>
-    ensures processor { cpu.new ≡ advanced cpu.old }
-    ensures told { result ≡ Some (BurstEnd.Reply status) }
-{
-    advance(cpu);
-    Some(BurstEnd::Reply { status })
 }

@@ -5,7 +5,7 @@ use crate::instructions::*;
 use crate::journal::{Act, Trap};
 use crate::memory::Memory;
 use crate::scenario::{Fault, FaultKind};
-use std::ops::Range;
+use std::hint::black_box;
 
 /// The turns and the acts of a burst.
 const MOST_TURNS: u32 = 4_096;
@@ -41,10 +41,11 @@ impl From<Trap> for Crossing {
 pub fn run_burst(cpu: &mut Cpu, bus: &mut Bus, faults: &[Fault]) -> (u32, Crossing) {
     let mut done = 0;
     for fault in faults {
-        if let Some(ended) = run_turns(done..fault.after, cpu, bus) {
-            return ended;
+        let (turns, crossing) = cpu.run(fault.after - done, bus);
+        done += turns;
+        if let Some(crossing) = crossing {
+            return (done, crossing);
         }
-        done = fault.after;
         match fault.kind {
             FaultKind::Trap => return (done, Trap::Injected.into()),
             FaultKind::Hang => return (MOST_TURNS, Trap::Hang.into()),
@@ -55,17 +56,8 @@ pub fn run_burst(cpu: &mut Cpu, bus: &mut Bus, faults: &[Fault]) -> (u32, Crossi
             FaultKind::Register { register, value } => cpu.registers[register] = value,
         }
     }
-    run_turns(done..MOST_TURNS, cpu, bus).unwrap_or((MOST_TURNS, Trap::Hang.into()))
-}
-
-/// Does the turns of these numbers, counted from 0. The count of turns and the crossing, where one of them crosses.
-fn run_turns(turns: Range<u32>, cpu: &mut Cpu, bus: &mut Bus) -> Option<(u32, Crossing)> {
-    for turn in turns {
-        if let Err(crossing) = cpu.turn(bus) {
-            return Some((turn + 1, crossing));
-        }
-    }
-    None
+    let (turns, crossing) = cpu.run(MOST_TURNS - done, bus);
+    (done + turns, crossing.unwrap_or(Trap::Hang.into()))
 }
 
 impl Cpu {
@@ -75,73 +67,101 @@ impl Cpu {
         Cpu { counter, registers }
     }
 
-    /// Does one instruction.
-    #[inline]
-    fn turn(&mut self, bus: &mut Bus) -> Result<(), Crossing> {
-        let word = bus.memory.fetch(self.counter).ok_or(Trap::BadFetch)?;
-        let (a, b, immediate) = (
-            (word >> 20 & 15) as usize,
-            (word >> 16 & 15) as usize,
-            word & 0xffff,
-        );
+    /// Does turns up to a crossing, but no more than so many. Their number, and the crossing.
+    fn run(&mut self, most: u32, bus: &mut Bus) -> (u32, Option<Crossing>) {
+        let Bus {
+            memory,
+            device,
+            acts,
+        } = bus;
         let r = &mut self.registers;
-        let mut next = self.counter.wrapping_add(1);
-        match word >> 24 {
-            LI if b == 0 => r[a] = immediate,
-            LUI if b == 0 => r[a] = immediate << 16 | r[a] & 0xffff,
-            MOV if immediate == 0 => r[a] = r[b],
-            ADD if immediate == 0 => r[a] = r[a].wrapping_add(r[b]),
-            SUB if immediate == 0 => r[a] = r[a].wrapping_sub(r[b]),
-            AND if immediate == 0 => r[a] &= r[b],
-            OR if immediate == 0 => r[a] |= r[b],
-            XOR if immediate == 0 => r[a] ^= r[b],
-            SHL if immediate == 0 => r[a] = r[a].wrapping_shl(r[b]),
-            SHR if immediate == 0 => r[a] = r[a].wrapping_shr(r[b]),
-            ADDI => r[a] = r[b].wrapping_add(immediate),
-            LD => {
-                let address = r[b].wrapping_add(immediate);
-                r[a] = bus.memory.read(address).ok_or(Trap::BadRead(address))?;
+        let mut at = self.counter;
+        let mut left = most;
+        let (next, crossing) = loop {
+            if left == 0 {
+                break (at, None);
             }
-            ST => {
-                let address = r[b].wrapping_add(immediate);
-                if !bus.memory.write(address, r[a]) {
-                    return Err(Trap::ForeignWrite(address).into());
+            left -= 1;
+            let Some(word) = memory.fetch(at) else {
+                break (at, Some(Trap::BadFetch.into()));
+            };
+            let a = (word >> 20 & 15) as usize;
+            let b = (word >> 16 & 15) as usize;
+            let immediate = word & 0xffff;
+            match word >> 24 {
+                LI if b == 0 => r[a] = immediate,
+                LUI if b == 0 => r[a] = immediate << 16 | r[a] & 0xffff,
+                MOV if immediate == 0 => r[a] = r[b],
+                ADD if immediate == 0 => r[a] = r[a].wrapping_add(r[b]),
+                SUB if immediate == 0 => r[a] = r[a].wrapping_sub(r[b]),
+                AND if immediate == 0 => r[a] &= r[b],
+                OR if immediate == 0 => r[a] |= r[b],
+                XOR if immediate == 0 => r[a] ^= r[b],
+                SHL if immediate == 0 => r[a] = r[a].wrapping_shl(r[b]),
+                SHR if immediate == 0 => r[a] = r[a].wrapping_shr(r[b]),
+                ADDI => r[a] = r[b].wrapping_add(immediate),
+                LD => {
+                    let address = r[b].wrapping_add(immediate);
+                    match memory.read(address) {
+                        Some(word) => r[a] = word,
+                        None => break (at, Some(Trap::BadRead(address).into())),
+                    }
                 }
-            }
-            JMP if a == 0 && b == 0 => next = immediate,
-            BEQ if r[a] == r[b] => next = immediate,
-            BNE if r[a] != r[b] => next = immediate,
-            BLT if r[a] < r[b] => next = immediate,
-            BEQ | BNE | BLT => {}
-            JAL if b == 0 => {
-                r[a] = next;
-                next = immediate;
-            }
-            JR if b == 0 && immediate == 0 => next = r[a],
-            IN if b == 0 => {
-                r[a] = bus
-                    .device
-                    .input(immediate)
-                    .ok_or(Trap::BadPort(immediate))?
-            }
-            OUT if b == 0 => {
-                if !bus.device.output(immediate, r[a], bus.acts) {
-                    return Err(Trap::BadPort(immediate).into());
+                ST => {
+                    let address = r[b].wrapping_add(immediate);
+                    if !memory.write(address, r[a]) {
+                        break (at, Some(Trap::ForeignWrite(address).into()));
+                    }
                 }
-                if bus.acts.len() == MOST_ACTS {
-                    self.counter = next;
-                    return Err(Crossing::Pause);
+                JMP if a == 0 && b == 0 => {
+                    at = immediate;
+                    continue;
                 }
+                BEQ if r[a] == r[b] => {
+                    at = immediate;
+                    continue;
+                }
+                BNE if r[a] != r[b] => {
+                    at = immediate;
+                    continue;
+                }
+                BLT if r[a] < r[b] => {
+                    at = immediate;
+                    continue;
+                }
+                // Nothing, but else the compiler has a conditional move give the counter, for which the next fetch waits.
+                BEQ | BNE | BLT => black_box(()),
+                JAL if b == 0 => {
+                    r[a] = at + 1;
+                    at = immediate;
+                    continue;
+                }
+                JR if b == 0 && immediate == 0 => {
+                    at = r[a];
+                    continue;
+                }
+                IN if b == 0 => match device.input(immediate) {
+                    Some(word) => r[a] = word,
+                    None => break (at, Some(Trap::BadPort(immediate).into())),
+                },
+                OUT if b == 0 => {
+                    if !device.output(immediate, r[a], acts) {
+                        break (at, Some(Trap::BadPort(immediate).into()));
+                    }
+                    if acts.len() == MOST_ACTS {
+                        break (at + 1, Some(Crossing::Pause));
+                    }
+                }
+                KCALL if a == 0 && b == 0 => break (at + 1, Some(Crossing::KernelCall(immediate))),
+                RET if b == 0 && immediate == 0 => break (at + 1, Some(Crossing::Reply(r[a]))),
+                FAULT if a == 0 && b == 0 && immediate == 0 => {
+                    break (at, Some(Trap::Explicit.into()))
+                }
+                _ => break (at, Some(Trap::BadOpcode.into())),
             }
-            KCALL if a == 0 && b == 0 => {
-                self.counter = next;
-                return Err(Crossing::KernelCall(immediate));
-            }
-            RET if b == 0 && immediate == 0 => return Err(Crossing::Reply(r[a])),
-            FAULT if a == 0 && b == 0 && immediate == 0 => return Err(Trap::Explicit.into()),
-            _ => return Err(Trap::BadOpcode.into()),
-        }
+            at += 1;
+        };
         self.counter = next;
-        Ok(())
+        (most - left, crossing)
     }
 }

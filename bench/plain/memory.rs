@@ -16,7 +16,7 @@ const BUFFERS: u32 = 5_184;
 const KERNEL: u32 = 7_360;
 
 pub struct Memory {
-    words: Box<[u32; WORDS]>,
+    words: [u32; WORDS],
     /// Whether the buffer of a context is lent for writing.
     lent: [bool; CONTEXTS],
 }
@@ -24,7 +24,7 @@ pub struct Memory {
 impl Memory {
     pub fn new() -> Memory {
         let mut memory = Memory {
-            words: Box::new([0; WORDS]),
+            words: [0; WORDS],
             lent: [false; CONTEXTS],
         };
         for object in 1..OBJECTS {

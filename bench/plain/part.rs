@@ -55,7 +55,7 @@ pub enum Step {
 
 pub struct Part<'s> {
     spec: &'s PartSpec,
-    memory: Memory,
+    memory: Box<Memory>,
     tracker: Tracker,
     device: Device,
     contexts: [Option<Context>; CONTEXTS],
@@ -81,7 +81,7 @@ impl<'s> Part<'s> {
         memory.object_mut(0)[..4].copy_from_slice(&spec.class.defaults());
         Part {
             spec,
-            memory,
+            memory: Box::new(memory),
             tracker: Tracker::new(DATA_START + spec.image.data.len() as u32),
             device: Device::new(spec),
             contexts: [const { None }; CONTEXTS],

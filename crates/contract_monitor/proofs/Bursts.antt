@@ -51,10 +51,10 @@ broken_next call k now done i a broken clause next l is e b c n =
     let reached : Known = after_deeds call k.known (map acts (take i done)) in
     let known : now.known ≡ reached = ap (λ kept. kept.known) e ∙ known_acts call k (take i done) in
     let judged : clause ≡ first_broken call reached (acts a ∷ []) =
-        c ∙ (ap (λ w. act_broken w (call_of call w.calls) a) known
-        ∙ (sym (act_least reached (call_of call reached.calls) a) ∙ sym (broken_one call reached (acts a)))) in
+    c ∙ (ap (λ w. act_broken w (call_of call w.calls) a) known
+    ∙ (sym (act_least reached (call_of call reached.calls) a) ∙ sym (broken_one call reached (acts a)))) in
     let more : map acts (take (i + 1) done) ≡ map acts (take i done) ++ acts a ∷ [] =
-        ap (map acts) (take_more done i a l ∙ ap (λ x. take i done ++ x ∷ []) (sym is)) ∙ map-append acts (take i done) (a ∷ []) in
+    ap (map acts) (take_more done i a l ∙ ap (λ x. take i done ++ x ∷ []) (sym is)) ∙ map-append acts (take i done) (a ∷ []) in
     n ∙ (ap₂ smaller b judged
     ∙ (sym (broken_more call k.known (map acts (take i done)) (acts a ∷ [])) ∙ ap (first_broken call k.known) (sym more)))
 

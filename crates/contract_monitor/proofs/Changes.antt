@@ -47,7 +47,7 @@ pub within_to : {A X : Type 0} (g : A → X) (f : X → X) (i n : ℕ) (ys xs : 
     → n ≡ length xs → i < length ys
 within_to g f i n ys xs h l e =
     let same : length ys ≡ length xs =
-        sym (length-map ys g) ∙ (ap length h ∙ (length_to f i (map g xs) ∙ length-map xs g)) in
+    sym (length-map ys g) ∙ (ap length h ∙ (length_to f i (map g xs) ∙ length-map xs g)) in
     omega (arith, l, e, same)
 
 pub length_seen : {A X : Type 0} (g : A → X) (i n : ℕ) (xs : List A) → n ≤ i → n ≡ length xs → length (map g xs) ≤ i

@@ -122,8 +122,8 @@ places_handed p popped since handed = record p { popped = popped; popped_since =
 
 given : (result : Option ℕ) (n : Counts) (popped since : ℕ) →
     count_handed result (at_places n (with_popped n.places popped since))
-    ≡ with_event n (n.arrived + 0) (n.taken + cond (elim result [ | Some r ↦ not (r == 0) | None ↦ false ]) 1 0)
-    (n.refused + cond (elim result [ | Some r ↦ r == 0 | None ↦ false ]) 1 0) (n.lost + 0)
+    ≡ with_event n (n.arrived + 0) (n.taken + cond (elim result [ Some r ↦ not (r == 0) | None ↦ false ]) 1 0)
+    (n.refused + cond (elim result [ Some r ↦ r == 0 | None ↦ false ]) 1 0) (n.lost + 0)
     (places_handed n.places popped since (n.places.handed_since + one_if (is_some result)))
 given None n popped since =
     like_event n _ _ _ _ _ _ _ _ _ _ (plus_none n.arrived) (plus_none n.taken) (plus_none n.refused) (plus_none n.lost)

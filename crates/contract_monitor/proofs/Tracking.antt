@@ -110,11 +110,11 @@ acts_judged call [] w h = refl
 acts_judged call (a ∷ done) w h =
     let c : Option OpenCall = call_of call w.calls in
     let now : least (shorter w) c (acts a) ≡ least w c (acts a) =
-        act_least (shorter w) c a ∙ (act_judged w c a ∙ sym (act_least w c a)) in
+    act_least (shorter w) c a ∙ (act_judged w c a ∙ sym (act_least w c a)) in
     let later : first_broken call (after_deed call (shorter w) (acts a)) (map acts done)
-        ≡ first_broken call (after_deed call w (acts a)) (map acts done) =
-        ap (λ k. first_broken call k (map acts done)) (act_same call a w h)
-        ∙ acts_judged call done (after_deed call w (acts a)) (act_front call a w h) in
+    ≡ first_broken call (after_deed call w (acts a)) (map acts done) =
+    ap (λ k. first_broken call k (map acts done)) (act_same call a w h)
+    ∙ acts_judged call done (after_deed call w (acts a)) (act_front call a w h) in
     broken_first call (shorter w) (acts a) (map acts done)
     ∙ (ap₂ smaller now later ∙ sym (broken_first call w (acts a) (map acts done)))
 

@@ -13,8 +13,8 @@ use crate::calls::{Call, Change, change_calls, find_call, leave_calls, more};
 use crate::clauses::unless;
 use crate::known::{Known, in_driver, in_ring};
 use crate::watching::{is_replayed, register};
-use nook_defs::clause::Clause;
 use class_table::defaults_of;
+use nook_defs::clause::Clause;
 use nook_defs::data::{Answer, End, FailCause, Op, Stage};
 use nook_defs::lists::{TryCopy, Words};
 use nook_defs::memory::NoMemory;
@@ -88,11 +88,7 @@ impl Known {
     }
 
     /// A reply is accepted.
-    fn see_reply(
-        &mut self,
-        call: u32,
-        answer: &Option<Answer>,
-    ) -> Result<Option<Clause>, NoMemory>
+    fn see_reply(&mut self, call: u32, answer: &Option<Answer>) -> Result<Option<Clause>, NoMemory>
         ensures kept { OnOk result (self.new ≡ with_known (fold (kept_deed call) self.old.known (reply_deeds answer.now)) self.old) }
         ensures broken { IfOk result (λ clause. clause ≡ first_broken call self.old.known (reply_deeds answer.now)) }
     {

@@ -8,8 +8,8 @@ ghost use Rattle.contract_monitor.specs.Keeping.{kept_after, kept_burst, kept_fi
 use crate::blocks::{blank_blocks, copy_blocks, copy_queue};
 use crate::calls::{Call, copy_calls};
 use crate::clauses::smaller;
-use nook_defs::clause::Clause;
 use class_table::defaults_of;
+use nook_defs::clause::Clause;
 use nook_defs::data::{Act, Answer, Class, End, Event, FailCause, Losses};
 use nook_defs::lists::{TryCopy, Words};
 use nook_defs::memory::NoMemory;

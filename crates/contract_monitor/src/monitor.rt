@@ -155,7 +155,10 @@ fn or_break(broken: Option<Break>, event: u64, clause: Option<Clause>) -> Option
         return broken;
     }
     match clause {
-        Some(clause) => Some(Break { event, clause: clause.number() }),
+        Some(clause) => Some(Break {
+            event,
+            clause: clause.number(),
+        }),
         None => None,
     }
 }

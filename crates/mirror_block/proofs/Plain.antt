@@ -265,9 +265,9 @@ number_passes test xs (suc i) x h at = passes test xs i x h at
 disk_shows_not : (m n x : Ideal) (other : Class) (may : Bool) → m.class ≡ Block → same_class Block other ≡ false
     → when (same_class m.class other && may) x ≡ Some n → ⊥
 disk_shows_not m n x other may disk differs h = true≢false (
-  sym (and_parts (same_class m.class other) may (when_is (same_class m.class other && may) x n h).0).0
-      ∙ ap (λ c. same_class c other) disk ∙ differs
-)
+    sym (and_parts (same_class m.class other) may (when_is (same_class m.class other && may) x n h).0).0
+    ∙ ap (λ c. same_class c other) disk ∙ differs
+    )
 
 wire_not : (m n : Ideal) (c : ℕ) (frame : List ℕ) → m.class ≡ Block → shows m (wire c frame) ≡ Some n → ⊥
 wire_not m n c frame disk h =
@@ -381,8 +381,8 @@ module _ (m : Ideal) (o : Op) (disk : m.class ≡ Block) (disk_op : is_disk_op o
           let same_op : y.call.op ≡ o = ap (λ (x : Opened). x.op) l.1 ∙ w.op in
           let disk' : k.0.class ≡ Block = (kept_shown m (answer c a stored) k.0 k.1).0 ∙ disk in
           let over' : list_all is_over k.0.opened ≡ true = closed k.0 (
-            ap (λ (x : Ideal). x.opened) (sym y.after) ∙ (after_keeps (closes c m) y.call.thread y.call.op a stored).2
-                ∙ ap (λ (j : ℕ). (closes j m).opened) l.0
+          ap (λ (x : Ideal). x.opened) (sym y.after) ∙ (after_keeps (closes c m) y.call.thread y.call.op a stored).2
+          ∙ ap (λ (j : ℕ). (closes j m).opened) l.0
           ) in
           let rest : vs ≡ [] = idle_ran k.0 n vs disk' over' told.1 k.2 in
           let end : k.0 ≡ n = ran_none k.0 n (ap (ran k.0) (sym rest) ∙ k.2) in

@@ -173,11 +173,11 @@ burst_is n call e done =
     ∙ ap (λ m. with_handed m (m.handed_since + one_if (is_some (handed_result e))) (m.taken + one (takes (handed_result e))) (m.refused + one (refuses (handed_result e))))
     (acts_are call done n)
 
-takes_elim : (r : Option ℕ) → one (takes r) ≡ one (elim r [ | Some result ↦ not (result == 0) | None ↦ false ])
+takes_elim : (r : Option ℕ) → one (takes r) ≡ one (elim r [ Some result ↦ not (result == 0) | None ↦ false ])
 takes_elim None = refl
 takes_elim (Some result) = refl
 
-refuses_elim : (r : Option ℕ) → one (refuses r) ≡ one (elim r [ | Some result ↦ result == 0 | None ↦ false ])
+refuses_elim : (r : Option ℕ) → one (refuses r) ≡ one (elim r [ Some result ↦ result == 0 | None ↦ false ])
 refuses_elim None = refl
 refuses_elim (Some result) = refl
 

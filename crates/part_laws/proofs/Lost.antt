@@ -77,7 +77,7 @@ answers_lose f told_by lost h (a ∷ answers) n o =
 
 -- what one answer of an open call loses
 abbrev lost_found : (Tally → ℕ) → Answer → Option Tally → ℕ
-lost_found lost a found = elim found [ | Some t ↦ if is_done a then lost t else 0 | None ↦ 0 ]
+lost_found lost a found = elim found [ Some t ↦ if is_done a then lost t else 0 | None ↦ 0 ]
 
 one_lost : (f : Counts → ℕ) (told_by : Bool → Option Counted → ℕ) (lost : Tally → ℕ) → IsLoss f told_by lost
     → (a : Answer) (number first : ℕ) (flags : List Bool) (cs : List Counted) → is_open number first flags ≡ true → AreTold flags cs

@@ -6,8 +6,8 @@ use Rattle.contract_monitor.proofs.calls.change_calls.Goals as goal
 pub loop-i-preserved : goal.loop-i-preserved
 loop-i-preserved c =
     let within : c.loop-i.i < length c.loop-i.calls.items =
-        within_to open_of _ c.loop-i.i c.len-i-end.result c.loop-i.calls.items c.args.calls.now.items c.loop-i.invariant.opened c.loop-i-test.true
-        (omega (arith, c.len-i-end.ensures, c.args.calls.now.ok.0)) in
+    within_to open_of _ c.loop-i.i c.len-i-end.result c.loop-i.calls.items c.args.calls.now.items c.loop-i.invariant.opened c.loop-i-test.true
+    (omega (arith, c.len-i-end.ensures, c.args.calls.now.ok.0)) in
     record {
       opened = changed_more open_of _ c.loop-i.i (c.loop-i.i + 1) c.loop-i.calls.items _ c.index_mut.result.now c.change_if.new.call refl within
           c.loop-i.invariant.opened c.index_mut.ensures.value c.in_ok-change_if.ensures.opened;

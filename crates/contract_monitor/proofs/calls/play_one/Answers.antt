@@ -7,7 +7,7 @@ use Rattle.contract_monitor.proofs.calls.play_one.Goals as goal
 pub returns-then-is_playing-clause-opened : goal.returns-then-is_playing-clause-opened
 returns-then-is_playing-clause-opened c =
     let within : c.loop-i.i < length c.loop-i.calls.items =
-        omega (arith, c.loop-i-test.true, c.len-i-end.ensures, c.args.calls.now.ok.0, ap (λ v. length v.items) c.loop-i.invariant.same) in
+    omega (arith, c.loop-i-test.true, c.len-i-end.ensures, c.args.calls.now.ok.0, ap (λ v. length v.items) c.loop-i.invariant.same) in
     let same = same_item c.loop-i.i c.loop-i.calls.items c.index.result.now c.index_mut.result.now within c.index.ensures c.index_mut.ensures.value in
     on_ok c.play_more.result
     (λ e. first_at is_playing played_more c.loop-i.i c.loop-i.calls.items c.index_mut.result.now c.play_more.new.call within
@@ -24,7 +24,7 @@ returns-then-is_playing-clause-tallied c =
 pub loop-i-preserved : goal.loop-i-preserved
 loop-i-preserved c =
     let within : c.loop-i.i < length c.loop-i.calls.items =
-        omega (arith, c.loop-i-test.true, c.len-i-end.ensures, c.args.calls.now.ok.0, ap (λ v. length v.items) c.loop-i.invariant.same) in
+    omega (arith, c.loop-i-test.true, c.len-i-end.ensures, c.args.calls.now.ok.0, ap (λ v. length v.items) c.loop-i.invariant.same) in
     record {
       same = c.loop-i.invariant.same;
       none = none_more is_playing c.loop-i.i (c.loop-i.i + 1) c.loop-i.calls.items c.index.result.now refl within c.loop-i.invariant.none

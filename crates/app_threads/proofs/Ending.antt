@@ -4,18 +4,18 @@ use Rattle.std.specs.Prelude.{All, slice_index_or, Result, Ok, Err}
 use Rattle.std.proofs.lemmas.List.{length-map}
 use Rattle.std.proofs.lemmas.Option.{get_or_from_slice_get, none-some, slice_get-get_or, slice_get_within}
 use mathlib.Core.List.{IsPrefix}
-use Rattle.nook_defs.specs.declared.data.DeskRefused.{DeskRefused}
-use Rattle.nook_defs.specs.declared.data.PartSpec.{PartSpec}
-use Rattle.nook_defs.specs.declared.data.Receipt.{Receipt}
-use Rattle.nook_defs.specs.declared.data.ThreadSpec.{ThreadSpec}
+use Rattle.nook_defs.specs.declared.desks.DeskRefused.{DeskRefused}
+use Rattle.nook_defs.specs.declared.scenario.PartSpec.{PartSpec}
+use Rattle.nook_defs.specs.declared.desks.Receipt.{Receipt}
+use Rattle.nook_defs.specs.declared.scenario.ThreadSpec.{ThreadSpec}
 use Rattle.nook_defs.specs.State.{PartState}
 use Rattle.desk_like.specs.Desks.{DeskView, IsAt, IsRisingFrom}
 use Rattle.std.specs.List.{AllByRecursion}
 use Rattle.std.proofs.lemmas.List.Elements.{All-append, All-nil, All-weaker}
-use Rattle.nook_defs.specs.declared.data.Event.{Event}
-use Rattle.nook_defs.specs.declared.data.Event.TheVariants as event
+use Rattle.nook_defs.specs.declared.steps.Event.{Event}
+use Rattle.nook_defs.specs.declared.steps.Event.TheVariants as event
 use Rattle.nook_defs.specs.Runs.{answer_at}
-use Rattle.app_threads.proofs.CallNumbers.{InvokesBy}
+use Rattle.part_laws.proofs.CallNumbers.{InvokesBy}
 use Rattle.app_threads.proofs.OpenCalls.{at_place, open_law}
 use Rattle.app_threads.specs.declared.stop.WorkerStop.{WorkerStop}
 use Rattle.app_threads.specs.declared.stop.WorkerStop.TheVariants as stop
@@ -23,7 +23,7 @@ use Rattle.app_threads.specs.declared.work.Work.{Work}
 use Rattle.app_threads.specs.declared.work.Work.TheVariants as work
 use Rattle.app_threads.specs.declared.work.Worker.{Worker}
 use Rattle.app_threads.specs.declared.work.Done.{Done}
-use Rattle.app_threads.specs.Ends.{AreFinished, AtMost, HasArrived, HasRow, IsPartRefused, IsThreadRefused, WorkersEnd}
+use Rattle.app_threads.specs.Ends.{AreFinished, AtMost, HasArrived, HasRow, IsPartRefused, IsRefused, IsThreadRefused, WorkersEnd}
 use Rattle.app_threads.specs.Hired.{Each, IsDone, IsHired, IsReady, RowsEnd}
 use Rattle.app_threads.specs.Steps.{Same, Spread, TakeAllIn, TakesIn, TakesInOne}
 use Rattle.app_threads.specs.Workers.{AreReceipts, AreRising, AreRuns, AreSeats, ArriveCause, AtDesks, CallCause, Does, Gains, GainsAtMost, GrewBy, IsAnsweredIn, IsBy, IsNoInvoke, IsNotOwn, IsOpenFor, IsRefusedAt, KeepAccounts, KeepShares, KeepsAccounts, KnowsOpen, MadeBy, StayAlone, count_on, invokes_at, invokes_of, invokes_of_all}
@@ -377,18 +377,18 @@ module _ (specs : List PartSpec) (scripts : List ThreadSpec) (arrivals : List (L
         cause = r.cause;
       }
 
-  module _ (rows : List (List Receipt)) (thread place part : ℕ) (refusal : DeskRefused) (later : List (Result (List Receipt) WorkerStop))
-      (is : ends ≡ map (λ row. Ok row) rows ++ Err (stop.Refused thread place part refusal) ∷ later) (small : length scripts ≤ 16) where
+  module _ (rows : List (List Receipt)) (own : Work) (place part : ℕ) (refusal : DeskRefused) (later : List (Result (List Receipt) WorkerStop))
+      (is : ends ≡ map (λ row. Ok row) rows ++ Err (stop.Refused own place part refusal) ∷ later) (small : length scripts ≤ 16) where
     -- the ends before the first stop are rows
     row_before : (i : ℕ) → i < length rows → (row : List Receipt) × (slice_get ends i ≡ Some (Ok row))
     row_before i l =
         let row = some_at rows i l in
-        (row.0, ap (λ (e : List (Result (List Receipt) WorkerStop)). slice_get e i) is ∙ get_append (map (λ r. Ok r) rows) (Err (stop.Refused thread place part refusal) ∷ later) i (Ok row.0) (get_map (λ r. Ok r) rows i row.0 row.1))
+        (row.0, ap (λ (e : List (Result (List Receipt) WorkerStop)). slice_get e i) is ∙ get_append (map (λ r. Ok r) rows) (Err (stop.Refused own place part refusal) ∷ later) i (Ok row.0) (get_map (λ r. Ok r) rows i row.0 row.1))
 
-    stop_there : slice_get ends (length rows) ≡ Some (Err (stop.Refused thread place part refusal))
+    stop_there : slice_get ends (length rows) ≡ Some (Err (stop.Refused own place part refusal))
     stop_there = ap (λ (e : List (Result (List Receipt) WorkerStop)). slice_get e (length rows)) is ∙ behind rows
       where
-        behind : (rs : List (List Receipt)) → slice_get (map (λ row. Ok row) rs ++ Err (stop.Refused thread place part refusal) ∷ later) (length rs) ≡ Some (Err (stop.Refused thread place part refusal))
+        behind : (rs : List (List Receipt)) → slice_get (map (λ row. Ok row) rs ++ Err (stop.Refused own place part refusal) ∷ later) (length rs) ≡ Some (Err (stop.Refused own place part refusal))
         behind [] = refl
         behind (r ∷ rs) = behind rs
 
@@ -442,28 +442,26 @@ module _ (specs : List PartSpec) (scripts : List ThreadSpec) (arrivals : List (L
         (not.0, not.1 ∙ ap (λ (m : List ℕ). m ++ not.0) k.1, not.2)
 
     thread_refused : (t : ℕ) (o : List DeskView) → slice_get (all_works scripts arrivals) (length rows) ≡ Some (work.Script t) → slice_get others (length rows) ≡ Some o → AtDesks SeesMore o news
-        → WorkEnds specs scripts arrivals (map start_view olds) (work.Script t) o (Err (stop.Refused thread place part refusal)) → IsThreadRefused specs scripts arrivals olds news thread place part refusal
+        → WorkEnds specs scripts arrivals (map start_view olds) (work.Script t) o (Err (stop.Refused own place part refusal)) → IsThreadRefused specs scripts arrivals olds news t place part refusal
     thread_refused t o there here sees h =
         let at = script_is scripts arrivals (length rows) t there in
-        let t_is : t ≡ thread = sym h.1 in
-        let rows_are : length rows ≡ thread = sym at.0 ∙ t_is in
-        let s_there : slice_get scripts thread ≡ Some at.1.0 = subst (λ k. slice_get scripts k ≡ Some at.1.0) rows_are at.1.1 in
+        let s_there : slice_get scripts t ≡ Some at.1.0 = subst (λ k. slice_get scripts k ≡ Some at.1.0) (sym at.0) at.1.1 in
         let r = h.2.0 in
-        let ops : ops_of (slice_get scripts t) ≡ at.1.0.ops = ap (λ k. ops_of (slice_get scripts k)) t_is ∙ ap ops_of s_there in
+        let ops : ops_of (slice_get scripts t) ≡ at.1.0.ops = ap ops_of s_there in
         record {
           script = at.1.0;
           there = s_there;
           refusal_is = record {
             op = r.op;
             operation = subst (λ l. slice_get l place ≡ Some (part, r.op)) ops r.operation;
-            cause = subst (λ k. IsRefusedAt specs olds news part (CallCause k refusal)) t_is (cause_there part o (CallCause t refusal) sees r.cause);
+            cause = cause_there part o (CallCause t refusal) sees r.cause;
           };
           foreign = λ call v w e a b. foreign_call t o call v w there here sees at.0 (let l = slice_get_within scripts (length rows) at.1.0 at.1.1 in let q = at.0 in omega (arith, small)) (subst (λ x. KnowsOpen specs (map start_view olds) o t part x) e h.2.1) a b;
           sooner = λ k s l a. has_row k s (omega arith) a;
         }
 
     part_refused : (p : ℕ) (o : List DeskView) → slice_get (all_works scripts arrivals) (length rows) ≡ Some (work.Arrivals p) → AtDesks SeesMore o news
-        → WorkEnds specs scripts arrivals (map start_view olds) (work.Arrivals p) o (Err (stop.Refused thread place part refusal)) → IsPartRefused specs scripts arrivals olds news thread place part refusal
+        → WorkEnds specs scripts arrivals (map start_view olds) (work.Arrivals p) o (Err (stop.Refused own place part refusal)) → IsPartRefused specs scripts arrivals olds news place part refusal
     part_refused p o there sees h =
         let at = arrivals_behind 0 scripts (arrival_works 0 arrivals) (length rows) p there in
         let list = arrivals_are 0 arrivals at.0 p at.2 in
@@ -472,7 +470,6 @@ module _ (specs : List PartSpec) (scripts : List ThreadSpec) (arrivals : List (L
         let all : slice_index_or arrivals part [] ≡ list.2.0 = get_or_from_slice_get arrivals part list.2.0 [] frames_there in
         let r = h.2.1 in
         record {
-          number = h.1;
           frames = list.2.0;
           there = frames_there;
           refusal_is = record {
@@ -497,24 +494,26 @@ module _ (specs : List PartSpec) (scripts : List ThreadSpec) (arrivals : List (L
         sooner_arrived p' j e long here d [] v w l a b c = record { places = []; rising = tt; arrived = refl }
         sooner_arrived p' j e long here d (f ∷ fs) v w l a b c = some_frames d (f ∷ fs) v w j (omega arith) long here (omega arith) a b c
 
-    pub all_refused : IsThreadRefused specs scripts arrivals olds news thread place part refusal ⊎ IsPartRefused specs scripts arrivals olds news thread place part refusal
+    pub all_refused : IsRefused specs scripts arrivals olds news own place part refusal
     all_refused =
         let lengths = ended_length specs scripts arrivals (map start_view olds) (all_works scripts arrivals) others ends ended in
         let l = slice_get_within ends (length rows) _ stop_there in
         let k = some_at (all_works scripts arrivals) (length rows) (let n = lengths.0 in omega arith) in
-        let e = ended_at specs scripts arrivals (map start_view olds) (all_works scripts arrivals) others ends (length rows) k.0 (Err (stop.Refused thread place part refusal)) ended k.1 stop_there in
+        let e = ended_at specs scripts arrivals (map start_view olds) (all_works scripts arrivals) others ends (length rows) k.0 (Err (stop.Refused own place part refusal)) ended k.1 stop_there in
         by_work k.0 e.0 k.1 e.1 (worker_sees specs mids others news (length rows) e.0 taken e.1) e.2
       where
         by_work : (k : Work) (o : List DeskView) → slice_get (all_works scripts arrivals) (length rows) ≡ Some k → slice_get others (length rows) ≡ Some o → AtDesks SeesMore o news
-            → WorkEnds specs scripts arrivals (map start_view olds) k o (Err (stop.Refused thread place part refusal)) → IsThreadRefused specs scripts arrivals olds news thread place part refusal ⊎ IsPartRefused specs scripts arrivals olds news thread place part refusal
-        by_work (work.Script t) o there here sees h = inl (thread_refused t o there here sees h)
-        by_work (work.Arrivals p) o there here sees h = inr (part_refused p o there sees h)
+            → WorkEnds specs scripts arrivals (map start_view olds) k o (Err (stop.Refused own place part refusal)) → IsRefused specs scripts arrivals olds news own place part refusal
+        by_work (work.Script t) o there here sees h =
+            subst (λ k. IsRefused specs scripts arrivals olds news k place part refusal) (sym h.1) (thread_refused t o there here sees h)
+        by_work (work.Arrivals p) o there here sees h =
+            subst (λ k. IsRefused specs scripts arrivals olds news k place part refusal) (sym h.1) (h.2.0, part_refused p o there sees h)
 
   pub all_alone : StayAlone olds news
   all_alone = all_back_alone specs olds mids others news (all_grown.0) spread taken
 
   pub all_stopped : (why : WorkerStop) (small : length scripts ≤ 16) (r : RowsEnd ends (Err why)) → WorkersEnd specs scripts arrivals olds news (Err why)
-  all_stopped (stop.Refused thread place part refusal) small r = (all_grown, all_refused r.0 thread place part refusal r.1 r.2 small, all_seen_runs, all_alone)
+  all_stopped (stop.Refused own place part refusal) small r = (all_grown, all_refused r.0 own place part refusal r.1 r.2 small, all_seen_runs, all_alone)
   all_stopped stop.NoMemory small r = tt
 
 -- ---- what the steps between need

@@ -1,4 +1,3 @@
-pub mod CallNumbers
 pub mod Counted
 pub mod Ending
 pub mod Grown

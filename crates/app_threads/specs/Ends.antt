@@ -1,14 +1,16 @@
 -- How all workers end.
 use Rattle.std.specs.Prelude.{◌≡◌, ℕ, ◌+◌, ◌<◌, ◌≤◌, ◌⊎◌, List, [], ◌∷◌, length, slice_get, slice_index_or, Some, Result, Ok, Err}
-use Rattle.nook_defs.specs.declared.data.DeskRefused.{DeskRefused}
-use Rattle.nook_defs.specs.declared.data.DeskRefused.TheVariants as refused
-use Rattle.nook_defs.specs.declared.data.Op.{Op}
-use Rattle.nook_defs.specs.declared.data.PartSpec.{PartSpec}
-use Rattle.nook_defs.specs.declared.data.Receipt.{Receipt}
-use Rattle.nook_defs.specs.declared.data.ThreadSpec.{ThreadSpec}
+use Rattle.nook_defs.specs.declared.desks.DeskRefused.{DeskRefused}
+use Rattle.nook_defs.specs.declared.desks.DeskRefused.TheVariants as refused
+use Rattle.nook_defs.specs.declared.calls.Op.{Op}
+use Rattle.nook_defs.specs.declared.scenario.PartSpec.{PartSpec}
+use Rattle.nook_defs.specs.declared.desks.Receipt.{Receipt}
+use Rattle.nook_defs.specs.declared.scenario.ThreadSpec.{ThreadSpec}
 use Rattle.desk_like.specs.Desks.{DeskView, IsRisingFrom}
 use Rattle.app_threads.specs.declared.stop.WorkerStop.{WorkerStop}
 use Rattle.app_threads.specs.declared.stop.WorkerStop.TheVariants as stop
+use Rattle.app_threads.specs.declared.work.Work.{Work}
+use Rattle.app_threads.specs.declared.work.Work.TheVariants as work
 use Rattle.app_threads.specs.Workers.{AreReceipts, AreRising, AreRows, AreRuns, AtDesks, Gains, Grows, IsArrivalRefused, IsCallRefused, IsNotOwn, StayAlone, count_on, frames_at, invokes_at, invokes_by, invokes_of_all}
 use Rattle.app_threads.specs.Works.{all_works, ops_of}
 
@@ -57,13 +59,17 @@ module _ (specs : List PartSpec) (scripts : List ThreadSpec) (arrivals : List (L
     pub sooner : (t : ℕ) (s : ThreadSpec) → t < thread → slice_get scripts t ≡ Some s → HasRow olds news t s.ops
 
   -- a desk's arrivals were refused; each thread finished its script, and the arrivals of each desk before it came in
-  pub record IsPartRefused (thread place part : ℕ) (refusal : DeskRefused) : Type 0 where
-    pub number : thread ≡ 255
+  pub record IsPartRefused (place part : ℕ) (refusal : DeskRefused) : Type 0 where
     pub frames : List (List ℕ)
     pub there : slice_get arrivals part ≡ Some frames
     pub refusal_is : IsArrivalRefused specs olds news frames place part refusal
     pub threads : (t : ℕ) (s : ThreadSpec) → slice_get scripts t ≡ Some s → HasRow olds news t s.ops
     pub sooner : (d : ℕ) (fs : List (List ℕ)) (v w : DeskView) → d < part → slice_get arrivals d ≡ Some fs → slice_get olds d ≡ Some v → slice_get news d ≡ Some w → HasArrived v w fs
+
+  -- the worker of a work was refused: a thread's, or that of a desk's arrivals
+  abbrev pub IsRefused : Work → ℕ → ℕ → DeskRefused → Type 0
+  IsRefused (work.Script thread) place part refusal = IsThreadRefused thread place part refusal
+  IsRefused (work.Arrivals p) place part refusal = (part ≡ p) × IsPartRefused place part refusal
 
   -- where there is a worker, what each seat has seen is a run
   abbrev pub AreSeenRuns : Type 0
@@ -71,9 +77,9 @@ module _ (specs : List PartSpec) (scripts : List ThreadSpec) (arrivals : List (L
 
   abbrev pub WorkersEnd : Result (List (List Receipt)) WorkerStop → Type 0
   WorkersEnd (Ok table) = AreFinished table × AreSeenRuns × StayAlone olds news
-  WorkersEnd (Err (stop.Refused thread place part refusal)) =
+  WorkersEnd (Err (stop.Refused own place part refusal)) =
       AtDesks (λ d v w. AtMost scripts (slice_index_or arrivals d []) d v w) olds news
-      × (IsThreadRefused thread place part refusal ⊎ IsPartRefused thread place part refusal)
+      × IsRefused own place part refusal
       × AreSeenRuns
       × StayAlone olds news
   WorkersEnd (Err stop.NoMemory) = Unit {0}

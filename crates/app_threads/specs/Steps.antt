@@ -1,13 +1,14 @@
 -- One step of a worker, as its seats' views show it.
 use Rattle.std.specs.Prelude.{◌≡◌, ℕ, ◌⊎◌, Bool, true, List, [], ◌∷◌, length, slice_get, slice_set, Some, Result, Ok, Err}
-use Rattle.nook_defs.specs.declared.data.Op.{Op}
-use Rattle.nook_defs.specs.declared.data.PartSpec.{PartSpec}
-use Rattle.nook_defs.specs.declared.data.Receipt.{Receipt}
+use Rattle.nook_defs.specs.declared.calls.Op.{Op}
+use Rattle.nook_defs.specs.declared.scenario.PartSpec.{PartSpec}
+use Rattle.nook_defs.specs.declared.desks.Receipt.{Receipt}
 use Rattle.nook_defs.specs.Runs.{IsRun}
 use Rattle.desk_like.specs.Desks.{Accounts, ArriveEnds, CallEnds, DeskView, Joins, halved_view, new_view}
 use Rattle.shares.specs.Shares.{owns}
 use Rattle.app_threads.specs.declared.stop.WorkerStop.{WorkerStop}
 use Rattle.app_threads.specs.declared.stop.WorkerStop.TheVariants as stop
+use Rattle.app_threads.specs.declared.work.Work.TheVariants as work
 
 -- one seat changed so, and no other changed
 pub record IsStepAt (specs : List PartSpec) (olds news : List DeskView) (part : ℕ) (Ends : PartSpec → DeskView → DeskView → Type 0) : Type 0 where
@@ -23,14 +24,14 @@ pub record IsStepAt (specs : List PartSpec) (olds news : List DeskView) (part : 
 abbrev pub NextCallEnds : PartSpec → DeskView → DeskView → ℕ → ℕ → ℕ → Op → Result Receipt WorkerStop → Type 0
 NextCallEnds spec old new thread place part op (Ok receipt) = CallEnds spec old new thread op (Ok receipt)
 NextCallEnds spec old new thread place part op (Err (stop.Refused t k p refusal)) =
-    (t ≡ thread) × (k ≡ place) × (p ≡ part) × CallEnds spec old new thread op (Err refusal)
+    (t ≡ work.Script thread) × (k ≡ place) × (p ≡ part) × CallEnds spec old new thread op (Err refusal)
 NextCallEnds spec old new thread place part op (Err stop.NoMemory) = ⊥
 
 -- how the next arrival ends
 abbrev pub NextArrivalEnds : PartSpec → DeskView → DeskView → ℕ → ℕ → List ℕ → Result Bool WorkerStop → Type 0
 NextArrivalEnds spec old new place part frame (Ok kept) = ArriveEnds spec old new frame (Ok kept)
 NextArrivalEnds spec old new place part frame (Err (stop.Refused t k p refusal)) =
-    (t ≡ 255) × (k ≡ place) × (p ≡ part) × ArriveEnds spec old new frame (Err refusal)
+    (t ≡ work.Arrivals part) × (k ≡ place) × (p ≡ part) × ArriveEnds spec old new frame (Err refusal)
 NextArrivalEnds spec old new place part frame (Err stop.NoMemory) = ⊥
 
 -- ---- seats that are made and taken in

@@ -2,23 +2,25 @@
 use Rattle.std.specs.Prelude.{◌≡◌, ℕ, ◌<◌, ◌≤◌, ◌==◌, if◌then◌else◌, Bool, true, false, List, [], ◌∷◌, ◌++◌, length, slice_get, slice_index_or, All, Option, Some, None, Result, Ok, Err, is_some}
 use Rattle.std.specs.List.{filter, filter_map}
 use mathlib.Core.List.{IsPrefix}
-use Rattle.nook_defs.specs.declared.data.Answer.{Answer}
+use Rattle.nook_defs.specs.declared.calls.Answer.{Answer}
 use Rattle.nook_defs.specs.Classes.{same_class}
-use Rattle.nook_defs.specs.declared.data.Class.TheVariants as class
-use Rattle.nook_defs.specs.declared.data.DeskRefused.{DeskRefused}
-use Rattle.nook_defs.specs.declared.data.DeskRefused.TheVariants as refused
-use Rattle.nook_defs.specs.declared.data.Event.{Event}
-use Rattle.nook_defs.specs.declared.data.Event.TheVariants as event
-use Rattle.nook_defs.specs.declared.data.Op.{Op}
-use Rattle.nook_defs.specs.declared.data.PartSpec.{PartSpec}
-use Rattle.nook_defs.specs.declared.data.Receipt.{Receipt}
-use Rattle.nook_defs.specs.declared.data.ThreadSpec.{ThreadSpec}
+use Rattle.nook_defs.specs.declared.classes.Class.TheVariants as class
+use Rattle.nook_defs.specs.declared.desks.DeskRefused.{DeskRefused}
+use Rattle.nook_defs.specs.declared.desks.DeskRefused.TheVariants as refused
+use Rattle.nook_defs.specs.declared.steps.Event.{Event}
+use Rattle.nook_defs.specs.declared.steps.Event.TheVariants as event
+use Rattle.nook_defs.specs.declared.calls.Op.{Op}
+use Rattle.nook_defs.specs.declared.scenario.PartSpec.{PartSpec}
+use Rattle.nook_defs.specs.declared.desks.Receipt.{Receipt}
+use Rattle.nook_defs.specs.declared.scenario.ThreadSpec.{ThreadSpec}
+use Rattle.nook_defs.specs.declared.limits.TheConstants.{MOST_FRAME_WORDS}
 use Rattle.nook_defs.specs.Places.{at_number}
 use Rattle.nook_defs.specs.Runs.{IsRun, state_of}
 use Rattle.nook_defs.specs.State.{PartState}
 use Rattle.desk_like.specs.Desks.{Accounts, Answers, DeskView, HasNoneOpen, HasOpen, IsAlone, IsAt, IsReceipt, IsRisingFrom}
 use Rattle.app_threads.specs.declared.stop.WorkerStop.{WorkerStop}
 use Rattle.app_threads.specs.declared.stop.WorkerStop.TheVariants as stop
+use Rattle.app_threads.specs.declared.work.Work.TheVariants as work
 
 -- ---- one seat
 
@@ -168,7 +170,7 @@ AreScripts count scripts = (length scripts ≤ 16) × All (λ (script : ThreadSp
 
 -- frames of 1 to 64 words
 abbrev pub AreFrames : List (List ℕ) → Type 0
-AreFrames frames = All (λ frame. (1 ≤ length frame) × (length frame ≤ 64)) frames
+AreFrames frames = All (λ frame. (1 ≤ length frame) × (length frame ≤ MOST_FRAME_WORDS)) frames
 
 -- a list of at most 256 frames for each desk; only one of a network part has any
 abbrev pub AreArrivals : List PartSpec → List (List (List ℕ)) → Type 0
@@ -283,7 +285,7 @@ abbrev pub ScriptEnds : List PartSpec → List DeskView → List DeskView → �
 ScriptEnds specs olds news thread ops (Ok receipts) = DoesOps olds news thread ops receipts × AtDesks (λ d v w. MadeBy thread v w) olds news
 ScriptEnds specs olds news thread ops (Err (stop.Refused t place part refusal)) =
     AtDesks (λ d v w. GrewBy thread (count_on d ops) 0 v w) olds news
-    × (t ≡ thread)
+    × (t ≡ work.Script thread)
     × IsCallRefused specs olds news ops thread place part refusal
     × KnowsOpen specs olds news thread part refusal
 ScriptEnds specs olds news thread ops (Err stop.NoMemory) = AtDesks (λ d v w. GrewBy thread (count_on d ops) 0 v w) olds news
@@ -296,6 +298,6 @@ abbrev pub ArrivalsEnd : List PartSpec → List DeskView → List DeskView → �
 ArrivalsEnd specs olds news part frames (Ok receipts) =
     (receipts ≡ []) × DoesFrames olds news part frames × AtDesks (λ d v w. MadeBy 255 v w) olds news
 ArrivalsEnd specs olds news part frames (Err (stop.Refused t place p refusal)) =
-    AtDesks (λ d v w. GrewBy 255 0 (length (if part == d then frames else [])) v w) olds news × (t ≡ 255) × (p ≡ part) × IsArrivalRefused specs olds news frames place part refusal
+    AtDesks (λ d v w. GrewBy 255 0 (length (if part == d then frames else [])) v w) olds news × (t ≡ work.Arrivals part) × (p ≡ part) × IsArrivalRefused specs olds news frames place part refusal
 ArrivalsEnd specs olds news part frames (Err stop.NoMemory) =
     AtDesks (λ d v w. GrewBy 255 0 (length (if part == d then frames else [])) v w) olds news

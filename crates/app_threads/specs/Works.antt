@@ -1,10 +1,10 @@
 -- Which workers there are, what each is to do, and how it ends.
 use Rattle.std.specs.Prelude.{◌≡◌, ℕ, ◌+◌, ◌<◌, ◌==◌, if◌then◌else◌, List, [], ◌∷◌, ◌++◌, length, slice_get, slice_index_or, Option, Some, None, Result, Ok, Err}
-use Rattle.nook_defs.specs.declared.data.DeskRefused.{DeskRefused}
-use Rattle.nook_defs.specs.declared.data.Op.{Op}
-use Rattle.nook_defs.specs.declared.data.PartSpec.{PartSpec}
-use Rattle.nook_defs.specs.declared.data.Receipt.{Receipt}
-use Rattle.nook_defs.specs.declared.data.ThreadSpec.{ThreadSpec}
+use Rattle.nook_defs.specs.declared.desks.DeskRefused.{DeskRefused}
+use Rattle.nook_defs.specs.declared.calls.Op.{Op}
+use Rattle.nook_defs.specs.declared.scenario.PartSpec.{PartSpec}
+use Rattle.nook_defs.specs.declared.desks.Receipt.{Receipt}
+use Rattle.nook_defs.specs.declared.scenario.ThreadSpec.{ThreadSpec}
 use Rattle.desk_like.specs.Desks.{DeskView}
 use Rattle.app_threads.specs.declared.stop.WorkerStop.{WorkerStop}
 use Rattle.app_threads.specs.declared.stop.WorkerStop.TheVariants as stop
@@ -65,9 +65,9 @@ WorkEnds specs scripts arrivals olds k news (Ok receipts) =
     AreReceipts news (thread_of k) (ops_for scripts k) receipts
     × AtDesks (λ d v w. Does v w (invokes_of d (ops_for scripts k) receipts) (frames_for d arrivals k)) olds news
     × AtDesks (λ d v w. MadeBy (thread_of k) v w) olds news
-WorkEnds specs scripts arrivals olds k news (Err (stop.Refused thread place part refusal)) =
+WorkEnds specs scripts arrivals olds k news (Err (stop.Refused own place part refusal)) =
     AtDesks (λ d v w. GrewBy (thread_of k) (count_on d (ops_for scripts k)) (length (frames_for d arrivals k)) v w) olds news
-    × (thread ≡ thread_of k)
+    × (own ≡ k)
     × IsWorkRefused specs scripts arrivals olds news k place part refusal
 WorkEnds specs scripts arrivals olds k news (Err stop.NoMemory) =
     AtDesks (λ d v w. GrewBy (thread_of k) (count_on d (ops_for scripts k)) (length (frames_for d arrivals k)) v w) olds news

@@ -6,14 +6,13 @@ ghost use Rattle.app_threads.specs.Workers.{AreFrames, AreSeats, ArrivalsEnd, Is
 
 use crate::seats::arrive_at;
 use crate::stop::WorkerStop;
+use crate::work::Work;
 use desk_like::DeskLike;
-use nook_defs::data::Receipts;
+use nook_defs::desks::Receipts;
+use nook_defs::limits::MOST_FRAME_WORDS;
 use nook_defs::lists::{Frames, Words};
 use std::alloc::Global;
 use std::sync::Wait;
-
-// The thread number of a worker of arrivals.
-const NO_THREAD: u8 = 255;
 
 // Hands in the frame at this place of a list.
 fn arrive_next<R: Wait, D: DeskLike>(
@@ -29,14 +28,14 @@ fn arrive_next<R: Wait, D: DeskLike>(
     requires part { part < length desks.now }
     requires net { IsNetAt (map D.spec desks.now) part }
     requires some { 1 ≤ length frame.now }
-    requires fits { length frame.now ≤ 64 }
+    requires fits { length frame.now ≤ MOST_FRAME_WORDS }
     ensures seats { AreSeats D.is_seat desks.now seats.new }
     ensures ends { IsStepAt (map D.spec desks.now) (map D.view seats.old) (map D.view seats.new) part (λ spec old new. NextArrivalEnds spec old new place part frame.now result) }
 {
     match arrive_at(rt, alloc, desks, seats, part, frame) {
         Ok(kept) => Ok(kept),
         Err(refusal) => Err(WorkerStop::Refused {
-            thread: NO_THREAD,
+            work: Work::Arrivals { part },
             place,
             part,
             refusal,

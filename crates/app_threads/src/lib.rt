@@ -11,4 +11,5 @@ mod work;
 mod workers;
 
 pub use stop::WorkerStop;
+pub use work::Work;
 pub use workers::run_workers;

@@ -6,8 +6,10 @@ ghost use Rattle.app_threads.specs.Workers.{AreSeats, KeepShares, NameDesks, Scr
 
 use crate::seats::call_at;
 use crate::stop::WorkerStop;
+use crate::work::Work;
 use desk_like::DeskLike;
-use nook_defs::data::{Op, PartOps, Receipt, Receipts};
+use nook_defs::calls::{Op, PartOps};
+use nook_defs::desks::{Receipt, Receipts};
 use nook_defs::outside::Gate;
 use std::alloc::Global;
 use std::sync::Wait;
@@ -32,7 +34,7 @@ fn call_next<R: Wait, D: DeskLike>(
     match call_at(rt, alloc, desks, seats, thread, part, op) {
         Ok(receipt) => Ok(receipt),
         Err(refusal) => Err(WorkerStop::Refused {
-            thread,
+            work: Work::Script { thread },
             place,
             part,
             refusal,

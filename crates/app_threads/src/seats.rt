@@ -6,7 +6,9 @@ ghost use Rattle.app_threads.specs.Workers.{AreSeats, AtDesks, IsNetAt, IsSeatAt
 ghost use Rattle.app_threads.specs.Steps.{Halve, IsStepAt, Same, Splits, Starts, TakesIn, TakesInOne};
 
 use desk_like::DeskLike;
-use nook_defs::data::{DeskRefused, Op, Receipt};
+use nook_defs::calls::Op;
+use nook_defs::desks::{DeskRefused, Receipt};
+use nook_defs::limits::MOST_FRAME_WORDS;
 use nook_defs::lists::{Frames, Words};
 use nook_defs::memory::NoMemory;
 use std::alloc::Global;
@@ -45,7 +47,7 @@ pub fn arrive_at<R: Wait, D: DeskLike>(
     requires part { part < length desks.now }
     requires net { IsNetAt (map D.spec desks.now) part }
     requires some { 1 ≤ length frame.now }
-    requires fits { length frame.now ≤ 64 }
+    requires fits { length frame.now ≤ MOST_FRAME_WORDS }
     ensures seats { AreSeats D.is_seat desks.now seats.new }
     ensures ends { IsStepAt (map D.spec desks.now) (map D.view seats.old) (map D.view seats.new) part (λ spec old new. ArriveEnds spec old new frame.now result) }
 {

@@ -3,16 +3,17 @@
 ghost use Rattle.std.specs.Prelude.{◌≡◌};
 ghost use Rattle.app_threads.specs.declared.stop.WorkerStop.TheVariants as stop;
 
-use nook_defs::data::DeskRefused;
+use crate::work::Work;
+use nook_defs::desks::DeskRefused;
 use nook_defs::memory::NoMemory;
 
 /// Why there is no table of receipts.
 #[derive(Clone, Copy, Debug, PartialEq, Eq)]
 pub enum WorkerStop {
-    /// A desk refused: `part` is the desk's place, `place` that of the operation in the thread's script, counted from
-    /// 0. A worker of arrivals has the thread number 255, and `place` is that of the frame.
+    /// A desk refused the worker of this work: `part` is the desk's place, and `place` that of the operation in the
+    /// thread's script, or of the frame in the part's arrivals, counted from 0.
     Refused {
-        thread: u8,
+        work: Work,
         place: u32,
         part: u32,
         refusal: DeskRefused,

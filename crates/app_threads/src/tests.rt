@@ -3,15 +3,15 @@
 ghost use Rattle.std.specs.Prelude.{◌≡◌, IfOk, [], All, length, ◌<◌, ◌≤◌};
 ghost use Rattle.app_threads.specs.Workers.{AreScripts, NameDesks};
 
-use crate::{WorkerStop, run_workers};
+use crate::{Work, WorkerStop, run_workers};
 use desk_like::DeskLike;
-use nook_defs::data::{
-    BadBlocks, Class, DeskRefused, Faults, Image, Op, PartOps, PartSpec, Receipt, ThreadSpec,
-    ThreadSpecs,
-};
+use nook_defs::calls::{Op, PartOps};
+use nook_defs::classes::Class;
+use nook_defs::desks::{DeskRefused, Receipt};
 use nook_defs::lists::{Frames, Words};
 use nook_defs::name::Name;
 use nook_defs::outside::Gate;
+use nook_defs::scenario::{BadBlocks, Faults, Image, PartSpec, ThreadSpec, ThreadSpecs};
 use std::alloc::Global;
 use std::sync::Wait;
 use std::sync::atomic::{AtomicU64, Ordering};
@@ -185,7 +185,7 @@ fn each_worker_passes_the_gate_once_and_stops(rt: HostRuntime) -> Result<(), Fai
         Err(why) => assert_eq!(rt;
             why,
             WorkerStop::Refused {
-                thread: 0,
+                work: Work::Script { thread: 0 },
                 place: 0,
                 part: 0,
                 refusal: DeskRefused::NoMemory { call: None },

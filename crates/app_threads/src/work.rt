@@ -4,13 +4,14 @@ ghost use Rattle.std.specs.Prelude.{◌≡◌, ◌≤◌, ◌++◌, length, IfOk
 ghost use Rattle.app_threads.specs.Works.{all_works, arrival_works, script_works};
 
 use crate::stop::WorkerStop;
-use nook_defs::data::{Receipts, ThreadSpecs};
+use nook_defs::desks::Receipts;
 use nook_defs::lists::Frames;
 use nook_defs::memory::NoMemory;
+use nook_defs::scenario::ThreadSpecs;
 use std::alloc::Global;
 
 /// What a worker is to do.
-#[derive(Clone, Copy)]
+#[derive(Clone, Copy, Debug, PartialEq, Eq)]
 pub enum Work {
     /// The script of this thread.
     Script { thread: u8 },

@@ -2,13 +2,13 @@
 use Rattle.std.proofs.Common.{◌≡◌, ℕ, zero, suc, ◌+◌, ◌<◌, Some, List, [], ◌∷◌, length, map, filter, slice_get, slice_index_or, slice_set, refl, sym, ap, ap₂, ◌∙◌, arith, eq-eqb, ne_eqb}
 use Rattle.std.specs.List.{AllByRecursion}
 use Rattle.std.proofs.lemmas.List.Elements.{recursion_from_All}
-use Rattle.nook_defs.specs.Simulation.{PartSeat, ThreadState, answers_of}
+use Rattle.nook_defs.specs.Simulation.{RunningPart, ThreadState, answers_of}
 use Rattle.nook_defs.specs.Valid.{IsValidStep, IsValidThread}
-use Rattle.nook_defs.specs.declared.data.Answer.{Answer}
-use Rattle.nook_defs.specs.declared.data.Op.{Op}
-use Rattle.nook_defs.specs.declared.data.ThreadSpec.{ThreadSpec}
-use Rattle.audit_laws.proofs.Nexts.{inner, no_some}
-use Rattle.audit_laws.specs.Audit.{Done, answers_in_order, answers_to, in_script_order}
+use Rattle.nook_defs.specs.declared.calls.Answer.{Answer}
+use Rattle.nook_defs.specs.declared.calls.Op.{Op}
+use Rattle.nook_defs.specs.declared.scenario.ThreadSpec.{ThreadSpec}
+use Rattle.nook_defs.proofs.Options.{none_is_some, same_inside}
+use Rattle.run_laws.specs.Audit.{Done, answers_in_order, answers_to, in_script_order}
 use Rattle.audited_runs.proofs.Shares.{filter_none, filter_same, is_from, share_of}
 
 -- the answers of so many parts, the first of them number `place`
@@ -83,18 +83,18 @@ in_order_again n (o ∷ ops) (a ∷ answers) same low =
 -- ---- each thread's
 
 -- what the sections leave, by their seats and their shares of the threads
-abbrev pub left_by : ℕ → List PartSeat → List ThreadState → List Done
+abbrev pub left_by : ℕ → List RunningPart → List ThreadState → List Done
 left_by place [] threads = []
 left_by place (seat ∷ seats) threads =
     record { journal = seat.run.journal; answers = map answers_of (map (share_of place) threads) } ∷ left_by (suc place) seats threads
 
 answers_shared : (place i : ℕ) (threads : List ThreadState) (t : ThreadState) → slice_get threads i ≡ Some t
     → slice_index_or (map answers_of (map (share_of place) threads)) i [] ≡ filter (is_from place) t.answers
-answers_shared place i [] t h = no_some h
-answers_shared place zero (x ∷ threads) t h = ap (λ (y : ThreadState). filter (is_from place) y.answers) (inner h)
+answers_shared place i [] t h = none_is_some h
+answers_shared place zero (x ∷ threads) t h = ap (λ (y : ThreadState). filter (is_from place) y.answers) (same_inside h)
 answers_shared place (suc i) (x ∷ threads) t h = answers_shared place i threads t h
 
-left_apart : (place i : ℕ) (seats : List PartSeat) (threads : List ThreadState) (t : ThreadState) → slice_get threads i ≡ Some t
+left_apart : (place i : ℕ) (seats : List RunningPart) (threads : List ThreadState) (t : ThreadState) → slice_get threads i ≡ Some t
     → map (answers_to i) (left_by place seats threads) ≡ apart place (length seats) t.answers
 left_apart place i [] threads t h = refl
 left_apart place i (seat ∷ seats) threads t h =
@@ -104,7 +104,7 @@ pub low_ops : (n : ℕ) (ops : List (ℕ × Op)) → AllByRecursion (IsValidStep
 low_ops n [] h = tt
 low_ops n (o ∷ ops) h = (h.0.0, low_ops n ops h.1)
 
-pub answers_again : (n : ℕ) (seats : List PartSeat) (whole : List ThreadState) (specs : List ThreadSpec) (threads : List ThreadState)
+pub answers_again : (n : ℕ) (seats : List RunningPart) (whole : List ThreadState) (specs : List ThreadSpec) (threads : List ThreadState)
     → ((k : ℕ) → slice_get threads k ≡ slice_get whole (n + k)) → AllByRecursion (IsValidThread (length seats)) specs
     → map (λ own. map (λ a. a.0) own) (map answers_of threads) ≡ map (λ (t : ThreadSpec). map (λ o. o.0) t.ops) specs
     → answers_in_order n specs (left_by 0 seats whole) ≡ map answers_of threads

@@ -8,23 +8,23 @@ use Rattle.nook_defs.specs.Places.{at_number}
 use Rattle.nook_defs.specs.Runs.{IsRun, next_any, state_of}
 use Rattle.nook_defs.specs.Steps.{opening}
 use Rattle.nook_defs.specs.Valid.{IsValidPart, IsValidScenario}
-use Rattle.nook_defs.specs.declared.data.Answer.{Answer}
-use Rattle.nook_defs.specs.declared.data.Event.{Event}
-use Rattle.nook_defs.specs.declared.data.Event.TheVariants as event
-use Rattle.nook_defs.specs.declared.data.Op.{Op}
-use Rattle.nook_defs.specs.declared.data.PartSpec.{PartSpec}
-use Rattle.nook_defs.specs.declared.data.Receipt.{Receipt}
-use Rattle.nook_defs.specs.declared.data.Scenario.{Scenario}
-use Rattle.nook_defs.specs.declared.data.ThreadSpec.{ThreadSpec}
+use Rattle.nook_defs.specs.declared.calls.Answer.{Answer}
+use Rattle.nook_defs.specs.declared.steps.Event.{Event}
+use Rattle.nook_defs.specs.declared.steps.Event.TheVariants as event
+use Rattle.nook_defs.specs.declared.calls.Op.{Op}
+use Rattle.nook_defs.specs.declared.scenario.PartSpec.{PartSpec}
+use Rattle.nook_defs.specs.declared.desks.Receipt.{Receipt}
+use Rattle.nook_defs.specs.declared.scenario.Scenario.{Scenario}
+use Rattle.nook_defs.specs.declared.scenario.ThreadSpec.{ThreadSpec}
 use Rattle.part_laws.proofs.Places.{from_map, split}
 use Rattle.part_laws.proofs.RunBound.{opening_tied}
 use Rattle.part_laws.proofs.StepsFit.{opening_fit}
 use Rattle.part_laws.proofs.ValidFits.{valid_fits}
 use Rattle.run_ends.specs.Journals.{AreRuns}
 use Rattle.threaded_run.specs.Threaded.{AreServed, AreSettled, HasArrivals, HaveArrivals, HaveReceipts, IsServed, IsThreaded, invoked_on, journal_at}
-use Rattle.audit_laws.proofs.Nexts.{inner, no_some}
-use Rattle.audit_laws.specs.Audit.{is_on, opening_section, thread_on}
-use Rattle.audit_laws.specs.Fitting.{AllFit}
+use Rattle.nook_defs.proofs.Options.{none_is_some, same_inside}
+use Rattle.run_laws.specs.Audit.{is_on, opening_section, thread_on}
+use Rattle.run_laws.specs.Fitting.{AllFit}
 use Rattle.audited_runs.proofs.Exact.{HasLeft, HasThread, InvokedAt, IsExact, IsInvokeOf, exact_fits}
 use Rattle.threaded_run.proofs.Counted.{frames_placed, if_false, if_true}
 use Rattle.threaded_run.proofs.Placed.{IsPlaced}
@@ -85,11 +85,11 @@ placed_are journal i (o ∷ ops) (place ∷ places) h =
 
 served_at : (journals : List (List Event)) (n : ℕ) (threads : List ThreadSpec) (table : List (List (ℕ × Answer))) (i : ℕ) (t : ThreadSpec) → AreServed journals n threads table
     → slice_get threads i ≡ Some t → (answers : List (ℕ × Answer)) × IsServed journals (n + i) t.ops answers
-served_at journals n [] [] i t h at = no_some at
+served_at journals n [] [] i t h at = none_is_some at
 served_at journals n [] (own ∷ table) i t h at = absurd h
 served_at journals n (x ∷ threads) [] i t h at = absurd h
 served_at journals n (x ∷ threads) (own ∷ table) zero t h at =
-    (own, subst (λ (m : ℕ). IsServed journals m t.ops own) (plus n) (subst (λ (y : ThreadSpec). IsServed journals n y.ops own) (inner at) h.0))
+    (own, subst (λ (m : ℕ). IsServed journals m t.ops own) (plus n) (subst (λ (y : ThreadSpec). IsServed journals n y.ops own) (same_inside at) h.0))
   where
     plus : (n : ℕ) → n ≡ n + 0
     plus n = omega arith

@@ -2,27 +2,27 @@
 use Rattle.std.proofs.Common.{◌≡◌, ℕ, suc, ◌+◌, ◌<◌, ◌≤◌, cond, true, Option, Some, None, List, [], ◌∷◌, ◌++◌, length, length-append, map, slice_get, refl, sym, ap, ◌∙◌, subst, arith, append_assoc, le-leb, lt-ltb}
 use Rattle.std.specs.List.{AllByRecursion}
 use Rattle.std.proofs.lemmas.List.Elements.{recursion_from_All}
-use Rattle.nook_defs.specs.declared.data.Class.{Class}
-use Rattle.nook_defs.specs.declared.data.Class.TheVariants as class
-use Rattle.nook_defs.specs.declared.data.Event.{Event}
-use Rattle.nook_defs.specs.declared.data.Event.TheVariants as event
-use Rattle.nook_defs.specs.declared.data.PartSpec.{PartSpec}
-use Rattle.nook_defs.specs.declared.data.Scenario.{Scenario}
-use Rattle.nook_defs.specs.declared.data.Step.{Step}
-use Rattle.nook_defs.specs.declared.data.Step.TheVariants as step
-use Rattle.nook_defs.specs.declared.data.ThreadSpec.{ThreadSpec}
+use Rattle.nook_defs.specs.declared.classes.Class.{Class}
+use Rattle.nook_defs.specs.declared.classes.Class.TheVariants as class
+use Rattle.nook_defs.specs.declared.steps.Event.{Event}
+use Rattle.nook_defs.specs.declared.steps.Event.TheVariants as event
+use Rattle.nook_defs.specs.declared.scenario.PartSpec.{PartSpec}
+use Rattle.nook_defs.specs.declared.scenario.Scenario.{Scenario}
+use Rattle.nook_defs.specs.declared.steps.Step.{Step}
+use Rattle.nook_defs.specs.declared.steps.Step.TheVariants as step
+use Rattle.nook_defs.specs.declared.scenario.ThreadSpec.{ThreadSpec}
 use Rattle.nook_defs.specs.Runs.{next_any, step_of}
-use Rattle.nook_defs.specs.Simulation.{IsScheduledRun, PartSeat, Simulation, ThreadState, Waiting, answers_of, arrival, coming_after, journal_of, journals_of, opening_seat, seat_after}
+use Rattle.nook_defs.specs.Simulation.{IsScheduledRun, RunningPart, Simulation, ThreadState, Waiting, answers_of, arrival, coming_after, journal_of, journals_of, opening_part, part_after}
 use Rattle.nook_defs.specs.State.{PartState}
-use Rattle.nook_defs.specs.Steps.{enabled, opening, turned}
+use Rattle.nook_defs.specs.Steps.{enabled, opening, stepped}
 use Rattle.nook_defs.specs.Valid.{FitsClass, IsValidFrame, IsValidPart, IsValidScenario}
 use Rattle.part_laws.proofs.Counts.{step_counted}
 use Rattle.part_laws.proofs.RunsDetermined.{step_named}
 use Rattle.part_laws.specs.Bound.{is_arrival}
 use Rattle.run_laws.proofs.Reached.{all_answered, none_arrives, parts_settled}
-use Rattle.audit_laws.proofs.Nexts.{no_some}
-use Rattle.audit_laws.specs.Audit.{Section, are_through, arrival_of, has_nothing, is_complete, opening_section, section_after}
-use Rattle.audit_laws.specs.Fitting.{AllFit, IsNext, section_from}
+use Rattle.nook_defs.proofs.Options.{none_is_some}
+use Rattle.run_laws.specs.Audit.{Section, are_through, arrival_of, has_nothing, is_complete, opening_section, section_after}
+use Rattle.run_laws.specs.Fitting.{AllFit, IsNext, section_from}
 use Rattle.audited_runs.proofs.Reached.{AreSections, IsReached, IsSectionOf, run_reached}
 use Rattle.audited_runs.proofs.Shares.{AreCounted, share_of, waits_for}
 use Rattle.audited_runs.proofs.SoFar.{FitsSoFar, so_far_whole}
@@ -61,7 +61,7 @@ shares_through place (t ∷ threads) done = rw (done.0.0, done.0.1) (shares_thro
 -- ---- frames that have arrived
 
 -- the part's first frames have arrived, and the others are to come
-record IsFed (spec : PartSpec) (seat : PartSeat) : Type 0 where
+record IsFed (spec : PartSpec) (seat : RunningPart) : Type 0 where
   frames : List (List ℕ)
   order : spec.arrivals ≡ frames ++ seat.coming
   count : seat.run.state.arrived ≡ length frames
@@ -79,11 +79,11 @@ arrival_counts (event.Burst context call burst count end acts a failure) = refl
 arrival_counts (event.Stage stage answers released) = refl
 arrival_counts (event.Arrive frame kept) = refl
 
-arrived_after : (p : PartState) (s : Step) → (turned p s).state.arrived ≡ p.arrived + arrives s
+arrived_after : (p : PartState) (s : Step) → (stepped p s).state.arrived ≡ p.arrived + arrives s
 arrived_after p s =
-    (step_counted p s).arrivals' ∙ ap (λ (n : ℕ). p.arrived + n) (arrival_counts (turned p s).event ∙ ap arrives (step_named p s))
+    (step_counted p s).arrivals' ∙ ap (λ (n : ℕ). p.arrived + n) (arrival_counts (stepped p s).event ∙ ap arrives (step_named p s))
 
-others_fed : (spec : PartSpec) (seat : PartSeat) (x : Step) → coming_after x seat.coming ≡ seat.coming → arrives x ≡ 0 → IsFed spec seat → IsFed spec (seat_after x seat)
+others_fed : (spec : PartSpec) (seat : RunningPart) (x : Step) → coming_after x seat.coming ≡ seat.coming → arrives x ≡ 0 → IsFed spec seat → IsFed spec (part_after x seat)
 others_fed spec seat x coming none h = record {
   frames = h.frames;
   order = h.order ∙ ap (λ xs. h.frames ++ xs) (sym coming);
@@ -94,9 +94,9 @@ others_fed spec seat x coming none h = record {
     no_more : (n : ℕ) → n + 0 ≡ n
     no_more n = omega arith
 
-frame_fed : (spec : PartSpec) (seat : PartSeat) (frame : List ℕ) (coming : List (List ℕ)) → seat.coming ≡ coming → arrival_of coming ≡ Some (step.Arrive frame)
-    → IsFed spec seat → IsFed spec (seat_after (step.Arrive frame) seat)
-frame_fed spec seat frame [] is next h = no_some next
+frame_fed : (spec : PartSpec) (seat : RunningPart) (frame : List ℕ) (coming : List (List ℕ)) → seat.coming ≡ coming → arrival_of coming ≡ Some (step.Arrive frame)
+    → IsFed spec seat → IsFed spec (part_after (step.Arrive frame) seat)
+frame_fed spec seat frame [] is next h = none_is_some next
 frame_fed spec seat frame (first ∷ coming) is next h = record {
   frames = h.frames ++ first ∷ [];
   order = h.order ∙ ap (λ xs. h.frames ++ xs) is ∙ sym (append_assoc h.frames (first ∷ []) coming)
@@ -105,7 +105,7 @@ frame_fed spec seat frame (first ∷ coming) is next h = record {
   same = (step_counted seat.run.state (step.Arrive frame)).spec ∙ h.same;
 }
 
-fed_after : (spec : PartSpec) (s : Section) (x : Step) → IsNext s x → IsFed spec s.seat → IsFed spec (seat_after x s.seat)
+fed_after : (spec : PartSpec) (s : Section) (x : Step) → IsNext s x → IsFed spec s.seat → IsFed spec (part_after x s.seat)
 fed_after spec s (step.Invoke thread o) next h = others_fed spec s.seat (step.Invoke thread o) refl refl h
 fed_after spec s (step.Enter thread) next h = others_fed spec s.seat (step.Enter thread) refl refl h
 fed_after spec s (step.Burst context) next h = others_fed spec s.seat (step.Burst context) refl refl h
@@ -117,7 +117,7 @@ unfolding section_after
 fed_from spec s [] fits h = h
 fed_from spec s (e ∷ events) fits h = fed_from spec (section_after s (step_of e)) events fits.3 (fed_after spec s (step_of e) fits.2 h)
 
-fed_opening : (spec : PartSpec) → IsFed spec (opening_seat spec)
+fed_opening : (spec : PartSpec) → IsFed spec (opening_part spec)
 unfolding opening
 fed_opening spec = record { frames = []; order = refl; count = refl; same = refl }
 
@@ -146,17 +146,17 @@ may_arrive class.Net spec p frames frame rest is fits same count order =
     small : (all some more n : ℕ) → all ≡ some + suc more → all ≤ 256 → n ≡ some → n < 100000
     small all some more n e l h = omega arith
 
-none_to_come : (spec : PartSpec) (seat : PartSeat) (coming : List (List ℕ)) → IsValidPart spec → IsFed spec seat → seat.coming ≡ coming
+none_to_come : (spec : PartSpec) (seat : RunningPart) (coming : List (List ℕ)) → IsValidPart spec → IsFed spec seat → seat.coming ≡ coming
     → arrival seat.run coming ≡ None → has_nothing coming ≡ true
 none_to_come spec seat [] valid h e none = refl
 none_to_come spec seat (frame ∷ rest) valid h e none =
     let may : enabled seat.run.state (step.Arrive frame) ≡ true =
     may_arrive spec.class spec seat.run.state h.frames frame rest refl valid.fits h.same h.count (h.order ∙ ap (λ xs. h.frames ++ xs) e) in
-    no_some (sym (rw may at none))
+    none_is_some (sym (rw may at none))
 
 -- ---- each part
 
-part_complete : (specs : List ThreadSpec) (place : ℕ) (spec : PartSpec) (seat : PartSeat) (threads : List ThreadState) → IsValidPart spec
+part_complete : (specs : List ThreadSpec) (place : ℕ) (spec : PartSpec) (seat : RunningPart) (threads : List ThreadState) → IsValidPart spec
     → IsSectionOf specs place spec seat threads → AllByRecursion IsDone threads → arrival seat.run seat.coming ≡ None → next_any seat.run.state ≡ None
     → is_complete (section_from (opening_section specs place spec) seat.run.journal) ≡ true
 unfolding is_complete
@@ -166,10 +166,10 @@ part_complete specs place spec seat threads valid is done none settled =
     let nothing : has_nothing seat.coming ≡ true = none_to_come spec seat seat.coming valid fed refl none in
     ap is_complete is.is ∙ rw (shares_through place threads done, nothing, settled) refl
 
-all_fit : (specs : List ThreadSpec) (place : ℕ) (parts : List PartSpec) (seats : List PartSeat) (threads : List ThreadState)
+all_fit : (specs : List ThreadSpec) (place : ℕ) (parts : List PartSpec) (seats : List RunningPart) (threads : List ThreadState)
     → AllByRecursion IsValidPart parts → AreSections specs place parts seats threads → AllByRecursion IsDone threads
-    → ((k : ℕ) (seat : PartSeat) → slice_get seats k ≡ Some seat → arrival seat.run seat.coming ≡ None)
-    → ((k : ℕ) (seat : PartSeat) → slice_get seats k ≡ Some seat → next_any seat.run.state ≡ None)
+    → ((k : ℕ) (seat : RunningPart) → slice_get seats k ≡ Some seat → arrival seat.run seat.coming ≡ None)
+    → ((k : ℕ) (seat : RunningPart) → slice_get seats k ≡ Some seat → next_any seat.run.state ≡ None)
     → AllFit specs place parts (map journal_of seats)
 unfolding AllFit
 all_fit specs place [] [] threads valid are done none settled = tt

@@ -1,18 +1,19 @@
 -- A part's journal that has just what the scripts and the scenario ask fits.
-use Rattle.std.proofs.Common.{◌≡◌, ℕ, zero, suc, ◌+◌, Bool, true, false, Option, Some, None, List, [], ◌∷◌, filter, length, slice_get, refl, sym, ap, ◌∙◌, subst, arith, eq-eqb, true≢false}
+use Rattle.std.proofs.Common.{◌==◌, if◌then◌else◌, drop, ◌≡◌, ℕ, zero, suc, ◌+◌, Bool, true, false, Option, Some, None, List, [], ◌∷◌, filter, length, slice_get, refl, sym, ap, ◌∙◌, subst, arith, eq-eqb, true≢false}
 use Rattle.std.proofs.lemmas.Bool.{and_from}
 use Rattle.desk_like.specs.Desks.{IsArrive, IsAt}
 use Rattle.nook_defs.specs.Places.{at_number}
 use Rattle.nook_defs.specs.Runs.{IsRunFrom, next_any, state_after, state_from, step_of}
-use Rattle.nook_defs.specs.Simulation.{ThreadState, Waiting, coming_after, settled, settled_by, started, tail_ops, threads_after, told, if_part}
+use Rattle.nook_defs.specs.Simulation.{ThreadState, Waiting, coming_after, started, threads_after, told}
+use Rattle.nook_defs.proofs.Changes.{settled, settled_by}
 use Rattle.nook_defs.specs.Runs.{answer_at}
 use Rattle.nook_defs.specs.State.{PartState}
-use Rattle.nook_defs.specs.declared.data.Answer.{Answer}
-use Rattle.nook_defs.specs.declared.data.Event.{Event}
-use Rattle.nook_defs.specs.declared.data.Event.TheVariants as event
-use Rattle.nook_defs.specs.declared.data.Op.{Op}
-use Rattle.nook_defs.specs.declared.data.Step.{Step}
-use Rattle.nook_defs.specs.declared.data.Step.TheVariants as step
+use Rattle.nook_defs.specs.declared.calls.Answer.{Answer}
+use Rattle.nook_defs.specs.declared.steps.Event.{Event}
+use Rattle.nook_defs.specs.declared.steps.Event.TheVariants as event
+use Rattle.nook_defs.specs.declared.calls.Op.{Op}
+use Rattle.nook_defs.specs.declared.steps.Step.{Step}
+use Rattle.nook_defs.specs.declared.steps.Step.TheVariants as step
 use Rattle.part_laws.proofs.Places.{split}
 use Rattle.part_laws.proofs.RunProgress.{none_still}
 use Rattle.part_laws.proofs.StepsFit.{fit_after}
@@ -21,9 +22,9 @@ use Rattle.part_laws.specs.Fit.{IsFit}
 use Rattle.part_laws.specs.Tied.{IsTied}
 use Rattle.run_laws.proofs.Numbers.{number}
 use Rattle.threaded_run.specs.Threaded.{ArriveAt}
-use Rattle.audit_laws.proofs.Nexts.{inner, no_some}
-use Rattle.audit_laws.specs.Audit.{Section, are_through, arrival_of, has_nothing, invocation_by, is_complete, is_through, section_after}
-use Rattle.audit_laws.specs.Fitting.{FitsFrom, IsNext}
+use Rattle.nook_defs.proofs.Options.{none_is_some, same_inside}
+use Rattle.run_laws.specs.Audit.{Section, are_through, arrival_of, has_nothing, invocation_by, is_complete, is_through, section_after}
+use Rattle.run_laws.specs.Fitting.{FitsFrom, IsNext}
 use Rattle.audited_runs.proofs.Placed.{AreAll, passes_first, passes_not}
 use Rattle.threaded_run.proofs.Placed.{AreBehind, first_behind, rest_behind}
 use Rattle.audited_runs.proofs.Sections.{IsOpen, here_after, open_after, waits_nowhere}
@@ -45,13 +46,13 @@ InvokedAt journal thread (o ∷ ops) (place ∷ places) = IsAt journal place (Is
 
 pub told_rest : (place : ℕ) (e : Event) (t : ThreadState) (w : Option Waiting) → (settled place e t w).rest ≡ t.rest
 told_rest place e t None = refl
-told_rest place e t (Some w) = by_answer (if_part place w.part (answer_at w.call e))
+told_rest place e t (Some w) = by_answer (if w.part == place then answer_at w.call e else None)
   where
     by_answer : (a : Option Answer) → (settled_by place t a).rest ≡ t.rest
     by_answer None = refl
     by_answer (Some a) = refl
 
-pub started_rest : (i place : ℕ) (e : Event) (t : ThreadState) → is_invocation_by i e ≡ true → (started i place e t).rest ≡ tail_ops t.rest
+pub started_rest : (i place : ℕ) (e : Event) (t : ThreadState) → is_invocation_by i e ≡ true → (started i place e t).rest ≡ drop 1 t.rest
 started_rest i place (event.Invoke call thread o a) t h = rw h refl
 started_rest i place (event.Enter call thread attempt a) t h = absurd (true≢false (sym h))
 started_rest i place (event.Burst context call burst count end acts a failure) t h = absurd (true≢false (sym h))
@@ -66,7 +67,7 @@ started_same i place (event.Stage stage answers released) t h = refl
 started_same i place (event.Arrive frame kept) t h = refl
 
 one_at : (journal : List Event) (place n : ℕ) (e : Event) (P : Event → Type 0) → place ≡ suc n → slice_get journal n ≡ Some e → IsAt journal place P → P e
-one_at journal place n e P is here at = subst P (inner (sym at.there ∙ ap (λ (p : ℕ). at_number p journal) is ∙ here)) at.is
+one_at journal place n e P is here at = subst P (same_inside (sym at.there ∙ ap (λ (p : ℕ). at_number p journal) is ∙ here)) at.is
 
 module _ (journal : List Event) where
   -- ---- a thread
@@ -89,7 +90,7 @@ module _ (journal : List Event) where
   -- it invokes the first
   invokes_first : (i n : ℕ) (e : Event) (events : List Event) (ops : List (ℕ × Op)) (places : List ℕ) → AreBehind journal n (e ∷ events) → is_invocation_by i e ≡ true
       → InvokedAt journal i ops places → AreAll (is_invocation_by i) journal n (e ∷ events) places
-      → HasLeft i (suc n) events (tail_ops ops) × ((p : ℕ) × ((o : Op) × ((more : List (ℕ × Op)) × (ops ≡ (p, o) ∷ more) × IsInvokeOf i o e)))
+      → HasLeft i (suc n) events (drop 1 ops) × ((p : ℕ) × ((o : Op) × ((more : List (ℕ × Op)) × (ops ≡ (p, o) ∷ more) × IsInvokeOf i o e)))
   invokes_first i n e events ops [] are passes on all = absurd (no_place i n e events passes all)
   invokes_first i n e events [] (place ∷ places) are passes on all = absurd on
   invokes_first i n e events (x ∷ ops) (place ∷ places) are passes on all =
@@ -182,8 +183,8 @@ module _ (journal : List Event) where
   -- the threads before an event, by those after it
   thread_before : (n place : ℕ) (e : Event) (threads : List ThreadState) (k : ℕ) (t' : ThreadState) → slice_get (threads_after n place e threads) k ≡ Some t'
       → (t : ThreadState) × (slice_get threads k ≡ Some t) × (told place e (started (n + k) place e t) ≡ t')
-  thread_before n place e [] k t' h = no_some h
-  thread_before n place e (x ∷ threads) zero t' h = (x, refl, ap (λ (m : ℕ). told place e (started m place e x)) (plus n) ∙ inner h)
+  thread_before n place e [] k t' h = none_is_some h
+  thread_before n place e (x ∷ threads) zero t' h = (x, refl, ap (λ (m : ℕ). told place e (started m place e x)) (plus n) ∙ same_inside h)
     where
       plus : (n : ℕ) → n + 0 ≡ n
       plus n = omega arith

@@ -6,16 +6,16 @@ use Rattle.std.specs.List.{AllByRecursion}
 use Rattle.desk_like.specs.Desks.{IsReceipt, IsRisingFrom}
 use Rattle.nook_defs.specs.Simulation.{answers_of}
 use Rattle.nook_defs.specs.Valid.{IsValidPart}
-use Rattle.nook_defs.specs.declared.data.Answer.{Answer}
-use Rattle.nook_defs.specs.declared.data.Event.{Event}
-use Rattle.nook_defs.specs.declared.data.Op.{Op}
-use Rattle.nook_defs.specs.declared.data.PartSpec.{PartSpec}
-use Rattle.nook_defs.specs.declared.data.Receipt.{Receipt}
-use Rattle.nook_defs.specs.declared.data.ThreadSpec.{ThreadSpec}
+use Rattle.nook_defs.specs.declared.calls.Answer.{Answer}
+use Rattle.nook_defs.specs.declared.steps.Event.{Event}
+use Rattle.nook_defs.specs.declared.calls.Op.{Op}
+use Rattle.nook_defs.specs.declared.scenario.PartSpec.{PartSpec}
+use Rattle.nook_defs.specs.declared.desks.Receipt.{Receipt}
+use Rattle.nook_defs.specs.declared.scenario.ThreadSpec.{ThreadSpec}
 use Rattle.part_laws.proofs.Places.{split}
 use Rattle.threaded_run.specs.Threaded.{HaveReceipts, IsServed, answers_by, invoked_on}
-use Rattle.audit_laws.specs.Audit.{answers_to, in_script_order, is_on, opening_section, thread_on}
-use Rattle.audit_laws.specs.Fitting.{AllFit, section_from, sections_of}
+use Rattle.run_laws.specs.Audit.{answers_to, in_script_order, is_on, opening_section, thread_on}
+use Rattle.run_laws.specs.Fitting.{AllFit, section_from, sections_of}
 use Rattle.audited_runs.proofs.Apart.{taken_from}
 use Rattle.audited_runs.proofs.Sections.{part_serves}
 use Rattle.audited_runs.proofs.Serves.{AreOn, Serves, answer_on, invoked_at}

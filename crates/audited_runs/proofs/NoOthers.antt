@@ -1,19 +1,19 @@
 -- Journals that fit have no other invocations and arrivals than were asked for.
-use Rattle.std.proofs.Common.{◌≡◌, ℕ, zero, suc, ◌+◌, is_none, Bool, true, false, Option, Some, None, List, [], ◌∷◌, filter, length, map, slice_get, refl, sym, ap, ◌∙◌, subst, arith, eqb-true, true≢false}
+use Rattle.std.proofs.Common.{drop, ◌≡◌, ℕ, zero, suc, ◌+◌, is_none, Bool, true, false, Option, Some, None, List, [], ◌∷◌, filter, length, map, slice_get, refl, sym, ap, ◌∙◌, subst, arith, eqb-true, true≢false}
 use Rattle.std.proofs.lemmas.Bool.{and_parts}
 use Rattle.nook_defs.specs.Runs.{next_any, step_of}
-use Rattle.nook_defs.specs.Simulation.{ThreadState, coming_after, started, tail_ops, threads_after, told}
-use Rattle.nook_defs.specs.declared.data.Event.{Event}
-use Rattle.nook_defs.specs.declared.data.Event.TheVariants as event
-use Rattle.nook_defs.specs.declared.data.Op.{Op}
-use Rattle.nook_defs.specs.declared.data.PartSpec.{PartSpec}
-use Rattle.nook_defs.specs.declared.data.Step.TheVariants as step
-use Rattle.nook_defs.specs.declared.data.ThreadSpec.{ThreadSpec}
+use Rattle.nook_defs.specs.Simulation.{ThreadState, coming_after, started, threads_after, told}
+use Rattle.nook_defs.specs.declared.steps.Event.{Event}
+use Rattle.nook_defs.specs.declared.steps.Event.TheVariants as event
+use Rattle.nook_defs.specs.declared.calls.Op.{Op}
+use Rattle.nook_defs.specs.declared.scenario.PartSpec.{PartSpec}
+use Rattle.nook_defs.specs.declared.steps.Step.TheVariants as step
+use Rattle.nook_defs.specs.declared.scenario.ThreadSpec.{ThreadSpec}
 use Rattle.part_laws.proofs.Places.{split}
 use Rattle.threaded_run.specs.Others.{HasNoOthers, HaveNoOthers, is_arrival, is_invocation_by, operations_on}
-use Rattle.audit_laws.proofs.Nexts.{no_some}
-use Rattle.audit_laws.specs.Audit.{Section, are_through, arrival_of, has_nothing, invocation_by, is_complete, opening_section, section_after, thread_on}
-use Rattle.audit_laws.specs.Fitting.{AllFit, FitsFrom, IsNext}
+use Rattle.nook_defs.proofs.Options.{none_is_some}
+use Rattle.run_laws.specs.Audit.{Section, are_through, arrival_of, has_nothing, invocation_by, is_complete, opening_section, section_after, thread_on}
+use Rattle.run_laws.specs.Fitting.{AllFit, FitsFrom, IsNext}
 use Rattle.audited_runs.proofs.Exact.{started_rest, started_same, told_rest}
 use Rattle.audited_runs.proofs.Shares.{filter_none, filter_same}
 
@@ -52,7 +52,7 @@ after_none n place e (t ∷ threads) (suc k) h = after_none (n + 1) place e thre
 
 after_some : (n place : ℕ) (e : Event) (threads : List ThreadState) (k : ℕ) (t : ThreadState) → slice_get threads k ≡ Some t
     → slice_get (threads_after n place e threads) k ≡ Some (told place e (started (n + k) place e t))
-after_some n place e [] k t h = no_some h
+after_some n place e [] k t h = none_is_some h
 after_some n place e (x ∷ threads) zero t h = same (plus n) h
   where
     plus : (n : ℕ) → n ≡ n + 0
@@ -77,8 +77,8 @@ asked_by i s (event.Stage stage answers released) is next = absurd (true≢false
 asked_by i s (event.Arrive frame kept) is next = absurd (true≢false (sym is))
 
 one_less : (i : ℕ) (ops : List (ℕ × Op)) (t : ThreadState) (o : Op) → t.rest ≡ ops → invocation_by i (Some t) ≡ Some (step.Invoke i o)
-    → suc (length (tail_ops t.rest)) ≡ length t.rest
-one_less i [] t o is h = no_some (rw is at h)
+    → suc (length (drop 1 t.rest)) ≡ length t.rest
+one_less i [] t o is h = none_is_some (rw is at h)
 one_less i (x ∷ ops) t o is h = rw is refl
 
 module _ (i : ℕ) (s : Section) (e : Event) (events : List Event) (next : IsNext s (step_of e)) where
@@ -86,7 +86,7 @@ module _ (i : ℕ) (s : Section) (e : Event) (events : List Event) (next : IsNex
       → length (filter (is_invocation_by i) events) ≡ left_to (slice_get (threads_after 0 s.place e s.threads) i)
       → length (filter (is_invocation_by i) (e ∷ events)) ≡ left_to q
   left_before None at more = split (is_invocation_by i e)
-      (λ is. let asked = asked_by i s e is next in no_some (sym (ap (invocation_by i) at) ∙ asked.1))
+      (λ is. let asked = asked_by i s e is next in none_is_some (sym (ap (invocation_by i) at) ∙ asked.1))
       (λ not. ap length (filter_none (is_invocation_by i) e events not) ∙ more ∙ ap left_to (after_none 0 s.place e s.threads i at))
   left_before (Some t) at more =
       let after : length (filter (is_invocation_by i) events) ≡ length (told s.place e (started i s.place e t)).rest =
@@ -116,7 +116,7 @@ left_counted i s (e ∷ events) h =
 frame_before : (frame : List ℕ) (kept : Bool) (events : List Event) (coming : List (List ℕ)) → arrival_of coming ≡ Some (step.Arrive frame)
     → length (filter is_arrival events) ≡ length (coming_after (step.Arrive frame) coming)
     → length (filter is_arrival (event.Arrive frame kept ∷ events)) ≡ length coming
-frame_before frame kept events [] next more = no_some next
+frame_before frame kept events [] next more = none_is_some next
 frame_before frame kept events (first ∷ coming) next more = ap suc more
 
 arrives_before : (s : Section) (e : Event) (events : List Event) → IsNext s (step_of e)

@@ -3,31 +3,32 @@ use Rattle.std.proofs.Common.{◌≡◌, ℕ, zero, suc, ◌+◌, ◌<◌, ◌==
 use Rattle.std.specs.List.{find}
 use Rattle.std.proofs.lemmas.Bool.{and_left, and_right, cases_order, lt-leb}
 use Rattle.desk_like.specs.Desks.{Answers, IsAt}
-use Rattle.nook_defs.specs.Calls.{admitted, answer_in, entered_by, entered_part, invoked, invoked_by}
+use Rattle.nook_defs.specs.Calls.{after_admit, answer_in, entered_by, after_enter, after_invoke, invoked_by}
 use Rattle.nook_defs.specs.Classes.{admit, static_check}
-use Rattle.nook_defs.specs.Crossing.{Crossed, crossed}
+use Rattle.nook_defs.specs.Crossing.{Crossed, after_crossing}
 use Rattle.nook_defs.specs.Domain.{domain_burst}
 use Rattle.nook_defs.specs.Log.{call_of_thread, gone_answers, is_call, is_of_thread, open_call, queue_after, shadow_answer, stop_answers, with_answer}
-use Rattle.nook_defs.specs.Runs.{IsRun, IsRunFrom, answer_among, answer_at, answered_at, answered_from, event_of, if_call, state_after, state_from, state_of, step_of}
-use Rattle.nook_defs.specs.Stages.{collects, given_up, inits, is_given_up, loads_image, replays_open, replays_set, resets, resumes, stage_by, stage_done, stage_due, stage_turned, stopped}
+use Rattle.nook_defs.specs.Answers.{one_answer}
+use Rattle.nook_defs.specs.Runs.{IsRun, IsRunFrom, answer_among, answer_at, answered_at, answered_from, event_of, state_after, state_from, state_of, step_of}
+use Rattle.nook_defs.specs.Stages.{collects, gives_up_part, inits, is_given_up, loads_image, replays_open, replays_set, resets, resumes, stage_by, stage_done, stage_due, stage_stepped, stops}
 use Rattle.nook_defs.specs.State.{CallLog, PartState}
-use Rattle.nook_defs.specs.Steps.{arrived, burst_turned, faults_of_burst, opening, served_number, turned, with_burst}
+use Rattle.nook_defs.specs.Steps.{after_arrival, burst_stepped, faults_of_burst, opening, served_number, stepped, with_burst}
 use Rattle.nook_defs.specs.declared.classes.Admit.{Admit}
 use Rattle.nook_defs.specs.declared.classes.Admit.TheVariants as admits
-use Rattle.nook_defs.specs.declared.data.Answer.{Answer}
-use Rattle.nook_defs.specs.declared.data.CallEntry.{CallEntry}
-use Rattle.nook_defs.specs.declared.data.Event.{Event}
-use Rattle.nook_defs.specs.declared.data.Op.{Op}
-use Rattle.nook_defs.specs.declared.data.PartSpec.{PartSpec}
-use Rattle.nook_defs.specs.declared.data.Stage.{Stage}
-use Rattle.nook_defs.specs.declared.data.Stage.TheVariants as stage
-use Rattle.nook_defs.specs.declared.data.Step.{Step}
-use Rattle.nook_defs.specs.declared.data.Step.TheVariants as step
+use Rattle.nook_defs.specs.declared.calls.Answer.{Answer}
+use Rattle.nook_defs.specs.declared.calls.CallEntry.{CallEntry}
+use Rattle.nook_defs.specs.declared.steps.Event.{Event}
+use Rattle.nook_defs.specs.declared.calls.Op.{Op}
+use Rattle.nook_defs.specs.declared.scenario.PartSpec.{PartSpec}
+use Rattle.nook_defs.specs.declared.steps.Stage.{Stage}
+use Rattle.nook_defs.specs.declared.steps.Stage.TheVariants as stage
+use Rattle.nook_defs.specs.declared.steps.Step.{Step}
+use Rattle.nook_defs.specs.declared.steps.Step.TheVariants as step
 use Rattle.part_laws.proofs.Answered.{AnswersCall, crossed_shows, run_answered}
 use Rattle.part_laws.proofs.Places.{split}
 use Rattle.part_laws.specs.Answered.{is_answered}
 use Rattle.part_laws.specs.Fit.{IsFitSpec}
-use Rattle.audit_laws.proofs.Nexts.{inner, no_some}
+use Rattle.nook_defs.proofs.Options.{none_is_some, same_inside}
 
 -- ---- an event answers no call that was answered before
 
@@ -39,18 +40,19 @@ open_not_done : (log : CallLog) (call : ℕ) → is_some (open_call call log.pen
 open_not_done log call h = and_right (nat_le 1 call && nat_le call log.count) (not (is_some (open_call call log.pending))) (ap not h)
 
 find_other : {X : Type 0} (p q : X → Bool) (xs : List X) (x : X) → find p xs ≡ Some x → q x ≡ true → is_some (find q xs) ≡ true
-find_other p q [] x h k = no_some h
+find_other p q [] x h k = none_is_some h
 find_other p q (y ∷ xs) x h k = split (q y)
     (λ e. rw (find, e) refl)
     (λ e. split (p y)
-    (λ f. absurd (true≢false (sym (subst (λ z. q z ≡ true) (sym (inner (rw (find, f) at h))) k) ∙ e)))
+    (λ f. absurd (true≢false (sym (subst (λ z. q z ≡ true) (sym (same_inside (rw (find, f) at h))) k) ∙ e)))
     (λ f. rw (find, e) (find_other p q xs x (rw (find, f) at h) k)))
 
 -- an answer by the number of a call
-numbered_is : (call c : ℕ) (a : Option Answer) (x : Answer) → if_call call c a ≡ Some x → (c ≡ call) × (a ≡ Some x)
-numbered_is call c a x h = split (c == call)
+numbered_is : (call c : ℕ) (a : Option Answer) (x : Answer) → answer_among call (one_answer c a) ≡ Some x → (c ≡ call) × (a ≡ Some x)
+numbered_is call c None x h = none_is_some h
+numbered_is call c (Some a) x h = split (c == call)
     (λ e. (eqb-true c call e, rw e at h))
-    (λ e. no_some (rw e at h))
+    (λ e. none_is_some (rw e at h))
 
 thread_not_done : (log : CallLog) (thread call : ℕ) (c : CallEntry) → call_of_thread thread log.pending ≡ Some c → c.call ≡ call → IsNotDone log call
 thread_not_done log thread call c h e = open_not_done log call (find_other (is_of_thread thread) (is_call call) log.pending c h (eq-eqb c.call call e))
@@ -62,7 +64,7 @@ invoke_not_done log call e =
 
 among_stop : (n : ℕ) (calls : List CallEntry) (config : List ℕ) (holder : Option ℕ) (queue : List (List ℕ)) (x : Answer)
     → answer_among n (stop_answers calls config holder queue) ≡ Some x → is_some (open_call n calls) ≡ true
-among_stop n [] config holder queue x h = no_some h
+among_stop n [] config holder queue x h = none_is_some h
 among_stop n (c ∷ calls) config holder queue x h = split (c.call == n)
     (λ it. rw (find, it) refl)
     (λ no. rw (find, no) (by_shadow (shadow_answer c.op c.thread config holder stage.Stop queue) no
@@ -77,52 +79,52 @@ among_stop n (c ∷ calls) config holder queue x h = split (c.call == n)
     by_shadow (Some a) other more e = more (rw other at e)
 
 among_gone : (failures n : ℕ) (calls : List CallEntry) (x : Answer) → answer_among n (gone_answers failures calls) ≡ Some x → is_some (open_call n calls) ≡ true
-among_gone failures n [] x h = no_some h
+among_gone failures n [] x h = none_is_some h
 among_gone failures n (c ∷ calls) x h = split (c.call == n)
     (λ it. rw (find, it) refl)
     (λ no. rw (find, no) (among_gone failures n calls x (rw no at h)))
 
 -- ---- each step
 
-invoked_answers : (p : PartState) (thread : ℕ) (o : Op) (call : ℕ) (x : Answer) → answer_at call (invoked thread o p).event ≡ Some x → IsNotDone p.log call
-unfolding invoked
+invoked_answers : (p : PartState) (thread : ℕ) (o : Op) (call : ℕ) (x : Answer) → answer_at call (after_invoke thread o p).event ≡ Some x → IsNotDone p.log call
+unfolding after_invoke
 invoked_answers p thread o call x h = by_check (static_check p.spec.class p.spec.blocks o) h
   where
     by_check : (a : Option Answer) → answer_at call (invoked_by p thread o a).event ≡ Some x → IsNotDone p.log call
     by_check None e = invoke_not_done p.log call (numbered_is call (p.log.count + 1) (answer_in p.mode thread o p) x e).0
     by_check (Some a) e = invoke_not_done p.log call (numbered_is call (p.log.count + 1) (Some a) x e).0
 
-entered_answers : (p : PartState) (thread call : ℕ) (x : Answer) → answer_at call (entered_part thread p).event ≡ Some x → IsNotDone p.log call
-unfolding entered_part
+entered_answers : (p : PartState) (thread call : ℕ) (x : Answer) → answer_at call (after_enter thread p).event ≡ Some x → IsNotDone p.log call
+unfolding after_enter
 entered_answers p thread call x h = by_call (call_of_thread thread p.log.pending) refl h
   where
-    by_admit : (c : CallEntry) → call_of_thread thread p.log.pending ≡ Some c → (a : Admit) → answer_at call (admitted p c a).event ≡ Some x → IsNotDone p.log call
-    by_admit c e (admits.Reply a) k = thread_not_done p.log thread call c e (numbered_is call c.call _ x k).0
-    by_admit c e admits.TakeFrame k = thread_not_done p.log thread call c e (numbered_is call c.call _ x k).0
-    by_admit c e (admits.Enter place) k = thread_not_done p.log thread call c e (numbered_is call c.call _ x k).0
+    by_admit : (c : CallEntry) → call_of_thread thread p.log.pending ≡ Some c → (a : Admit) → answer_at call (after_admit p c a).event ≡ Some x → IsNotDone p.log call
+    by_admit c e (admits.Reply a) k = thread_not_done p.log thread call c e (numbered_is call c.call (Some _) x k).0
+    by_admit c e admits.TakeFrame k = thread_not_done p.log thread call c e (numbered_is call c.call (Some _) x k).0
+    by_admit c e (admits.Enter place) k = thread_not_done p.log thread call c e (numbered_is call c.call None x k).0
 
     by_call : (o : Option CallEntry) → call_of_thread thread p.log.pending ≡ o → answer_at call (entered_by p thread o).event ≡ Some x → IsNotDone p.log call
-    by_call None e k = no_some (numbered_is call 0 None x k).1
+    by_call None e k = none_is_some (numbered_is call 0 None x k).1
     by_call (Some c) e k = by_admit c e (admit p.spec.class thread c.op p.log.holder _) k
 
 crossed_answers : (context : ℕ) (p q : PartState) (x : Crossed) (call : ℕ) (a : Answer) → q.log ≡ p.log
     → (((x.answer ≡ None) × (x.state.log.pending ≡ q.log.pending)) ⊎ AnswersCall context q x)
-    → if_call call (served_number context p) x.answer ≡ Some a → IsNotDone p.log call
-crossed_answers context p q x call a same (inl none) h = no_some (sym none.0 ∙ (numbered_is call (served_number context p) x.answer a h).1)
+    → answer_among call (one_answer (served_number context p) x.answer) ≡ Some a → IsNotDone p.log call
+crossed_answers context p q x call a same (inl none) h = none_is_some (sym none.0 ∙ (numbered_is call (served_number context p) x.answer a h).1)
 crossed_answers context p q x call a same (inr s) h =
     let found : call_of_thread context p.log.pending ≡ Some s.c = ap (λ (l : CallLog). call_of_thread context l.pending) (sym same) ∙ s.found in
     let served : served_number context p ≡ s.c.call = rw (s.other, found) refl in
     thread_not_done p.log context call s.c found (sym served ∙ (numbered_is call (served_number context p) x.answer a h).0)
 
-burst_answers : (p : PartState) (context call : ℕ) (a : Answer) → answer_at call (burst_turned context p).event ≡ Some a → IsNotDone p.log call
-unfolding burst_turned
+burst_answers : (p : PartState) (context call : ℕ) (a : Answer) → answer_at call (burst_stepped context p).event ≡ Some a → IsNotDone p.log call
+unfolding burst_stepped
 burst_answers p context call a h =
     let b = domain_burst context (faults_of_burst (p.bursts + 1) p.spec.faults) p.domain in
     let q = with_burst b.domain p in
-    crossed_answers context p q (crossed context b.ending q) call a refl (crossed_shows context b.ending q) h
+    crossed_answers context p q (after_crossing context b.ending q) call a refl (crossed_shows context b.ending q) h
 
-stage_answers : (p : PartState) (call : ℕ) (x : Answer) → answer_at call (stage_turned p).event ≡ Some x → IsNotDone p.log call
-unfolding stage_turned stopped given_up collects resets loads_image inits replays_set replays_open resumes
+stage_answers : (p : PartState) (call : ℕ) (x : Answer) → answer_at call (stage_stepped p).event ≡ Some x → IsNotDone p.log call
+unfolding stage_stepped stops gives_up_part collects resets loads_image inits replays_set replays_open resumes
 stage_answers p call x h = by_due (stage_due p.mode) h
   where
     at_stop : (b : Bool) → is_given_up p ≡ b → answer_at call (stage_done stage.Stop p).event ≡ Some x → IsNotDone p.log call
@@ -130,23 +132,23 @@ stage_answers p call x h = by_due (stage_due p.mode) h
     at_stop false e k = open_not_done p.log call (among_stop call p.log.pending p.log.config p.log.holder p.queue x (rw e at k))
 
     by_due : (o : Option Stage) → answer_at call (stage_by p o).event ≡ Some x → IsNotDone p.log call
-    by_due None k = no_some k
+    by_due None k = none_is_some k
     by_due (Some stage.Stop) k = at_stop (is_given_up p) refl k
-    by_due (Some stage.Collect) k = no_some k
-    by_due (Some stage.Reset) k = no_some k
-    by_due (Some stage.Load) k = no_some k
-    by_due (Some stage.Init) k = no_some k
-    by_due (Some (stage.ReplaySet key value)) k = no_some k
-    by_due (Some stage.ReplayOpen) k = no_some k
-    by_due (Some stage.Resume) k = no_some k
+    by_due (Some stage.Collect) k = none_is_some k
+    by_due (Some stage.Reset) k = none_is_some k
+    by_due (Some stage.Load) k = none_is_some k
+    by_due (Some stage.Init) k = none_is_some k
+    by_due (Some (stage.ReplaySet key value)) k = none_is_some k
+    by_due (Some stage.ReplayOpen) k = none_is_some k
+    by_due (Some stage.Resume) k = none_is_some k
 
 step_answers : (p : PartState) (s : Step) (call : ℕ) (x : Answer) → answer_at call (event_of p s) ≡ Some x → IsNotDone p.log call
-unfolding turned arrived
+unfolding stepped after_arrival
 step_answers p (step.Invoke thread o) call x h = invoked_answers p thread o call x h
 step_answers p (step.Enter thread) call x h = entered_answers p thread call x h
 step_answers p (step.Burst context) call x h = burst_answers p context call x h
 step_answers p step.Stage call x h = stage_answers p call x h
-step_answers p (step.Arrive frame) call x h = no_some h
+step_answers p (step.Arrive frame) call x h = none_is_some h
 
 -- ---- a run
 
@@ -158,9 +160,9 @@ record IsCut (journal : List Event) (m : ℕ) (e : Event) : Type 0 where
   same : (k : ℕ) → k < m → slice_get front k ≡ slice_get journal k
 
 cut_at : (journal : List Event) (m : ℕ) (e : Event) → slice_get journal m ≡ Some e → IsCut journal m e
-cut_at [] m e h = no_some h
+cut_at [] m e h = none_is_some h
 cut_at (x ∷ journal) zero e h =
-    record { front = []; back = journal; is = ap {B = List Event} (λ y. y ∷ journal) (inner h); same = λ k l. absurd (omega arith) }
+    record { front = []; back = journal; is = ap {B = List Event} (λ y. y ∷ journal) (same_inside h); same = λ k l. absurd (omega arith) }
 cut_at (x ∷ journal) (suc m) e h =
     let c : IsCut journal m e = cut_at journal m e h in
     record { front = x ∷ c.front; back = c.back; is = ap {B = List Event} (λ ys. x ∷ ys) c.is; same = λ k l. by_place c.front c.same k l }
@@ -180,9 +182,9 @@ run_cut p (x ∷ front) e back r =
 
 answered_in : (place call : ℕ) (journal : List Event) (k : ℕ) (e : Event) (a : Answer) → slice_get journal k ≡ Some e → answer_at call e ≡ Some a
     → is_some (answered_from place call journal) ≡ true
-answered_in place call [] k e a at h = no_some at
+answered_in place call [] k e a at h = none_is_some at
 answered_in place call (x ∷ journal) zero e a at h =
-    let here : answer_at call x ≡ Some a = ap (answer_at call) (inner at) ∙ h in
+    let here : answer_at call x ≡ Some a = ap (answer_at call) (same_inside at) ∙ h in
     rw here refl
 answered_in place call (x ∷ journal) (suc k) e a at h = split (is_some (answer_at call x))
     (λ it. rw it refl)
@@ -202,13 +204,13 @@ not_again spec journal call k m e x a b fit run l at h at' h' =
 
 pub answered_once : (spec : PartSpec) (journal : List Event) (call q r : ℕ) (a b : Answer) → IsFitSpec spec → IsRun spec journal
     → IsAt journal q (Answers call a) → IsAt journal r (Answers call b) → a ≡ b
-answered_once spec journal call zero r a b fit run x y = no_some x.there
-answered_once spec journal call (suc k) zero a b fit run x y = no_some y.there
+answered_once spec journal call zero r a b fit run x y = none_is_some x.there
+answered_once spec journal call (suc k) zero a b fit run x y = none_is_some y.there
 answered_once spec journal call (suc k) (suc m) a b fit run x y = by_order (cases_order k m)
   where
     by_order : (k ≡ m) ⊎ ((k < m) ⊎ (m < k)) → a ≡ b
     by_order (inl e) =
-        let same : x.event ≡ y.event = inner (sym x.there ∙ ap (slice_get journal) e ∙ y.there) in
-        inner (sym x.is ∙ ap (answer_at call) same ∙ y.is)
+        let same : x.event ≡ y.event = same_inside (sym x.there ∙ ap (slice_get journal) e ∙ y.there) in
+        same_inside (sym x.is ∙ ap (answer_at call) same ∙ y.is)
     by_order (inr (inl l)) = absurd (not_again spec journal call k m x.event y.event a b fit run l x.there x.is y.there y.is)
     by_order (inr (inr l)) = absurd (not_again spec journal call m k y.event x.event b a fit run l y.there y.is x.there x.is)

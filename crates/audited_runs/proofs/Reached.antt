@@ -3,22 +3,23 @@ use Rattle.std.proofs.Common.{◌≡◌, ℕ, zero, suc, ◌+◌, ◌==◌, true
 use Rattle.std.specs.List.{AllByRecursion}
 use Rattle.std.specs.Option.{option_map}
 use Rattle.std.proofs.lemmas.Option.{slice_get-map}
-use Rattle.nook_defs.specs.declared.data.Event.{Event}
-use Rattle.nook_defs.specs.declared.data.Op.{Op}
-use Rattle.nook_defs.specs.declared.data.PartSpec.{PartSpec}
-use Rattle.nook_defs.specs.declared.data.Scenario.{Scenario}
-use Rattle.nook_defs.specs.declared.data.Step.{Step}
-use Rattle.nook_defs.specs.declared.data.Step.TheVariants as step
-use Rattle.nook_defs.specs.declared.data.ThreadSpec.{ThreadSpec}
+use Rattle.nook_defs.specs.declared.steps.Event.{Event}
+use Rattle.nook_defs.specs.declared.calls.Op.{Op}
+use Rattle.nook_defs.specs.declared.scenario.PartSpec.{PartSpec}
+use Rattle.nook_defs.specs.declared.scenario.Scenario.{Scenario}
+use Rattle.nook_defs.specs.declared.steps.Step.{Step}
+use Rattle.nook_defs.specs.declared.steps.Step.TheVariants as step
+use Rattle.nook_defs.specs.declared.scenario.ThreadSpec.{ThreadSpec}
 use Rattle.nook_defs.specs.Runs.{event_of}
 use Rattle.nook_defs.specs.Schedules.{Order, picked}
-use Rattle.nook_defs.specs.Simulation.{Choice, PartSeat, Simulation, ThreadState, actor_of, begins, choices_of, opening_seat, opening_thread, runs, seat_after, stepped_by, taken, taken_by, threads_after}
+use Rattle.nook_defs.specs.Simulation.{Choice, RunningPart, Simulation, ThreadState, actor_of, begins, choices_of, opening_part, opening_thread, runs, part_after, stepped_by, taken, threads_after}
+use Rattle.nook_defs.proofs.Changes.{taken_by}
 use Rattle.nook_defs.specs.Steps.{enabled}
 use Rattle.part_laws.proofs.RunsDetermined.{step_named}
 use Rattle.run_laws.proofs.Choices.{IsGood, IsOwn, choices_good}
-use Rattle.audit_laws.proofs.Nexts.{inner, no_some}
-use Rattle.audit_laws.specs.Audit.{Section, invocation_by, is_on, opening_section, section_after, thread_on}
-use Rattle.audit_laws.specs.Fitting.{IsNext, section_from}
+use Rattle.nook_defs.proofs.Options.{none_is_some, same_inside}
+use Rattle.run_laws.specs.Audit.{Section, invocation_by, is_on, opening_section, section_after, thread_on}
+use Rattle.run_laws.specs.Fitting.{IsNext, section_from}
 use Rattle.audited_runs.proofs.Frames.{IsFrameNext, IsFramed, choices_framed}
 use Rattle.audited_runs.proofs.Shares.{AllMay, AreCounted, all_may, all_other, all_own, counted_after, counted_opening, filter_same, share_of}
 use Rattle.audited_runs.proofs.SoFar.{FitsSoFar, so_far_more}
@@ -26,11 +27,11 @@ use Rattle.audited_runs.proofs.SoFar.{FitsSoFar, so_far_more}
 -- ---- a part's section
 
 -- the section of a part, by its seat and its share of the threads
-abbrev pub section_of : ℕ → PartSpec → PartSeat → List ThreadState → Section
+abbrev pub section_of : ℕ → PartSpec → RunningPart → List ThreadState → Section
 section_of place spec seat threads = record { place = place; spec = spec; seat = seat; threads = map (share_of place) threads }
 
 -- the part's journal fits so far, and leads to the part's section
-pub record IsSectionOf (specs : List ThreadSpec) (place : ℕ) (spec : PartSpec) (seat : PartSeat) (threads : List ThreadState) : Type 0 where
+pub record IsSectionOf (specs : List ThreadSpec) (place : ℕ) (spec : PartSpec) (seat : RunningPart) (threads : List ThreadState) : Type 0 where
   pub fits : FitsSoFar (opening_section specs place spec) seat.run.journal
   pub is : section_from (opening_section specs place spec) seat.run.journal ≡ section_of place spec seat threads
 
@@ -41,7 +42,7 @@ invoked_by : (thread part : ℕ) (o : Op) (more : List (ℕ × Op)) (t : ThreadS
 invoked_by thread part o more t h = rw h refl
 
 -- what a part takes is the next of its kind
-step_next : (place : ℕ) (spec : PartSpec) (seat : PartSeat) (threads : List ThreadState) (x : Step) → IsOwn threads place x → IsFrameNext (Some seat) x
+step_next : (place : ℕ) (spec : PartSpec) (seat : RunningPart) (threads : List ThreadState) (x : Step) → IsOwn threads place x → IsFrameNext (Some seat) x
     → IsNext (section_of place spec seat threads) x
 step_next place spec seat threads (step.Invoke thread o) own frame =
     ap (invocation_by thread) (slice_get-map (share_of place) threads thread ∙ ap (option_map (share_of place)) own.at)
@@ -53,19 +54,19 @@ step_next place spec seat threads step.Stage own frame = tt
 step_next place spec seat threads (step.Arrive coming) own frame = frame
 
 module _ (specs : List ThreadSpec) where
-  own_step : (place : ℕ) (spec : PartSpec) (seat : PartSeat) (threads : List ThreadState) (x : Step) → enabled seat.run.state x ≡ true
+  own_step : (place : ℕ) (spec : PartSpec) (seat : RunningPart) (threads : List ThreadState) (x : Step) → enabled seat.run.state x ≡ true
       → IsOwn threads place x → IsFrameNext (Some seat) x → AllMay 0 place (event_of seat.run.state x) threads → IsSectionOf specs place spec seat threads
-      → IsSectionOf specs place spec (seat_after x seat) (threads_after 0 place (event_of seat.run.state x) threads)
+      → IsSectionOf specs place spec (part_after x seat) (threads_after 0 place (event_of seat.run.state x) threads)
   unfolding section_after
   own_step place spec seat threads x may own frame start is =
       let more = so_far_more (opening_section specs place spec) seat.run.journal (section_of place spec seat threads) x is.is is.fits may (step_next place spec seat threads x own frame) in
       record {
         fits = more.0;
-        is = more.1 ∙ ap {B = Section} (λ ts. record { place = place; spec = spec; seat = seat_after x seat; threads = ts })
+        is = more.1 ∙ ap {B = Section} (λ ts. record { place = place; spec = spec; seat = part_after x seat; threads = ts })
             (all_own 0 place (event_of seat.run.state x) threads start);
       }
 
-  other_step : (part place : ℕ) (spec : PartSpec) (seat : PartSeat) (threads : List ThreadState) (e : Event) → (part == place) ≡ false → AllMay 0 part e threads
+  other_step : (part place : ℕ) (spec : PartSpec) (seat : RunningPart) (threads : List ThreadState) (e : Event) → (part == place) ≡ false → AllMay 0 part e threads
       → IsSectionOf specs place spec seat threads → IsSectionOf specs place spec seat (threads_after 0 part e threads)
   other_step part place spec seat threads e other start is = record {
     fits = is.fits;
@@ -75,14 +76,14 @@ module _ (specs : List ThreadSpec) where
   -- ---- all parts
 
   -- a section for each part, the first of them number `place`
-  abbrev pub AreSections : ℕ → List PartSpec → List PartSeat → List ThreadState → Type 0
+  abbrev pub AreSections : ℕ → List PartSpec → List RunningPart → List ThreadState → Type 0
   AreSections place [] [] threads = Unit {0}
   AreSections place [] (seat ∷ seats) threads = ⊥
   AreSections place (spec ∷ parts) [] threads = ⊥
   AreSections place (spec ∷ parts) (seat ∷ seats) threads = IsSectionOf specs place spec seat threads × AreSections (suc place) parts seats threads
 
   module _ (part : ℕ) (threads : List ThreadState) (e : Event) (start : AllMay 0 part e threads) where
-    others_kept : (place : ℕ) (parts : List PartSpec) (seats : List PartSeat) → part < place → AreSections place parts seats threads
+    others_kept : (place : ℕ) (parts : List PartSpec) (seats : List RunningPart) → part < place → AreSections place parts seats threads
         → AreSections place parts seats (threads_after 0 part e threads)
     others_kept place [] [] l are = tt
     others_kept place [] (seat ∷ seats) l are = absurd are
@@ -92,16 +93,16 @@ module _ (specs : List ThreadSpec) where
       others_kept (suc place) parts seats (omega arith) are.1,
     )
 
-    sections_set : (place : ℕ) (parts : List PartSpec) (seats : List PartSeat) (k : ℕ) (seat new : PartSeat) → part ≡ place + k → slice_get seats k ≡ Some seat
+    sections_set : (place : ℕ) (parts : List PartSpec) (seats : List RunningPart) (k : ℕ) (seat new : RunningPart) → part ≡ place + k → slice_get seats k ≡ Some seat
         → ((spec : PartSpec) → IsSectionOf specs part spec seat threads → IsSectionOf specs part spec new (threads_after 0 part e threads))
         → AreSections place parts seats threads → AreSections place parts (slice_set seats k new) (threads_after 0 part e threads)
-    sections_set place [] [] k seat new is at own are = no_some at
+    sections_set place [] [] k seat new is at own are = none_is_some at
     sections_set place [] (x ∷ seats) k seat new is at own are = absurd are
     sections_set place (spec ∷ parts) [] k seat new is at own are = absurd are
     sections_set place (spec ∷ parts) (x ∷ seats) zero seat new is at own are =
         let same : part ≡ place = omega arith in (
           subst (λ (n : ℕ). IsSectionOf specs n spec new (threads_after 0 part e threads)) same
-              (own spec (subst (λ (n : ℕ). IsSectionOf specs n spec seat threads) (sym same) (subst (λ y. IsSectionOf specs place spec y threads) (inner at) are.0))),
+              (own spec (subst (λ (n : ℕ). IsSectionOf specs n spec seat threads) (sym same) (subst (λ y. IsSectionOf specs place spec y threads) (same_inside at) are.0))),
           others_kept (suc place) parts seats (omega arith) are.1,
         )
     sections_set place (spec ∷ parts) (x ∷ seats) (suc k) seat new is at own are = (
@@ -116,7 +117,7 @@ pub record IsReached (scenario : Scenario) (s : Simulation) : Type 0 where
   pub sections : AreSections scenario.threads 0 scenario.parts s.parts s.threads
   pub counted : AreCounted scenario.threads s.threads
 
-step_kept : (scenario : Scenario) (s : Simulation) (order : Order) (c : Choice) (seat : PartSeat) → slice_get s.parts c.part ≡ Some seat
+step_kept : (scenario : Scenario) (s : Simulation) (order : Order) (c : Choice) (seat : RunningPart) → slice_get s.parts c.part ≡ Some seat
     → enabled seat.run.state c.step ≡ true → IsOwn s.threads c.part c.step → IsFrameNext (Some seat) c.step → IsReached scenario s
     → IsReached scenario (stepped_by s order c (Some seat))
 step_kept scenario s order c seat at may own frame are =
@@ -124,7 +125,7 @@ step_kept scenario s order c seat at may own frame are =
     let start : AllMay 0 c.part e s.threads =
     all_may 0 c.part e s.threads s.threads (λ k. ap (slice_get s.threads) (plus k)) (subst (IsOwn s.threads c.part) (sym (step_named seat.run.state c.step)) own) in
     record {
-      sections = sections_set scenario.threads c.part s.threads e start 0 scenario.parts s.parts c.part seat (seat_after c.step seat) (plus c.part) at
+      sections = sections_set scenario.threads c.part s.threads e start 0 scenario.parts s.parts c.part seat (part_after c.step seat) (plus c.part) at
           (λ spec is. own_step scenario.threads c.part spec seat s.threads c.step may own frame start is) are.sections;
       counted = counted_after 0 c.part e scenario.threads s.threads start are.counted;
     }
@@ -133,8 +134,8 @@ step_kept scenario s order c seat at may own frame are =
     plus k = omega arith
 
 at_place : {X : Type 0} (P : X → Type 0) (xs : List X) (i : ℕ) (x : X) → AllByRecursion P xs → slice_get xs i ≡ Some x → P x
-at_place P [] i x all h = no_some h
-at_place P (y ∷ xs) zero x all h = subst P (inner h) all.0
+at_place P [] i x all h = none_is_some h
+at_place P (y ∷ xs) zero x all h = subst P (same_inside h) all.0
 at_place P (y ∷ xs) (suc i) x all h = at_place P xs i x all.1 h
 
 taken_kept : (scenario : Scenario) (s : Simulation) (choices : List Choice) → AllByRecursion (IsGood s.parts s.threads) choices
@@ -167,12 +168,12 @@ shares_opening : (place : ℕ) (threads : List ThreadSpec) → map (thread_on pl
 shares_opening place [] = refl
 shares_opening place (t ∷ threads) = ap {B = List ThreadState} (λ ts. thread_on place t ∷ ts) (shares_opening place threads)
 
-sections_opening : (place : ℕ) (threads : List ThreadSpec) (parts : List PartSpec) → AreSections threads place parts (map opening_seat parts) (map opening_thread threads)
+sections_opening : (place : ℕ) (threads : List ThreadSpec) (parts : List PartSpec) → AreSections threads place parts (map opening_part parts) (map opening_thread threads)
 sections_opening place threads [] = tt
 sections_opening place threads (spec ∷ parts) = (
   record {
     fits = tt;
-    is = ap {B = Section} (λ ts. record { place = place; spec = spec; seat = opening_seat spec; threads = ts }) (shares_opening place threads);
+    is = ap {B = Section} (λ ts. record { place = place; spec = spec; seat = opening_part spec; threads = ts }) (shares_opening place threads);
   },
   sections_opening (suc place) threads parts,
 )

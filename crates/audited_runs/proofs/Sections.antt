@@ -5,18 +5,19 @@ use Rattle.std.proofs.lemmas.Option.{slice_get-map}
 use Rattle.std.specs.Option.{option_map}
 use Rattle.nook_defs.specs.Log.{call_of_thread, opening_log}
 use Rattle.nook_defs.specs.Runs.{answer_at, event_of, state_after, step_of}
-use Rattle.nook_defs.specs.Simulation.{ThreadState, Waiting, answers_of, if_part, settled, settled_by, started, threads_after, told}
+use Rattle.nook_defs.specs.Simulation.{ThreadState, Waiting, answers_of, started, threads_after, told}
+use Rattle.nook_defs.proofs.Changes.{settled, settled_by}
 use Rattle.nook_defs.specs.State.{PartState}
 use Rattle.nook_defs.specs.Steps.{enabled, opening}
 use Rattle.nook_defs.specs.Valid.{IsValidPart}
-use Rattle.nook_defs.specs.declared.data.Answer.{Answer}
-use Rattle.nook_defs.specs.declared.data.Event.{Event}
-use Rattle.nook_defs.specs.declared.data.Event.TheVariants as event
-use Rattle.nook_defs.specs.declared.data.Op.{Op}
-use Rattle.nook_defs.specs.declared.data.PartSpec.{PartSpec}
-use Rattle.nook_defs.specs.declared.data.Step.{Step}
-use Rattle.nook_defs.specs.declared.data.Step.TheVariants as step
-use Rattle.nook_defs.specs.declared.data.ThreadSpec.{ThreadSpec}
+use Rattle.nook_defs.specs.declared.calls.Answer.{Answer}
+use Rattle.nook_defs.specs.declared.steps.Event.{Event}
+use Rattle.nook_defs.specs.declared.steps.Event.TheVariants as event
+use Rattle.nook_defs.specs.declared.calls.Op.{Op}
+use Rattle.nook_defs.specs.declared.scenario.PartSpec.{PartSpec}
+use Rattle.nook_defs.specs.declared.steps.Step.{Step}
+use Rattle.nook_defs.specs.declared.steps.Step.TheVariants as step
+use Rattle.nook_defs.specs.declared.scenario.ThreadSpec.{ThreadSpec}
 use Rattle.part_laws.proofs.Places.{split}
 use Rattle.part_laws.proofs.RunBound.{opening_tied}
 use Rattle.part_laws.proofs.StepsFit.{fit_after, opening_fit}
@@ -25,9 +26,9 @@ use Rattle.part_laws.proofs.ValidFits.{valid_fits}
 use Rattle.part_laws.specs.Fit.{IsFit}
 use Rattle.part_laws.specs.Tied.{IsTied}
 use Rattle.run_laws.proofs.Numbers.{none_found, number, started_number, step_says, told_number}
-use Rattle.audit_laws.proofs.Nexts.{inner, no_some}
-use Rattle.audit_laws.specs.Audit.{Section, are_through, has_nothing, invocation_by, is_complete, is_through, opening_section, section_after, thread_on}
-use Rattle.audit_laws.specs.Fitting.{FitsFrom, IsNext, section_from}
+use Rattle.nook_defs.proofs.Options.{none_is_some, same_inside}
+use Rattle.run_laws.specs.Audit.{Section, are_through, has_nothing, invocation_by, is_complete, is_through, opening_section, section_after, thread_on}
+use Rattle.run_laws.specs.Fitting.{FitsFrom, IsNext, section_from}
 use Rattle.threaded_run.proofs.Placed.{AreBehind}
 use Rattle.audited_runs.proofs.Serves.{AreOn, IsGiven, IsHere, Serves, Starts, serves_before, waiting_number}
 
@@ -75,7 +76,7 @@ settled_here place t (Some a) h = tt
 
 told_here : (place : ℕ) (e : Event) (t : ThreadState) (w : Option Waiting) → IsHere place t.waiting → IsHere place (settled place e t w).waiting
 told_here place e t None h = h
-told_here place e t (Some w) h = settled_here place t (if_part place w.part (answer_at w.call e)) h
+told_here place e t (Some w) h = settled_here place t (if w.part == place then answer_at w.call e else None) h
 
 -- both hold after an event
 pub here_after : (i place : ℕ) (e : Event) (t : ThreadState) → IsHere place t.waiting → IsHere place (told place e (started i place e t)).waiting
@@ -95,9 +96,9 @@ open_after i place p e t tied may is here opened =
 
 pub after_at : (n place : ℕ) (e : Event) (threads : List ThreadState) (k : ℕ) (t : ThreadState) → slice_get threads k ≡ Some t
     → slice_get (threads_after n place e threads) k ≡ Some (told place e (started (n + k) place e t))
-after_at n place e [] k t h = no_some h
+after_at n place e [] k t h = none_is_some h
 after_at n place e (x ∷ threads) zero t h =
-    ap {B = Option ThreadState} (λ (y : ThreadState). Some (told place e (started n place e y))) (inner h)
+    ap {B = Option ThreadState} (λ (y : ThreadState). Some (told place e (started n place e y))) (same_inside h)
     ∙ ap {B = Option ThreadState} (λ (m : ℕ). Some (told place e (started m place e t))) (plus n)
   where
     plus : (n : ℕ) → n ≡ n + 0
@@ -113,14 +114,14 @@ rest_next thread o t h = by_rest t.rest refl h
   where
     by_rest : (rest : List (ℕ × Op)) → t.rest ≡ rest → elim rest as (λ x. Option Step) [ [] ↦ None | (x ∷ more) ↦ Some (step.Invoke thread x.1) ] ≡ Some (step.Invoke thread o)
         → (p : ℕ) × ((more : List (ℕ × Op)) × (t.rest ≡ (p, o) ∷ more))
-    by_rest [] e k = no_some k
+    by_rest [] e k = none_is_some k
     by_rest (x ∷ more) e k =
         let same : x.1 ≡ o = cc in
         (x.0, (more, e ∙ ap {B = List (ℕ × Op)} (λ (y : Op). (x.0, y) ∷ more) same))
 
 pub waits_nowhere : (w : Option Waiting) → None ≡ waiting_number w → w ≡ None
 waits_nowhere None h = refl
-waits_nowhere (Some w) h = no_some h
+waits_nowhere (Some w) h = none_is_some h
 
 starts_own : (i : ℕ) (s : Section) (e : Event) (t : ThreadState) → slice_get s.threads i ≡ Some t → enabled s.seat.run.state (step_of e) ≡ true
     → IsNext s (step_of e) → IsOpen i s.seat.run.state t.waiting → Starts i e t
@@ -143,13 +144,13 @@ starts_own i s (event.Arrive frame kept) t at may next opened = tt
 
 -- at the end of a section a thread has nothing left
 through_at : (threads : List ThreadState) (i : ℕ) (t : ThreadState) → slice_get threads i ≡ Some t → are_through threads ≡ true → is_through t ≡ true
-through_at [] i t h k = no_some h
-through_at (x ∷ threads) zero t h k = subst (λ y. is_through y ≡ true) (inner h) (and_parts (is_through x) (are_through threads) k).0
+through_at [] i t h k = none_is_some h
+through_at (x ∷ threads) zero t h k = subst (λ y. is_through y ≡ true) (same_inside h) (and_parts (is_through x) (are_through threads) k).0
 through_at (x ∷ threads) (suc i) t h k = through_at threads i t h (and_parts (is_through x) (are_through threads) k).1
 
 answers_at : (threads : List ThreadState) (i : ℕ) (t : ThreadState) → slice_get threads i ≡ Some t → slice_index_or (map answers_of threads) i [] ≡ t.answers
-answers_at [] i t h = no_some h
-answers_at (x ∷ threads) zero t h = ap (λ (y : ThreadState). y.answers) (inner h)
+answers_at [] i t h = none_is_some h
+answers_at (x ∷ threads) zero t h = ap (λ (y : ThreadState). y.answers) (same_inside h)
 answers_at (x ∷ threads) (suc i) t h = answers_at threads i t h
 
 serves_through : (place i n : ℕ) (journal : List Event) (t : ThreadState) (rest : List (ℕ × Op)) (w : Option Waiting) (final : List (ℕ × Answer)) → t.rest ≡ rest → t.waiting ≡ w

@@ -1,13 +1,14 @@
 -- A part's journal serves each thread: its operations on the part were invoked in order and answered.
-use Rattle.std.proofs.Common.{◌≡◌, ℕ, suc, ◌<◌, ◌==◌, if◌then◌else◌, Bool, true, Option, Some, None, List, [], ◌∷◌, ◌++◌, map, slice_get, refl, sym, ◌∙◌, subst, arith, append_assoc, eqb-true, eq-eqb}
+use Rattle.std.proofs.Common.{ap, drop, ◌≡◌, ℕ, suc, ◌<◌, ◌==◌, if◌then◌else◌, Bool, true, Option, Some, None, List, [], ◌∷◌, ◌++◌, map, slice_get, refl, sym, ◌∙◌, subst, arith, append_assoc, eqb-true, eq-eqb}
 use Rattle.desk_like.specs.Desks.{Answers, IsAt, IsReceipt, IsRisingFrom}
 use Rattle.nook_defs.specs.Runs.{answer_at}
-use Rattle.nook_defs.specs.Simulation.{ThreadState, Waiting, settled, settled_by, started, tail_ops, told}
-use Rattle.nook_defs.specs.declared.data.Answer.{Answer}
-use Rattle.nook_defs.specs.declared.data.Event.{Event}
-use Rattle.nook_defs.specs.declared.data.Event.TheVariants as event
-use Rattle.nook_defs.specs.declared.data.Op.{Op}
-use Rattle.nook_defs.specs.declared.data.Receipt.{Receipt}
+use Rattle.nook_defs.specs.Simulation.{ThreadState, Waiting, started, told}
+use Rattle.nook_defs.proofs.Changes.{settled, settled_by}
+use Rattle.nook_defs.specs.declared.calls.Answer.{Answer}
+use Rattle.nook_defs.specs.declared.steps.Event.{Event}
+use Rattle.nook_defs.specs.declared.steps.Event.TheVariants as event
+use Rattle.nook_defs.specs.declared.calls.Op.{Op}
+use Rattle.nook_defs.specs.declared.desks.Receipt.{Receipt}
 use Rattle.part_laws.proofs.Places.{split}
 
 abbrev pub invoked_at : Receipt → ℕ
@@ -107,17 +108,27 @@ module _ (place i : ℕ) (journal : List Event) where
 
   -- the thread after its invocation, by what answers it at once
   abbrev begun : ThreadState → ℕ → Option Answer → ThreadState
-  begun t call None = record { rest = tail_ops t.rest; waiting = Some (record { part = place; call = call }); answers = t.answers }
-  begun t call (Some a) = record { rest = tail_ops t.rest; waiting = None; answers = t.answers ++ (place, a) ∷ [] }
+  begun t call None = record { rest = drop 1 t.rest; waiting = Some (record { part = place; call = call }); answers = t.answers }
+  begun t call (Some a) = record { rest = drop 1 t.rest; waiting = None; answers = t.answers ++ (place, a) ∷ [] }
 
   begun_is : (call thread : ℕ) (o : Op) (a : Option Answer) (t : ThreadState) → thread ≡ i
       → told place (event.Invoke call thread o a) (started i place (event.Invoke call thread o a) t) ≡ begun t call a
-  begun_is call thread o a t same = rw (eq-eqb thread i same, eq-eqb place place refl, eq-eqb call call refl) (by_answer a)
+  begun_is call thread o a t same =
+      ap (told place (event.Invoke call thread o a)) (waits_here (thread == i) (eq-eqb thread i same))
+      ∙ ap (λ b. settled_by place waits (if b then answer_at call (event.Invoke call thread o a) else None)) (eq-eqb place place refl)
+      ∙ by_answer a
     where
-      by_answer : (a : Option Answer)
-          → settled_by place (record { rest = tail_ops t.rest; waiting = Some (record { part = place; call = call }); answers = t.answers }) a ≡ begun t call a
+      waits : ThreadState
+      waits = record { rest = drop 1 t.rest; waiting = Some (record { part = place; call = call }); answers = t.answers }
+
+      waits_here : (b : Bool) → b ≡ true
+          → record t { rest = if b then drop 1 t.rest else t.rest; waiting = if b then Some (record { part = place; call = call }) else t.waiting }
+          ≡ waits
+      waits_here b e = rw e refl
+
+      by_answer : (x : Option Answer) → settled_by place waits (answer_at call (event.Invoke call thread o x)) ≡ begun t call x
       by_answer None = refl
-      by_answer (Some x) = refl
+      by_answer (Some x) = ap (λ b. settled_by place waits (if b then Some x else None)) (eq-eqb call call refl)
 
   invoked_before : (n call thread : ℕ) (o : Op) (a : Option Answer) (t : ThreadState) (p : ℕ) (more : List (ℕ × Op)) (final : List (ℕ × Answer))
       → slice_get journal n ≡ Some (event.Invoke call thread o a) → thread ≡ i → t.waiting ≡ None → t.rest ≡ (p, o) ∷ more
@@ -133,7 +144,7 @@ module _ (place i : ℕ) (journal : List Event) where
             answered = record { event = e; there = at; is = told_it };
             ordered = omega arith;
           },
-          subst (λ ops. AreOn journal i (tail_ops ops) h.receipts) next h.on,
+          subst (λ ops. AreOn journal i (drop 1 ops) h.receipts) next h.on,
         );
         rising = (omega arith, h.rising);
         given = subst (λ w. IsGiven n t.answers w (record { call = call; at_invoke = suc n; at_reply = suc n; answer = a } ∷ h.receipts) final) (sym free)
@@ -151,7 +162,7 @@ module _ (place i : ℕ) (journal : List Event) where
             answered = r.there;
             ordered = (let l : suc n < r.at = r.later in omega arith);
           },
-          subst (λ ops. AreOn journal i (tail_ops ops) h.receipts) next h.on,
+          subst (λ ops. AreOn journal i (drop 1 ops) h.receipts) next h.on,
         );
         rising = (omega arith, h.rising);
         given = subst (λ w. IsGiven n t.answers w (receipt ∷ h.receipts) final) (sym free) h.given.1;

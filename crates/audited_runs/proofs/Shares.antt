@@ -1,16 +1,17 @@
 -- What each part knows of a thread changes as the thread does.
-use Rattle.std.proofs.Common.{◌≡◌, ℕ, suc, ◌+◌, ◌==◌, if◌then◌else◌, Bool, true, false, Option, Some, None, List, [], ◌∷◌, ◌++◌, length, length-append, map, filter, slice_get, refl, sym, ap, ap₂, ◌∙◌, subst, arith, eqb-true, eq-eqb}
-use Rattle.nook_defs.specs.declared.data.Answer.{Answer}
-use Rattle.nook_defs.specs.declared.data.Event.{Event}
-use Rattle.nook_defs.specs.declared.data.Event.TheVariants as event
-use Rattle.nook_defs.specs.declared.data.Op.{Op}
-use Rattle.nook_defs.specs.declared.data.ThreadSpec.{ThreadSpec}
+use Rattle.std.proofs.Common.{drop, ◌≡◌, ℕ, suc, ◌+◌, ◌==◌, if◌then◌else◌, Bool, true, false, Option, Some, None, List, [], ◌∷◌, ◌++◌, length, length-append, map, filter, slice_get, refl, sym, ap, ap₂, ◌∙◌, subst, arith, eqb-true, eq-eqb}
+use Rattle.nook_defs.specs.declared.calls.Answer.{Answer}
+use Rattle.nook_defs.specs.declared.steps.Event.{Event}
+use Rattle.nook_defs.specs.declared.steps.Event.TheVariants as event
+use Rattle.nook_defs.specs.declared.calls.Op.{Op}
+use Rattle.nook_defs.specs.declared.scenario.ThreadSpec.{ThreadSpec}
 use Rattle.nook_defs.specs.Runs.{answer_at, step_of}
-use Rattle.nook_defs.specs.Simulation.{ThreadState, Waiting, if_part, opening_thread, settled, settled_by, started, tail_ops, threads_after, told}
+use Rattle.nook_defs.specs.Simulation.{ThreadState, Waiting, opening_thread, started, threads_after, told}
+use Rattle.nook_defs.proofs.Changes.{settled, settled_by}
 use Rattle.part_laws.proofs.Places.{split}
 use Rattle.run_laws.proofs.Choices.{IsOwn}
-use Rattle.audit_laws.proofs.Nexts.{inner}
-use Rattle.audit_laws.specs.Audit.{is_on}
+use Rattle.nook_defs.proofs.Options.{same_inside}
+use Rattle.run_laws.specs.Audit.{is_on}
 
 -- ---- a thread, as a part knows it
 
@@ -61,8 +62,8 @@ share_started n part (event.Invoke call thread o a) t may = split (thread == n)
     (λ e.
     let m = may (eqb-true thread n e) in
     let mine : (part == part) ≡ true = eq-eqb part part refl in
-    let rest : filter (is_on part) (tail_ops t.rest) ≡ tail_ops (filter (is_on part) t.rest) =
-    ap (λ xs. filter (is_on part) (tail_ops xs)) m.1.1 ∙ sym (ap (λ xs. tail_ops (filter (is_on part) xs)) m.1.1 ∙ ap tail_ops (filter_same (is_on part) (part, o) m.1.0 mine)) in
+    let rest : filter (is_on part) (drop 1 t.rest) ≡ drop 1 (filter (is_on part) t.rest) =
+    ap (λ xs. filter (is_on part) (drop 1 xs)) m.1.1 ∙ sym (ap (λ xs. drop 1 (filter (is_on part) xs)) m.1.1 ∙ ap (drop 1) (filter_same (is_on part) (part, o) m.1.0 mine)) in
     rw (e, mine, rest) refl)
     (λ e. rw e refl)
 share_started n part (event.Enter call thread attempt a) t may = refl
@@ -83,7 +84,7 @@ share_told_by part e t (Some w) = split (w.part == part)
     (λ h. rw h (share_settled part t (answer_at w.call e) ∙ sym (waits h)))
     (λ h. rw h refl)
   where
-    waits : (w.part == part) ≡ true → settled_by part (share_of part t) (if_part part w.part (answer_at w.call e)) ≡ settled_by part (share_of part t) (answer_at w.call e)
+    waits : (w.part == part) ≡ true → settled_by part (share_of part t) (if w.part == part then answer_at w.call e else None) ≡ settled_by part (share_of part t) (answer_at w.call e)
     waits h = rw h refl
 
 pub share_own : (n part : ℕ) (e : Event) (t : ThreadState) → MayStart n part e t
@@ -99,8 +100,8 @@ share_not_started : (n part place : ℕ) (e : Event) (t : ThreadState) → (part
 share_not_started n part place (event.Invoke call thread o a) t other may = split (thread == n)
     (λ e.
     let m = may (eqb-true thread n e) in
-    let rest : filter (is_on place) (tail_ops t.rest) ≡ filter (is_on place) t.rest =
-    ap (λ xs. filter (is_on place) (tail_ops xs)) m.1.1 ∙ sym (ap (filter (is_on place)) m.1.1 ∙ filter_none (is_on place) (part, o) m.1.0 other) in
+    let rest : filter (is_on place) (drop 1 t.rest) ≡ filter (is_on place) t.rest =
+    ap (λ xs. filter (is_on place) (drop 1 xs)) m.1.1 ∙ sym (ap (filter (is_on place)) m.1.1 ∙ filter_none (is_on place) (part, o) m.1.0 other) in
     rw (e, other, rest, m.0) refl)
     (λ e. rw e refl)
 share_not_started n part place (event.Enter call thread attempt a) t other may = refl
@@ -153,7 +154,7 @@ all_other n part place e (t ∷ threads) other may =
 -- the step is its thread's own
 may_start : (n part : ℕ) (e : Event) (t : ThreadState) (whole : List ThreadState) → slice_get whole n ≡ Some t → IsOwn whole part (step_of e) → MayStart n part e t
 may_start n part (event.Invoke call thread o a) t whole at own = λ same.
-    let is : own.t ≡ t = inner (sym own.at ∙ ap (slice_get whole) same ∙ at) in
+    let is : own.t ≡ t = same_inside (sym own.at ∙ ap (slice_get whole) same ∙ at) in
     (subst (λ (x : ThreadState). x.waiting ≡ None) is own.free, (own.more, subst (λ (x : ThreadState). x.rest ≡ (part, o) ∷ own.more) is own.next))
 may_start n part (event.Enter call thread attempt a) t whole at own = tt
 may_start n part (event.Burst context call burst count end acts a failure) t whole at own = tt
@@ -188,7 +189,7 @@ started_counted : (n part : ℕ) (e : Event) (t : ThreadState) → MayStart n pa
 started_counted n part (event.Invoke call thread o a) t may = split (thread == n)
     (λ e.
     let m = may (eqb-true thread n e) in
-    let rest : length t.rest ≡ suc (length (tail_ops t.rest)) = ap length m.1.1 ∙ sym (ap (λ xs. suc (length (tail_ops xs))) m.1.1) in
+    let rest : length t.rest ≡ suc (length (drop 1 t.rest)) = ap length m.1.1 ∙ sym (ap (λ xs. suc (length (drop 1 xs))) m.1.1) in
     let free : waits_for t.waiting ≡ 0 = ap waits_for m.0 in
     rw e (omega arith))
     (λ e. rw e refl)
@@ -206,7 +207,7 @@ settled_counted part t w (Some a) h =
 
 told_counted : (part : ℕ) (e : Event) (t : ThreadState) (w : Option Waiting) → t.waiting ≡ w → operations_of (settled part e t w) ≡ operations_of t
 told_counted part e t None h = refl
-told_counted part e t (Some w) h = settled_counted part t w (if_part part w.part (answer_at w.call e)) h
+told_counted part e t (Some w) h = settled_counted part t w (if w.part == part then answer_at w.call e else None) h
 
 -- each thread has its script's operations
 abbrev pub AreCounted : List ThreadSpec → List ThreadState → Type 0

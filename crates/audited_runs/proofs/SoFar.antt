@@ -1,12 +1,12 @@
 -- The beginning of a journal that fits.
 use Rattle.std.proofs.Common.{◌≡◌, true, List, [], ◌∷◌, ◌++◌, refl, sym, ap, ◌∙◌, subst}
-use Rattle.nook_defs.specs.declared.data.Event.{Event}
-use Rattle.nook_defs.specs.declared.data.Step.{Step}
+use Rattle.nook_defs.specs.declared.steps.Event.{Event}
+use Rattle.nook_defs.specs.declared.steps.Step.{Step}
 use Rattle.nook_defs.specs.Runs.{event_of, step_of}
 use Rattle.nook_defs.specs.Steps.{enabled}
 use Rattle.part_laws.proofs.RunsDetermined.{step_named}
-use Rattle.audit_laws.specs.Audit.{Section, is_complete, section_after}
-use Rattle.audit_laws.specs.Fitting.{FitsFrom, IsNext, section_from}
+use Rattle.run_laws.specs.Audit.{Section, is_complete, section_after}
+use Rattle.run_laws.specs.Fitting.{FitsFrom, IsNext, section_from}
 
 -- the events are made by their steps, each of which may be taken and is the next of its kind; more may follow
 abbrev pub FitsSoFar : Section → List Event → Type 0

@@ -4,26 +4,26 @@ use Rattle.std.specs.List.{AllByRecursion}
 use Rattle.std.proofs.lemmas.List.Elements.{recursion_from_All}
 use Rattle.nook_defs.specs.Listening.{Listening, count_if, hears}
 use Rattle.nook_defs.specs.ReportText.{parts_text, report_text, status_line, status_of, taps_text, threads_text}
-use Rattle.nook_defs.specs.Simulation.{IsScheduledRun, PartSeat, Simulation, ThreadState, answer_table, begins, journal_of, journals_of}
+use Rattle.nook_defs.specs.Simulation.{IsScheduledRun, RunningPart, Simulation, ThreadState, answer_table, begins, journal_of, journals_of}
 use Rattle.nook_defs.specs.Taps.{heard_events, tap_result}
 use Rattle.nook_defs.specs.Valid.{IsValidScenario, IsValidThread}
-use Rattle.nook_defs.specs.declared.data.Event.{Event}
-use Rattle.nook_defs.specs.declared.data.PartSpec.{PartSpec}
-use Rattle.nook_defs.specs.declared.data.Scenario.{Scenario}
-use Rattle.nook_defs.specs.declared.data.ThreadSpec.{ThreadSpec}
+use Rattle.nook_defs.specs.declared.steps.Event.{Event}
+use Rattle.nook_defs.specs.declared.scenario.PartSpec.{PartSpec}
+use Rattle.nook_defs.specs.declared.scenario.Scenario.{Scenario}
+use Rattle.nook_defs.specs.declared.scenario.ThreadSpec.{ThreadSpec}
 use Rattle.run_laws.proofs.Reached.{parts_answered}
 use Rattle.sim_run.proofs.Publishing.{journals_are_heard}
 use Rattle.run_ends.specs.Journals.{with_part}
 use Rattle.sim_run.specs.Published.{heard_in_journals, published}
-use Rattle.audit_laws.specs.Audit.{Done, Section, answers_in_order, done_of, each_of_part, journal_in, last_lines, own_listeners, published_in}
-use Rattle.audit_laws.specs.Fitting.{fitting_text, sections_of}
+use Rattle.run_laws.specs.Audit.{Done, Section, answers_in_order, done_of, each_of_part, journal_in, last_lines, own_listeners, published_in}
+use Rattle.run_laws.specs.Fitting.{fitting_text, sections_of}
 use Rattle.audited_runs.proofs.Apart.{answers_again, left_by}
 use Rattle.audited_runs.proofs.Ended.{scheduled_reached}
 use Rattle.audited_runs.proofs.Reached.{AreSections, IsReached}
 
 -- ---- what the sections leave
 
-sections_left : (specs : List ThreadSpec) (place : ℕ) (parts : List PartSpec) (seats : List PartSeat) (threads : List ThreadState)
+sections_left : (specs : List ThreadSpec) (place : ℕ) (parts : List PartSpec) (seats : List RunningPart) (threads : List ThreadState)
     → AreSections specs place parts seats threads → sections_of specs place parts (map journal_of seats) ≡ left_by place seats threads
 unfolding sections_of
 sections_left specs place [] [] threads are = refl
@@ -32,14 +32,14 @@ sections_left specs place (spec ∷ parts) [] threads are = absurd are
 sections_left specs place (spec ∷ parts) (seat ∷ seats) threads are =
     ap₂ (λ (x : Section) (xs : List Done). done_of x ∷ xs) are.0.is (sections_left specs (suc place) parts seats threads are.1)
 
-same_count : (specs : List ThreadSpec) (place : ℕ) (parts : List PartSpec) (seats : List PartSeat) (threads : List ThreadState)
+same_count : (specs : List ThreadSpec) (place : ℕ) (parts : List PartSpec) (seats : List RunningPart) (threads : List ThreadState)
     → AreSections specs place parts seats threads → length seats ≡ length parts
 same_count specs place [] [] threads are = refl
 same_count specs place [] (seat ∷ seats) threads are = absurd are
 same_count specs place (spec ∷ parts) [] threads are = absurd are
 same_count specs place (spec ∷ parts) (seat ∷ seats) threads are = ap suc (same_count specs (suc place) parts seats threads are.1)
 
-journals_left : (place : ℕ) (seats : List PartSeat) (threads : List ThreadState) → map journal_in (left_by place seats threads) ≡ map journal_of seats
+journals_left : (place : ℕ) (seats : List RunningPart) (threads : List ThreadState) → map journal_in (left_by place seats threads) ≡ map journal_of seats
 journals_left place [] threads = refl
 journals_left place (seat ∷ seats) threads = ap {B = List (List Event)} (λ xs. seat.run.journal ∷ xs) (journals_left (suc place) seats threads)
 

@@ -7,17 +7,17 @@ use Rattle.desk_like.specs.Desks.{IsRisingFrom}
 use Rattle.nook_defs.specs.Runs.{next_any, state_of, step_of}
 use Rattle.nook_defs.specs.Simulation.{coming_after}
 use Rattle.nook_defs.specs.Valid.{IsValidPart, IsValidScenario, IsValidStep, IsValidThread}
-use Rattle.nook_defs.specs.declared.data.Event.{Event}
-use Rattle.nook_defs.specs.declared.data.Event.TheVariants as event
-use Rattle.nook_defs.specs.declared.data.PartSpec.{PartSpec}
-use Rattle.nook_defs.specs.declared.data.Scenario.{Scenario}
-use Rattle.nook_defs.specs.declared.data.Step.TheVariants as step
-use Rattle.nook_defs.specs.declared.data.ThreadSpec.{ThreadSpec}
+use Rattle.nook_defs.specs.declared.steps.Event.{Event}
+use Rattle.nook_defs.specs.declared.steps.Event.TheVariants as event
+use Rattle.nook_defs.specs.declared.scenario.PartSpec.{PartSpec}
+use Rattle.nook_defs.specs.declared.scenario.Scenario.{Scenario}
+use Rattle.nook_defs.specs.declared.steps.Step.TheVariants as step
+use Rattle.nook_defs.specs.declared.scenario.ThreadSpec.{ThreadSpec}
 use Rattle.threaded_run.specs.Threaded.{AreServed, AreSettled, ArriveAt, HasArrivals, HaveArrivals, IsThreaded}
-use Rattle.audit_laws.proofs.Leading.{section_led}
-use Rattle.audit_laws.proofs.Nexts.{no_some}
-use Rattle.audit_laws.specs.Audit.{Section, answers_in_order, are_through, arrival_of, has_nothing, is_complete, opening_section, section_after}
-use Rattle.audit_laws.specs.Fitting.{AllFit, FitsFrom, IsNext, section_from, sections_of}
+use Rattle.run_laws.proofs.Leading.{section_led}
+use Rattle.nook_defs.proofs.Options.{none_is_some}
+use Rattle.run_laws.specs.Audit.{Section, answers_in_order, are_through, arrival_of, has_nothing, is_complete, opening_section, section_after}
+use Rattle.run_laws.specs.Fitting.{AllFit, FitsFrom, IsNext, section_from, sections_of}
 use Rattle.audited_runs.proofs.Apart.{low_ops}
 use Rattle.audited_runs.proofs.Merged.{thread_served}
 use Rattle.audited_runs.proofs.NoOthers.{have_no_others}
@@ -72,7 +72,7 @@ none_behind journal n (frame ∷ frames) h = absurd (true≢false (sym h))
 
 frame_before : (journal : List Event) (n : ℕ) (frame : List ℕ) (kept : Bool) (coming : List (List ℕ)) → slice_get journal n ≡ Some (event.Arrive frame kept)
     → arrival_of coming ≡ Some (step.Arrive frame) → ArriveBehind journal (suc n) (coming_after (step.Arrive frame) coming) → ArriveBehind journal n coming
-frame_before journal n frame kept [] at next h = no_some next
+frame_before journal n frame kept [] at next h = none_is_some next
 frame_before journal n frame kept (first ∷ coming) at next h =
     let same : frame ≡ first = cc in
     record {

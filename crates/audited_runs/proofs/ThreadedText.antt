@@ -5,17 +5,17 @@ use Rattle.nook_defs.specs.Listening.{Listening}
 use Rattle.nook_defs.specs.ReportText.{parts_text, report_text, status_line, status_of, taps_text, threads_text}
 use Rattle.nook_defs.specs.Taps.{heard_events, tap_result}
 use Rattle.nook_defs.specs.Valid.{IsValidPart, IsValidScenario}
-use Rattle.nook_defs.specs.declared.data.Answer.{Answer}
-use Rattle.nook_defs.specs.declared.data.Event.{Event}
-use Rattle.nook_defs.specs.declared.data.PartSpec.{PartSpec}
-use Rattle.nook_defs.specs.declared.data.Scenario.{Scenario}
-use Rattle.nook_defs.specs.declared.data.ThreadSpec.{ThreadSpec}
+use Rattle.nook_defs.specs.declared.calls.Answer.{Answer}
+use Rattle.nook_defs.specs.declared.steps.Event.{Event}
+use Rattle.nook_defs.specs.declared.scenario.PartSpec.{PartSpec}
+use Rattle.nook_defs.specs.declared.scenario.Scenario.{Scenario}
+use Rattle.nook_defs.specs.declared.scenario.ThreadSpec.{ThreadSpec}
 use Rattle.run_ends.specs.Journals.{AreRuns, with_part}
 use Rattle.sim_run.specs.Published.{heard_in_journals}
 use Rattle.threaded_run.specs.Threaded.{IsThreaded, in_parts}
-use Rattle.audit_laws.proofs.Leading.{section_led}
-use Rattle.audit_laws.specs.Audit.{Done, answers_in_order, journal_in, last_lines, opening_section, own_listeners, published_in}
-use Rattle.audit_laws.specs.Fitting.{AllFit, fitting_text, sections_of}
+use Rattle.run_laws.proofs.Leading.{section_led}
+use Rattle.run_laws.specs.Audit.{Done, answers_in_order, journal_in, last_lines, opening_section, own_listeners, published_in}
+use Rattle.run_laws.specs.Fitting.{AllFit, fitting_text, sections_of}
 use Rattle.audited_runs.proofs.Asked.{threaded_fits}
 use Rattle.audited_runs.proofs.Texts.{heard_both, heard_in_sections, results_same}
 use Rattle.audited_runs.proofs.Threaded.{fitting_is_threaded}

@@ -4,19 +4,19 @@ use Rattle.std.specs.List.{AllByRecursion}
 use Rattle.desk_like.specs.Desks.{Answers, IsAt, IsInvoke, IsReceipt, IsRisingFrom}
 use Rattle.nook_defs.specs.Places.{at_number}
 use Rattle.nook_defs.specs.Valid.{IsValidPart}
-use Rattle.nook_defs.specs.declared.data.Answer.{Answer}
-use Rattle.nook_defs.specs.declared.data.Event.{Event}
-use Rattle.nook_defs.specs.declared.data.Event.TheVariants as event
-use Rattle.nook_defs.specs.declared.data.Op.{Op}
-use Rattle.nook_defs.specs.declared.data.PartSpec.{PartSpec}
-use Rattle.nook_defs.specs.declared.data.Receipt.{Receipt}
-use Rattle.nook_defs.specs.declared.data.ThreadSpec.{ThreadSpec}
+use Rattle.nook_defs.specs.declared.calls.Answer.{Answer}
+use Rattle.nook_defs.specs.declared.steps.Event.{Event}
+use Rattle.nook_defs.specs.declared.steps.Event.TheVariants as event
+use Rattle.nook_defs.specs.declared.calls.Op.{Op}
+use Rattle.nook_defs.specs.declared.scenario.PartSpec.{PartSpec}
+use Rattle.nook_defs.specs.declared.desks.Receipt.{Receipt}
+use Rattle.nook_defs.specs.declared.scenario.ThreadSpec.{ThreadSpec}
 use Rattle.part_laws.proofs.Places.{split}
 use Rattle.part_laws.proofs.ValidFits.{valid_fits}
 use Rattle.run_ends.specs.Journals.{AreRuns}
 use Rattle.threaded_run.specs.Threaded.{AreServed, HaveReceipts, answers_by, invoked_on, journal_at}
-use Rattle.audit_laws.proofs.Nexts.{inner, no_some}
-use Rattle.audit_laws.specs.Audit.{is_on}
+use Rattle.nook_defs.proofs.Options.{none_is_some, same_inside}
+use Rattle.run_laws.specs.Audit.{is_on}
 use Rattle.audited_runs.proofs.Asked.{invoked_are, placed_are}
 use Rattle.threaded_run.proofs.Counted.{if_false, if_true}
 use Rattle.audited_runs.proofs.Exact.{InvokedAt, IsInvokeOf}
@@ -69,7 +69,7 @@ call_of call thread o c (event.Arrive frame kept) h i = absurd h
 same_answer : (journal : List Event) (thread : ℕ) (o : Op) (r s : Receipt) → AnswersOnce journal → r.at_invoke ≡ s.at_invoke → IsReceipt journal thread o r
     → IsReceipt journal thread o s → r.answer ≡ s.answer
 same_answer journal thread o r s once at h k =
-    let event : h.invoked.event ≡ k.invoked.event = inner (sym h.invoked.there ∙ ap (λ (p : ℕ). at_number p journal) at ∙ k.invoked.there) in
+    let event : h.invoked.event ≡ k.invoked.event = same_inside (sym h.invoked.there ∙ ap (λ (p : ℕ). at_number p journal) at ∙ k.invoked.there) in
     let call : r.call ≡ s.call = call_of r.call thread o s.call k.invoked.event (subst (IsInvoke r.call thread o) event h.invoked.is) k.invoked.is in
     once s.call r.at_reply s.at_reply r.answer s.answer (subst (λ (c : ℕ). IsAt journal r.at_reply (Answers c r.answer)) call h.answered) k.answered
 
@@ -109,8 +109,8 @@ module _ (journals : List (List Event)) (i : ℕ) where
 -- ---- the places of a thread's invocations
 
 no_event : (place : ℕ) (P : Event → Type 0) → IsAt [] place P → ⊥
-no_event zero P at = no_some at.there
-no_event (suc place) P at = no_some at.there
+no_event zero P at = none_is_some at.there
+no_event (suc place) P at = none_is_some at.there
 
 empty_places : (i : ℕ) (ops : List (ℕ × Op)) (places : List ℕ) → InvokedAt [] i ops places → places ≡ []
 empty_places i [] [] h = refl

@@ -5,15 +5,15 @@
 #![tactic(auto)]
 
 ghost use Rattle.std.specs.Prelude.{◌≡◌, List, map, ℕ};
-ghost use Rattle.audit_laws.specs.Audit.{answers_in_order, own_listeners};
-ghost use Rattle.audit_laws.specs.Fitting.{AllFit, fitting_text, sections_of};
+ghost use Rattle.run_laws.specs.Audit.{answers_in_order, own_listeners};
+ghost use Rattle.run_laws.specs.Fitting.{AllFit, fitting_text, sections_of};
 ghost use Rattle.nook_defs.specs.ReportText.{report_text, status_of};
 ghost use Rattle.nook_defs.specs.Simulation.{IsScheduledRun, Simulation, answer_table, begins, journals_of};
 ghost use Rattle.nook_defs.specs.Taps.{tap_result};
 ghost use Rattle.nook_defs.specs.Valid.{IsValidScenario};
-ghost use Rattle.nook_defs.specs.declared.data.Answer.{Answer};
-ghost use Rattle.nook_defs.specs.declared.data.Event.{Event};
-ghost use Rattle.nook_defs.specs.declared.data.Scenario.{Scenario};
+ghost use Rattle.nook_defs.specs.declared.calls.Answer.{Answer};
+ghost use Rattle.nook_defs.specs.declared.steps.Event.{Event};
+ghost use Rattle.nook_defs.specs.declared.scenario.Scenario.{Scenario};
 ghost use Rattle.sim_run.specs.Published.{published};
 ghost use Rattle.run_ends.specs.Journals.{AreRuns};
 ghost use Rattle.threaded_run.specs.Threaded.{IsThreaded, in_parts};

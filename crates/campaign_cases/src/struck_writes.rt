@@ -4,7 +4,7 @@ ghost use Rattle.std.specs.Prelude.{IfOk};
 ghost use Rattle.nook_defs.specs.Campaigns.{IsValidCampaign};
 
 use driver_asm::write_image;
-use nook_defs::data::{Campaign, MemberRow};
+use nook_defs::campaign::{Campaign, MemberRow};
 use scenario_gen::references::block_driver;
 use scenario_read::read_campaign;
 use std::alloc::Global;

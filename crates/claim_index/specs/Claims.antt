@@ -3,11 +3,11 @@ use Rattle.std.specs.List.{find}
 use Rattle.claim_index.specs.declared.claim.Claim.{Claim}
 use Rattle.claim_index.specs.declared.claim.Claimed.{Claimed}
 use Rattle.claim_index.specs.declared.claim.Claimed.TheVariants as claimed
-use Rattle.nook_defs.specs.declared.data.CallEntry.{CallEntry}
-use Rattle.nook_defs.specs.declared.data.Class.{Class}
-use Rattle.nook_defs.specs.declared.data.Class.TheVariants as class
-use Rattle.nook_defs.specs.declared.data.Op.{Op}
-use Rattle.nook_defs.specs.declared.data.Op.TheVariants as op
+use Rattle.nook_defs.specs.declared.calls.CallEntry.{CallEntry}
+use Rattle.nook_defs.specs.declared.classes.Class.{Class}
+use Rattle.nook_defs.specs.declared.classes.Class.TheVariants as class
+use Rattle.nook_defs.specs.declared.calls.Op.{Op}
+use Rattle.nook_defs.specs.declared.calls.Op.TheVariants as op
 use Rattle.nook_defs.specs.Log.{blocked_by}
 
 -- What open calls claim.

@@ -3,10 +3,8 @@
 ghost use Rattle.std.specs.Prelude.{◌≡◌};
 ghost use Rattle.claim_index.specs.Claims.{claimed_by};
 
-use nook_defs::data::Op;
-
-/// The words of a block.
-const BLOCK_WORDS: u64 = 16;
+use nook_defs::calls::Op;
+use nook_defs::limits::BLOCK_WORDS;
 
 /// What a call claims. Of two calls with claims that conflict, the later waits for the earlier.
 #[derive(Clone, Copy, Debug, PartialEq, Eq)]
@@ -60,7 +58,7 @@ fn claimed_by(op: &Op) -> Claimed
             let first = u64::from(*first);
             Claimed::Writes {
                 first,
-                end: first + words.len() as u64 / BLOCK_WORDS,
+                end: first + (words.len() / BLOCK_WORDS) as u64,
             }
         }
         Op::Recv => Claimed::Frames,

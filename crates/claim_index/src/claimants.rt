@@ -6,7 +6,7 @@ ghost use Rattle.claim_index.specs.Indexed.{AreByBlock, AreClaimantsOf, is_touch
 
 use crate::by_block::ByBlock;
 use crate::claim::{Claim, Claimed};
-use nook_defs::data::Class;
+use nook_defs::classes::Class;
 use nook_defs::memory::NoMemory;
 use std::alloc::Global;
 

@@ -4,11 +4,11 @@ ghost use Rattle.std.specs.Prelude.{◌≡◌, ◌<◌, ◌++◌, ◌∷◌, [],
 ghost use Rattle.claim_index.specs.Claims.{AreBelow, AreRising, HasBlocks, blocker_of, claim_by, claims_of, conflict, first_blocking, first_that, without_call};
 ghost use Rattle.claim_index.specs.Indexed.{number_before};
 ghost use Rattle.nook_defs.specs.Log.{open_call};
-ghost use Rattle.nook_defs.specs.declared.data.CallEntry.{CallEntry};
+ghost use Rattle.nook_defs.specs.declared.calls.CallEntry.{CallEntry};
 
 use crate::claim::{Claim, Claimed};
 use crate::claimants::Claimants;
-use nook_defs::data::Class;
+use nook_defs::classes::Class;
 use nook_defs::memory::NoMemory;
 use std::alloc::Global;
 use std::marker::Model;

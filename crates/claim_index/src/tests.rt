@@ -1,7 +1,8 @@
 //! Claims that come, conflict and go.
 
 use crate::{Claim, ClaimIndex, Claimed};
-use nook_defs::data::{Class, Op};
+use nook_defs::calls::Op;
+use nook_defs::classes::Class;
 use nook_defs::lists::Items;
 use std::alloc::Global;
 use std::test::Fail;

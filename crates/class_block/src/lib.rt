@@ -5,8 +5,9 @@ ghost use Rattle.std.specs.Prelude.{◌≡◌, ◌+◌, ◌^◌, ◌≤◌, true
 ghost use Rattle.nook_defs.specs.Classes.{accept, admit, blocks_of_op, first_of_op, is_of_class};
 
 use class_table::{blocks_of_op, entry_place, first_of_op};
-use nook_defs::classes::{Accept, Admit, ClassState};
-use nook_defs::data::{Class, FailCause, Op};
+use nook_defs::calls::Op;
+use nook_defs::classes::{Accept, Admit, Class, ClassState};
+use nook_defs::steps::FailCause;
 
 /// The status that tells that block 0 of a Read or Write failed; the next tells block 1, and so on.
 const FIRST_IO_STATUS: u32 = 256;

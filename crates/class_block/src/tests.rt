@@ -1,10 +1,11 @@
 //! What becomes of operations of class block, row by row.
 
 use crate::{accept, admit};
+use nook_defs::calls::Op;
 use nook_defs::classes::{Accept, Admit, ClassState};
-use nook_defs::data::{FailCause, Op};
 use nook_defs::lists::Items;
 use nook_defs::memory::NoMemory;
+use nook_defs::steps::FailCause;
 use std::alloc::Global;
 use std::test::Fail;
 

@@ -5,8 +5,9 @@ ghost use Rattle.std.specs.Prelude.{◌≡◌, true};
 ghost use Rattle.nook_defs.specs.Classes.{accept, admit, is_of_class};
 
 use class_table::entry_place;
-use nook_defs::classes::{Accept, Admit, ClassState};
-use nook_defs::data::{Class, FailCause, Op};
+use nook_defs::calls::Op;
+use nook_defs::classes::{Accept, Admit, Class, ClassState};
+use nook_defs::steps::FailCause;
 
 /// What becomes of an operation of class net when it is entered: a Recv takes a frame of the kernel's receive
 /// queue, if there is one; all others go to their driver.

@@ -1,9 +1,10 @@
 //! What becomes of operations of class net, row by row.
 
 use crate::{accept, admit};
+use nook_defs::calls::Op;
 use nook_defs::classes::{Accept, Admit, ClassState};
-use nook_defs::data::{FailCause, Op};
 use nook_defs::lists::{Items, Words};
+use nook_defs::steps::FailCause;
 use std::test::Fail;
 
 /// An admission by its name and its entry.

@@ -4,9 +4,10 @@ ghost use Rattle.std.specs.Prelude.{◌≡◌, true};
 ghost use Rattle.nook_defs.specs.Classes.{is_of_class};
 
 use crate::{accept, admit};
-use nook_defs::classes::{Accept, Admit, ClassState};
-use nook_defs::data::{Answer, Class, FailCause, Op};
+use nook_defs::calls::{Answer, Op};
+use nook_defs::classes::{Accept, Admit, Class, ClassState};
 use nook_defs::lists::{Items, Words};
+use nook_defs::steps::FailCause;
 use std::test::Fail;
 
 /// An admission by its name and its number: the holder or the entry.

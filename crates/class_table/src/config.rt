@@ -3,7 +3,7 @@
 ghost use Rattle.std.specs.Prelude.{◌≡◌, ◌<◌};
 ghost use Rattle.nook_defs.specs.Classes.{default_of, defaults_of, maximum_of};
 
-use nook_defs::data::Class;
+use nook_defs::classes::Class;
 use nook_defs::lists::Word;
 
 /// What a register and the record hold at first, for key 0 to 3.

@@ -2,11 +2,12 @@
 
 ghost use Rattle.std.specs.Prelude.{◌≡◌, ℕ, ◌+◌};
 ghost use Rattle.nook_defs.specs.Classes.{clash, conflicts, first_of_op, is_of_stream, is_recv, is_set, is_write, overlap};
-ghost use Rattle.nook_defs.specs.declared.data.Class.{Class};
-ghost use Rattle.nook_defs.specs.declared.data.Op.{Op};
+ghost use Rattle.nook_defs.specs.declared.classes.Class.{Class};
+ghost use Rattle.nook_defs.specs.declared.calls.Op.{Op};
 
 use crate::operation::{blocks_of_op, first_of_op};
-use nook_defs::data::{Class, Op};
+use nook_defs::calls::Op;
+use nook_defs::classes::Class;
 
 /// Whether two operations of the class conflict: a Set does with every other; of class block, a Write with a
 /// Read or Write of a common block; of class net, two Recvs; of class sound, any two of Open, Play and Close.

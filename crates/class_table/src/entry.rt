@@ -3,7 +3,8 @@
 ghost use Rattle.std.specs.Prelude.{◌≡◌};
 ghost use Rattle.nook_defs.specs.Classes.{class_code, entry_count, entry_place, get_place, init_place, open_place, set_place};
 
-use nook_defs::data::{Class, Op};
+use nook_defs::calls::Op;
+use nook_defs::classes::Class;
 
 /// The number by which a driver registers for its class.
 pub fn class_code(class: Class) -> u32

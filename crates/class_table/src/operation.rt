@@ -4,17 +4,10 @@ ghost use Rattle.std.specs.Prelude.{◌≡◌, ◌+◌, ◌<◌, ◌≤◌, ◌^
 ghost use Rattle.nook_defs.specs.Classes.{blocks_of_op, check_length, check_op, check_range, first_of_op, is_of_class, static_check};
 
 use crate::config::maximum_of;
-use nook_defs::data::{Answer, Class, Op};
+use nook_defs::calls::{Answer, Op};
+use nook_defs::classes::Class;
+use nook_defs::limits::{BLOCK_WORDS, MOST_BLOCKS, MOST_FRAME_WORDS};
 use nook_defs::lists::Words;
-
-/// The words of a block.
-const BLOCK_WORDS: usize = 16;
-
-/// The blocks that one operation may cover.
-const MOST_BLOCKS: u32 = 8;
-
-/// The words of a frame, or the samples of one Play, at most.
-const MOST_WORDS: usize = 64;
 
 /// The answer that an operation gets in every state, if there is one: it is of another class, a length or a key
 /// is wrong, a value is too great, or a block lies past the end of a disk of `blocks` blocks.
@@ -100,7 +93,7 @@ fn check_range(blocks: u32, first: u32, count: u32) -> Option<Answer>
 fn check_length(words: &Words) -> Option<Answer>
     ensures { result ≡ check_length words.now }
 {
-    if 1 <= words.len() && words.len() <= MOST_WORDS {
+    if 1 <= words.len() && words.len() <= MOST_FRAME_WORDS {
         None
     } else {
         Some(Answer::BadLength)

@@ -1,7 +1,8 @@
 //! The tables of the classes, row by row.
 
 use crate::{conflicts, default_of, entry_count, entry_place, maximum_of, static_check};
-use nook_defs::data::{Answer, Class, Op};
+use nook_defs::calls::{Answer, Op};
+use nook_defs::classes::Class;
 use nook_defs::lists::{Items, Words};
 use nook_defs::memory::NoMemory;
 use std::alloc::Global;

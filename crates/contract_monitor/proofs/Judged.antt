@@ -2,15 +2,16 @@
 use Rattle.std.proofs.Common.{◌≡◌, ◌==◌, ◌&&◌, ◌||◌, ℕ, zero, suc, Bool, true, false, not, cond, if◌then◌else◌, nat_lt, List, [], ◌∷◌, ◌++◌, Option, Some, None, refl, sym, ap, ap₂, ◌∙◌, arith}
 use Rattle.std.specs.List.{find}
 use Rattle.std.proofs.lemmas.Bool.Decides.{nat_tests}
-use Rattle.nook_defs.specs.declared.data.Act.{Act}
-use Rattle.nook_defs.specs.declared.data.Act.TheVariants as act
-use Rattle.nook_defs.specs.declared.data.Answer.{Answer}
-use Rattle.nook_defs.specs.declared.data.Answer.TheVariants as answer
-use Rattle.nook_defs.specs.declared.data.Op.{Op}
-use Rattle.nook_defs.specs.declared.data.Op.TheVariants.{Read, Write, Send, Recv, Open, Play, Close, Get, Set}
+use Rattle.nook_defs.specs.declared.machine.Act.{Act}
+use Rattle.nook_defs.specs.declared.machine.Act.TheVariants as act
+use Rattle.nook_defs.specs.declared.calls.Answer.{Answer}
+use Rattle.nook_defs.specs.declared.calls.Answer.TheVariants as answer
+use Rattle.nook_defs.specs.declared.calls.Op.{Op}
+use Rattle.nook_defs.specs.declared.calls.Op.TheVariants.{Read, Write, Send, Recv, Open, Play, Close, Get, Set}
 use Rattle.nook_defs.specs.declared.clause.Clause.{Clause}
 use Rattle.nook_defs.specs.declared.clause.Clause.TheVariants.{UnsentSend, OutOfOrder, LeftInRing, UnmadeSet}
-use Rattle.nook_defs.specs.Contract.{Deed, Known, OpenCall, acts, after_deed, after_deeds, all_clauses, breaks, call_of, hands_up, is_broken_by, is_empty, is_front, is_replayed, number_of, replays, replies}
+use Rattle.nook_defs.specs.Contract.{Deed, Known, OpenCall, acts, after_deed, all_clauses, breaks, call_of, hands_up, is_broken_by, is_empty, is_front, is_replayed, number_of, replays, replies}
+use Rattle.nook_defs.proofs.Changes.{after_deeds}
 use Rattle.contract_monitor.specs.Judging.{act_broken, first_broken, least, reply_broken, reply_broken_of, smaller, unless}
 
 -- ---- clauses in the order of their numbers

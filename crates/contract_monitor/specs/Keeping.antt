@@ -1,20 +1,21 @@
 use Rattle.std.specs.Prelude.{ℕ, suc, Bool, List, [], ◌∷◌, ◌++◌, filter, fold, length, drop, Option, Some, None, ◌+◌, ◌-◌, ◌==◌, not, if◌then◌else◌}
 use Rattle.std.specs.List.{list_any}
-use Rattle.nook_defs.specs.declared.data.Act.{Act}
-use Rattle.nook_defs.specs.declared.data.Act.TheVariants as act
-use Rattle.nook_defs.specs.declared.data.Answer.{Answer}
-use Rattle.nook_defs.specs.declared.data.Class.{Class}
-use Rattle.nook_defs.specs.declared.data.End.{End}
-use Rattle.nook_defs.specs.declared.data.Event.{Event}
-use Rattle.nook_defs.specs.declared.data.Event.TheVariants as event
-use Rattle.nook_defs.specs.declared.data.FailCause.{FailCause}
-use Rattle.nook_defs.specs.declared.data.Losses.{Losses}
-use Rattle.nook_defs.specs.declared.data.Op.{Op}
-use Rattle.nook_defs.specs.declared.data.Stage.{Stage}
-use Rattle.nook_defs.specs.declared.data.Stage.TheVariants as stage
+use Rattle.nook_defs.specs.declared.machine.Act.{Act}
+use Rattle.nook_defs.specs.declared.machine.Act.TheVariants as act
+use Rattle.nook_defs.specs.declared.calls.Answer.{Answer}
+use Rattle.nook_defs.specs.declared.classes.Class.{Class}
+use Rattle.nook_defs.specs.declared.steps.End.{End}
+use Rattle.nook_defs.specs.declared.steps.Event.{Event}
+use Rattle.nook_defs.specs.declared.steps.Event.TheVariants as event
+use Rattle.nook_defs.specs.declared.steps.FailCause.{FailCause}
+use Rattle.nook_defs.specs.declared.verdicts.Losses.{Losses}
+use Rattle.nook_defs.specs.declared.calls.Op.{Op}
+use Rattle.nook_defs.specs.declared.steps.Stage.{Stage}
+use Rattle.nook_defs.specs.declared.steps.Stage.TheVariants as stage
 use Rattle.nook_defs.specs.Answers.{answers_of}
-use Rattle.nook_defs.specs.Contract.{Deed, Known, acts, after_deed, after_failure, after_stage, change_call, crossing_deeds, deeds_of, during, enter_call, hands_up, is_answered_in, known_first, new_call, replays, replies}
-use Rattle.nook_defs.specs.Losses.{Places, Tally, handed_result, in_driver, in_ring, is_busy, is_received, lost_by, new_tally, no_places, one_if, places_reset, tallies_after, tallies_during, unplayed, unsent}
+use Rattle.nook_defs.specs.Contract.{Deed, Known, acts, after_deed, after_failure, after_stage, change_call, crossing_deeds, deeds_of, during, hands_up, is_answered_in, known_first, new_call, replays, replies}
+use Rattle.nook_defs.proofs.Changes.{enter_call, unplayed, unsent}
+use Rattle.nook_defs.specs.Losses.{Places, Tally, handed_result, in_driver, in_ring, is_busy, is_received, lost_by, new_tally, no_places, one_if, places_reset, tallies_after, tallies_during}
 use Rattle.contract_monitor.specs.Calls.{change_tally, tally_played, tally_sent}
 
 -- what is counted: Sends and samples that were lost, answers Busy; frames that arrived, that were answered, that the

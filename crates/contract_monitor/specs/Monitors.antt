@@ -1,7 +1,7 @@
 use Rattle.std.specs.Prelude.{◌≡◌, ℕ, ◌+◌, true, List, [], length, fold, count_by, Option, Some, None}
-use Rattle.nook_defs.specs.declared.data.Break.{Break}
-use Rattle.nook_defs.specs.declared.data.Class.{Class}
-use Rattle.nook_defs.specs.declared.data.Event.{Event}
+use Rattle.nook_defs.specs.declared.verdicts.Break.{Break}
+use Rattle.nook_defs.specs.declared.classes.Class.{Class}
+use Rattle.nook_defs.specs.declared.steps.Event.{Event}
 use Rattle.nook_defs.specs.declared.clause.Clause.{Clause}
 use Rattle.nook_defs.specs.Contract.{Known, after, first_break, is_front, known_first, number_of}
 use Rattle.nook_defs.specs.Losses.{all_answers, is_arrival, is_busy, is_lost_arrival, is_received, is_refused, is_taken, lost_samples, lost_sends, no_places, places_after, tallies_after}

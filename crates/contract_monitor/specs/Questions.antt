@@ -1,5 +1,5 @@
 use Rattle.std.specs.Prelude.{ℕ, Bool, List, ◌||◌, not, bytes_eq}
-use Rattle.nook_defs.specs.declared.data.Op.{Op}
+use Rattle.nook_defs.specs.declared.calls.Op.{Op}
 use Rattle.nook_defs.specs.Blocks.{words_for}
 use Rattle.nook_defs.specs.Classes.{covers}
 

@@ -4,7 +4,7 @@ ghost use Rattle.std.specs.Prelude.{◌≡◌, fold, map, slice_set, IfOk, OnOk}
 ghost use Rattle.nook_defs.specs.Contract.{acts as acted, call_of, is_asked};
 ghost use Rattle.contract_monitor.specs.Judging.{act_broken, first_broken, register_broken, sent_broken, store_broken};
 ghost use Rattle.contract_monitor.specs.Keeping.{kept_act};
-ghost use Rattle.nook_defs.specs.declared.data.Act.{Act};
+ghost use Rattle.nook_defs.specs.declared.machine.Act.{Act};
 
 use crate::blocks::set_block;
 use crate::calls::{Change, change_calls, more, play_one};
@@ -15,8 +15,8 @@ use crate::watching::{
     is_replay_of, is_send_of, register,
 };
 use nook_defs::clause::Clause;
-use nook_defs::data::Act;
 use nook_defs::lists::{TryCopy, Words};
+use nook_defs::machine::Act;
 use nook_defs::memory::NoMemory;
 
 impl Known {

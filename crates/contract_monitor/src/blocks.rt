@@ -6,14 +6,13 @@ ghost use Rattle.nook_defs.specs.Classes.{covers};
 ghost use Rattle.contract_monitor.specs.Questions.{holds_block};
 
 use class_table::{blocks_of_op, first_of_op};
-use nook_defs::data::{Class, Op};
+use nook_defs::calls::Op;
+use nook_defs::classes::Class;
+use nook_defs::limits::BLOCK_WORDS;
 use nook_defs::lists::{TryCopy, Words};
 use nook_defs::memory::NoMemory;
 use std::alloc::Global;
 use std::collections::VecDeque;
-
-/// The words of a block.
-const BLOCK_WORDS: usize = 16;
 
 /// Whether a Read or Write covers the block.
 pub fn covers(op: &Op, block: u64) -> bool
@@ -25,7 +24,7 @@ pub fn covers(op: &Op, block: u64) -> bool
 
 /// The words of a block among those of several; what the last ones lack is left out.
 fn block_at(words: &[u32], place: u64) -> &[u32]
-    ensures { result.now ≡ take 16 (drop (16 * place) words.now) }
+    ensures { result.now ≡ take BLOCK_WORDS (drop (BLOCK_WORDS * place) words.now) }
 {
     let at = place.saturating_mul(BLOCK_WORDS as u64);
     if words.len() as u64 <= at {
@@ -63,7 +62,7 @@ pub fn blank_blocks(alloc: Global, class: Class, count: u32) -> Result<Vec<Words
 
 /// Some blocks of zeros.
 fn blank(alloc: Global, count: u32) -> Result<Vec<Words>, NoMemory>
-    ensures { IfOk result (λ made. made.items ≡ replicate count (replicate 16 0)) }
+    ensures { IfOk result (λ made. made.items ≡ replicate count (replicate BLOCK_WORDS 0)) }
 {
     let mut made = Vec::new(alloc);
     for _block in 0..count {

@@ -7,7 +7,7 @@ ghost use Rattle.nook_defs.specs.Losses.{new_tally};
 ghost use Rattle.contract_monitor.specs.Calls.{open_calls, open_change, open_of, tally_calls, tally_change, tally_of};
 
 use crate::blocks::copy_queue;
-use nook_defs::data::{Answer, Op};
+use nook_defs::calls::{Answer, Op};
 use nook_defs::lists::TryCopy;
 use nook_defs::memory::NoMemory;
 use std::alloc::Global;

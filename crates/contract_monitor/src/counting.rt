@@ -8,9 +8,10 @@ ghost use Rattle.contract_monitor.specs.Keeping.{count_answer, count_handed, kep
 
 use crate::calls::{Call, Change, change_calls, close_call, close_calls, find_call, more};
 use crate::known::Known;
-use nook_defs::data::{Answer, End, Op};
+use nook_defs::calls::{Answer, Op};
 use nook_defs::lists::{TryCopy, Words};
 use nook_defs::memory::NoMemory;
+use nook_defs::steps::End;
 
 impl Known {
     /// A call is invoked.

@@ -14,10 +14,11 @@ use crate::clauses::unless;
 use crate::known::{Known, in_driver, in_ring};
 use crate::watching::{is_replayed, register};
 use class_table::defaults_of;
+use nook_defs::calls::{Answer, Op};
 use nook_defs::clause::Clause;
-use nook_defs::data::{Answer, End, FailCause, Op, Stage};
 use nook_defs::lists::{TryCopy, Words};
 use nook_defs::memory::NoMemory;
+use nook_defs::steps::{End, FailCause, Stage};
 
 impl Known {
     /// The crossing of a burst, and the smallest clause that it breaks.

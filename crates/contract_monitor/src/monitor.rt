@@ -2,8 +2,8 @@
 
 ghost use Rattle.std.specs.Prelude.{◌≡◌, ◌∷◌, ◌++◌, [], ℕ, List, IfOk, IfSome, OnErr, OnOk};
 ghost use Rattle.std.specs.Option.{ForSome};
-ghost use Rattle.nook_defs.specs.declared.data.Class.{Class};
-ghost use Rattle.nook_defs.specs.declared.data.Event.{Event};
+ghost use Rattle.nook_defs.specs.declared.classes.Class.{Class};
+ghost use Rattle.nook_defs.specs.declared.steps.Event.{Event};
 ghost use Rattle.nook_defs.specs.Contract.{first_break};
 ghost use Rattle.nook_defs.specs.Losses.{losses};
 ghost use Rattle.contract_monitor.specs.Keeping.{kept_after, told};
@@ -11,10 +11,12 @@ ghost use Rattle.contract_monitor.specs.Monitors.{StandsFor, after_event, break_
 
 use crate::calls::more;
 use crate::known::Known;
+use nook_defs::classes::Class;
 use nook_defs::clause::Clause;
-use nook_defs::data::{Break, Class, Event, Losses};
 use nook_defs::lists::TryCopy;
 use nook_defs::memory::NoMemory;
+use nook_defs::steps::Event;
+use nook_defs::verdicts::{Break, Losses};
 use std::alloc::Global;
 use std::marker::Model;
 use std::mem;

@@ -1,9 +1,13 @@
 //! Some short lists of events, with the verdict and the numbers that the class's contract gives them.
 
 use crate::Monitor;
-use nook_defs::data::{Act, Acts, Answer, CallAnswers, Class, End, Event, Op, Released, Stage};
+use nook_defs::calls::{Answer, CallAnswers, Op};
+use nook_defs::classes::Class;
+use nook_defs::entries::Released;
 use nook_defs::lists::Words;
+use nook_defs::machine::{Act, Acts};
 use nook_defs::memory::NoMemory;
+use nook_defs::steps::{End, Event, Stage};
 use std::alloc::Global;
 use std::fmt::Write;
 use std::test::Fail;

@@ -9,7 +9,7 @@ ghost use Rattle.contract_monitor.specs.Judging.{had_frame};
 
 use crate::blocks::{covers, words_for};
 use crate::calls::{Call, find_call, find_playing};
-use nook_defs::data::Op;
+use nook_defs::calls::Op;
 
 /// Whether a call is a Write that is Inside and covers the block.
 fn stores(block: u64, call: &Call) -> bool

@@ -4,7 +4,8 @@ ghost use Rattle.std.specs.Prelude.{◌<◌, IfSome};
 ghost use Rattle.part_server.specs.Desk.{IsDeskSeat};
 
 use desk_like::DeskLike;
-use nook_defs::data::{DeskRefused, Op, Receipt};
+use nook_defs::calls::Op;
+use nook_defs::desks::{DeskRefused, Receipt};
 use nook_defs::lists::TryCopy;
 use part_core::Part;
 use part_server::{DeskSeat, PartDesk};

@@ -7,11 +7,13 @@
 ghost use Rattle.desk_like.specs.Desks.{Accounts, ArriveEnds, CallEnds, DeskView, Joins, halved_view, new_view};
 ghost use Rattle.nook_defs.specs.Classes.{same_class};
 ghost use Rattle.nook_defs.specs.Runs.{IsRun};
-ghost use Rattle.nook_defs.specs.declared.data.Class.TheVariants as class;
-ghost use Rattle.nook_defs.specs.declared.data.PartSpec.{PartSpec};
+ghost use Rattle.nook_defs.specs.declared.classes.Class.TheVariants as class;
+ghost use Rattle.nook_defs.specs.declared.scenario.PartSpec.{PartSpec};
 ghost use Rattle.std.specs.Prelude.{length, true, ◌<◌, ◌≡◌, ◌≤◌};
 
-use nook_defs::data::{DeskRefused, Op, Receipt};
+use nook_defs::calls::Op;
+use nook_defs::desks::{DeskRefused, Receipt};
+use nook_defs::limits::MOST_FRAME_WORDS;
 use nook_defs::lists::Words;
 use std::alloc::Global;
 use std::sync::Wait;
@@ -64,7 +66,7 @@ pub trait DeskLike: Sync {
         requires seat { is_seat self.now seat.old }
         requires net { same_class (spec self.now).class class.Net ≡ true }
         requires some { 1 ≤ length frame.now }
-        requires fits { length frame.now ≤ 64 }
+        requires fits { length frame.now ≤ MOST_FRAME_WORDS }
         ensures seat { is_seat self.now seat.new }
         ensures run { IsRun (spec self.now) (view seat.new).seen }
         ensures accounts { Accounts (view seat.new) }

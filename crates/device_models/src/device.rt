@@ -5,16 +5,19 @@ ghost use Rattle.nook_defs.specs.Classes.{defaults_of};
 ghost use Rattle.nook_defs.specs.Devices.{has_room, input_of, kind_output, medium_of, opening_device, output_of, reset_device, ring_of, speaker_output, with_arrival};
 ghost use Rattle.nook_defs.specs.Views.Ports.{class_of, class_of_kind, defaults_for, device_of, given_by, IsTaken};
 ghost use Rattle.device_models.specs.Kept.{IsKept};
-ghost use Rattle.nook_defs.specs.declared.data.DeviceKind.TheVariants as speaker;
-ghost use Rattle.nook_defs.specs.declared.data.BadBlock.{BadBlock};
+ghost use Rattle.nook_defs.specs.declared.devices.DeviceKind.TheVariants as speaker;
+ghost use Rattle.nook_defs.specs.declared.scenario.BadBlock.{BadBlock};
 
 use crate::{disk, link};
 use class_table::defaults_of;
-use nook_defs::data::{BadBlocks, Class, DeviceKind, DeviceState, Disk, Link};
+use nook_defs::classes::Class;
+use nook_defs::devices::{DeviceKind, DeviceState, Disk, Link};
 use nook_defs::journal::ActLog;
+use nook_defs::limits::{BLOCK_WORDS, MOST_ACTS, MOST_FRAME_WORDS, MOST_RING_FRAMES};
 use nook_defs::lists::{Items, TryCopy, Word, Words};
 use nook_defs::memory::NoMemory;
-use nook_defs::ring::{MOST_FRAMES, Ring};
+use nook_defs::ring::Ring;
+use nook_defs::scenario::BadBlocks;
 use std::alloc::Global;
 use std::marker::Model;
 
@@ -31,7 +34,7 @@ pub struct Device {
 
 impl Model for Device {
     ghost use Rattle.device_models.specs.Kept.{IsKept};
-    ghost use Rattle.nook_defs.specs.declared.data.DeviceState.{DeviceState};
+    ghost use Rattle.nook_defs.specs.declared.devices.DeviceState.{DeviceState};
 
     ghost Value = { DeviceState };
 
@@ -54,7 +57,7 @@ impl Device {
             bad: bad.copy(alloc)?,
             counts,
             block: 0,
-            buffer: [0; 16],
+            buffer: [0; BLOCK_WORDS],
             position: 0,
             status: 0,
         });
@@ -73,7 +76,7 @@ impl Device {
     {
         let kind = DeviceKind::Link(Link {
             length: 0,
-            buffer: [0; 64],
+            buffer: [0; MOST_FRAME_WORDS],
             position: 0,
             ring: Ring::new(alloc)?,
             reading: 0,
@@ -118,7 +121,7 @@ impl Device {
     /// Hands the device a word at `port`, which adds at most one act; false, with nothing changed, where it has
     /// no such port for OUT. It takes no memory.
     pub fn output(&mut self, port: u32, word: Word, acts: &mut ActLog) -> bool
-        requires { length acts.old < 64 }
+        requires { length acts.old < MOST_ACTS }
         ensures taken { IsTaken (output_of port word self.old) result acts.old acts.new self.old self.new }
         ensures class { class_of self.new ≡ class_of self.old }
     {
@@ -158,14 +161,14 @@ impl Device {
     pub fn arrive(&mut self, frame: Words) -> bool
         requires net { class_of self.old ≡ Class.Net }
         requires some { 1 ≤ length frame }
-        requires most { length frame ≤ 64 }
+        requires most { length frame ≤ MOST_FRAME_WORDS }
         ensures kept { result ≡ has_room self.old }
         ensures device { self.new ≡ with_arrival frame self.old }
         ensures class { class_of self.new ≡ class_of self.old }
     {
         match &mut self.state.kind {
             DeviceKind::Link(link) => {
-                if link.ring.len() < MOST_FRAMES {
+                if link.ring.len() < MOST_RING_FRAMES {
                     link.ring.push(frame);
                     true
                 } else {
@@ -196,7 +199,7 @@ impl Device {
     }
 
     /// The blocks of a disk, 16 words each; none of any other device.
-    pub fn medium(&self) -> &[[Word; 16]]
+    pub fn medium(&self) -> &[[Word; BLOCK_WORDS]]
         ensures { result.now ≡ medium_of self.now }
     {
         match &self.state.kind {
@@ -208,12 +211,19 @@ impl Device {
     /// The number of frames in the ring of a net device, at most 16; 0 of any other device.
     pub fn ring_len(&self) -> usize
         ensures count { result ≡ length (ring_of self.now) }
-        ensures most { result ≤ 16 }
+        ensures most { result ≤ MOST_RING_FRAMES }
     {
         match &self.state.kind {
             DeviceKind::Link(link) => link.ring.len(),
             _ => 0,
         }
+    }
+}
+
+impl TryCopy for Device {
+    fn copy(&self, alloc: Global) -> Result<Device, NoMemory> {
+        let state = self.state.copy(alloc)?;
+        Ok(Device { state })
     }
 }
 
@@ -226,7 +236,7 @@ fn own_output(
     acts: &mut ActLog,
 ) -> bool
     requires kept { IsKept kind.old }
-    requires room { length acts.old < 64 }
+    requires room { length acts.old < MOST_ACTS }
     ensures taken { IsTaken (kind_output port word (device_of registers.now kind.old) kind.old) result
         acts.old acts.new (device_of registers.now kind.old) (device_of registers.now kind.new) }
     ensures kept { IsKept kind.new }
@@ -241,7 +251,7 @@ fn own_output(
 
 /// Hands the sound device a word at its one port, which plays it at the rate and the volume of registers 0 and 1.
 fn speaker_output(registers: &[Word; 4], port: u32, word: Word, acts: &mut ActLog) -> bool
-    requires { length acts.old < 64 }
+    requires { length acts.old < MOST_ACTS }
     ensures { IsTaken (speaker_output port word (device_of registers.now speaker.Speaker)) result
         acts.old acts.new (device_of registers.now speaker.Speaker) (device_of registers.now speaker.Speaker) }
 {

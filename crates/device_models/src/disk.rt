@@ -7,16 +7,14 @@ ghost use Rattle.std.specs.Prelude.{◌≡◌, ◌<◌, ◌∷◌, ◌++◌, ℕ
 ghost use Rattle.device_models.specs.Kept.{IsKeptDisk};
 ghost use Rattle.nook_defs.specs.Devices.{command_act, commanded, disk_input, disk_output, is_command, is_failing, reset_kind};
 ghost use Rattle.nook_defs.specs.Views.Ports.{device_of, given_by, IsTaken};
-ghost use Rattle.nook_defs.specs.declared.data.DeviceKind.TheVariants as kinds;
+ghost use Rattle.nook_defs.specs.declared.devices.DeviceKind.TheVariants as kinds;
 
-use nook_defs::data::Disk;
+use nook_defs::devices::Disk;
 use nook_defs::journal::ActLog;
+use nook_defs::limits::{BLOCK_WORDS, MOST_ACTS};
 use nook_defs::lists::{Items, Word};
 use nook_defs::memory::NoMemory;
 use std::alloc::Global;
-
-/// The words of a block.
-const BLOCK_WORDS: u32 = 16;
 
 /// The command that loads a block.
 const LOAD: Word = 1;
@@ -25,10 +23,10 @@ const LOAD: Word = 1;
 const STORE: Word = 2;
 
 /// A medium of so many blocks of zeros.
-pub fn blank(alloc: Global, blocks: usize) -> Result<Items<[Word; 16]>, NoMemory>
-    ensures { IfOk result (λ made. made ≡ replicate blocks (replicate 16 0)) }
+pub fn blank(alloc: Global, blocks: usize) -> Result<Items<[Word; BLOCK_WORDS]>, NoMemory>
+    ensures { IfOk result (λ made. made ≡ replicate blocks (replicate BLOCK_WORDS 0)) }
 {
-    Ok(Items::from_vec(vec![in alloc; [0; 16]; blocks]?))
+    Ok(Items::from_vec(vec![in alloc; [0; BLOCK_WORDS]; blocks]?))
 }
 
 /// What the disk gives at one of its own ports: 1 the block register, 2 the next buffer word, 3 the status.
@@ -43,7 +41,7 @@ pub fn input(disk: &mut Disk, port: u32) -> Option<Word>
         1 => Some(disk.block),
         2 => {
             let word = disk.buffer[disk.position as usize];
-            disk.position = (disk.position + 1) % BLOCK_WORDS;
+            disk.position = (disk.position + 1) % BLOCK_WORDS as u32;
             Some(word)
         }
         3 => Some(disk.status),
@@ -54,7 +52,7 @@ pub fn input(disk: &mut Disk, port: u32) -> Option<Word>
 /// Hands the disk a word at one of its own ports: 0 a command, 1 the block register, 2 the next buffer word.
 pub fn output(disk: &mut Disk, port: u32, word: Word, acts: &mut ActLog) -> bool
     requires kept { IsKeptDisk disk.old }
-    requires room { length acts.old < 64 }
+    requires room { length acts.old < MOST_ACTS }
     ensures taken { (registers : List ℕ) → IsTaken (disk_output port word (device_of registers (kinds.Disk disk.old)) disk.old) result
         acts.old acts.new (device_of registers (kinds.Disk disk.old)) (device_of registers (kinds.Disk disk.new)) }
     ensures kept { IsKeptDisk disk.new }
@@ -73,7 +71,7 @@ pub fn output(disk: &mut Disk, port: u32, word: Word, acts: &mut ActLog) -> bool
         }
         2 => {
             disk.buffer[disk.position as usize] = word;
-            disk.position = (disk.position + 1) % BLOCK_WORDS;
+            disk.position = (disk.position + 1) % BLOCK_WORDS as u32;
             true
         }
         _ => false,
@@ -104,7 +102,7 @@ fn is_failing(disk: &Disk) -> bool
 /// Does a command, which counts whether it fails or not.
 fn command(disk: &mut Disk, word: Word, acts: &mut ActLog)
     requires kept { IsKeptDisk disk.old }
-    requires room { length acts.old < 64 }
+    requires room { length acts.old < MOST_ACTS }
     requires named { is_command word disk.old ≡ true }
     ensures disk { disk.new ≡ commanded word disk.old }
     ensures act { acts.new ≡ acts.old ++ command_act word disk.old ∷ [] }
@@ -134,7 +132,7 @@ pub fn reset(disk: &mut Disk)
     ensures { kinds.Disk disk.new ≡ reset_kind (kinds.Disk disk.old) }
 {
     disk.block = 0;
-    disk.buffer = [0; 16];
+    disk.buffer = [0; BLOCK_WORDS];
     disk.position = 0;
     disk.status = 0;
 }

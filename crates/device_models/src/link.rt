@@ -6,14 +6,15 @@
 ghost use Rattle.std.specs.Prelude.{◌≡◌, ◌<◌, ℕ, List, length, true, IsNone};
 ghost use Rattle.nook_defs.specs.Devices.{link_command, link_input, link_output, next_reading, reset_kind};
 ghost use Rattle.nook_defs.specs.Views.Ports.{device_of, given_by, IsTaken};
-ghost use Rattle.nook_defs.specs.declared.data.DeviceKind.TheVariants as kinds;
+ghost use Rattle.nook_defs.specs.declared.devices.DeviceKind.TheVariants as kinds;
 
-use nook_defs::data::Link;
+use nook_defs::devices::Link;
 use nook_defs::journal::ActLog;
+use nook_defs::limits::{MOST_ACTS, MOST_FRAME_WORDS};
 use nook_defs::lists::Word;
 
-/// The words of the transmit buffer.
-const BUFFER_WORDS: u32 = 64;
+/// The words of the transmit buffer: those of a frame.
+const BUFFER_WORDS: u32 = MOST_FRAME_WORDS as u32;
 
 /// What the net device gives at one of its own ports: 1 the transmit length, 3 the length of the ring's first
 /// frame, 4 that frame's next word.
@@ -48,7 +49,7 @@ fn next_reading(link: &Link) -> u32
 /// Hands the net device a word at one of its own ports: 0 a command, 1 the transmit length, 2 the next word of
 /// the transmit buffer.
 pub fn output(link: &mut Link, port: u32, word: Word, acts: &mut ActLog) -> bool
-    requires { length acts.old < 64 }
+    requires { length acts.old < MOST_ACTS }
     ensures { (registers : List ℕ) → IsTaken (link_output port word (device_of registers (kinds.Link link.old)) link.old) result
         acts.old acts.new (device_of registers (kinds.Link link.old)) (device_of registers (kinds.Link link.new)) }
 {
@@ -59,7 +60,7 @@ pub fn output(link: &mut Link, port: u32, word: Word, acts: &mut ActLog) -> bool
         }
         1 => {
             link.length = word;
-            link.buffer = [0; 64];
+            link.buffer = [0; MOST_FRAME_WORDS];
             link.position = 0;
             true
         }
@@ -77,7 +78,7 @@ pub fn output(link: &mut Link, port: u32, word: Word, acts: &mut ActLog) -> bool
 /// Word 1 sends the first words of the transmit buffer, where the length is 1 to 64; word 2 lets the ring's first
 /// frame leave, where there is one; any other word does nothing.
 fn command(link: &mut Link, word: Word, acts: &mut ActLog)
-    requires { length acts.old < 64 }
+    requires { length acts.old < MOST_ACTS }
     ensures { (registers : List ℕ) → IsTaken (link_command word (device_of registers (kinds.Link link.old)) link.old) true
         acts.old acts.new (device_of registers (kinds.Link link.old)) (device_of registers (kinds.Link link.new)) }
 {
@@ -100,7 +101,7 @@ pub fn reset(link: &mut Link)
     ensures { kinds.Link link.new ≡ reset_kind (kinds.Link link.old) }
 {
     link.length = 0;
-    link.buffer = [0; 64];
+    link.buffer = [0; MOST_FRAME_WORDS];
     link.position = 0;
     link.ring.clear();
     link.reading = 0;

@@ -3,10 +3,12 @@
 ghost use Rattle.std.specs.Prelude.{◌≡◌, length, IfOk};
 
 use crate::Device;
-use nook_defs::data::{Act, BadBlock, BadBlocks, Class};
+use nook_defs::classes::Class;
 use nook_defs::journal::SpareRooms;
 use nook_defs::lists::{Items, Word, Words};
+use nook_defs::machine::Act;
 use nook_defs::memory::NoMemory;
+use nook_defs::scenario::{BadBlock, BadBlocks};
 use std::alloc::Global;
 use std::test::Fail;
 

@@ -1,4 +1,3 @@
-pub mod Classes
 pub mod Contexts
 pub mod Loans
 pub mod Opening

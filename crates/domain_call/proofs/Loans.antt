@@ -3,8 +3,8 @@ use Rattle.std.proofs.Common.{◌≡◌, ◌≢◌, ◌∙◌, ℕ, zero, suc, �
 use Rattle.std.specs.List.{list_any, range_with_len}
 use Rattle.std.proofs.lemmas.Bool.{or_parts}
 use Rattle.std.proofs.lemmas.List.{drop_all}
-use Rattle.nook_defs.specs.declared.data.Entry.{Entry}
-use Rattle.nook_defs.specs.declared.data.Entry.TheVariants as entry
+use Rattle.nook_defs.specs.declared.entries.Entry.{Entry}
+use Rattle.nook_defs.specs.declared.entries.Entry.TheVariants as entry
 use Rattle.nook_defs.specs.declared.machine.Service.{Service}
 use Rattle.nook_defs.specs.declared.machine.Service.TheVariants as service
 use Rattle.nook_defs.specs.Domain.{Lent, lent_entries}

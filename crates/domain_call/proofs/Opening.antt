@@ -2,11 +2,12 @@
 use Rattle.std.proofs.Common.{◌≡◌, ◌∙◌, ℕ, ◌+◌, ◌-◌, ◌≤◌, List, [], ◌++◌, drop, take, length, length-append, replicate, arith, refl, sym, ap}
 use Rattle.std.proofs.Math.Seq.{take-append_seam, drop-append_seam, drop-append-add}
 use Rattle.std.proofs.lemmas.List.{length-replicate}
-use Rattle.nook_defs.specs.declared.data.BadBlock.{BadBlock}
-use Rattle.nook_defs.specs.declared.data.Class.{Class}
-use Rattle.nook_defs.specs.declared.data.Class.TheVariants as class
+use Rattle.nook_defs.specs.declared.scenario.BadBlock.{BadBlock}
+use Rattle.nook_defs.specs.declared.classes.Class.{Class}
+use Rattle.nook_defs.specs.declared.classes.Class.TheVariants as class
 use Rattle.nook_defs.specs.Devices.{opening_device}
 use Rattle.nook_defs.specs.Entries.{opening_entries}
+use Rattle.nook_defs.proofs.Padded.{length-padded_words}
 use Rattle.nook_defs.specs.Views.PageMap.{lent_contexts, none_lent}
 use Rattle.nook_defs.specs.Views.Ports.{class_of}
 use Rattle.nook_defs.specs.Pages.{opening_memory, opening_objects, padded_words, with_words}
@@ -16,15 +17,12 @@ replaced : (before old new rest : List ℕ) (start : ℕ) → start ≡ length b
 replaced before old new rest start at same =
     rw (at, same, take-append_seam before (old ++ rest), drop-append-add before (old ++ rest) (length old), drop-append_seam old rest) refl
 
-length_padded : (n : ℕ) (words : List ℕ) → length words ≤ n → length (padded_words n words) ≡ n
-length_padded n words fits = length-append words (replicate (n - length words) 0) ∙ ap (λ k. length words + k) (length-replicate (n - length words) 0) ∙ omega (arith, fits)
-
 -- object 0 gets the class's defaults
 pub opening_words : (defaults : List ℕ) → length defaults ≤ 64 → with_words 7360 (padded_words 64 defaults) (opening_memory []) ≡ opening_memory defaults
 unfolding opening_memory
 opening_words defaults fits =
     replaced (replicate 7360 0) (padded_words 64 []) (padded_words 64 defaults) (opening_objects 1 12) 7360
-    (sym (length-replicate {A = ℕ} 7360 0)) (length_padded 64 defaults fits ∙ sym (length_padded 64 [] (omega arith)))
+    (sym (length-replicate {A = ℕ} 7360 0)) (length-padded_words 64 defaults fits ∙ sym (length-padded_words 64 [] (omega arith)))
 
 -- no buffer is lent at first
 pub lent_opening : none_lent ≡ lent_contexts opening_entries

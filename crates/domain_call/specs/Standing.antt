@@ -1,9 +1,10 @@
 use Rattle.std.specs.Prelude.{◌≡◌, ℕ, ◌+◌, Bool, List, Option, length}
-use Rattle.nook_defs.specs.declared.data.Class.{Class}
-use Rattle.nook_defs.specs.declared.data.DeviceState.{DeviceState}
-use Rattle.nook_defs.specs.declared.data.Entry.{Entry}
-use Rattle.nook_defs.specs.declared.data.PartSpec.{PartSpec}
+use Rattle.nook_defs.specs.declared.classes.Class.{Class}
+use Rattle.nook_defs.specs.declared.devices.DeviceState.{DeviceState}
+use Rattle.nook_defs.specs.declared.entries.Entry.{Entry}
+use Rattle.nook_defs.specs.declared.scenario.PartSpec.{PartSpec}
 use Rattle.nook_defs.specs.declared.machine.Service.{Service}
+use Rattle.nook_defs.specs.declared.memory_map.TheConstants.{DATA_START}
 use Rattle.nook_defs.specs.Domain.{opening_domain}
 use Rattle.nook_defs.specs.Views.PageMap.{lent_contexts}
 use Rattle.nook_defs.specs.Views.Ports.{class_of}
@@ -21,7 +22,7 @@ pub record Standing : Type 0 where
 abbrev pub opening_standing : PartSpec → Standing
 opening_standing spec = record {
   state = opening_domain spec;
-  heap_start = 2048 + length spec.image.initial;
+  heap_start = DATA_START + length spec.image.initial;
   class = spec.class;
 }
 

@@ -19,22 +19,18 @@ mod serving;
 use class_table::defaults_of;
 use device_models::Device;
 use domain_pages::PageMap;
-use nook_defs::data::{Class, PartSpec};
+use nook_defs::classes::Class;
+use nook_defs::limits::CONTEXTS;
 use nook_defs::lists::{TryCopy, Word, Words};
 use nook_defs::machine::Context;
 use nook_defs::memory::{NoMemory, Room};
+use nook_defs::memory_map::{
+    BUFFER_WORDS, BUFFERS_END, DATA_START, DATA_WORDS, OBJECT_WORDS, buffer_start,
+};
+use nook_defs::scenario::PartSpec;
 use object_tracker::Tracker;
 use std::alloc::Global;
 use std::marker::Model;
-
-/// The words of text, and so the first address behind them.
-const TEXT_WORDS: u32 = 2048;
-
-/// The first address of kernel object 0.
-const FIRST_OBJECT: u32 = 7360;
-
-/// The words of a kernel object.
-const OBJECT_WORDS: u32 = 64;
 
 /// A driver's domain. Contracts see its part of the state, where the heap begins, and the class. The pages always
 /// lend for writing just the buffers that the tracker's entries lend for writing.
@@ -45,7 +41,7 @@ pub struct Domain {
     pages: PageMap,
     tracker: Tracker,
     device: Device,
-    contexts: [Option<Context>; 17],
+    contexts: [Option<Context>; CONTEXTS],
 }
 
 impl Model for Domain {
@@ -72,26 +68,26 @@ impl Domain {
     /// The domain of a part before its driver is loaded. The image has at most 2,048 initial words.
     #[tactic(auto, unfolding(nook_defs::specs::Domain::opening_domain), using(crate::proofs::Opening::lent_opening, crate::proofs::Opening::opening_class))]
     pub fn new(alloc: Global, spec: &PartSpec) -> Result<Domain, NoMemory>
-        requires { length spec.now.image.initial ≤ 2048 }
+        requires { length spec.now.image.initial ≤ DATA_WORDS }
         ensures { IfOk result (λ made. made ≡ opening_standing spec.now) }
     {
         let starts = spec.image.entries.copy(alloc)?;
         let device = device_of(alloc, spec)?;
         let pages = opening_pages(alloc, spec.class)?;
-        let heap_start = TEXT_WORDS + spec.image.initial.len() as u32;
+        let heap_start = DATA_START + spec.image.initial.len() as u32;
         Ok(Domain {
             class: spec.class,
             starts,
             pages,
             tracker: Tracker::new(alloc, heap_start)?,
             device,
-            contexts: [None; 17],
+            contexts: [None; CONTEXTS],
         })
     }
 
     /// Registers r1 and r2 of a context that is Inside, 0 of a free one. The context is at most 16.
     pub fn arguments(&self, context: u8) -> (Word, Word)
-        requires { context < 17 }
+        requires { context < CONTEXTS }
         ensures first { result.0 ≡ first_argument context self.now.state }
         ensures second { result.1 ≡ second_argument context self.now.state }
     {
@@ -103,7 +99,7 @@ impl Domain {
 
     /// The bursts of a context's attempt so far, 0 of a free context. The context is at most 16.
     pub fn bursts(&self, context: u8) -> u32
-        requires { context < 17 }
+        requires { context < CONTEXTS }
         ensures { result ≡ attempt_bursts context self.now.state }
     {
         match self.inside(context) {
@@ -114,7 +110,7 @@ impl Domain {
 
     /// Whether a context is Inside. The context is at most 16.
     pub fn is_inside(&self, context: u8) -> bool
-        requires { context < 17 }
+        requires { context < CONTEXTS }
         ensures { result ≡ is_some (context_of context self.now.state.contexts) }
     {
         self.inside(context).is_some()
@@ -123,7 +119,7 @@ impl Domain {
     /// The context, where it is Inside. The context is at most 16.
     #[tactic(auto, using(crate::proofs::Contexts::context_at))]
     pub fn inside(&self, context: u8) -> Option<Context>
-        requires { context < 17 }
+        requires { context < CONTEXTS }
         ensures { result ≡ context_of context self.now.state.contexts }
     {
         self.contexts[context as usize]
@@ -145,7 +141,7 @@ impl Domain {
 
     /// The first word of a context's buffer. The context is at most 16.
     pub fn first_word(&self, context: u8) -> Word
-        requires { context < 17 }
+        requires { context < CONTEXTS }
         ensures { result ≡ slice_index self.now.state.memory (buffer_start context) }
     {
         self.pages.read(buffer_start(context)).unwrap_or(0)
@@ -154,8 +150,8 @@ impl Domain {
     /// The first `count` words of a context's buffer, at most 128, in the memory of `room`, which has room for them.
     /// The context is at most 16. It takes no memory.
     pub fn buffer_words(&self, context: u8, count: u32, room: Room<Word>) -> Words
-        requires context { context < 17 }
-        requires few { count ≤ 128 }
+        requires context { context < CONTEXTS }
+        requires few { count ≤ BUFFER_WORDS }
         requires room { count ≤ room }
         ensures { result ≡ buffer_words context count self.now.state }
     {
@@ -192,12 +188,21 @@ impl Domain {
     }
 }
 
-/// Where a context's buffer begins.
-fn buffer_start(context: u8) -> u32
-    requires { context < 17 }
-    ensures { result ≡ buffer_start context }
-{
-    (81 + 2 * u32::from(context)) * 64
+impl TryCopy for Domain {
+    fn copy(&self, alloc: Global) -> Result<Domain, NoMemory> {
+        let starts = self.starts.copy(alloc)?;
+        let pages = self.pages.copy(alloc)?;
+        let tracker = self.tracker.copy(alloc)?;
+        let device = self.device.copy(alloc)?;
+        Ok(Domain {
+            class: self.class,
+            starts,
+            pages,
+            tracker,
+            device,
+            contexts: self.contexts,
+        })
+    }
 }
 
 /// The device of a part as it begins.
@@ -219,6 +224,6 @@ fn opening_pages(alloc: Global, class: Class) -> Result<PageMap, NoMemory>
     ensures lent { IfOk result (λ made. made.lent ≡ none_lent) }
 {
     let mut pages = PageMap::new(alloc)?;
-    pages.put_words(FIRST_OBJECT, &defaults_of(class), OBJECT_WORDS);
+    pages.put_words(BUFFERS_END, &defaults_of(class), OBJECT_WORDS);
     Ok(pages)
 }

@@ -4,11 +4,13 @@ ghost use Rattle.std.specs.Prelude.{◌≡◌, ◌≤◌, ◌<◌, length, true,
 ghost use Rattle.nook_defs.specs.Domain.{buffer_of};
 
 use crate::Domain;
-use nook_defs::data::{BadBlocks, Class, Fault, FaultKind, Faults, Image, Op, PartSpec};
+use nook_defs::calls::Op;
+use nook_defs::classes::Class;
 use nook_defs::journal::SpareRooms;
 use nook_defs::lists::{Frames, Items, Word, Words};
 use nook_defs::machine::BurstEnd;
 use nook_defs::name::Name;
+use nook_defs::scenario::{BadBlocks, Fault, FaultKind, Faults, Image, PartSpec};
 use std::alloc::Global;
 use std::test::Fail;
 

@@ -9,8 +9,9 @@ use Rattle.std.proofs.lemmas.List.{with_items_is}
 use Rattle.std.proofs.Math.Seq.{paste, take-set-lt}
 use Rattle.std.proofs.lemmas.List.Edits.{fill_from_more, paste_more, paste_all, between_more}
 use Rattle.std.proofs.lemmas.List.FromFn.{fill_by_all, length-map-range_with_len, get_or-map-range_with_len}
-use Rattle.nook_defs.specs.declared.data.Image.{Image}
+use Rattle.nook_defs.specs.declared.scenario.Image.{Image}
 use Rattle.nook_defs.specs.Pages.{opening_memory, opening_object, opening_objects, padded_words, loaded_memory, with_words}
+use Rattle.nook_defs.proofs.Padded.{length-padded_words}
 use Rattle.nook_defs.specs.Views.PageMap.{PageMap, none_written, none_lent, page_written}
 use Rattle.domain_pages.specs.Frames.{image_word, word_at, shown, opening_table, IsFramed}
 
@@ -174,15 +175,12 @@ padded_at n words k within = elim (cases_lt k (length words)) [
       ∙ sym (get_or_past words k 0 high)
 ]
 
-length-padded : (n : ℕ) (words : List ℕ) → length words ≤ n → length (padded_words n words) ≡ n
-length-padded n words fits = omega (arith, length-append words (replicate (n - length words) 0), length-replicate {A = ℕ} (n - length words) 0)
-
 loaded_at : (text initial rest : List ℕ) (k : ℕ) → length text ≤ 2048 → length initial ≤ 5312 → k < 8192 → (k < 7360 → get_or (padded_words 2048 text ++ (padded_words 5312 initial ++ rest)) k 0 ≡ image_word text initial k) × (7360 ≤ k → get_or (padded_words 2048 text ++ (padded_words 5312 initial ++ rest)) k 0 ≡ get_or rest (k - 7360) 0)
 loaded_at text initial rest k short small within =
     let front = padded_words 2048 text in
     let middle = padded_words 5312 initial in
-    let fronts : length front ≡ 2048 = length-padded 2048 text short in
-    let middles : length middle ≡ 5312 = length-padded 5312 initial small in (
+    let fronts : length front ≡ 2048 = length-padded_words 2048 text short in
+    let middles : length middle ≡ 5312 = length-padded_words 5312 initial small in (
       λ low. elim (cases_lt k 2048) [
         | inl first ↦ get_or_append_left front _ 0 k (omega arith) ∙ padded_at 2048 text k first ∙ sym (image_low text initial k first)
         | inr later ↦
@@ -204,8 +202,8 @@ shown_loaded table frames before after image f short small =
     let long = length-shown table frames before after in
     let front = padded_words 2048 image.text in
     let middle = padded_words 5312 image.initial in
-    let fronts : length front ≡ 2048 = length-padded 2048 image.text short in
-    let middles : length middle ≡ 5312 = length-padded 5312 image.initial (omega arith) in
+    let fronts : length front ≡ 2048 = length-padded_words 2048 image.text short in
+    let middles : length middle ≡ 5312 = length-padded_words 5312 image.initial (omega arith) in
     let size : length (front ++ (middle ++ drop 7360 old)) ≡ 8192 =
     omega (arith, length-append front (middle ++ drop 7360 old), length-append middle (drop 7360 old), length-drop 7360 old) in
     shown_by opening_table frames image.text image.initial (front ++ (middle ++ drop 7360 old)) size (λ k lt. elim (cases_lt k 7360) [
@@ -245,11 +243,11 @@ table_done = refl
 pub put_more : (d words : List ℕ) (start i count : ℕ) → length d ≡ 8192 → start + count ≤ 8192 → length words ≤ count → i < count → set (paste d start (padded_words count words) i) (start + i) (get_or words i 0) ≡ paste d start (padded_words count words) (i + 1)
 put_more d words start i count size within fits here =
     ap (set (paste d start (padded_words count words) i) (start + i)) (sym (padded_at count words i here))
-    ∙ paste_more d start (padded_words count words) i 0 (omega arith) (omega (arith, length-padded count words fits))
+    ∙ paste_more d start (padded_words count words) i 0 (omega arith) (omega (arith, length-padded_words count words fits))
 
 pub put_done : (d words : List ℕ) (start count : ℕ) → length words ≤ count → paste d start (padded_words count words) count ≡ with_words start (padded_words count words) d
 put_done d words start count fits =
-    let full = length-padded count words fits in
+    let full = length-padded_words count words fits in
     paste_all d start (padded_words count words) count (sym full)
     ∙ ap (λ n. take start d ++ (padded_words count words ++ drop (start + n) d)) (sym full)
 

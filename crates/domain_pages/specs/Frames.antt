@@ -1,37 +1,38 @@
 use Rattle.std.specs.Prelude.{◌≡◌, ℕ, ◌+◌, ◌-◌, ◌/◌, ◌<◌, ◌≤◌, ◌&&◌, ◌||◌, nat_le, nat_lt, if◌then◌else◌, Bool, true, false, List, ◌++◌, map, replicate, length, slice_index, slice_index_or}
 use Rattle.std.specs.List.{range_with_len}
+use Rattle.nook_defs.specs.declared.memory_map.TheConstants.{DATA_START, MEMORY_WORDS, OBJECTS, OWN_PAGES, PAGES, PAGE_WORDS, TEXT_WORDS}
 
 -- How a page map shows its words: a page that has a frame of its own shows the frame, every other page the image.
 
 -- an image's word at an address: its text to 2,047, its initial words behind that, zeros past the end of each
 abbrev pub image_word : List ℕ → List ℕ → ℕ → ℕ
 image_word text initial address =
-    if nat_lt address 2048 then slice_index text address else slice_index initial (address - 2048)
+    if nat_lt address TEXT_WORDS then slice_index text address else slice_index initial (address - DATA_START)
 
 -- the word at an address; the table says which of the 128 pages have a frame of their own
 abbrev pub word_at : List Bool → List ℕ → List ℕ → List ℕ → ℕ → ℕ
 word_at table frames text initial address =
-    if slice_index_or table (address / 64) false
+    if slice_index_or table (address / PAGE_WORDS) false
     then slice_index frames address
     else image_word text initial address
 
 -- the words at all 8,192 addresses
 unfoldable pub shown : List Bool → List ℕ → List ℕ → List ℕ → List ℕ
-shown table frames text initial = map (word_at table frames text initial) (range_with_len 0 8192)
+shown table frames text initial = map (word_at table frames text initial) (range_with_len 0 MEMORY_WORDS)
 
 -- only the 13 kernel objects have frames
 unfoldable pub opening_table : List Bool
-opening_table = replicate 115 false ++ replicate 13 true
+opening_table = replicate OWN_PAGES false ++ replicate OBJECTS true
 
 -- there is a frame for each page, and each kernel object has its frame
 pub record IsFramed (table : List Bool) (frames : List ℕ) : Type 0 where
-  pub frames_all : length frames ≡ 8192
-  pub objects : (page : ℕ) → 115 ≤ page → page < 128 → slice_index_or table page false ≡ true
+  pub frames_all : length frames ≡ MEMORY_WORDS
+  pub objects : (page : ℕ) → OWN_PAGES ≤ page → page < PAGES → slice_index_or table page false ≡ true
 
 -- the page has one of n words from an address on
 abbrev pub has_some : ℕ → ℕ → ℕ → Bool
-has_some start n page = nat_lt 0 n && (nat_le (start / 64) page && nat_le page ((start + n - 1) / 64))
+has_some start n page = nat_lt 0 n && (nat_le (start / PAGE_WORDS) page && nat_le page ((start + n - 1) / PAGE_WORDS))
 
 -- which of pages 0 to 114 have a frame of their own, after the kernel's write of n words from an address on
 unfoldable pub with_own : ℕ → ℕ → List Bool → List Bool
-with_own start n own = map (λ page. has_some start n page || slice_index_or own page false) (range_with_len 0 115)
+with_own start n own = map (λ page. has_some start n page || slice_index_or own page false) (range_with_len 0 OWN_PAGES)

@@ -6,22 +6,16 @@ ghost use Rattle.domain_pages.specs.Frames.{image_word, word_at, shown, opening_
 
 use nook_defs::lists::Word;
 use nook_defs::memory::NoMemory;
+use nook_defs::memory_map::{
+    BUFFERS_END, MEMORY_WORDS, OBJECT_WORDS, OBJECTS, OWN_PAGES, PAGE_WORDS, PAGES, TEXT_WORDS,
+};
 use std::alloc::Global;
 
-/// The words of a page.
-pub const PAGE_WORDS: usize = 64;
+/// The words of a page, as a length.
+const PAGE_LEN: usize = PAGE_WORDS as usize;
 
-/// The words of text, which stand at the lowest addresses.
-pub const TEXT_WORDS: usize = 2048;
-
-/// All pages.
-pub const PAGES: usize = 128;
-
-/// All words.
-pub const WORDS: usize = 8192;
-
-/// The first page of the kernel objects.
-pub const FIRST_OBJECT_PAGE: usize = 115;
+/// The words of text, as a length.
+const TEXT_LEN: usize = TEXT_WORDS as usize;
 
 /// The word at a place, 0 past the end.
 fn word_or_zero(words: &[Word], place: usize) -> Word
@@ -34,27 +28,27 @@ fn word_or_zero(words: &[Word], place: usize) -> Word
 fn image_word(text: &[Word], initial: &[Word], address: usize) -> Word
     ensures { result ≡ image_word text.now initial.now address }
 {
-    if address < TEXT_WORDS {
+    if address < TEXT_LEN {
         word_or_zero(text, address)
     } else {
-        word_or_zero(initial, address - TEXT_WORDS)
+        word_or_zero(initial, address - TEXT_LEN)
     }
 }
 
 /// The word that an address shows.
 #[tactic(auto, using(crate::proofs::Shown::shown_at))]
 pub fn word_at(
-    table: &[bool; 128],
+    table: &[bool; PAGES],
     frames: &[Word],
     text: &[Word],
     initial: &[Word],
     address: usize,
 ) -> Word
-    requires address { address < 8192 }
-    requires frames { length frames.now ≡ 8192 }
+    requires address { address < MEMORY_WORDS }
+    requires frames { length frames.now ≡ MEMORY_WORDS }
     ensures { result ≡ slice_index (shown table.now frames.now text.now initial.now) address }
 {
-    if table[address / PAGE_WORDS] {
+    if table[address / PAGE_LEN] {
         frames[address]
     } else {
         image_word(text, initial, address)
@@ -63,27 +57,27 @@ pub fn word_at(
 
 /// The image's 64 words from `start` on go to their frame.
 fn fill_frame(frames: &mut [Word], text: &[Word], initial: &[Word], start: usize)
-    requires { start + 64 ≤ length frames.old }
+    requires { start + PAGE_WORDS ≤ length frames.old }
     ensures size { length frames.new ≡ length frames.old }
-    ensures inside { (k : ℕ) → start ≤ k → k < start + 64 → slice_index frames.new k ≡ image_word text.now initial.now k }
-    ensures outside { (k : ℕ) → (k < start) ⊎ (start + 64 ≤ k) → slice_index frames.new k ≡ slice_index frames.old k }
+    ensures inside { (k : ℕ) → start ≤ k → k < start + PAGE_WORDS → slice_index frames.new k ≡ image_word text.now initial.now k }
+    ensures outside { (k : ℕ) → (k < start) ⊎ (start + PAGE_WORDS ≤ k) → slice_index frames.new k ≡ slice_index frames.old k }
 {
-    for address in start..start + PAGE_WORDS {
+    for address in start..start + PAGE_LEN {
         frames[address] = image_word(text, initial, address);
     }
 }
 
 /// Gives a page a frame of its own, which shows what the page showed.
 #[tactic(auto, using(crate::proofs::Shown::owned_at))]
-fn own(table: &mut [bool; 128], frames: &mut [Word], text: &[Word], initial: &[Word], page: usize)
-    requires page { page < 128 }
-    requires frames { length frames.old ≡ 8192 }
+fn own(table: &mut [bool; PAGES], frames: &mut [Word], text: &[Word], initial: &[Word], page: usize)
+    requires page { page < PAGES }
+    requires frames { length frames.old ≡ MEMORY_WORDS }
     ensures table { table.new ≡ slice_set table.old page true }
-    ensures size { length frames.new ≡ 8192 }
-    ensures same { (k : ℕ) → k < 8192 → word_at table.new frames.new text.now initial.now k ≡ word_at table.old frames.old text.now initial.now k }
+    ensures size { length frames.new ≡ MEMORY_WORDS }
+    ensures same { (k : ℕ) → k < MEMORY_WORDS → word_at table.new frames.new text.now initial.now k ≡ word_at table.old frames.old text.now initial.now k }
 {
     if !table[page] {
-        fill_frame(frames, text, initial, page * PAGE_WORDS);
+        fill_frame(frames, text, initial, page * PAGE_LEN);
         table[page] = true;
     }
 }
@@ -91,27 +85,27 @@ fn own(table: &mut [bool; 128], frames: &mut [Word], text: &[Word], initial: &[W
 /// Writes the word at an address, into the frame of its page.
 #[tactic(auto, using(crate::proofs::Shown::shown_put, crate::proofs::Shown::framed_put))]
 pub fn put(
-    table: &mut [bool; 128],
+    table: &mut [bool; PAGES],
     frames: &mut [Word],
     text: &[Word],
     initial: &[Word],
     address: usize,
     word: Word,
 )
-    requires address { address < 8192 }
-    requires frames { length frames.old ≡ 8192 }
-    ensures table { table.new ≡ slice_set table.old (address / 64) true }
-    ensures size { length frames.new ≡ 8192 }
+    requires address { address < MEMORY_WORDS }
+    requires frames { length frames.old ≡ MEMORY_WORDS }
+    ensures table { table.new ≡ slice_set table.old (address / PAGE_WORDS) true }
+    ensures size { length frames.new ≡ MEMORY_WORDS }
     ensures framed { IsFramed table.old frames.old → IsFramed table.new frames.new }
     ensures words { shown table.new frames.new text.now initial.now ≡ slice_set (shown table.old frames.old text.now initial.now) address word }
 {
-    own(table, frames, text, initial, address / PAGE_WORDS);
+    own(table, frames, text, initial, address / PAGE_LEN);
     frames[address] = word;
 }
 
 /// Writes `count` words from an address on: these words and then zeros.
 pub fn put_all(
-    table: &mut [bool; 128],
+    table: &mut [bool; PAGES],
     frames: &mut [Word],
     text: &[Word],
     initial: &[Word],
@@ -119,12 +113,12 @@ pub fn put_all(
     words: &[Word],
     count: usize,
 )
-    requires within { start + count ≤ 8192 }
-    requires frames { length frames.old ≡ 8192 }
+    requires within { start + count ≤ MEMORY_WORDS }
+    requires frames { length frames.old ≡ MEMORY_WORDS }
     requires fits { length words.now ≤ count }
     ensures framed { IsFramed table.old frames.old → IsFramed table.new frames.new }
     ensures words { shown table.new frames.new text.now initial.now ≡ with_words start (padded_words count words.now) (shown table.old frames.old text.now initial.now) }
-    ensures own { take 115 table.new ≡ with_own start count (take 115 table.old) }
+    ensures own { take OWN_PAGES table.new ≡ with_own start count (take OWN_PAGES table.old) }
 {
     for i in 0..count {
         put(
@@ -139,11 +133,11 @@ pub fn put_all(
 }
 
 /// The table in which only the kernel objects have frames.
-pub fn opening_table() -> [bool; 128]
+pub fn opening_table() -> [bool; PAGES]
     ensures { result ≡ opening_table }
 {
-    let mut table = [false; 128];
-    for page in FIRST_OBJECT_PAGE..PAGES {
+    let mut table = [false; PAGES];
+    for page in OWN_PAGES..PAGES {
         table[page] = true;
     }
     table
@@ -153,9 +147,9 @@ pub fn opening_table() -> [bool; 128]
 pub fn opening_frames(alloc: Global) -> Result<Vec<Word>, NoMemory>
     ensures { IfOk result (λ frames. frames.items ≡ opening_memory []) }
 {
-    let mut frames = vec![in alloc; 0; 7424]?;
-    for object in 1..13_u32 {
-        let mut page = [0; 64];
+    let mut frames = vec![in alloc; 0; (BUFFERS_END + OBJECT_WORDS) as usize]?;
+    for object in 1..OBJECTS {
+        let mut page = [0; PAGE_LEN];
         page[0] = object;
         frames.extend_from_slice(&page)?;
     }

@@ -5,12 +5,15 @@ ghost use Rattle.nook_defs.specs.Pages.{read_word, fetch_word, padded_words, wit
 ghost use Rattle.nook_defs.specs.Views.PageMap.{opening_pages, may_change, page_written, driver_written, pages_loaded};
 ghost use Rattle.domain_pages.specs.Frames.{with_own};
 
-use crate::frames::{
-    FIRST_OBJECT_PAGE, TEXT_WORDS, WORDS, opening_frames, opening_table, put, put_all, word_at,
-};
-use nook_defs::data::Image;
+use crate::frames::{opening_frames, opening_table, put, put_all, word_at};
+use nook_defs::limits::CONTEXTS;
 use nook_defs::lists::{Items, TryCopy, Word, Words};
 use nook_defs::memory::{NoMemory, Room};
+use nook_defs::memory_map::{
+    BUFFER_WORDS, BUFFERS_END, DATA_START, DATA_WORDS, MEMORY_WORDS, OWN_PAGES, PAGES, STACKS_END,
+    TEXT_WORDS,
+};
+use nook_defs::scenario::Image;
 use std::alloc::Global;
 use std::marker::Model;
 
@@ -21,14 +24,15 @@ pub struct PageMap {
     alloc: Global,
     text: Words,
     initial: Words,
-    table: [bool; 128],
+    table: [bool; PAGES],
     frames: Vec<Word>,
-    lent: [bool; 17],
+    lent: [bool; CONTEXTS],
 }
 
 impl Model for PageMap {
     ghost use Rattle.std.specs.Prelude.{take};
     ghost use Rattle.nook_defs.specs.Views.PageMap.{PageMap};
+    ghost use Rattle.nook_defs.specs.declared.memory_map.TheConstants.{OWN_PAGES};
     ghost use Rattle.domain_pages.specs.Frames.{shown, IsFramed};
 
     ghost Value = { PageMap };
@@ -36,7 +40,7 @@ impl Model for PageMap {
     ghost view = { λ s. record {
       words = shown s.table s.frames.items s.text s.initial;
       lent = s.lent;
-      own = take 115 s.table;
+      own = take OWN_PAGES s.table;
     } };
 
     ghost invariant = { λ s. IsFramed s.table s.frames.items };
@@ -55,7 +59,7 @@ impl PageMap {
             initial: Words::new(alloc),
             table: opening_table(),
             frames,
-            lent: [false; 17],
+            lent: [false; CONTEXTS],
         })
     }
 
@@ -63,7 +67,7 @@ impl PageMap {
     pub fn read(&self, address: u32) -> Option<Word>
         ensures { result ≡ read_word self.now.words address }
     {
-        if (address as usize) < WORDS {
+        if address < MEMORY_WORDS {
             Some(self.word(address))
         } else {
             None
@@ -74,7 +78,7 @@ impl PageMap {
     pub fn fetch(&self, address: u32) -> Option<Word>
         ensures { result ≡ fetch_word self.now.words address }
     {
-        if (address as usize) < TEXT_WORDS {
+        if address < TEXT_WORDS {
             Some(self.word(address))
         } else {
             None
@@ -83,9 +87,9 @@ impl PageMap {
 
     /// The word at an address up to 8,191.
     fn word(&self, address: u32) -> Word
-        requires { address < 8192 }
+        requires { address < MEMORY_WORDS }
         ensures word { result ≡ slice_index self.now.words address }
-        ensures size { length self.now.words ≡ 8192 }
+        ensures size { length self.now.words ≡ MEMORY_WORDS }
     {
         word_at(
             &self.table,
@@ -113,15 +117,17 @@ impl PageMap {
         ensures allowed { result ≡ may_change self.now.lent address }
     {
         match address {
-            2048..5184 => true,
-            5184..7360 => self.lent[((address - 5184) / 128) as usize],
+            DATA_START..STACKS_END => true,
+            STACKS_END..BUFFERS_END => {
+                self.lent[((address - STACKS_END) / BUFFER_WORDS) as usize]
+            }
             _ => false,
         }
     }
 
     /// Writes a word of text, for a fault.
     pub fn poke_text(&mut self, address: u32, word: Word)
-        requires { address < 2048 }
+        requires { address < TEXT_WORDS }
         ensures { self.new ≡ page_written self.old address word }
     {
         self.kernel_write(address, word);
@@ -129,9 +135,9 @@ impl PageMap {
 
     /// The kernel's own write, at any address up to 8,191.
     pub fn kernel_write(&mut self, address: u32, word: Word)
-        requires { address < 8192 }
+        requires { address < MEMORY_WORDS }
         ensures written { self.new ≡ page_written self.old address word }
-        ensures size { length self.old.words ≡ 8192 }
+        ensures size { length self.old.words ≡ MEMORY_WORDS }
     {
         put(
             &mut self.table,
@@ -146,12 +152,12 @@ impl PageMap {
     /// The kernel's own write of `count` words from an address on: these words and then zeros. Each page that has one of
     /// the `count` words has a copy of its own from now on; every other page is as before.
     pub fn put_words(&mut self, start: u32, words: &[Word], count: u32)
-        requires within { start + count ≤ 8192 }
+        requires within { start + count ≤ MEMORY_WORDS }
         requires fits { length words.now ≤ count }
         ensures words { self.new.words ≡ with_words start (padded_words count words.now) self.old.words }
         ensures lent { self.new.lent ≡ self.old.lent }
         ensures own { self.new.own ≡ with_own start count self.old.own }
-        ensures pages { length self.old.own ≡ 115 }
+        ensures pages { length self.old.own ≡ OWN_PAGES }
     {
         put_all(
             &mut self.table,
@@ -166,7 +172,7 @@ impl PageMap {
 
     /// `count` words from an address on, in the memory of `room`, which has room for them.
     pub fn words(&self, start: u32, count: u32, room: Room<Word>) -> Words
-        requires within { start + count ≤ 8192 }
+        requires within { start + count ≤ MEMORY_WORDS }
         requires room { count ≤ room }
         ensures words { result ≡ slice_range self.now.words start (start + count) }
         ensures len { length result ≡ count }
@@ -180,7 +186,7 @@ impl PageMap {
 
     /// The context's buffer may be written from now on. The context is at most 16.
     pub fn lend(&mut self, context: u8)
-        requires { context < 17 }
+        requires { context < CONTEXTS }
         ensures { self.new ≡ record self.old { lent = slice_set self.old.lent context true } }
     {
         self.lent[context as usize] = true;
@@ -188,7 +194,7 @@ impl PageMap {
 
     /// The context's buffer may no longer be written. The context is at most 16.
     pub fn revoke(&mut self, context: u8)
-        requires { context < 17 }
+        requires { context < CONTEXTS }
         ensures { self.new ≡ record self.old { lent = slice_set self.old.lent context false } }
     {
         self.lent[context as usize] = false;
@@ -196,8 +202,8 @@ impl PageMap {
 
     /// Puts an image in place: its text, its initial words, and zeros in every other word of pages 0 to 114.
     pub fn load(&mut self, image: &Image) -> Result<(), NoMemory>
-        requires text { length image.now.text ≤ 2048 }
-        requires initial { length image.now.initial ≤ 2048 }
+        requires text { length image.now.text ≤ TEXT_WORDS }
+        requires initial { length image.now.initial ≤ DATA_WORDS }
         ensures ok { OnOk result (self.new ≡ pages_loaded image.now self.old) }
         ensures err { OnErr result (self.new ≡ self.old) }
     {
@@ -212,9 +218,25 @@ impl PageMap {
     /// Whether a word of the page was written since the last load, or since `new` where there was none. The page
     /// is at most 114.
     pub fn own_copy(&self, page: u32) -> bool
-        requires { page < 115 }
+        requires { page < OWN_PAGES }
         ensures { result ≡ slice_index_or self.now.own page false }
     {
         self.table[page as usize]
+    }
+}
+
+impl TryCopy for PageMap {
+    fn copy(&self, alloc: Global) -> Result<PageMap, NoMemory> {
+        let text = self.text.copy(alloc)?;
+        let initial = self.initial.copy(alloc)?;
+        let frames = Vec::from_slice(alloc, self.frames.as_slice())?;
+        Ok(PageMap {
+            alloc,
+            text,
+            initial,
+            table: self.table,
+            frames,
+            lent: self.lent,
+        })
     }
 }

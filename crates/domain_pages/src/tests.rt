@@ -1,8 +1,9 @@
 //! Writes at the edges of each region, and what a load leaves.
 
 use crate::PageMap;
-use nook_defs::data::{Class, Image};
+use nook_defs::classes::Class;
 use nook_defs::lists::{Items, Word, Words};
+use nook_defs::scenario::Image;
 use std::alloc::Global;
 use std::test::Fail;
 

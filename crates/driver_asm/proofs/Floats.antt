@@ -6,7 +6,7 @@ use Rattle.serde_json.specs.Data.{Data, number, unsigned, Members, no_members, m
 use Rattle.serde_json.specs.Written.{has_float, items_have_float, members_have_float}
 use Rattle.nook_defs.specs.ImageText.{entry_members, image_data, word_items}
 use Rattle.nook_defs.specs.Keys.{entry_keys, key_text}
-use Rattle.nook_defs.specs.declared.data.Image.{Image}
+use Rattle.nook_defs.specs.declared.scenario.Image.{Image}
 use Rattle.nook_defs.specs.declared.input.Key.{Key}
 
 words_have_none : (words : List ℕ) → items_have_float (word_items words) ≡ false

@@ -11,7 +11,7 @@ use Rattle.nook_defs.specs.declared.assembler.AsmFault.{AsmFault}
 use Rattle.nook_defs.specs.declared.assembler.Label.{Label}
 use Rattle.nook_defs.specs.declared.assembler.Section.{Section}
 use Rattle.nook_defs.specs.declared.assembler.Section.TheVariants as section
-use Rattle.nook_defs.specs.declared.data.Image.{Image}
+use Rattle.nook_defs.specs.declared.scenario.Image.{Image}
 use Rattle.driver_asm.proofs.Lines.{lines_split}
 use Rattle.driver_asm.specs.Answers.{Fails}
 use Rattle.driver_asm.specs.Listed.{MakesAll, if_longer, listed, makers, words_in}

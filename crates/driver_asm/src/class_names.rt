@@ -5,7 +5,7 @@ ghost use Rattle.nook_defs.specs.AsmLines.{place_among};
 ghost use Rattle.nook_defs.specs.Classes.{entry_count};
 ghost use Rattle.nook_defs.specs.Keys.{class_named, class_text, entry_keys, key_text};
 
-use nook_defs::data::Class;
+use nook_defs::classes::Class;
 
 /// The class of a name.
 #[tactic(auto, unfolding(nook_defs::specs::Keys::class_named))]

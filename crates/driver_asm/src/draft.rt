@@ -1,6 +1,6 @@
 //! The second pass's draft: what the lines so far have given.
 
-ghost use Rattle.std.specs.Prelude.{◌≡◌, ◌<◌, ◌≤◌, [], ◌∷◌, ◌++◌, ◌||◌, IfOk, IfSome, Ok, true, false, length, slice_get};
+ghost use Rattle.std.specs.Prelude.{◌≡◌, ◌-◌, ◌<◌, ◌≤◌, [], ◌∷◌, ◌++◌, ◌||◌, IfOk, IfSome, Ok, true, false, length, slice_get};
 ghost use Rattle.nook_defs.specs.AsmLines.{definition_of, first_of};
 ghost use Rattle.nook_defs.specs.Assembler.{all_given, draft_after, is_above, is_given, first_draft, image_with, is_out_of_range, is_second_given, is_second_label, known, with_class, with_statement, with_word};
 ghost use Rattle.driver_asm.specs.Answers.{Takes};
@@ -14,14 +14,13 @@ use crate::statements::{definition_of, line_says};
 use crate::tokens::Token;
 use driver_isa::encode;
 use nook_defs::assembler::{AsmKind, Operands, Section, Statement, Value};
-use nook_defs::data::{Class, Image};
+use nook_defs::classes::Class;
 use nook_defs::lists::{Word, Words};
 use nook_defs::memory::NoMemory;
+use nook_defs::memory_map::{DATA_WORDS, TEXT_WORDS};
+use nook_defs::scenario::Image;
 use std::alloc::Global;
 use std::marker::Model;
-
-/// The most words of each section.
-const MOST_WORDS: usize = 2048;
 
 /// What the lines so far have given. `entries` has a place for each entry of the class.
 #[derive(Drop)]
@@ -148,7 +147,7 @@ impl Draft {
 
     /// The draft with the value of an entry, which is in range.
     fn with_entry(self, place: u32, value: Value) -> Result<Draft, LineStop>
-        requires { is_above 2047 value ≡ false }
+        requires { is_above (TEXT_WORDS - 1) value ≡ false }
         ensures { Takes result (with_statement (Statement.Entry place value) self) }
     {
         let number = known(value)?;
@@ -173,7 +172,7 @@ impl Draft {
     fn with_text_word(self, word: Word) -> Result<Draft, LineStop>
         ensures { Takes result (with_word Section.Text word self) }
     {
-        if self.text.len() >= MOST_WORDS {
+        if self.text.len() >= TEXT_WORDS as usize {
             return Err(LineStop::Bad(AsmKind::TextTooLong));
         }
         let mut text = self.text;
@@ -185,7 +184,7 @@ impl Draft {
     fn with_initial_word(self, word: Word) -> Result<Draft, LineStop>
         ensures { Takes result (with_word Section.Data word self) }
     {
-        if self.initial.len() >= MOST_WORDS {
+        if self.initial.len() >= DATA_WORDS as usize {
             return Err(LineStop::Bad(AsmKind::DataTooLong));
         }
         let mut initial = self.initial;
@@ -215,7 +214,7 @@ fn is_out_of_range(says: Statement) -> bool
     ensures { result ≡ is_out_of_range says }
 {
     match says {
-        Statement::Entry { value, .. } => is_above(2047, value),
+        Statement::Entry { value, .. } => is_above(u64::from(TEXT_WORDS) - 1, value),
         Statement::Word(value) => is_above(0xffff_ffff, value),
         Statement::Instr(_, Operands { imm, .. }) => is_above(0xffff, imm),
         _ => false,

@@ -9,9 +9,10 @@ ghost use Rattle.nook_defs.specs.Keys.{entry_keys};
 ghost use Rattle.driver_asm.specs.Names.{hex_data, named_members};
 
 use crate::class_names::{class_text, entry_names};
-use nook_defs::data::{Class, Image};
+use nook_defs::classes::Class;
 use nook_defs::lists::{Word, Words8};
 use nook_defs::memory::NoMemory;
+use nook_defs::scenario::Image;
 use serde_json::{Map, Value, json, put};
 use std::alloc::{AllocError, Global};
 use std::fmt::Write;

@@ -4,6 +4,7 @@ ghost use Rattle.std.specs.Prelude.{◌≡◌, ◌<◌, ◌^◌, ◌+◌, ◌≤
 ghost use Rattle.nook_defs.specs.Assembler.{first_places, next_line, one_word, place_in, places_after};
 
 use nook_defs::assembler::{AsmKind, Section, Statement};
+use nook_defs::memory_map::DATA_START;
 use std::marker::Model;
 
 /// Where the next words go: the line, its section, and the words that each section has so far.
@@ -57,7 +58,7 @@ impl NextPlaces {
     {
         match self.in_section {
             Section::Text => self.text,
-            Section::Data => 2048 + self.initial,
+            Section::Data => u64::from(DATA_START) + self.initial,
         }
     }
 

@@ -13,9 +13,9 @@ use crate::labels::LabelTable;
 use crate::passes::{after_line, at_line, labels_of, line_behind};
 use crate::pieces::lines_of;
 use nook_defs::assembler::Label;
-use nook_defs::data::Image;
 use nook_defs::lists::Items;
 use nook_defs::memory::NoMemory;
+use nook_defs::scenario::Image;
 use std::alloc::Global;
 
 /// An assembled text: its image, for each word the number of the line that made it, and the labels in the order of

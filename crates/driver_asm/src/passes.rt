@@ -14,8 +14,8 @@ use crate::line::NextPlaces;
 use crate::pieces::{lines_of, tokens_of};
 use crate::statements::{definition_of, line_says};
 use crate::tokens::Token;
-use nook_defs::data::Image;
 use nook_defs::memory::NoMemory;
+use nook_defs::scenario::Image;
 use std::alloc::Global;
 
 /// Assembles a text of bytes.

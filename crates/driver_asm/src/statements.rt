@@ -16,7 +16,7 @@ use crate::mnemonics::{form_of, mnemonic_named};
 use crate::operands::{only_value, operands_of};
 use crate::tokens::{Token, register_of};
 use nook_defs::assembler::{AsmKind, Mnemonic, Section, Statement, TokenKind};
-use nook_defs::data::Class;
+use nook_defs::classes::Class;
 
 /// An instruction, which stands in the text alone.
 fn instr_statement(

@@ -1,7 +1,8 @@
 //! The assembler text of an image.
 
 ghost use Rattle.std.specs.Prelude.{◌≡◌, ◌∷◌, ◌++◌, [], codes, decimal, flat_map, map, IfOk, OnOk, Ok, string_bytes};
-ghost use Rattle.nook_defs.specs.Disassembler.{class_tokens, disassembled, entry_lines, image_lines, initial_lines, instr_tokens, later_token, line_body, line_text, operand_tokens, register_text, text_tokens, word_tokens};
+ghost use Rattle.nook_defs.specs.AsmTokens.{register_text};
+ghost use Rattle.nook_defs.specs.Disassembler.{class_tokens, disassembled, entry_lines, image_lines, initial_lines, instr_tokens, later_token, line_body, line_text, operand_tokens, text_tokens, word_tokens};
 ghost use Rattle.nook_defs.specs.Assembler.{assembled};
 ghost use Rattle.nook_defs.specs.Valid.{IsValidImage};
 ghost use Rattle.nook_defs.specs.Keys.{entry_keys};
@@ -12,10 +13,11 @@ use crate::class_names::{class_text, entry_names};
 use crate::mnemonics::{Fields, fields_of, form_of, mnemonic_text};
 use driver_isa::decode;
 use nook_defs::assembler::Form;
-use nook_defs::data::{Class, Image};
+use nook_defs::classes::Class;
 use nook_defs::lists::{Word, Words8};
 use nook_defs::machine::Instr;
 use nook_defs::memory::NoMemory;
+use nook_defs::scenario::Image;
 use std::alloc::Global;
 use std::fmt::Write;
 

@@ -234,30 +234,28 @@ fn kind_of(token: &[u8]) -> TokenKind
 }
 
 /// The register that a name is, of `r0` to `r15`.
-#[tactic(auto, unfolding(nook_defs::specs::AsmTokens::register_of))]
+#[tactic(auto, unfolding(nook_defs::proofs::InputOnLiterals::input_on_literals))]
 pub fn register_of(name: &[u8]) -> Option<u8>
     ensures register { result ≡ register_of name.now }
     ensures least { IfSome result (λ register. register ≤ 15) }
 {
     match name {
-        [b'r', digit] => digit_below(*digit, 10),
-        [b'r', b'1', digit] => match digit_below(*digit, 6) {
-            Some(digit) => Some(10 + digit),
-            None => None,
-        },
+        b"r0" => Some(0),
+        b"r1" => Some(1),
+        b"r2" => Some(2),
+        b"r3" => Some(3),
+        b"r4" => Some(4),
+        b"r5" => Some(5),
+        b"r6" => Some(6),
+        b"r7" => Some(7),
+        b"r8" => Some(8),
+        b"r9" => Some(9),
+        b"r10" => Some(10),
+        b"r11" => Some(11),
+        b"r12" => Some(12),
+        b"r13" => Some(13),
+        b"r14" => Some(14),
+        b"r15" => Some(15),
         _ => None,
-    }
-}
-
-/// The number of a digit of a base of at most 10.
-fn digit_below(byte: u8, base: u32) -> Option<u8>
-    requires least { 2 ≤ base }
-    requires most { base ≤ 10 }
-    ensures digit { result ≡ (if is_digit byte base then Some (digit_value byte) else None) }
-    ensures below { IfSome result (λ digit. digit < base) }
-{
-    match char::from(byte).to_digit(base) {
-        Some(digit) => Some(digit as u8),
-        None => None,
     }
 }

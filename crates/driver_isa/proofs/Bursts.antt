@@ -4,11 +4,11 @@ use Rattle.driver_isa.specs.Turns.{IsTurn}
 use Rattle.nook_defs.specs.Burst.{Burst, Struck, burst, burst_from, count_at, ended, strikes_at}
 use Rattle.nook_defs.specs.Turn.{Machine, turn}
 use Rattle.nook_defs.proofs.BurstTurns.{crossing_ends, goes_on, last_act_ends, trap_ends, turn_cases}
-use Rattle.nook_defs.specs.declared.data.Act.{Act}
-use Rattle.nook_defs.specs.declared.data.Entry.{Entry}
-use Rattle.nook_defs.specs.declared.data.Fault.{Fault}
-use Rattle.nook_defs.specs.declared.data.TrapCause.{TrapCause}
-use Rattle.nook_defs.specs.declared.data.TrapCause.TheVariants as trap
+use Rattle.nook_defs.specs.declared.machine.Act.{Act}
+use Rattle.nook_defs.specs.declared.entries.Entry.{Entry}
+use Rattle.nook_defs.specs.declared.scenario.Fault.{Fault}
+use Rattle.nook_defs.specs.declared.machine.TrapCause.{TrapCause}
+use Rattle.nook_defs.specs.declared.machine.TrapCause.TheVariants as trap
 use Rattle.nook_defs.specs.declared.machine.BurstEnd.{BurstEnd}
 use Rattle.nook_defs.specs.declared.machine.BurstEnd.TheVariants as ends
 

@@ -3,10 +3,10 @@ use Rattle.driver_isa.specs.Turns.{IsTurn, machine_of, quiet}
 use Rattle.nook_defs.specs.Views.Ports.{IsTaken}
 use Rattle.nook_defs.specs.Devices.{Taken}
 use Rattle.nook_defs.specs.Turn.{Machine, Turn, advanced, executed, past_output, r, stores}
-use Rattle.nook_defs.specs.declared.data.Act.{Act}
-use Rattle.nook_defs.specs.declared.data.DeviceState.{DeviceState}
-use Rattle.nook_defs.specs.declared.data.Entry.{Entry}
-use Rattle.nook_defs.specs.declared.data.TrapCause.TheVariants as trap
+use Rattle.nook_defs.specs.declared.machine.Act.{Act}
+use Rattle.nook_defs.specs.declared.devices.DeviceState.{DeviceState}
+use Rattle.nook_defs.specs.declared.entries.Entry.{Entry}
+use Rattle.nook_defs.specs.declared.machine.TrapCause.TheVariants as trap
 use Rattle.nook_defs.specs.declared.machine.BurstEnd.{BurstEnd}
 use Rattle.nook_defs.specs.declared.machine.BurstEnd.TheVariants as ends
 use Rattle.nook_defs.specs.declared.machine.Cpu.{Cpu}

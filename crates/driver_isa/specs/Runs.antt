@@ -1,9 +1,10 @@
 use Rattle.std.specs.Prelude.{ℕ, ◌-◌, ◌==◌, List, [], ◌∷◌, Bool, false, Option, None, Some}
 use Rattle.nook_defs.specs.Burst.{Burst, burst_from, ended}
 use Rattle.nook_defs.specs.Turn.{Machine}
-use Rattle.nook_defs.specs.declared.data.Act.{Act}
-use Rattle.nook_defs.specs.declared.data.Entry.{Entry}
-use Rattle.nook_defs.specs.declared.data.Fault.{Fault}
+use Rattle.nook_defs.specs.declared.machine.Act.{Act}
+use Rattle.nook_defs.specs.declared.entries.Entry.{Entry}
+use Rattle.nook_defs.specs.declared.scenario.Fault.{Fault}
+use Rattle.nook_defs.specs.declared.limits.TheConstants.{MOST_TURNS}
 use Rattle.nook_defs.specs.declared.machine.BurstEnd.{BurstEnd}
 
 -- whether the first of the faults strikes at a place
@@ -13,5 +14,5 @@ is_due place (f ∷ faults) = f.after == place
 
 -- what a burst comes to after some of its turns: its rest, or its end
 abbrev pub past_run : ℕ → List Entry → List Fault → Machine → List Act → Option BurstEnd → Burst
-past_run count entries faults m acts None = burst_from (4096 - count) entries faults m acts
+past_run count entries faults m acts None = burst_from (MOST_TURNS - count) entries faults m acts
 past_run count entries faults m acts (Some ending) = ended count m acts ending

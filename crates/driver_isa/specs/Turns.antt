@@ -1,8 +1,8 @@
 use Rattle.std.specs.Prelude.{◌≡◌, ◌++◌, ℕ, List, Option, None}
 use Rattle.nook_defs.specs.Burst.{acts_of}
 use Rattle.nook_defs.specs.Turn.{Machine, Turn}
-use Rattle.nook_defs.specs.declared.data.Act.{Act}
-use Rattle.nook_defs.specs.declared.data.DeviceState.{DeviceState}
+use Rattle.nook_defs.specs.declared.machine.Act.{Act}
+use Rattle.nook_defs.specs.declared.devices.DeviceState.{DeviceState}
 use Rattle.nook_defs.specs.declared.machine.BurstEnd.{BurstEnd}
 use Rattle.nook_defs.specs.declared.machine.Cpu.{Cpu}
 

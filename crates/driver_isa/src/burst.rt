@@ -8,19 +8,12 @@ ghost use Rattle.nook_defs.specs.Burst.{burst as burst_of, burst_from, strikes_a
 
 use crate::bus::Bus;
 use crate::turn::{Step, take_turn};
-use nook_defs::data::{Fault, FaultKind, TrapCause};
 use nook_defs::journal::ActLog;
+use nook_defs::limits::{MOST_ACTS, MOST_TURNS};
 use nook_defs::lists::Word;
-use nook_defs::machine::{BurstEnd, Cpu};
-
-/// The turns after which a burst without a crossing is a Hang.
-const MOST_TURNS: u32 = 4096;
-
-/// The acts after which a burst pauses.
-const MOST_ACTS: usize = 64;
-
-/// The words of text that a fault may write.
-const TEXT_WORDS: u32 = 2048;
+use nook_defs::machine::{BurstEnd, Cpu, TrapCause};
+use nook_defs::memory_map::TEXT_WORDS;
+use nook_defs::scenario::{Fault, FaultKind};
 
 /// How a burst went: the number of its turns, a last one that trapped included, and its end.
 #[derive(Clone, Copy)]
@@ -93,7 +86,7 @@ fn run_turns<B: Bus>(
     acts: &mut ActLog,
 ) -> Whole
     requires { acts.old ≡ [] }
-    ensures burst { burst_from 4096 (B.entries bus.old) faults.now (machine_of (cpu_of first registers.old) (B.words bus.old) (B.device bus.old)) acts.old
+    ensures burst { burst_from MOST_TURNS (B.entries bus.old) faults.now (machine_of (cpu_of first registers.old) (B.words bus.old) (B.device bus.old)) acts.old
         ≡ record {
           machine = machine_of (cpu_of result.counter registers.new) (B.words bus.new) (B.device bus.new);
           acts = acts.new;
@@ -139,13 +132,13 @@ fn run_straight<B: Bus>(
     bus: &mut B,
     acts: &mut ActLog,
 ) -> Run
-    requires room { length acts.old < 64 }
+    requires room { length acts.old < MOST_ACTS }
     requires some { before < stop }
-    requires within { stop ≤ 4096 }
+    requires within { stop ≤ MOST_TURNS }
     requires quiet { (k : ℕ) → before ≤ k → k < stop → is_due k pending.now ≡ false }
-    ensures went { burst_from (4096 - before) (B.entries bus.old) pending.now (machine_of (cpu_of first registers.old) (B.words bus.old) (B.device bus.old)) acts.old
+    ensures went { burst_from (MOST_TURNS - before) (B.entries bus.old) pending.now (machine_of (cpu_of first registers.old) (B.words bus.old) (B.device bus.old)) acts.old
         ≡ past_run result.count (B.entries bus.new) pending.now (machine_of (cpu_of result.counter registers.new) (B.words bus.new) (B.device bus.new)) acts.new result.end }
-    ensures room { result.end ≡ None → length acts.new < 64 }
+    ensures room { result.end ≡ None → length acts.new < MOST_ACTS }
     ensures further { before < result.count }
     ensures within { result.count ≤ stop }
     ensures entries { B.entries bus.new ≡ B.entries bus.old }
@@ -186,10 +179,10 @@ fn run_straight<B: Bus>(
 
 /// The place of the next fault, or that of the last turn's end where none is due any more.
 fn next_stop(pending: &[Fault], count: u32) -> u32
-    requires within { count < 4096 }
+    requires within { count < MOST_TURNS }
     requires clear { is_due count pending.now ≡ false }
     ensures further { count < result }
-    ensures within { result ≤ 4096 }
+    ensures within { result ≤ MOST_TURNS }
     ensures quiet { (k : ℕ) → count ≤ k → k < result → is_due k pending.now ≡ false }
 {
     match pending {

@@ -5,11 +5,13 @@ ghost use Rattle.std.specs.Borrow.{GName};
 ghost use Rattle.nook_defs.specs.Devices.{input_of, output_of};
 ghost use Rattle.nook_defs.specs.Views.Ports.{IsTaken, given_by};
 ghost use Rattle.nook_defs.specs.Pages.{fetch_word, may_write, read_word, written};
-ghost use Rattle.nook_defs.specs.declared.data.DeviceState.{DeviceState};
-ghost use Rattle.nook_defs.specs.declared.data.Entry.{Entry};
+ghost use Rattle.nook_defs.specs.declared.devices.DeviceState.{DeviceState};
+ghost use Rattle.nook_defs.specs.declared.entries.Entry.{Entry};
 
 use nook_defs::journal::ActLog;
+use nook_defs::limits::MOST_ACTS;
 use nook_defs::lists::Word;
+use nook_defs::memory_map::TEXT_WORDS;
 
 /// The memory and the device of a driver, as its machine reaches them. No call takes memory.
 pub trait Bus {
@@ -50,7 +52,7 @@ pub trait Bus {
     /// Hands the device a word at `port`, which adds at most one act; false, with nothing changed, where it has
     /// no such port.
     fn output(&mut self, port: u32, word: Word, acts: &mut ActLog) -> bool
-        requires { length acts.old < 64 }
+        requires { length acts.old < MOST_ACTS }
         ensures taken { IsTaken (output_of port word (device self.old)) result acts.old acts.new
             (device self.old) (device self.new) }
         ensures words { words self.new ≡ words self.old }
@@ -59,7 +61,7 @@ pub trait Bus {
 
     /// Writes a text word, for a fault.
     fn poke_text(&mut self, address: u32, word: Word)
-        requires { address < 2048 }
+        requires { address < TEXT_WORDS }
         ensures words { words self.new ≡ slice_set (words self.old) address word }
         ensures entries { entries self.new ≡ entries self.old }
         ensures device { device self.new ≡ device self.old }

@@ -5,11 +5,11 @@ ghost use Rattle.std.specs.Prelude.{◌≡◌, ◌<◌, ◌++◌, ◌∷◌, [],
 use crate::burst::{BurstDone, run_burst};
 use crate::bus::Bus;
 use crate::code::{decode, encode};
-use nook_defs::data::{Fault, FaultKind, TrapCause};
 use nook_defs::journal::{ActLog, SpareRooms};
 use nook_defs::lists::Word;
-use nook_defs::machine::{BurstEnd, Cpu};
+use nook_defs::machine::{BurstEnd, Cpu, TrapCause};
 use nook_defs::memory::NoMemory;
+use nook_defs::scenario::{Fault, FaultKind};
 use std::alloc::Global;
 use std::test::Fail;
 
@@ -23,7 +23,7 @@ struct Plain {
 
 impl Bus for Plain {
     ghost use Rattle.std.specs.Prelude.{[]};
-    ghost use Rattle.nook_defs.specs.declared.data.DeviceKind.TheVariants.{Speaker};
+    ghost use Rattle.nook_defs.specs.declared.devices.DeviceKind.TheVariants.{Speaker};
 
     ghost words = { λ s. s.memory.items };
 

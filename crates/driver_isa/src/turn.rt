@@ -9,10 +9,10 @@ ghost use Rattle.nook_defs.specs.Devices.{input_of, output_of};
 
 use crate::bus::Bus;
 use crate::code::decode;
-use nook_defs::data::TrapCause;
 use nook_defs::journal::ActLog;
+use nook_defs::limits::MOST_ACTS;
 use nook_defs::lists::Word;
-use nook_defs::machine::{BurstEnd, Cpu, Instr};
+use nook_defs::machine::{BurstEnd, Cpu, Instr, TrapCause};
 
 /// What a turn leads to.
 #[derive(Clone, Copy)]
@@ -29,7 +29,7 @@ pub enum Step {
 
 /// One turn, and the crossing that it is. A turn that traps changes nothing else.
 pub fn turn<B: Bus>(cpu: &mut Cpu, bus: &mut B, acts: &mut ActLog) -> Option<BurstEnd>
-    requires { length acts.old < 64 }
+    requires { length acts.old < MOST_ACTS }
     ensures turned { IsTurn
         (machine_turn (B.entries bus.old) (machine_of cpu.old (B.words bus.old) (B.device bus.old)))
         (machine_of cpu.new (B.words bus.new) (B.device bus.new)) acts.old acts.new result }
@@ -62,7 +62,7 @@ pub fn take_turn<B: Bus>(
     bus: &mut B,
     acts: &mut ActLog,
 ) -> Step
-    requires { length acts.old < 64 }
+    requires { length acts.old < MOST_ACTS }
     ensures turned { IsTurn
         (machine_turn (B.entries bus.old) (machine_of (cpu_of counter registers.old) (B.words bus.old) (B.device bus.old)))
         (machine_of (cpu_of (next_of counter result) registers.new) (B.words bus.new) (B.device bus.new))
@@ -90,7 +90,7 @@ fn perform<B: Bus>(
     acts: &mut ActLog,
 ) -> Step
     requires fields { has_registers instr ≡ true }
-    requires room { length acts.old < 64 }
+    requires room { length acts.old < MOST_ACTS }
     ensures turned { IsTurn
         (executed (B.entries bus.old) (machine_of (cpu_of counter registers.old) (B.words bus.old) (B.device bus.old)) instr)
         (machine_of (cpu_of (next_of counter result) registers.new) (B.words bus.new) (B.device bus.new))
@@ -291,7 +291,7 @@ fn give<B: Bus>(
     port: u16,
 ) -> Step
     requires register { a < 16 }
-    requires room { length acts.old < 64 }
+    requires room { length acts.old < MOST_ACTS }
     ensures turned { IsTurn
         (past_output (machine_of (cpu_of counter registers.now) (B.words bus.old) (B.device bus.old)) port
         (output_of port (slice_index registers.now a) (B.device bus.old)))

@@ -7,12 +7,12 @@ use Rattle.std.proofs.lemmas.Slice.Zip.{AllZip-long}
 use Rattle.nook_defs.specs.Campaigns.{AreRows, IsRowOf, IsTable, IsValidCampaign, member, row_of}
 use Rattle.nook_defs.specs.Simulation.{answer_table, journals_of}
 use Rattle.nook_defs.specs.Valid.{IsValidFault, IsValidScenario}
-use Rattle.nook_defs.specs.declared.data.Campaign.{Campaign}
-use Rattle.nook_defs.specs.declared.data.Fault.{Fault}
-use Rattle.nook_defs.specs.declared.data.MemberRow.{MemberRow}
-use Rattle.nook_defs.specs.declared.data.Scenario.{Scenario}
+use Rattle.nook_defs.specs.declared.campaign.Campaign.{Campaign}
+use Rattle.nook_defs.specs.declared.scenario.Fault.{Fault}
+use Rattle.nook_defs.specs.declared.campaign.MemberRow.{MemberRow}
+use Rattle.nook_defs.specs.declared.scenario.Scenario.{Scenario}
 use Rattle.nook_defs.specs.declared.memory.NoMemory.{NoMemory}
-use Rattle.scenario_laws.proofs.Members.{member_is_valid}
+use Rattle.reading_laws.proofs.Members.{member_is_valid}
 use Rattle.sim_run.proofs.Ending.{scheduled_ends, scheduled_once}
 
 -- ---- one row

@@ -7,9 +7,9 @@ use Rattle.fault_campaign.specs.Tallies.{tally_of}
 use Rattle.fault_campaign.specs.declared.tally.Tally.{Tally}
 use Rattle.nook_defs.specs.Campaigns.{AreRows, IsValidCampaign, last_line, row_line, row_lines}
 use Rattle.nook_defs.specs.Valid.{IsValidFault}
-use Rattle.nook_defs.specs.declared.data.Campaign.{Campaign}
-use Rattle.nook_defs.specs.declared.data.Fault.{Fault}
-use Rattle.nook_defs.specs.declared.data.MemberRow.{MemberRow}
+use Rattle.nook_defs.specs.declared.campaign.Campaign.{Campaign}
+use Rattle.nook_defs.specs.declared.scenario.Fault.{Fault}
+use Rattle.nook_defs.specs.declared.campaign.MemberRow.{MemberRow}
 use Rattle.report_text.proofs.WroteLemmas.{progress_halt, progress_start}
 use Rattle.report_text.specs.Writing.{Wrote}
 use Rattle.report_text.specs.declared.write.WriteStop.{WriteStop}

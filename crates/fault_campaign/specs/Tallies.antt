@@ -2,7 +2,7 @@ use Rattle.std.specs.Prelude.{ℕ, List, ◌++◌, codes, length}
 use Rattle.fault_campaign.specs.declared.tally.Tally.{Tally}
 use Rattle.nook_defs.specs.Campaigns.{status_count, tally_line}
 use Rattle.nook_defs.specs.ReportLines.{line_feed, with_number}
-use Rattle.nook_defs.specs.declared.data.MemberRow.{MemberRow}
+use Rattle.nook_defs.specs.declared.campaign.MemberRow.{MemberRow}
 
 -- the tally of some rows
 abbrev pub tally_of : List MemberRow → Tally

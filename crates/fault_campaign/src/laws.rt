@@ -2,8 +2,8 @@
 
 ghost use Rattle.std.specs.Prelude.{◌≡◌, List};
 ghost use Rattle.nook_defs.specs.Campaigns.{IsTable, IsValidCampaign};
-ghost use Rattle.nook_defs.specs.declared.data.Campaign.{Campaign};
-ghost use Rattle.nook_defs.specs.declared.data.MemberRow.{MemberRow};
+ghost use Rattle.nook_defs.specs.declared.campaign.Campaign.{Campaign};
+ghost use Rattle.nook_defs.specs.declared.campaign.MemberRow.{MemberRow};
 
 /// Every valid campaign has a table.
 pub fn every_campaign_has_a_table()

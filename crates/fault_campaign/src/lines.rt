@@ -6,7 +6,7 @@ ghost use Rattle.nook_defs.specs.Campaigns.{row_line, row_lines};
 ghost use Rattle.nook_defs.specs.ReportLines.{with_number};
 ghost use Rattle.report_text.specs.Writing.{Wrote};
 
-use nook_defs::data::MemberRow;
+use nook_defs::campaign::MemberRow;
 use nook_defs::memory::NoMemory;
 use nook_defs::outside::Sink;
 use report_text::line::Line;

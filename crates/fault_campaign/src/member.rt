@@ -3,9 +3,10 @@
 ghost use Rattle.std.specs.Prelude.{◌≡◌, ◌<◌, IfOk, length};
 ghost use Rattle.nook_defs.specs.Campaigns.{member, with_fault};
 
-use nook_defs::data::{Campaign, Fault, PartSpec, Scenario};
+use nook_defs::campaign::Campaign;
 use nook_defs::lists::TryCopy;
 use nook_defs::memory::NoMemory;
+use nook_defs::scenario::{Fault, PartSpec, Scenario};
 use std::alloc::Global;
 
 /// The scenario of the member with a fault: the campaign's own, where the fault stands behind those that the struck

@@ -4,11 +4,12 @@ ghost use Rattle.std.specs.Prelude.{◌≡◌, ◌+◌, IfOk, map};
 ghost use Rattle.fault_campaign.specs.Sums.{failures_in, lost_in};
 ghost use Rattle.nook_defs.specs.Campaigns.{gone_count, gone_in, is_gone_answer, row_of};
 ghost use Rattle.nook_defs.specs.ReportText.{events_count};
-ghost use Rattle.nook_defs.specs.declared.data.Scenario.{Scenario};
+ghost use Rattle.nook_defs.specs.declared.scenario.Scenario.{Scenario};
 ghost use Rattle.report_text.specs.Whole.{IsReport};
 ghost use Rattle.run_ends.specs.Journals.{AreRuns, events_in};
 
-use nook_defs::data::{Answer, MemberRow, PartAnswers};
+use nook_defs::calls::{Answer, PartAnswers};
+use nook_defs::campaign::MemberRow;
 use nook_defs::journal::Journal;
 use nook_defs::memory::NoMemory;
 use report_text::whole_report::{PartReport, Report};

@@ -6,9 +6,10 @@ ghost use Rattle.nook_defs.specs.Valid.{IsValidFault, IsValidScenario};
 
 use crate::member::member_of;
 use crate::row::row_of;
-use nook_defs::data::{Campaign, Fault, MemberRow, Scenario, Table};
+use nook_defs::campaign::{Campaign, MemberRow, Table};
 use nook_defs::lists::Items;
 use nook_defs::memory::NoMemory;
+use nook_defs::scenario::{Fault, Scenario};
 use rayon::prelude::*;
 use report_text::whole_report::report_of;
 use request_taps::TapBus;

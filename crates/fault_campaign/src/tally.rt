@@ -2,11 +2,11 @@
 
 ghost use Rattle.std.specs.Prelude.{◌≡◌, ◌+◌, ◌^◌, ◌<◌, [], ◌∷◌, ◌++◌, List, OnOk, length};
 ghost use Rattle.fault_campaign.specs.Tallies.{tally_of, tally_text};
-ghost use Rattle.nook_defs.specs.declared.data.MemberRow.{MemberRow};
+ghost use Rattle.nook_defs.specs.declared.campaign.MemberRow.{MemberRow};
 ghost use Rattle.report_text.specs.Writing.{Wrote};
 
 use crate::lines::push_number;
-use nook_defs::data::MemberRow;
+use nook_defs::campaign::MemberRow;
 use nook_defs::memory::NoMemory;
 use nook_defs::outside::Sink;
 use report_text::line::Line;

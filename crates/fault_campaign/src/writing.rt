@@ -4,14 +4,15 @@ ghost use Rattle.std.specs.Prelude.{◌≡◌, ◌+◌, ◌^◌, ◌<◌, ◌++�
 ghost use Rattle.fault_campaign.specs.Tallies.{tally_of};
 ghost use Rattle.nook_defs.specs.Campaigns.{AreRows, IsTable, IsValidCampaign, last_line, row_lines, table_text};
 ghost use Rattle.nook_defs.specs.Valid.{IsValidFault};
-ghost use Rattle.nook_defs.specs.declared.data.MemberRow.{MemberRow};
+ghost use Rattle.nook_defs.specs.declared.campaign.MemberRow.{MemberRow};
 ghost use Rattle.report_text.specs.Writing.{Wrote};
 
 use crate::lines::write_rows;
 use crate::running::run_members;
 use crate::tally::{Tally, write_tally};
-use nook_defs::data::{Campaign, Fault};
+use nook_defs::campaign::Campaign;
 use nook_defs::outside::Sink;
+use nook_defs::scenario::Fault;
 use report_text::write::WriteStop;
 use std::alloc::Global;
 use std::thread::Threads;

@@ -3,13 +3,13 @@ use Rattle.std.proofs.Common.{◌≡◌, ℕ, suc, ◌≤◌, ◌<◌, ◌==◌,
 use Rattle.std.specs.List.Sorted.{IsNonDecreasingBy}
 use Rattle.std.proofs.lemmas.Bool.{cases_Bool, cases_order, eq-eqb, ne_eqb, leb-true, leb-false, le-leb}
 use Rattle.std.proofs.lemmas.Bool.Decides.{nat_tests}
-use Rattle.nook_defs.specs.declared.data.Fault.{Fault}
+use Rattle.nook_defs.specs.declared.scenario.Fault.{Fault}
 use Rattle.std.proofs.lemmas.List.Elements.{filter_agree}
 use Rattle.std.proofs.lemmas.List.Kept.{IsNonDecreasingBy-filter}
 use Rattle.std.specs.List.Sorted.{IsStableByKey, ties}
 use Rattle.std.specs.Ordering.{is_lt, nat_cmp}
-use Rattle.nook_defs.specs.declared.data.FaultKind.TheVariants as kind
-use Rattle.nook_defs.specs.Steps.{with_fault, in_order, is_of_burst, faults_of_burst}
+use Rattle.nook_defs.specs.declared.scenario.FaultKind.TheVariants as kind
+use Rattle.nook_defs.specs.Steps.{insert_fault, in_order, is_of_burst, faults_of_burst}
 use Rattle.fault_script.specs.Order.{IsOrdered}
 
 -- the fault strikes at the place
@@ -46,12 +46,12 @@ by_le P m n x y f g = elim (cases_Bool (nat_le m n)) [
   | inr e ↦ rw e (g (leb-false m n e))
 ]
 
-kept_from : (place : ℕ) (f : Fault) (faults : List Fault) → place ≤ f.after → IsFrom place faults → IsFrom place (with_fault f faults)
+kept_from : (place : ℕ) (f : Fault) (faults : List Fault) → place ≤ f.after → IsFrom place faults → IsFrom place (insert_fault f faults)
 kept_from place f [] l h = (l, tt)
 kept_from place f (g ∷ faults) l h =
     by_le (IsFrom place) f.after g.after _ _ (λ _. (l, h)) (λ _. (h.0, kept_from place f faults l h.1))
 
-with_rises : (f : Fault) (faults : List Fault) → Rises faults → Rises (with_fault f faults)
+with_rises : (f : Fault) (faults : List Fault) → Rises faults → Rises (insert_fault f faults)
 with_rises f [] h = (tt, tt)
 with_rises f (g ∷ faults) h =
     by_le Rises f.after g.after _ _
@@ -62,7 +62,7 @@ order_rises : (faults : List Fault) → Rises (in_order faults)
 order_rises [] = tt
 order_rises (f ∷ faults) = with_rises f (in_order faults) (order_rises faults)
 
-with_first : (f : Fault) (faults : List Fault) → IsFrom f.after faults → with_fault f faults ≡ f ∷ faults
+with_first : (f : Fault) (faults : List Fault) → IsFrom f.after faults → insert_fault f faults ≡ f ∷ faults
 with_first f [] h = refl
 with_first f (g ∷ faults) h = rw (le-leb f.after g.after h.0) refl
 
@@ -82,7 +82,7 @@ not_both : (place m n : ℕ) → n < m → (m == place) ≡ true → (n == place
 not_both place m n l e f = grind (arith, nat_tests)
 
 -- the order keeps the faults of one place as they stand
-with_ties : (place : ℕ) (f : Fault) (faults : List Fault) → filter (is_at place) (with_fault f faults) ≡ filter (is_at place) (f ∷ faults)
+with_ties : (place : ℕ) (f : Fault) (faults : List Fault) → filter (is_at place) (insert_fault f faults) ≡ filter (is_at place) (f ∷ faults)
 with_ties place f [] = refl
 with_ties place f (g ∷ faults) =
     by_le (λ z. filter (is_at place) z ≡ filter (is_at place) (f ∷ g ∷ faults)) f.after g.after _ _ (λ _. refl)

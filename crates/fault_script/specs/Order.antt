@@ -1,6 +1,6 @@
 use Rattle.std.specs.Prelude.{ℕ, List, filter}
 use Rattle.std.specs.List.Sorted.{IsNonDecreasingBy}
-use Rattle.nook_defs.specs.declared.data.Fault.{Fault}
+use Rattle.nook_defs.specs.declared.scenario.Fault.{Fault}
 use Rattle.nook_defs.specs.Steps.{is_of_burst}
 
 -- bursts do not fall along the list, and among the faults of one burst places do not

@@ -1,8 +1,8 @@
 //! The order in which faults strike.
 
 use crate::FaultScript;
-use nook_defs::data::{Fault, FaultKind, Faults};
 use nook_defs::memory::NoMemory;
+use nook_defs::scenario::{Fault, FaultKind, Faults};
 use std::alloc::Global;
 use std::fmt::Write;
 use std::test::Fail;

@@ -3,9 +3,9 @@
 ghost use Rattle.std.specs.Prelude.{◌≡◌};
 ghost use Rattle.nook_defs.specs.Listening.{masks_meet};
 
-use nook_defs::data::Event;
 use nook_defs::listeners::event_kinds;
 use nook_defs::outside::Listener;
+use nook_defs::steps::Event;
 
 /// Counts the events of all parts and kinds on top of a total, up to a limit.
 #[derive(Drop)]

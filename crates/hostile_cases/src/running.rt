@@ -3,9 +3,9 @@
 ghost use Rattle.std.specs.Prelude.{IfOk};
 ghost use Rattle.nook_defs.specs.Valid.{IsValidScenario};
 
-use nook_defs::data::Scenario;
 use nook_defs::lists::Words;
 use nook_defs::outside::Listener;
+use nook_defs::scenario::Scenario;
 use nook_defs::streams_in_memory::ListSink;
 use report_text::whole_report::report_of;
 use report_text::whole_text::write_report;

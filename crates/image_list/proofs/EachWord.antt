@@ -18,8 +18,8 @@ use Rattle.nook_defs.specs.declared.assembler.Statement.{Statement}
 use Rattle.nook_defs.specs.declared.assembler.Statement.TheVariants as statement
 use Rattle.nook_defs.specs.declared.assembler.Value.{Value}
 use Rattle.nook_defs.specs.declared.assembler.Value.TheVariants as value
-use Rattle.nook_defs.specs.declared.data.Class.{Class}
-use Rattle.nook_defs.specs.declared.data.Image.{Image}
+use Rattle.nook_defs.specs.declared.classes.Class.{Class}
+use Rattle.nook_defs.specs.declared.scenario.Image.{Image}
 use Rattle.driver_asm.specs.Listed.{behind_draft, if_longer, line_if, listed, makers, words_in}
 use Rattle.driver_asm.specs.declared.listed.Listed.{Listed}
 use Rattle.image_list.specs.ListText.{list_text, rows_from}

@@ -7,7 +7,8 @@ use Rattle.nook_defs.specs.declared.assembler.AsmFault.{AsmFault}
 use Rattle.nook_defs.specs.declared.assembler.Label.{Label}
 use Rattle.nook_defs.specs.declared.assembler.Section.{Section}
 use Rattle.nook_defs.specs.declared.assembler.Section.TheVariants as section
-use Rattle.nook_defs.specs.declared.data.Image.{Image}
+use Rattle.nook_defs.specs.declared.scenario.Image.{Image}
+use Rattle.nook_defs.specs.declared.memory_map.TheConstants.{DATA_START}
 use Rattle.driver_asm.specs.Listed.{listed}
 use Rattle.driver_asm.specs.declared.listed.Listed.{Listed}
 
@@ -30,7 +31,7 @@ abbrev pub text_rows : Listed → List Row
 text_rows l = rows_from 0 l.image.text l.text_lines
 
 abbrev pub initial_rows : Listed → List Row
-initial_rows l = rows_from 2048 l.image.initial l.initial_lines
+initial_rows l = rows_from DATA_START l.image.initial l.initial_lines
 
 -- what a word of a section says: a text word its instruction, if it is one
 abbrev pub word_says : Section → ℕ → List (List ℕ)

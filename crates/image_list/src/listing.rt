@@ -10,14 +10,12 @@ use driver_asm::{
 };
 use itoa::Buffer;
 use nook_defs::assembler::{Label, Section};
-use nook_defs::data::Image;
 use nook_defs::lists::{Word, Words8};
 use nook_defs::memory::NoMemory;
+use nook_defs::memory_map::DATA_START;
+use nook_defs::scenario::Image;
 use std::alloc::Global;
 use std::fmt::Write;
-
-/// The address of the first initial word.
-const INITIAL_ADDRESS: u64 = 2048;
 
 /// The listing of an assembler text: a line for each text word and each initial word with its address, its eight
 /// hexadecimal digits, the number of the line that made it and what it says; then a line for each label in the order of
@@ -48,7 +46,7 @@ fn text_of(alloc: Global, listed: &Listed) -> Result<Words8, NoMemory>
 /// A line for each word.
 fn rows_of(alloc: Global, listed: &Listed) -> Result<String, NoMemory>
     ensures { IfOk result (λ text. string_bytes text ≡ flat_map line_text (map (row_tokens Section.Text) (rows_from 0 listed.now.image.text listed.now.text_lines))
-        ++ flat_map line_text (map (row_tokens Section.Data) (rows_from 2048 listed.now.image.initial listed.now.initial_lines))) }
+        ++ flat_map line_text (map (row_tokens Section.Data) (rows_from DATA_START listed.now.image.initial listed.now.initial_lines))) }
 {
     let mut text = String::new(alloc);
     let image = &listed.image;
@@ -62,7 +60,7 @@ fn rows_of(alloc: Global, listed: &Listed) -> Result<String, NoMemory>
     push_rows(
         &mut text,
         Section::Data,
-        INITIAL_ADDRESS,
+        u64::from(DATA_START),
         image.initial.as_slice(),
         listed.initial_lines.as_slice(),
     )?;
@@ -78,7 +76,7 @@ fn push_rows(
     words: &[Word],
     lines: &[u64],
 ) -> Result<(), NoMemory>
-    requires { first ≤ 2048 }
+    requires { first ≤ DATA_START }
     ensures { OnOk result (string_bytes text.new ≡ string_bytes text.old ++ flat_map line_text (map (row_tokens section) (rows_from first words.now lines.now))) }
 {
     let mut address = first;

@@ -3,10 +3,10 @@ use Rattle.std.proofs.Common.{◌≡◌, ℕ, suc, ◌+◌, ◌<◌, ◌≤◌, 
 use Rattle.std.proofs.lemmas.List.{drop-set-lt, drop_all, drop_more, take_all, take_more_set}
 use Rattle.std.proofs.lemmas.List.Elements.{All-get_or, All-set}
 use Rattle.std.specs.List.{list_all}
-use Rattle.audit_laws.specs.Audit.{are_through, is_through, thread_on}
+use Rattle.run_laws.specs.Audit.{are_through, is_through, thread_on}
 use Rattle.nook_defs.specs.Simulation.{started, threads_after, told}
-use Rattle.nook_defs.specs.declared.data.Event.{Event}
-use Rattle.nook_defs.specs.declared.data.ThreadSpec.{ThreadSpec}
+use Rattle.nook_defs.specs.declared.steps.Event.{Event}
+use Rattle.nook_defs.specs.declared.scenario.ThreadSpec.{ThreadSpec}
 use Rattle.part_laws.proofs.Places.{length_map}
 use Rattle.journal_audit.specs.Sections.{AreOn, OnPart, state_in, with_state}
 

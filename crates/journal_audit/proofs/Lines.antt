@@ -1,8 +1,8 @@
 -- The lines of a text, and a text that is due against the lines that come.
 use Rattle.std.proofs.Common.{◌≡◌, ℕ, suc, ◌+◌, ◌==◌, ◌||◌, ◌&&◌, Bool, true, false, if◌then◌else◌, Some, None, List, [], ◌∷◌, ◌++◌, refl, sym, ap, ◌∙◌, append_assoc, append-nil, add-zero, arith}
 use Rattle.std.proofs.lemmas.Bool.{eq-eqb, eqb-true}
-use Rattle.audit_laws.specs.Audit.{Auditing, after_line, behind, first_unfit, has_nothing, is_ended, lines_of}
-use Rattle.nook_defs.specs.declared.data.Scenario.{Scenario}
+use Rattle.run_laws.specs.Audit.{Auditing, after_line, behind, first_unfit, has_nothing, is_ended, lines_of}
+use Rattle.nook_defs.specs.declared.scenario.Scenario.{Scenario}
 use Rattle.journal_audit.specs.Found.{found_from}
 use Rattle.journal_audit.specs.Placed.{Departs, Follows, Place, begins_with, feeds}
 

@@ -4,7 +4,7 @@ use Rattle.std.proofs.lemmas.Bool.{eqb-true}
 use Rattle.std.proofs.lemmas.List.{take_at, drop_at}
 use Rattle.std.proofs.lemmas.List.Recursion.{is_count_by}
 use Rattle.std.specs.List.{position, position_or_len}
-use Rattle.audit_laws.specs.Audit.{lines_of}
+use Rattle.run_laws.specs.Audit.{lines_of}
 use Rattle.journal_audit.proofs.Lines.{ended, has_feed, last_line, line_split, or_left, or_right, unended}
 use Rattle.journal_audit.specs.Placed.{HasNoLine, IsNextLine, Place, begin_unended, feeds, past}
 

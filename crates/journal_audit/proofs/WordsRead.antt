@@ -4,7 +4,7 @@ use Rattle.std.proofs.lemmas.Bool.Decides.{nat_tests}
 use Rattle.std.proofs.lemmas.Fmt.{decimal_digit, decimal_step}
 use Rattle.std.specs.List.{position, prefix_len}
 use Rattle.part_laws.proofs.Places.{some_same, split}
-use Rattle.audit_laws.specs.Audit.{context_among, with_byte, word_at, words_of}
+use Rattle.run_laws.specs.Audit.{context_among, with_byte, word_at, words_of}
 
 -- ---- words
 

@@ -1,11 +1,11 @@
 -- A thread on one part, as the audit keeps it, and what a line of an event does to a section.
 use Rattle.std.specs.Prelude.{◌≡◌, ℕ, ◌-◌, ◌==◌, Bool, true, false, List, [], ◌∷◌, Option, Some, None, All, length, slice_get}
-use Rattle.audit_laws.specs.Audit.{Section}
-use Rattle.nook_defs.specs.Simulation.{ThreadState, Waiting, seat_after}
+use Rattle.run_laws.specs.Audit.{Section}
+use Rattle.nook_defs.specs.Simulation.{ThreadState, Waiting, part_after}
 use Rattle.nook_defs.specs.Steps.{enabled}
-use Rattle.nook_defs.specs.declared.data.Event.{Event}
-use Rattle.nook_defs.specs.declared.data.Op.{Op}
-use Rattle.nook_defs.specs.declared.data.Step.{Step}
+use Rattle.nook_defs.specs.declared.steps.Event.{Event}
+use Rattle.nook_defs.specs.declared.calls.Op.{Op}
+use Rattle.nook_defs.specs.declared.steps.Step.{Step}
 
 -- a thread, and the part that it asks
 pub record OnPart : Type 0 where
@@ -41,7 +41,7 @@ with_threads s threads = record s { threads = threads }
 
 -- a step was taken, or may not be taken
 abbrev pub IsTaken : Bool → Section → Step → Section → Type 0
-IsTaken true s step t = (enabled s.seat.run.state step ≡ true) × (t ≡ record s { seat = seat_after step s.seat })
+IsTaken true s step t = (enabled s.seat.run.state step ≡ true) × (t ≡ record s { seat = part_after step s.seat })
 IsTaken false s step t = enabled s.seat.run.state step ≡ false
 
 -- a line fits, and this is the section after it, or it does not fit

@@ -1,15 +1,15 @@
 //! The audit of a report, line by line.
 
 ghost use Rattle.std.specs.Prelude.{◌≡◌, ◌<◌, ◌++◌, ◌∷◌, [], ℕ, List, None, Option, true, false, IfOk, OnOk, bytes_eq, length};
-ghost use Rattle.audit_laws.specs.Audit.{Done, audited, is_numbered, opening_audit, opening_section};
+ghost use Rattle.run_laws.specs.Audit.{Done, audited, is_numbered, opening_audit, opening_section};
 ghost use Rattle.journal_audit.specs.Found.{ArePast, at_last, between, found_from, inside};
 ghost use Rattle.journal_audit.specs.Placed.{IsEnding};
 ghost use Rattle.journal_audit.specs.Stopping.{Checks, Leads};
 ghost use Rattle.journal_audit.specs.Tallies.{SumsUp};
 ghost use Rattle.nook_defs.specs.ReportText.{part_line};
 ghost use Rattle.nook_defs.specs.Valid.{IsValidPart, IsValidScenario};
-ghost use Rattle.nook_defs.specs.declared.data.PartSpec.{PartSpec as Spec};
-ghost use Rattle.nook_defs.specs.declared.data.Scenario.{Scenario as Given};
+ghost use Rattle.nook_defs.specs.declared.scenario.PartSpec.{PartSpec as Spec};
+ghost use Rattle.nook_defs.specs.declared.scenario.Scenario.{Scenario as Given};
 
 use crate::comparing::Comparing;
 use crate::cursor::Cursor;
@@ -18,8 +18,8 @@ use crate::last::check_last;
 use crate::section::Section;
 use crate::stop::Stop;
 use crate::tally::Tally;
-use nook_defs::data::{PartSpec, Scenario};
 use nook_defs::memory::NoMemory;
+use nook_defs::scenario::{PartSpec, Scenario};
 use report_text::write::{WriteStop, write_part_line};
 use std::alloc::Global;
 

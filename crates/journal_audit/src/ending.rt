@@ -1,13 +1,13 @@
 //! The lines behind a section's events.
 
 ghost use Rattle.std.specs.Prelude.{◌≡◌, ◌<◌, ◌++◌, ◌∷◌, [], List, IfOk, OnOk, length};
-ghost use Rattle.audit_laws.specs.Audit.{Done, done_of, section_end};
+ghost use Rattle.run_laws.specs.Audit.{Done, done_of, section_end};
 ghost use Rattle.journal_audit.specs.Found.{between, found_from, inside};
 ghost use Rattle.journal_audit.specs.Placed.{Departs, Follows, IsEnding};
 ghost use Rattle.journal_audit.specs.Stopping.{Checks, OnUnfit};
 ghost use Rattle.journal_audit.specs.Tallies.{SumsUp, judged_in};
-ghost use Rattle.nook_defs.specs.declared.data.PartSpec.{PartSpec as Spec};
-ghost use Rattle.nook_defs.specs.declared.data.Scenario.{Scenario};
+ghost use Rattle.nook_defs.specs.declared.scenario.PartSpec.{PartSpec as Spec};
+ghost use Rattle.nook_defs.specs.declared.scenario.Scenario.{Scenario};
 
 use crate::comparing::Comparing;
 use crate::cursor::Cursor;

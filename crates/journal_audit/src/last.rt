@@ -1,23 +1,25 @@
 //! The lines behind the sections: the threads with their answers, the program's own listeners, the status.
 
 ghost use Rattle.std.specs.Prelude.{◌≡◌, ◌≤◌, ◌++◌, [], ◌∷◌, ℕ, List, IfOk, MatchOption, if◌then◌else◌, length, map, slice_index_or, slice_set};
-ghost use Rattle.audit_laws.specs.Audit.{Done, answers_in_order, in_script_order};
+ghost use Rattle.run_laws.specs.Audit.{Done, answers_in_order, in_script_order};
 ghost use Rattle.journal_audit.specs.Found.{at_last, between, found_from};
 ghost use Rattle.journal_audit.specs.Stopping.{Checks};
 ghost use Rattle.journal_audit.specs.Tallies.{SumsUp, answers_in};
 ghost use Rattle.nook_defs.specs.ReportText.{status_line, taps_text, threads_text};
-ghost use Rattle.nook_defs.specs.declared.data.Answer.{Answer};
-ghost use Rattle.nook_defs.specs.declared.data.Scenario.{Scenario};
+ghost use Rattle.nook_defs.specs.declared.calls.Answer.{Answer};
+ghost use Rattle.nook_defs.specs.declared.scenario.Scenario.{Scenario};
 ghost use Rattle.report_text.specs.Writing.{Wrote};
 
 use crate::comparing::Comparing;
 use crate::cursor::Cursor;
 use crate::stop::Stop;
 use crate::tally::Tally;
-use nook_defs::data::{Answer, AnswerTable, Op, PartAnswers, TapTotals, ThreadSpec};
+use nook_defs::calls::{Answer, AnswerTable, Op, PartAnswers};
+use nook_defs::listeners::TapTotals;
 use nook_defs::lists::{Items, TryCopy};
 use nook_defs::memory::NoMemory;
 use nook_defs::outside::Sink;
+use nook_defs::scenario::ThreadSpec;
 use report_text::whole_text::write_taps;
 use report_text::write::{WriteStop, write_status_line, write_threads};
 use std::alloc::Global;
@@ -110,7 +112,7 @@ struct Given<'a> {
 
 impl<'a> Model for Given<'a> {
     ghost use Rattle.std.specs.Prelude.{ℕ, List, map};
-    ghost use Rattle.nook_defs.specs.declared.data.Answer.{Answer as Answered};
+    ghost use Rattle.nook_defs.specs.declared.calls.Answer.{Answer as Answered};
 
     ghost Value = { List (List (ℕ × Answered)) };
 

@@ -1,15 +1,17 @@
 //! What a thread asks of one part: the operations that it has not invoked, its open call and its answers.
 
-ghost use Rattle.std.specs.Prelude.{◌≡◌, ℕ, true, List, ◌∷◌, [], None, IfOk, MatchOption, OnOk, filter, if◌then◌else◌};
-ghost use Rattle.audit_laws.specs.Audit.{is_on, is_through, thread_on};
+ghost use Rattle.std.specs.Prelude.{drop, ◌≡◌, ℕ, true, List, ◌∷◌, [], None, IfOk, MatchOption, OnOk, filter, if◌then◌else◌};
+ghost use Rattle.run_laws.specs.Audit.{is_on, is_through, thread_on};
 ghost use Rattle.nook_defs.specs.Runs.{answer_among, answer_at};
-ghost use Rattle.nook_defs.specs.Simulation.{started, tail_ops, told};
+ghost use Rattle.nook_defs.specs.Simulation.{started, told};
 ghost use Rattle.journal_audit.specs.Sections.{is_at, with_state};
-ghost use Rattle.nook_defs.specs.declared.data.Op.{Op};
+ghost use Rattle.nook_defs.specs.declared.calls.Op.{Op};
 
-use nook_defs::data::{Answer, Event, Op, PartAnswers, ThreadSpec};
-use nook_defs::lists::{Items, TryCopy};
+use nook_defs::calls::{Op, PartAnswers};
+use nook_defs::lists::Items;
 use nook_defs::memory::NoMemory;
+use nook_defs::scenario::ThreadSpec;
+use nook_defs::steps::Event;
 use std::alloc::Global;
 use std::marker::Model;
 
@@ -26,7 +28,7 @@ pub struct Script<'a> {
 
 impl<'a> Model for Script<'a> {
     ghost use Rattle.std.specs.Prelude.{◌≡◌, true, filter};
-    ghost use Rattle.audit_laws.specs.Audit.{is_on};
+    ghost use Rattle.run_laws.specs.Audit.{is_on};
     ghost use Rattle.journal_audit.specs.Sections.{OnPart, is_at, waiting_on};
 
     ghost Value = { OnPart };
@@ -101,7 +103,7 @@ impl<'a> Script<'a> {
         let Some(call) = self.waiting else {
             return Ok(());
         };
-        if let Some(answer) = answer_to(alloc, call, event)? {
+        if let Some(answer) = event.copy_of_answer(alloc, call)? {
             self.answers.push((self.part, answer))?;
             self.waiting = None;
         }
@@ -132,62 +134,11 @@ fn from_part<'a>(part: u32, ops: &'a [(u32, Op)]) -> &'a [(u32, Op)]
 /// The operations behind the first one, from the next on the part on.
 fn behind_first<'a>(part: u32, ops: &'a [(u32, Op)]) -> &'a [(u32, Op)]
     requires { is_at part ops.now ≡ true }
-    ensures rest { filter (is_on part) result.now ≡ tail_ops (filter (is_on part) ops.now) }
+    ensures rest { filter (is_on part) result.now ≡ drop 1 (filter (is_on part) ops.now) }
     ensures first { is_at part result.now ≡ true }
 {
     match ops.split_first() {
         Some((_, rest)) => from_part(part, rest),
         None => ops,
     }
-}
-
-/// The answer that an event gives to a call.
-fn answer_to(alloc: Global, call: u32, event: &Event) -> Result<Option<Answer>, NoMemory>
-    ensures { IfOk result (λ answer. answer ≡ answer_at call event.now) }
-{
-    match event {
-        Event::Invoke {
-            call: number,
-            answer,
-            ..
-        }
-        | Event::Enter {
-            call: number,
-            answer,
-            ..
-        }
-        | Event::Burst {
-            call: number,
-            answer,
-            ..
-        } => copy_if(alloc, *number == call, answer),
-        Event::Stage { answers, .. } => answer_in(alloc, call, answers.as_slice()),
-        Event::Arrive { .. } => Ok(None),
-    }
-}
-
-/// The answer where the test holds.
-fn copy_if(alloc: Global, test: bool, answer: &Option<Answer>) -> Result<Option<Answer>, NoMemory>
-    ensures { IfOk result (λ made. made ≡ (if test then answer.now else None)) }
-{
-    match answer {
-        Some(answer) if test => Ok(Some(answer.copy(alloc)?)),
-        _ => Ok(None),
-    }
-}
-
-/// The first answer to a call among the answers of a stage.
-fn answer_in(
-    alloc: Global,
-    call: u32,
-    answers: &[(u32, Answer)],
-) -> Result<Option<Answer>, NoMemory>
-    ensures { IfOk result (λ made. made ≡ answer_among call answers.now) }
-{
-    for (number, answer) in answers {
-        if *number == call {
-            return Ok(Some(answer.copy(alloc)?));
-        }
-    }
-    Ok(None)
 }

@@ -1,19 +1,21 @@
 //! The section of one part: the part as the lines so far leave it.
 
 ghost use Rattle.std.specs.Prelude.{◌≡◌, ◌<◌, ◌≤◌, ℕ, IfOk, OnOk, Some, bytes_eq, codes, length, map};
-ghost use Rattle.audit_laws.specs.Audit.{after_event, are_through, arrival_of, context_in, if_burst, if_entered, if_invoked, is_complete, opening_section, step_named, thread_on};
+ghost use Rattle.run_laws.specs.Audit.{after_event, are_through, arrival_of, context_in, if_burst, if_entered, if_invoked, is_complete, opening_section, step_named, thread_on};
 ghost use Rattle.nook_defs.specs.ReportLines.{event_line};
 ghost use Rattle.nook_defs.specs.Runs.{state_of};
 ghost use Rattle.nook_defs.specs.Simulation.{answers_of, coming_after, threads_after};
 ghost use Rattle.nook_defs.specs.Valid.{IsValidPart};
-ghost use Rattle.nook_defs.specs.declared.data.Event.{Event};
+ghost use Rattle.nook_defs.specs.declared.steps.Event.{Event};
 ghost use Rattle.journal_audit.specs.Sections.{AreOn, IsAfter, IsTaken, newest_in, state_in, with_threads};
 
 use crate::script::Script;
 use crate::words::{context_in, word_at};
-use nook_defs::data::{AnswerTable, Event, PartSpec, Step, ThreadSpec};
+use nook_defs::calls::AnswerTable;
 use nook_defs::lists::{Items, TryCopy, Words};
 use nook_defs::memory::NoMemory;
+use nook_defs::scenario::{PartSpec, ThreadSpec};
+use nook_defs::steps::{Event, Step};
 use part_core::{Part, StepRefused};
 use report_text::write::event_line;
 use std::alloc::Global;
@@ -32,7 +34,7 @@ pub struct Section<'a> {
 
 impl<'a> Model for Section<'a> {
     ghost use Rattle.std.specs.Prelude.{◌≡◌, ◌≤◌, length, map};
-    ghost use Rattle.audit_laws.specs.Audit.{Section as Sectioned};
+    ghost use Rattle.run_laws.specs.Audit.{Section as Sectioned};
     ghost use Rattle.journal_audit.specs.Sections.{AreOn, state_in};
 
     ghost Value = { Sectioned };
@@ -178,7 +180,7 @@ impl<'a> Section<'a> {
     }
 
     /// Whether all operations on the part were invoked and answered, all frames have arrived, and the part has no step left.
-    #[tactic(auto, unfolding(audit_laws::specs::Audit::is_complete))]
+    #[tactic(auto, unfolding(run_laws::specs::Audit::is_complete))]
     pub fn is_complete(&self) -> bool
         ensures { result ≡ is_complete self.now }
     {

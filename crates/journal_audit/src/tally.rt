@@ -1,19 +1,20 @@
 //! What is kept of the sections that are over.
 
 ghost use Rattle.std.specs.Prelude.{◌≡◌, ◌<◌, ◌++◌, ◌∷◌, List, [], IfOk, OnOk, if◌then◌else◌, length, map};
-ghost use Rattle.audit_laws.specs.Audit.{Done, done_of, each_of_part, own_listeners};
+ghost use Rattle.run_laws.specs.Audit.{Done, done_of, each_of_part, own_listeners};
 ghost use Rattle.nook_defs.specs.Runs.{state_of};
 ghost use Rattle.nook_defs.specs.Stages.{is_given_up};
-ghost use Rattle.nook_defs.specs.declared.data.PartSpec.{PartSpec};
+ghost use Rattle.nook_defs.specs.declared.scenario.PartSpec.{PartSpec};
 ghost use Rattle.journal_audit.specs.Tallies.{SumsUp, judged_in};
 ghost use Rattle.request_taps.specs.Bus.{result_of, seen, settled, told_all};
 
 use crate::section::Section;
-use nook_defs::data::{AnswerTable, Event, TapTotals};
-use nook_defs::listeners::CountListener;
+use nook_defs::calls::AnswerTable;
+use nook_defs::listeners::{CountListener, TapTotals};
 use nook_defs::lists::Items;
 use nook_defs::memory::NoMemory;
 use nook_defs::outside::Listener;
+use nook_defs::steps::Event;
 use report_text::whole_report::PartReport;
 use request_taps::Bus;
 use std::alloc::Global;

@@ -1,7 +1,7 @@
 //! Reports of small scenarios: as they are, with something changed, cut off, and with more behind them.
 
 use crate::audit;
-use nook_defs::data::Scenario;
+use nook_defs::scenario::Scenario;
 use scenario_read::read_scenario;
 use std::alloc::Global;
 use std::test::Fail;

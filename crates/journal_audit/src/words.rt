@@ -2,10 +2,9 @@
 
 ghost use Rattle.std.specs.Prelude.{◌≡◌, ◌<◌, ◌++◌, ◌==◌, ◌∷◌, [], bytes_eq, decimal};
 ghost use Rattle.std.specs.List.{position};
-ghost use Rattle.audit_laws.specs.Audit.{context_in, word_at};
+ghost use Rattle.run_laws.specs.Audit.{context_in, word_at};
 
-/// How many contexts there are: those of the threads, and the shadow's own.
-const CONTEXTS: u8 = 17;
+use nook_defs::limits::CONTEXTS;
 
 /// The word at a place of a line, from 0, between blanks; empty where there is none. The line feed is a part of the last.
 pub fn word_at(place: u32, line: &[u8]) -> &[u8]
@@ -30,7 +29,7 @@ fn blank_in(line: &[u8]) -> Option<usize>
 pub fn context_in(letter: u8, word: &[u8]) -> Option<u8>
     ensures { result ≡ context_in (letter ∷ []) word.now }
 {
-    for context in 0..CONTEXTS {
+    for context in 0..CONTEXTS as u8 {
         if is_context(letter, word, context) {
             return Some(context);
         }
@@ -40,7 +39,7 @@ pub fn context_in(letter: u8, word: &[u8]) -> Option<u8>
 
 /// Whether a word is a letter and the number of a context.
 fn is_context(letter: u8, word: &[u8], context: u8) -> bool
-    requires { context < 17 }
+    requires { context < CONTEXTS }
     ensures { result ≡ bytes_eq word.now ((letter ∷ []) ++ decimal context) }
 {
     if context < 10 {

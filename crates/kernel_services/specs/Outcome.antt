@@ -1,7 +1,9 @@
 use Rattle.std.specs.Prelude.{ℕ, Bool, Option, Some, None, List, [], ◌∷◌, ◌++◌, length, nat_lt, if◌then◌else◌}
-use Rattle.nook_defs.specs.declared.data.Entry.{Entry}
+use Rattle.nook_defs.specs.declared.entries.Entry.{Entry}
 use Rattle.nook_defs.specs.declared.machine.Service.{Service}
 use Rattle.nook_defs.specs.declared.machine.Service.TheVariants as service
+use Rattle.nook_defs.specs.declared.limits.TheConstants.{MOST_QUEUED_FRAMES}
+use Rattle.nook_defs.specs.declared.memory_map.TheConstants.{OBJECT_WORDS}
 use Rattle.nook_defs.specs.Entries.{free_start}
 use Rattle.domain_pages.specs.Frames.{with_own}
 use Rattle.nook_defs.specs.Services.{Served}
@@ -17,16 +19,16 @@ outcome memory entries queue told = record {
   moved = told.moved;
 }
 
--- the queue after a frame is handed up: it takes it while it holds fewer than 64
+-- the queue after a frame is handed up: it takes it while it has room
 abbrev pub with_frame : List ℕ → List (List ℕ) → List (List ℕ)
-with_frame frame queue = if nat_lt (length queue) 64 then queue ++ frame ∷ [] else queue
+with_frame frame queue = if nat_lt (length queue) MOST_QUEUED_FRAMES then queue ++ frame ∷ [] else queue
 
 -- the driver's pages with a copy of their own, after the copy of an object is put at a start
 abbrev pub own_copied : Option ℕ → List Bool → List Bool
 own_copied None own = own
-own_copied (Some start) own = with_own start 64 own
+own_copied (Some start) own = with_own start OBJECT_WORDS own
 
 -- the same after a service: only Borrow writes words of the driver
 abbrev pub own_served : ℕ → Service → List Entry → List Bool → List Bool
-own_served heap_start (service.Borrow object) entries own = own_copied (free_start heap_start 64 entries) own
+own_served heap_start (service.Borrow object) entries own = own_copied (free_start heap_start OBJECT_WORDS entries) own
 own_served heap_start asked entries own = own

@@ -5,15 +5,13 @@ ghost use Rattle.nook_defs.specs.Devices.{tail_of};
 ghost use Rattle.nook_defs.specs.Log.{front_of};
 ghost use Rattle.kernel_services.specs.Outcome.{with_frame};
 
+use nook_defs::limits::MOST_QUEUED_FRAMES;
 use nook_defs::lists::Words;
 use nook_defs::memory::NoMemory;
 use nook_defs::outside::RxFront;
 use std::alloc::Global;
 use std::collections::VecDeque;
 use std::marker::Model;
-
-/// The most frames that wait.
-const MOST_FRAMES: usize = 64;
 
 /// The frames that were handed up and wait, the oldest first; at most 64. Contracts see the list.
 #[derive(Drop)]
@@ -24,12 +22,13 @@ pub struct RxQueue {
 impl Model for RxQueue {
     ghost use Rattle.std.specs.Prelude.{◌≤◌, ℕ, List};
     ghost use Rattle.std.specs.VecDeque.{deque_capacity};
+    ghost use Rattle.nook_defs.specs.declared.limits.TheConstants.{MOST_QUEUED_FRAMES};
 
     ghost Value = { List (List ℕ) };
 
     ghost view = { λ s. s.frames.items };
 
-    ghost invariant = { λ s. 64 ≤ deque_capacity s.frames };
+    ghost invariant = { λ s. MOST_QUEUED_FRAMES ≤ deque_capacity s.frames };
 }
 
 impl RxQueue {
@@ -38,7 +37,7 @@ impl RxQueue {
         ensures { IfOk result (λ made. made ≡ []) }
     {
         Ok(RxQueue {
-            frames: VecDeque::with_capacity(alloc, MOST_FRAMES)?,
+            frames: VecDeque::with_capacity(alloc, MOST_QUEUED_FRAMES)?,
         })
     }
 
@@ -51,10 +50,10 @@ impl RxQueue {
 
     /// A frame goes to the back; where 64 wait, it is dropped, and the answer is false. It takes no memory.
     pub fn offer(&mut self, frame: Words) -> bool
-        ensures taken { result ≡ nat_lt (length self.old) 64 }
+        ensures taken { result ≡ nat_lt (length self.old) MOST_QUEUED_FRAMES }
         ensures queue { self.new ≡ with_frame frame self.old }
     {
-        let taken = self.frames.len() < MOST_FRAMES;
+        let taken = self.frames.len() < MOST_QUEUED_FRAMES;
         if taken {
             self.frames.push_back(frame).unwrap();
         }

@@ -4,19 +4,18 @@ ghost use Rattle.std.specs.Prelude.{◌≡◌, ◌+◌, ◌≤◌, ℕ, true, []
 ghost use Rattle.nook_defs.specs.Entries.{borrow_start, free_start};
 ghost use Rattle.nook_defs.specs.Pages.{object_start};
 ghost use Rattle.nook_defs.specs.Services.{served, alloc_served, borrow_served, give_back_served, frame_served};
-ghost use Rattle.nook_defs.specs.declared.data.Entry.{Entry};
+ghost use Rattle.nook_defs.specs.declared.entries.Entry.{Entry};
 ghost use Rattle.param_wrappers.specs.Crossing.{can_serve};
 ghost use Rattle.kernel_services.specs.Outcome.{outcome, own_copied, own_served};
 
 use crate::queue::RxQueue;
 use domain_pages::PageMap;
+use nook_defs::limits::MOST_FRAME_WORDS;
 use nook_defs::lists::{Items, Word, Words};
 use nook_defs::machine::Service;
 use nook_defs::memory::Room;
+use nook_defs::memory_map::{DATA_WORDS, LAST_OBJECT, MEMORY_WORDS, OBJECT_WORDS, object_start};
 use object_tracker::Tracker;
-
-/// The words of a kernel object.
-const OBJECT_WORDS: u32 = 64;
 
 /// What a service told: its result, and the words that it moved.
 #[derive(Drop)]
@@ -37,8 +36,8 @@ pub fn serve(
     frame: Room<Word>,
 ) -> Served
     requires passed { can_serve service ≡ true }
-    requires moved { 64 ≤ moved }
-    requires frame { 64 ≤ frame }
+    requires moved { MOST_FRAME_WORDS ≤ moved }
+    requires frame { MOST_FRAME_WORDS ≤ frame }
     ensures served { served tracker.old.heap_start service pages.old.words tracker.old.entries queue.old ≡ outcome pages.new.words tracker.new.entries queue.new result }
     ensures heap { tracker.new.heap_start ≡ tracker.old.heap_start }
     ensures loans { pages.new.lent ≡ pages.old.lent }
@@ -74,7 +73,7 @@ fn told(answer: Word, moved: Room<Word>) -> Served
 
 /// The lowest start of `n` free heap words, 0 where there is none.
 fn alloc(n: u32, tracker: &mut Tracker, moved: Room<Word>) -> Served
-    requires { n ≤ 2048 }
+    requires { n ≤ DATA_WORDS }
     ensures served { (memory : List ℕ) (queue : List (List ℕ)) → alloc_served n (free_start tracker.old.heap_start n tracker.old.entries) memory tracker.old.entries queue ≡ outcome memory tracker.new.entries queue result }
     ensures heap { tracker.new.heap_start ≡ tracker.old.heap_start }
 {
@@ -93,12 +92,12 @@ fn borrow(
     moved: Room<Word>,
     copied: Room<Word>,
 ) -> Served
-    requires object { object ≤ 12 }
-    requires room { 64 ≤ copied }
-    ensures served { (queue : List (List ℕ)) → borrow_served object (free_start tracker.old.heap_start 64 tracker.old.entries) pages.old.words tracker.old.entries queue ≡ outcome pages.new.words tracker.new.entries queue result }
+    requires object { object ≤ LAST_OBJECT }
+    requires room { OBJECT_WORDS ≤ copied }
+    ensures served { (queue : List (List ℕ)) → borrow_served object (free_start tracker.old.heap_start OBJECT_WORDS tracker.old.entries) pages.old.words tracker.old.entries queue ≡ outcome pages.new.words tracker.new.entries queue result }
     ensures heap { tracker.new.heap_start ≡ tracker.old.heap_start }
     ensures loans { pages.new.lent ≡ pages.old.lent }
-    ensures own { pages.new.own ≡ own_copied (free_start tracker.old.heap_start 64 tracker.old.entries) pages.old.own }
+    ensures own { pages.new.own ≡ own_copied (free_start tracker.old.heap_start OBJECT_WORDS tracker.old.entries) pages.old.own }
 {
     let Some(start) = tracker.borrow(object) else {
         return told(0, moved);
@@ -111,8 +110,8 @@ fn borrow(
 /// The words of an object's copy, written to the object; the copy ends.
 #[tactic(auto, using(crate::proofs::Padded::padded_full, crate::proofs::Own::own_of_object))]
 fn give_back(object: u32, pages: &mut PageMap, tracker: &mut Tracker, moved: Room<Word>) -> Served
-    requires object { object ≤ 12 }
-    requires room { 64 ≤ moved }
+    requires object { object ≤ LAST_OBJECT }
+    requires room { OBJECT_WORDS ≤ moved }
     ensures served { (queue : List (List ℕ)) → give_back_served object (borrow_start object tracker.old.entries) pages.old.words tracker.old.entries queue ≡ outcome pages.new.words tracker.new.entries queue result }
     ensures heap { tracker.new.heap_start ≡ tracker.old.heap_start }
     ensures loans { pages.new.lent ≡ pages.old.lent }
@@ -138,10 +137,10 @@ fn hand_up(
     moved: Room<Word>,
     frame: Room<Word>,
 ) -> Served
-    requires len { len ≤ 64 }
-    requires within { start + len ≤ 8192 }
-    requires moved { 64 ≤ moved }
-    requires frame { 64 ≤ frame }
+    requires len { len ≤ MOST_FRAME_WORDS }
+    requires within { start + len ≤ MEMORY_WORDS }
+    requires moved { MOST_FRAME_WORDS ≤ moved }
+    requires frame { MOST_FRAME_WORDS ≤ frame }
     ensures { (entries : List Entry) → frame_served (slice_range pages.now.words start (start + len)) pages.now.words entries queue.old ≡ outcome pages.now.words entries queue.new result }
 {
     let words = pages.words(start, len, moved);
@@ -150,12 +149,4 @@ fn hand_up(
         answer: Word::from(taken),
         moved: words,
     }
-}
-
-/// Where a kernel object begins.
-fn object_start(object: u32) -> u32
-    requires { object ≤ 12 }
-    ensures { result ≡ object_start object }
-{
-    (115 + object) * 64
 }

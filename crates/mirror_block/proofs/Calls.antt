@@ -4,30 +4,32 @@ use Rattle.std.specs.Prelude.{if◌then◌else◌, ◌==◌}
 use Rattle.std.specs.List.{AllByRecursion}
 use Rattle.std.proofs.lemmas.Bool.{and_parts, ltb-true}
 use Rattle.std.proofs.lemmas.Bool.Decides.{nat_tests}
-use Rattle.nook_defs.specs.declared.data.Answer.{Answer}
-use Rattle.nook_defs.specs.declared.data.CallEntry.{CallEntry}
-use Rattle.nook_defs.specs.declared.data.Event.{Event}
-use Rattle.nook_defs.specs.declared.data.Event.TheVariants as event
-use Rattle.nook_defs.specs.declared.data.Op.{Op}
-use Rattle.nook_defs.specs.declared.data.PartSpec.{PartSpec}
-use Rattle.nook_defs.specs.declared.data.Stage.{Stage}
-use Rattle.nook_defs.specs.declared.data.Stage.TheVariants as stage
-use Rattle.nook_defs.specs.declared.data.Step.{Step}
-use Rattle.nook_defs.specs.declared.data.Step.TheVariants as step
-use Rattle.nook_defs.specs.Calls.{entered_part, invoked, invoked_by}
+use Rattle.nook_defs.specs.declared.calls.Answer.{Answer}
+use Rattle.nook_defs.specs.declared.calls.CallEntry.{CallEntry}
+use Rattle.nook_defs.specs.declared.steps.Event.{Event}
+use Rattle.nook_defs.specs.declared.steps.Event.TheVariants as event
+use Rattle.nook_defs.specs.declared.calls.Op.{Op}
+use Rattle.nook_defs.specs.declared.scenario.PartSpec.{PartSpec}
+use Rattle.nook_defs.specs.declared.steps.Stage.{Stage}
+use Rattle.nook_defs.specs.declared.steps.Stage.TheVariants as stage
+use Rattle.nook_defs.specs.declared.steps.Step.{Step}
+use Rattle.nook_defs.specs.declared.steps.Step.TheVariants as step
+use Rattle.nook_defs.specs.Calls.{after_enter, after_invoke, invoked_by}
 use Rattle.nook_defs.specs.Classes.{static_check}
 use Rattle.nook_defs.specs.Log.{IsNumbered, call_of_thread, opening_log}
-use Rattle.nook_defs.specs.Runs.{IsRun, IsRunFrom, answer_at, event_of, if_call, state_after, state_from, state_of, step_of}
-use Rattle.nook_defs.specs.Stages.{collects, given_up, inits, is_given_up, loads_image, replays_open, replays_set, resets, resumes, stage_by, stage_done, stage_due, stage_turned, stopped}
+use Rattle.nook_defs.specs.Answers.{one_answer}
+use Rattle.nook_defs.specs.Runs.{IsRun, IsRunFrom, answer_at, event_of, state_after, state_from, state_of, step_of, answer_among}
+use Rattle.nook_defs.specs.Stages.{collects, gives_up_part, inits, is_given_up, loads_image, replays_open, replays_set, resets, resumes, stage_by, stage_done, stage_due, stage_stepped, stops}
 use Rattle.nook_defs.specs.State.{PartState}
-use Rattle.nook_defs.specs.Steps.{arrived, burst_turned, enabled, opening, turned}
+use Rattle.nook_defs.specs.Steps.{after_arrival, burst_stepped, enabled, opening, stepped}
 use Rattle.part_laws.specs.Bound.{calls_of, is_invoke}
 use Rattle.part_laws.proofs.Counts.{counted_from}
 use Rattle.part_laws.proofs.Places.{some_same}
 use Rattle.part_laws.proofs.RunBound.{count_more}
-use Rattle.app_threads.proofs.CallNumbers.{CameFrom, HasEntry, Quiet, small_calls}
+use Rattle.part_laws.proofs.CallNumbers.{CameFrom, HasEntry, Quiet, small_calls}
 use Rattle.app_threads.proofs.Listed.{prefix_refl}
-use Rattle.app_threads.proofs.OpenCalls.{open_after, open_law}
+use Rattle.app_threads.proofs.OpenCalls.{open_law}
+use Rattle.part_laws.proofs.UnansweredCalls.{open_after}
 use Rattle.desk_like.specs.Desks.{DeskView, HasOpen, IsOther}
 use Rattle.mirror_block.specs.Sides.{Invocation, IsAsked, and_more, answers_gained, answers_given, first_answer, invocations, or_later}
 use Rattle.mirror_block.proofs.Gains.{IsCalled, gained_is}
@@ -97,7 +99,7 @@ number_is p c t o None a e = ap call_number (sym e)
 number_is p c t o (Some refusal) a e = ap call_number (sym e)
 
 invoke_number : (p : PartState) (c t : ℕ) (o : Op) (a : Option Answer) → event_of p (step.Invoke t o) ≡ event.Invoke c t o a → c ≡ p.log.count + 1
-unfolding turned invoked
+unfolding stepped after_invoke
 invoke_number p c t o a e = number_is p c t o (static_check p.spec.class p.spec.blocks o) a e
 
 invoke_room : (p : PartState) (t : ℕ) (o : Op) → enabled p (step.Invoke t o) ≡ true → p.log.count < 100000
@@ -181,14 +183,15 @@ closed_after call a p e events m other r h =
 
 -- ---- nothing is answered where nothing is open
 
-zero_other : (call : ℕ) (a : Option Answer) → 1 ≤ call → if_call call 0 a ≡ None
-zero_other call a h = grind (arith, nat_tests)
+zero_other : (call : ℕ) (a : Option Answer) → 1 ≤ call → answer_among call (one_answer 0 a) ≡ None
+zero_other call None h = refl
+zero_other call (Some a) h = grind (arith, nat_tests)
 
 stage_silent : (call : ℕ) (s : Stage) (p : PartState) → p.log.pending ≡ [] → answer_at call (stage_done s p).event ≡ None
-unfolding stopped given_up collects resets loads_image inits replays_set replays_open resumes
+unfolding stops gives_up_part collects resets loads_image inits replays_set replays_open resumes
 stage_silent call stage.Stop p h = by_test (is_given_up p)
   where
-    by_test : (b : Bool) → answer_at call (if b then given_up p else stopped p).event ≡ None
+    by_test : (b : Bool) → answer_at call (if b then gives_up_part p else stops p).event ≡ None
     by_test true = rw h refl
     by_test false = rw h refl
 stage_silent call stage.Collect p h = refl
@@ -204,7 +207,7 @@ stage_by_silent call p None h = refl
 stage_by_silent call p (Some s) h = stage_silent call s p h
 
 step_silent : (call : ℕ) (p : PartState) (s : Step) → 1 ≤ call → p.log.pending ≡ [] → IsOther (event_of p s) → answer_at call (event_of p s) ≡ None
-unfolding turned invoked entered_part burst_turned stage_turned arrived
+unfolding stepped after_invoke after_enter burst_stepped stage_stepped after_arrival
 step_silent call p (step.Invoke t o) l h other = absurd (by_check (static_check p.spec.class p.spec.blocks o) other)
   where
     by_check : (r : Option Answer) → IsOther (invoked_by p t o r).event → ⊥
@@ -213,7 +216,7 @@ step_silent call p (step.Invoke t o) l h other = absurd (by_check (static_check 
 step_silent call p (step.Enter t) l h other = rw h (zero_other call None l)
 step_silent call p (step.Burst context) l h other = rw h (by_context (context == 16) _)
   where
-    by_context : (b : Bool) (a : Option Answer) → if_call call (if b then 0 else 0) a ≡ None
+    by_context : (b : Bool) (a : Option Answer) → answer_among call (one_answer (if b then 0 else 0) a) ≡ None
     by_context true a = zero_other call a l
     by_context false a = zero_other call a l
 step_silent call p step.Stage l h other = stage_by_silent call p (stage_due p.mode) h

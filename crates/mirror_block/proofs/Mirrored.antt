@@ -3,13 +3,13 @@ use Rattle.std.proofs.Common.{◌≡◌, ℕ, ◌||◌, Bool, true, false, Optio
 use Rattle.std.specs.Prelude.{if◌then◌else◌, option_and_then}
 use Rattle.std.proofs.lemmas.Bool.{and_parts}
 use Rattle.std.proofs.lemmas.List.{drop_all}
-use Rattle.nook_defs.specs.declared.data.Answer.{Answer}
-use Rattle.nook_defs.specs.declared.data.Class.TheVariants.{Block}
-use Rattle.nook_defs.specs.declared.data.Event.{Event}
-use Rattle.nook_defs.specs.declared.data.MirrorAnswer.{MirrorAnswer}
-use Rattle.nook_defs.specs.declared.data.Op.{Op}
-use Rattle.nook_defs.specs.declared.data.Op.TheVariants.{Read, Write, Send, Recv, Open, Play, Close, Get, Set}
-use Rattle.nook_defs.specs.declared.data.PartSpec.{PartSpec}
+use Rattle.nook_defs.specs.declared.calls.Answer.{Answer}
+use Rattle.nook_defs.specs.declared.classes.Class.TheVariants.{Block}
+use Rattle.nook_defs.specs.declared.steps.Event.{Event}
+use Rattle.nook_defs.specs.declared.mirror.MirrorAnswer.{MirrorAnswer}
+use Rattle.nook_defs.specs.declared.calls.Op.{Op}
+use Rattle.nook_defs.specs.declared.calls.Op.TheVariants.{Read, Write, Send, Recv, Open, Play, Close, Get, Set}
+use Rattle.nook_defs.specs.declared.scenario.PartSpec.{PartSpec}
 use Rattle.nook_defs.specs.Classes.{static_check}
 use Rattle.nook_defs.specs.Ideal.{Ideal, IsClassRun, class_run, never_failing, ran}
 use Rattle.nook_defs.specs.Trace.{trace}
@@ -18,7 +18,7 @@ use Rattle.mirror_block.specs.declared.stop.MirrorStop.{MirrorStop}
 use Rattle.mirror_block.specs.declared.stop.MirrorStop.TheVariants as stop
 use Rattle.mirror_block.specs.Disk.{IsShown, Serves, ServesBy, ServesSaid, ShowsDevice, ShowsDisk}
 use Rattle.mirror_block.specs.Mirrors.{AreClassRuns, Ends, IsAnswered, IsDisk, IsMirror, MirrorView, SameSides, StopsAt}
-use Rattle.mirror_block.specs.Rule.{Outcome, Presence, Said, Stepped, after_asking, asked_next, asked_of_two, asked_unless, asks_right, first_said, is_disk_op, lacks_answer, mirror_step, says, step_asking, step_checked, stepped}
+use Rattle.mirror_block.specs.Rule.{Outcome, Presence, Said, MirrorStep, after_asking, asked_next, asked_of_two, asked_unless, asks_right, first_said, is_disk_op, lacks_answer, mirror_step, says, step_asking, step_checked, mirror_step_of}
 use Rattle.mirror_block.specs.Sides.{AskBothEnds, IsAskedFor, IsCut, IsFull, IsLeftCut, IsSaid, IsServed, IsSide, Sides, WantsMemory, answers_gained, answers_given}
 use Rattle.mirror_block.proofs.Outcomes.{Changes, both_same, outcome_serves, stayed}
 use Rattle.mirror_block.proofs.Plain.{same_device}
@@ -130,15 +130,15 @@ step_is n present Close lefts rights d = absurd cc
 step_is n present (Get key) lefts rights d = absurd cc
 step_is n present (Set key value) lefts rights d = absurd cc
 
-abbrev right_step : Presence → Op → List Answer → Said → Option Stepped
-right_step present o rights left = option_and_then (λ right. Some (stepped present o left right)) (says (asks_right present o left.said) rights)
+abbrev right_step : Presence → Op → List Answer → Said → Option MirrorStep
+right_step present o rights left = option_and_then (λ right. Some (mirror_step_of present o left right)) (says (asks_right present o left.said) rights)
 
 asking_is : (present : Presence) (o : Op) (lefts rights : List Answer) (l r : Option Answer) → says present.left lefts ≡ Some (record { said = l; rest = [] })
     → says (asks_right present o l) rights ≡ Some (record { said = r; rest = [] })
     → step_asking present o lefts rights ≡ Some (record { outcome = after_asking present o l r; left = []; right = [] })
 asking_is present o lefts rights l r e f =
     ap (option_and_then (right_step present o rights)) e
-    ∙ ap (option_and_then (λ right. Some (stepped present o (record { said = l; rest = [] }) right))) f
+    ∙ ap (option_and_then (λ right. Some (mirror_step_of present o (record { said = l; rest = [] }) right))) f
 
 -- ---- an operation that is answered
 

@@ -1,9 +1,9 @@
 -- What holds of a mirror of which nothing was asked yet.
 use Rattle.std.proofs.Common.{◌≡◌, ℕ, false, List, [], subst, sym, refl, ap, ◌∙◌}
 use Rattle.std.specs.List.{list_all}
-use Rattle.nook_defs.specs.declared.data.Class.TheVariants.{Block}
-use Rattle.nook_defs.specs.declared.data.Event.{Event}
-use Rattle.nook_defs.specs.declared.data.PartSpec.{PartSpec}
+use Rattle.nook_defs.specs.declared.classes.Class.TheVariants.{Block}
+use Rattle.nook_defs.specs.declared.steps.Event.{Event}
+use Rattle.nook_defs.specs.declared.scenario.PartSpec.{PartSpec}
 use Rattle.nook_defs.specs.Ideal.{Ideal, never_failing, ran}
 use Rattle.nook_defs.specs.Log.{opening_log}
 use Rattle.nook_defs.specs.Runs.{IsRun, IsRunFrom, state_from, state_of}

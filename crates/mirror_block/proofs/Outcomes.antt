@@ -1,17 +1,17 @@
 -- The rule's outcome, by what both sides said: who stays, and that the answer is one that the disk of a side gives.
 use Rattle.std.proofs.Common.{◌≡◌, ℕ, ◌&&◌, ◌||◌, not, Bool, true, false, Option, Some, None, is_some, List, subst, sym, refl, ap, ◌∙◌, true≢false, inl, inr, ◌⊎◌}
 use Rattle.std.specs.Prelude.{if◌then◌else◌, option_and_then}
-use Rattle.nook_defs.specs.declared.data.Answer.{Answer}
-use Rattle.nook_defs.specs.declared.data.Answer.TheVariants as answered
-use Rattle.nook_defs.specs.declared.data.MirrorAnswer.TheVariants as mirror
-use Rattle.nook_defs.specs.declared.data.Op.{Op}
-use Rattle.nook_defs.specs.declared.data.Op.TheVariants.{Read, Write, Send, Recv, Open, Play, Close, Get, Set}
+use Rattle.nook_defs.specs.declared.calls.Answer.{Answer}
+use Rattle.nook_defs.specs.declared.calls.Answer.TheVariants as answered
+use Rattle.nook_defs.specs.declared.mirror.MirrorAnswer.TheVariants as mirror
+use Rattle.nook_defs.specs.declared.calls.Op.{Op}
+use Rattle.nook_defs.specs.declared.calls.Op.TheVariants.{Read, Write, Send, Recv, Open, Play, Close, Get, Set}
 use Rattle.nook_defs.specs.Classes.{is_write, static_check}
-use Rattle.nook_defs.specs.declared.data.Class.TheVariants.{Block}
-use Rattle.nook_defs.specs.declared.data.MirrorAnswer.{MirrorAnswer}
+use Rattle.nook_defs.specs.declared.classes.Class.TheVariants.{Block}
+use Rattle.nook_defs.specs.declared.mirror.MirrorAnswer.{MirrorAnswer}
 use Rattle.part_laws.proofs.Places.{some_same}
 use Rattle.mirror_block.specs.Disk.{ServesChecked, ServesSaid}
-use Rattle.mirror_block.specs.Rule.{Outcome, Presence, Said, Stepped, after_asking, after_failed_write, after_read, after_write, asks_right, failed_block, failed_read, is_disk_op, is_done, mirror_step, outcome, read_answer, refusal_of, says, stays_after_read, step_checked, step_refused, stepped, words_read}
+use Rattle.mirror_block.specs.Rule.{Outcome, Presence, Said, MirrorStep, after_asking, after_failed_write, after_read, after_write, asks_right, failed_block, failed_read, is_disk_op, is_done, mirror_step, outcome, read_answer, refusal_of, says, stays_after_read, step_checked, step_refused, mirror_step_of, words_read}
 
 abbrev Blocks : Type 0
 Blocks = List (List ℕ)
@@ -209,37 +209,37 @@ asking_left present o l r = by_op (is_write o)
     by_op false = read_left present l r (words_read l) (words_read r) refl refl (failed_block l) (failed_block r) refl refl
 
 -- a side stays where the answer is not BothLost and a side was present before
-abbrev KeepsSide : Presence → Stepped → Type 0
+abbrev KeepsSide : Presence → MirrorStep → Type 0
 KeepsSide present s =
     (s.outcome.answer ≡ mirror.BothLost → ⊥) → (present.left || present.right) ≡ true → (s.outcome.present.left || s.outcome.present.right) ≡ true
 
-step_keeps : (check : Option Answer) (present : Presence) (o : Op) (lefts rights : List Answer) (s : Stepped) → step_checked check present o lefts rights ≡ Some s → KeepsSide present s
+step_keeps : (check : Option Answer) (present : Presence) (o : Op) (lefts rights : List Answer) (s : MirrorStep) → step_checked check present o lefts rights ≡ Some s → KeepsSide present s
 step_keeps (Some refusal) present o lefts rights s h not_lost some = by_refusal (refusal_of refusal) h
   where
     by_refusal : (a : Option MirrorAnswer) → step_refused present a lefts rights ≡ Some s → (s.outcome.present.left || s.outcome.present.right) ≡ true
     by_refusal None h = absurd cc
-    by_refusal (Some a) h = subst (λ (t : Stepped). (t.outcome.present.left || t.outcome.present.right) ≡ true) (some_same _ s h) some
+    by_refusal (Some a) h = subst (λ (t : MirrorStep). (t.outcome.present.left || t.outcome.present.right) ≡ true) (some_same _ s h) some
 step_keeps None present o lefts rights s h not_lost some = by_left (says present.left lefts) h
   where
-    by_outcome : (left right : Said) → Some (stepped present o left right) ≡ Some s → (s.outcome.present.left || s.outcome.present.right) ≡ true
+    by_outcome : (left right : Said) → Some (mirror_step_of present o left right) ≡ Some s → (s.outcome.present.left || s.outcome.present.right) ≡ true
     by_outcome left right h =
-        let e : stepped present o left right ≡ s = some_same (stepped present o left right) s h in
-        by_case (subst (λ (t : Stepped). IsLostOrLeft t.outcome) e (asking_left present o left.said right.said))
+        let e : mirror_step_of present o left right ≡ s = some_same (mirror_step_of present o left right) s h in
+        by_case (subst (λ (t : MirrorStep). IsLostOrLeft t.outcome) e (asking_left present o left.said right.said))
       where
         by_case : IsLostOrLeft s.outcome → (s.outcome.present.left || s.outcome.present.right) ≡ true
         by_case (inl lost) = absurd (not_lost lost)
         by_case (inr left) = left
 
-    by_right : (left : Said) (right : Option Said) → option_and_then (λ right. Some (stepped present o left right)) right ≡ Some s → (s.outcome.present.left || s.outcome.present.right) ≡ true
+    by_right : (left : Said) (right : Option Said) → option_and_then (λ right. Some (mirror_step_of present o left right)) right ≡ Some s → (s.outcome.present.left || s.outcome.present.right) ≡ true
     by_right left None h = absurd cc
     by_right left (Some right) h = by_outcome left right h
 
-    by_left : (left : Option Said) → option_and_then (λ left. option_and_then (λ right. Some (stepped present o left right)) (says (asks_right present o left.said) rights)) left ≡ Some s
+    by_left : (left : Option Said) → option_and_then (λ left. option_and_then (λ right. Some (mirror_step_of present o left right)) (says (asks_right present o left.said) rights)) left ≡ Some s
         → (s.outcome.present.left || s.outcome.present.right) ≡ true
     by_left None h = absurd cc
     by_left (Some left) h = by_right left (says (asks_right present o left.said) rights) h
 
-pub mirror_keeps : (n : ℕ) (present : Presence) (o : Op) (lefts rights : List Answer) (s : Stepped) → mirror_step n present o lefts rights ≡ Some s → KeepsSide present s
+pub mirror_keeps : (n : ℕ) (present : Presence) (o : Op) (lefts rights : List Answer) (s : MirrorStep) → mirror_step n present o lefts rights ≡ Some s → KeepsSide present s
 mirror_keeps n present (Read first count) lefts rights s h = step_keeps (static_check Block n (Read first count)) present (Read first count) lefts rights s h
 mirror_keeps n present (Write first words) lefts rights s h = step_keeps (static_check Block n (Write first words)) present (Write first words) lefts rights s h
 mirror_keeps n present (Send frame) lefts rights s h = absurd cc

@@ -6,21 +6,23 @@ use Rattle.std.proofs.lemmas.Bool.{and_parts}
 use Rattle.std.proofs.lemmas.Bool.Decides.{nat_tests}
 use Rattle.std.proofs.lemmas.List.Folds.{list_all-append}
 use Rattle.std.proofs.lemmas.Slice.Eq.{bytes_eq-Decides}
-use Rattle.nook_defs.specs.declared.data.Act.{Act}
-use Rattle.nook_defs.specs.declared.data.Act.TheVariants as act
-use Rattle.nook_defs.specs.declared.data.Answer.{Answer}
-use Rattle.nook_defs.specs.declared.data.Answer.TheVariants as answered
-use Rattle.nook_defs.specs.declared.data.Class.{Class}
-use Rattle.nook_defs.specs.declared.data.Class.TheVariants.{Block, Net, Sound}
-use Rattle.nook_defs.specs.declared.data.Event.{Event}
-use Rattle.nook_defs.specs.declared.data.Event.TheVariants as event
-use Rattle.nook_defs.specs.declared.data.Op.{Op}
-use Rattle.nook_defs.specs.declared.data.Op.TheVariants.{Read, Write, Send, Recv, Open, Play, Close, Get, Set}
+use Rattle.nook_defs.specs.declared.machine.Act.{Act}
+use Rattle.nook_defs.specs.declared.machine.Act.TheVariants as act
+use Rattle.nook_defs.specs.declared.calls.Answer.{Answer}
+use Rattle.nook_defs.specs.declared.calls.Answer.TheVariants as answered
+use Rattle.nook_defs.specs.declared.classes.Class.{Class}
+use Rattle.nook_defs.specs.declared.classes.Class.TheVariants.{Block, Net, Sound}
+use Rattle.nook_defs.specs.declared.steps.Event.{Event}
+use Rattle.nook_defs.specs.declared.steps.Event.TheVariants as event
+use Rattle.nook_defs.specs.declared.calls.Op.{Op}
+use Rattle.nook_defs.specs.declared.calls.Op.TheVariants.{Read, Write, Send, Recv, Open, Play, Close, Get, Set}
 use Rattle.nook_defs.specs.Blocks.{get_blocks, has_block}
 use Rattle.nook_defs.specs.Classes.{covers, same_class, static_check}
-use Rattle.nook_defs.specs.Ideal.{Ideal, Opened, after_answer, answers, closes, is_due, may_answer, may_call, may_sound, may_wire, never_failing, opens, play_of, ran, shows, stops_waiting, when}
+use Rattle.nook_defs.specs.Ideal.{Ideal, Opened, after_answer, answers, closes, is_due, may_answer, may_call, may_sound, may_wire, never_failing, play_of, ran, shows, when}
+use Rattle.nook_defs.proofs.Changes.{opens, stops_waiting}
 use Rattle.nook_defs.specs.Places.{at_number}
-use Rattle.nook_defs.specs.Runs.{answer_among, answer_at, if_call}
+use Rattle.nook_defs.specs.Answers.{one_answer}
+use Rattle.nook_defs.specs.Runs.{answer_among, answer_at}
 use Rattle.nook_defs.specs.Trace.{Track, Visible, called, wire, sample, arrived, answer, shown, shown_acts, shown_answers, shown_option, trace, trace_from, tracks_after}
 use Rattle.part_laws.proofs.Places.{change_at, get_mid, get_push, set_mid, some_same}
 use Rattle.desk_like.specs.Desks.{DeskView, IsOther}
@@ -145,7 +147,7 @@ kept_ran m (v ∷ vs) n h =
 
 abbrev first_shown : ℕ → List Visible → Option Answer
 first_shown call [] = None
-first_shown call (answer c a stored ∷ vs) = or_later (if_call call c (Some a)) (first_shown call vs)
+first_shown call (answer c a stored ∷ vs) = or_later (answer_among call (one_answer c (Some a))) (first_shown call vs)
 first_shown call (v ∷ vs) = first_shown call vs
 
 or_parts : (a b c : Option Answer) → or_later (or_later a b) c ≡ or_later a (or_later b c)
@@ -159,22 +161,23 @@ or_none (Some a) = refl
 first_shown_parts : (call : ℕ) (xs ys : List Visible) → first_shown call (xs ++ ys) ≡ or_later (first_shown call xs) (first_shown call ys)
 first_shown_parts call [] ys = refl
 first_shown_parts call (answer c a stored ∷ xs) ys =
-    ap (or_later (if_call call c (Some a))) (first_shown_parts call xs ys)
-    ∙ sym (or_parts (if_call call c (Some a)) (first_shown call xs) (first_shown call ys))
+    ap (or_later (answer_among call (one_answer c (Some a)))) (first_shown_parts call xs ys)
+    ∙ sym (or_parts (answer_among call (one_answer c (Some a))) (first_shown call xs) (first_shown call ys))
 first_shown_parts call (called c t o ∷ xs) ys = first_shown_parts call xs ys
 first_shown_parts call (wire c frame ∷ xs) ys = first_shown_parts call xs ys
 first_shown_parts call (sample word rate volume ∷ xs) ys = first_shown_parts call xs ys
 first_shown_parts call (arrived frame ∷ xs) ys = first_shown_parts call xs ys
 
-if_none : (call c : ℕ) → if_call call c None ≡ None
-if_none call c = elim (c == call) as (λ b. ◌≡◌ {A = Option Answer} (if b then None else None) None) [ true ↦ refl | false ↦ refl ]
+if_none : (call c : ℕ) → answer_among call (one_answer c None) ≡ None
+if_none call c = refl
 
-own_answer : (call : ℕ) (a : Option Answer) → if_call call call a ≡ a
-own_answer call a = grind (arith, nat_tests)
+own_answer : (call : ℕ) (a : Option Answer) → answer_among call (one_answer call a) ≡ a
+own_answer call None = refl
+own_answer call (Some a) = grind (arith, nat_tests)
 
-option_shown : (call c : ℕ) (a : Option Answer) (ts : List Track) → first_shown call (shown_option c a ts) ≡ if_call call c a
+option_shown : (call c : ℕ) (a : Option Answer) (ts : List Track) → first_shown call (shown_option c a ts) ≡ answer_among call (one_answer c a)
 option_shown call c None ts = sym (if_none call c)
-option_shown call c (Some a) ts = or_none (if_call call c (Some a))
+option_shown call c (Some a) ts = or_none (answer_among call (one_answer c (Some a)))
 
 acts_shown : (call c : ℕ) (acts : List Act) → first_shown call (shown_acts c acts) ≡ None
 acts_shown call c [] = refl
@@ -457,10 +460,10 @@ module _ (size : ℕ) (old new : DeskView) (call : ℕ) (o : Op) (disk_op : is_d
       by_shown : (behind ≡ []) ⊎ Shows made device o (suc (length goes_on.between.opened)) behind → IsServedBy size old new o a device
       by_shown (inl e) = absurd (let f : None ≡ Some a = sym (ap (first_shown call) e) ∙ shown_first in cc)
       by_shown (inr s) =
-          let own : if_call call call (Some s.a) ≡ Some s.a = own_answer call (Some s.a) in
-          let shown_so : first_shown call behind ≡ or_later (if_call call call (Some s.a)) None =
+          let own : answer_among call (one_answer call (Some s.a)) ≡ Some s.a = own_answer call (Some s.a) in
+          let shown_so : first_shown call behind ≡ or_later (answer_among call (one_answer call (Some s.a))) None =
           ap (first_shown call) (s.shown_is ∙ ap (λ (j : ℕ). answer j s.a s.stored ∷ []) (sym number)) in
-          let same : s.a ≡ a = some_same s.a a (sym (shown_so ∙ or_none (if_call call call (Some s.a)) ∙ own) ∙ shown_first) in
+          let same : s.a ≡ a = some_same s.a a (sym (shown_so ∙ or_none (answer_among call (one_answer call (Some s.a))) ∙ own) ∙ shown_first) in
           record {
             over = s.over;
             before = goes_on.between;

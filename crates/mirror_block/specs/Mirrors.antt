@@ -1,10 +1,10 @@
 -- What contracts see of a mirror, what holds of each, and how an operation ends.
 use Rattle.std.specs.Prelude.{◌≡◌, ℕ, ◌||◌, ◌==◌, if◌then◌else◌, Bool, true, false, List, [], Some, None, Result, Ok, Err, is_some, ◌∷◌}
-use Rattle.nook_defs.specs.declared.data.Class.TheVariants.{Block}
-use Rattle.nook_defs.specs.declared.data.MirrorAnswer.{MirrorAnswer}
-use Rattle.nook_defs.specs.declared.data.MirrorAnswer.TheVariants as mirror
-use Rattle.nook_defs.specs.declared.data.Op.{Op}
-use Rattle.nook_defs.specs.declared.data.PartSpec.{PartSpec}
+use Rattle.nook_defs.specs.declared.classes.Class.TheVariants.{Block}
+use Rattle.nook_defs.specs.declared.mirror.MirrorAnswer.{MirrorAnswer}
+use Rattle.nook_defs.specs.declared.mirror.MirrorAnswer.TheVariants as mirror
+use Rattle.nook_defs.specs.declared.calls.Op.{Op}
+use Rattle.nook_defs.specs.declared.scenario.PartSpec.{PartSpec}
 use Rattle.nook_defs.specs.Classes.{is_write}
 use Rattle.nook_defs.specs.Ideal.{IsClassRun}
 use Rattle.nook_defs.specs.Trace.{trace}

@@ -1,12 +1,12 @@
 -- The rule of a mirror, one disk over two sides: who is asked, who stays, and what is answered.
 use Rattle.std.specs.Prelude.{ℕ, Bool, true, false, List, [], ◌∷◌, Option, Some, None, is_some, option_and_then, ◌/◌, ◌&&◌, ◌||◌, not, if◌then◌else◌}
-use Rattle.nook_defs.specs.declared.data.Answer.{Answer}
-use Rattle.nook_defs.specs.declared.data.Answer.TheVariants as answered
-use Rattle.nook_defs.specs.declared.data.Class.TheVariants.{Block}
-use Rattle.nook_defs.specs.declared.data.MirrorAnswer.{MirrorAnswer}
-use Rattle.nook_defs.specs.declared.data.MirrorAnswer.TheVariants as mirror
-use Rattle.nook_defs.specs.declared.data.Op.{Op}
-use Rattle.nook_defs.specs.declared.data.Op.TheVariants.{Read, Write}
+use Rattle.nook_defs.specs.declared.calls.Answer.{Answer}
+use Rattle.nook_defs.specs.declared.calls.Answer.TheVariants as answered
+use Rattle.nook_defs.specs.declared.classes.Class.TheVariants.{Block}
+use Rattle.nook_defs.specs.declared.mirror.MirrorAnswer.{MirrorAnswer}
+use Rattle.nook_defs.specs.declared.mirror.MirrorAnswer.TheVariants as mirror
+use Rattle.nook_defs.specs.declared.calls.Op.{Op}
+use Rattle.nook_defs.specs.declared.calls.Op.TheVariants.{Read, Write}
 use Rattle.nook_defs.specs.Classes.{is_block_length, is_write, static_check}
 
 -- which of the two sides are still asked
@@ -113,24 +113,24 @@ says true [] = None
 says true (a ∷ answers) = Some (record { said = Some a; rest = answers })
 
 -- what a step leads to, and the answers of each side that are left behind it
-pub record Stepped : Type 0 where
+pub record MirrorStep : Type 0 where
   pub outcome : Outcome
   pub left : List Answer
   pub right : List Answer
 
-abbrev pub stepped : Presence → Op → Said → Said → Stepped
-stepped present o left right = record {
+abbrev pub mirror_step_of : Presence → Op → Said → Said → MirrorStep
+mirror_step_of present o left right = record {
   outcome = after_asking present o left.said right.said;
   left = left.rest;
   right = right.rest;
 }
 
 -- the sides are asked in order
-abbrev pub step_asking : Presence → Op → List Answer → List Answer → Option Stepped
+abbrev pub step_asking : Presence → Op → List Answer → List Answer → Option MirrorStep
 step_asking present o lefts rights =
     option_and_then
     (λ left. option_and_then
-    (λ right. Some (stepped present o left right)) (says (asks_right present o left.said) rights))
+    (λ right. Some (mirror_step_of present o left right)) (says (asks_right present o left.said) rights))
     (says present.left lefts)
 
 -- what the mirror answers where the static check refuses a Read or Write
@@ -144,19 +144,19 @@ refusal_by None = None
 refusal_by (Some refusal) = refusal_of refusal
 
 -- nobody is asked
-abbrev pub step_refused : Presence → Option MirrorAnswer → List Answer → List Answer → Option Stepped
+abbrev pub step_refused : Presence → Option MirrorAnswer → List Answer → List Answer → Option MirrorStep
 step_refused present None lefts rights = None
 step_refused present (Some a) lefts rights =
     Some (record { outcome = record { present = present; answer = a }; left = lefts; right = rights })
 
-abbrev pub step_checked : Option Answer → Presence → Op → List Answer → List Answer → Option Stepped
+abbrev pub step_checked : Option Answer → Presence → Op → List Answer → List Answer → Option MirrorStep
 step_checked None present o lefts rights = step_asking present o lefts rights
 step_checked (Some refusal) present o lefts rights = step_refused present (refusal_of refusal) lefts rights
 
 -- One operation on a disk of so many blocks, from the sides that are present, with the answers that each side has for
 -- its calls: what it leads to, and the answers that it does not use. There is no step where a side is asked that has no
 -- answer left, nor for an operation that is no Read or Write.
-abbrev pub mirror_step : ℕ → Presence → Op → List Answer → List Answer → Option Stepped
+abbrev pub mirror_step : ℕ → Presence → Op → List Answer → List Answer → Option MirrorStep
 mirror_step blocks present (Read first count) lefts rights =
     step_checked (static_check Block blocks (Read first count)) present (Read first count) lefts rights
 mirror_step blocks present (Write first words) lefts rights =

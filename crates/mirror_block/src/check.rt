@@ -5,14 +5,14 @@ ghost use Rattle.nook_defs.specs.Classes.{static_check};
 ghost use Rattle.mirror_block.specs.Rule.{blocks_filled, refusal_by};
 
 use class_table::static_check;
-use nook_defs::data::{Answer, Class, MirrorAnswer, Op};
+use nook_defs::calls::{Answer, Op};
+use nook_defs::classes::Class;
+use nook_defs::limits::{BLOCK_WORDS, MOST_BLOCKS};
 use nook_defs::lists::Words;
-
-/// The words of a block.
-const BLOCK_WORDS: usize = 16;
+use nook_defs::mirror::MirrorAnswer;
 
 /// The words of the most blocks that one operation may cover.
-const MOST_WORDS: usize = 128;
+const MOST_WORDS: usize = BLOCK_WORDS * MOST_BLOCKS as usize;
 
 /// What a mirror of so many blocks answers to an operation on `count` blocks from `first` on without asking a side.
 pub fn refusal(blocks: u32, first: u32, count: u32) -> Option<MirrorAnswer>

@@ -4,7 +4,8 @@ ghost use Rattle.std.specs.Prelude.{◌≡◌};
 ghost use Rattle.mirror_block.specs.Rule.{after_asking, after_failed_write, after_read, after_write, failed_block, failed_read, is_done, read_answer, stays_after_read, words_read};
 ghost use Rattle.mirror_block.specs.Outcomes.{Decides};
 
-use nook_defs::data::{Answer, MirrorAnswer, Op};
+use nook_defs::calls::{Answer, Op};
+use nook_defs::mirror::MirrorAnswer;
 
 /// Which sides stay, and what the mirror answers.
 #[derive(Drop)]

@@ -6,7 +6,8 @@ ghost use Rattle.mirror_block.specs.Sides.{AskBothEnds, AskEnds, IsSide};
 
 use crate::stop::MirrorStop;
 use desk_like::DeskLike;
-use nook_defs::data::{Answer, DeskRefused, Op};
+use nook_defs::calls::{Answer, Op};
+use nook_defs::desks::DeskRefused;
 use std::alloc::Global;
 use std::sync::Wait;
 

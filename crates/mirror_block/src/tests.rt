@@ -7,11 +7,13 @@ ghost use Rattle.mirror_block.specs.Sides.{IsNewSide};
 use crate::outcome::{Outcome, after_asking};
 use crate::{Mirror, MirrorStop};
 use desk_like::DeskLike;
-use nook_defs::data::{
-    Answer, BadBlocks, Class, DeskRefused, Faults, Image, MirrorAnswer, Op, PartSpec, Receipt,
-};
+use nook_defs::calls::{Answer, Op};
+use nook_defs::classes::Class;
+use nook_defs::desks::{DeskRefused, Receipt};
 use nook_defs::lists::{Frames, Words};
+use nook_defs::mirror::MirrorAnswer;
 use nook_defs::name::Name;
+use nook_defs::scenario::{BadBlocks, Faults, Image, PartSpec};
 use std::alloc::Global;
 use std::process::Abort;
 use std::sync::Wait;

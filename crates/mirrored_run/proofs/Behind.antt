@@ -1,16 +1,16 @@
 -- What a list of a mirror's operations adds to what its sides have seen, and the rule over it.
 use Rattle.std.proofs.Common.{◌≡◌, ◌⊎◌, inl, inr, ℕ, suc, ◌+◌, ◌≤◌, ◌||◌, Bool, true, false, Some, None, List, [], ◌∷◌, ◌++◌, length, refl, sym, ap, subst, ◌∙◌, arith, append-nil, append_assoc, length-append}
 use Rattle.std.specs.Prelude.{option_and_then}
-use Rattle.nook_defs.specs.declared.data.Answer.{Answer}
-use Rattle.nook_defs.specs.declared.data.Class.TheVariants.{Block}
-use Rattle.nook_defs.specs.declared.data.Event.{Event}
-use Rattle.nook_defs.specs.declared.data.MirrorAnswer.{MirrorAnswer}
-use Rattle.nook_defs.specs.declared.data.Op.{Op}
-use Rattle.nook_defs.specs.declared.data.PartSpec.{PartSpec}
+use Rattle.nook_defs.specs.declared.calls.Answer.{Answer}
+use Rattle.nook_defs.specs.declared.classes.Class.TheVariants.{Block}
+use Rattle.nook_defs.specs.declared.steps.Event.{Event}
+use Rattle.nook_defs.specs.declared.mirror.MirrorAnswer.{MirrorAnswer}
+use Rattle.nook_defs.specs.declared.calls.Op.{Op}
+use Rattle.nook_defs.specs.declared.scenario.PartSpec.{PartSpec}
 use Rattle.nook_defs.specs.Classes.{static_check}
 use Rattle.desk_like.specs.Desks.{DeskView}
 use Rattle.mirror_block.specs.Mirrors.{IsAnswered, IsMirror, MirrorView, SameSides}
-use Rattle.mirror_block.specs.Rule.{Presence, Stepped, answered_first, mirrored}
+use Rattle.mirror_block.specs.Rule.{Presence, MirrorStep, answered_first, mirrored}
 use Rattle.mirror_block.specs.Sides.{Invocation, answers_gained, answers_given, invocations}
 use Rattle.mirrored_run.specs.Mirrors.{IsSubsequence}
 use Rattle.mirrored_run.specs.Serving.{AreServedBy, HasAsked}
@@ -119,7 +119,7 @@ module _ {D : Type 0} (spec : D → PartSpec) where
         (given_more old.left between.left o (answers_gained old.left between.left) gl rest.left)
         ∙ ap (λ (rs : List Answer). mirrored old.blocks old.present (o ∷ ops) (answers_gained old.left between.left ++ answers_given rest.left) rs)
         (given_more old.right between.right o (answers_gained old.right between.right) gr rest.right)
-        ∙ ap (option_and_then (λ (s : Stepped). option_and_then (answered_first s.outcome.answer) (mirrored old.blocks s.outcome.present ops s.left s.right)))
+        ∙ ap (option_and_then (λ (s : MirrorStep). option_and_then (answered_first s.outcome.answer) (mirrored old.blocks s.outcome.present ops s.left s.right)))
         (step_more old.blocks old.present o (answers_gained old.left between.left) (answers_gained old.right between.right)
         (answers_given rest.left) (answers_given rest.right) (record { present = between.present; answer = a }) h.step)
         ∙ ap (option_and_then (answered_first a))

@@ -3,32 +3,33 @@
 use Rattle.std.proofs.Common.{◌≡◌, inl, inr, ℕ, ◌+◌, ◌<◌, ◌≤◌, ◌&&◌, not, is_some, nat_le, nat_lt, eqb, true, false, Option, Some, None, List, [], ◌∷◌, ◌++◌, length, eq-eqb, refl, sym, ap, subst, ◌∙◌, arith, true≢false}
 use Rattle.std.specs.List.{AllByRecursion}
 use Rattle.std.proofs.lemmas.Bool.{and_parts, cond-false, cond-true, leb-false, leb-true}
-use Rattle.nook_defs.specs.declared.data.Answer.{Answer}
-use Rattle.nook_defs.specs.declared.data.Answer.TheVariants as answered
-use Rattle.nook_defs.specs.declared.data.CallEntry.{CallEntry}
-use Rattle.nook_defs.specs.declared.data.Class.{Class}
-use Rattle.nook_defs.specs.declared.data.Class.TheVariants as class
-use Rattle.nook_defs.specs.declared.data.Event.{Event}
-use Rattle.nook_defs.specs.declared.data.Event.TheVariants as event
-use Rattle.nook_defs.specs.declared.data.Mode.{Mode}
-use Rattle.nook_defs.specs.declared.data.Mode.TheVariants as mode
-use Rattle.nook_defs.specs.declared.data.Op.{Op}
-use Rattle.nook_defs.specs.declared.data.PartSpec.{PartSpec}
-use Rattle.nook_defs.specs.declared.data.Stage.TheVariants as stage
-use Rattle.nook_defs.specs.declared.data.Step.TheVariants as step
-use Rattle.nook_defs.specs.Calls.{answer_in, invoked, invoked_by}
+use Rattle.nook_defs.specs.declared.calls.Answer.{Answer}
+use Rattle.nook_defs.specs.declared.calls.Answer.TheVariants as answered
+use Rattle.nook_defs.specs.declared.calls.CallEntry.{CallEntry}
+use Rattle.nook_defs.specs.declared.classes.Class.{Class}
+use Rattle.nook_defs.specs.declared.classes.Class.TheVariants as class
+use Rattle.nook_defs.specs.declared.steps.Event.{Event}
+use Rattle.nook_defs.specs.declared.steps.Event.TheVariants as event
+use Rattle.nook_defs.specs.declared.steps.Mode.{Mode}
+use Rattle.nook_defs.specs.declared.steps.Mode.TheVariants as mode
+use Rattle.nook_defs.specs.declared.calls.Op.{Op}
+use Rattle.nook_defs.specs.declared.scenario.PartSpec.{PartSpec}
+use Rattle.nook_defs.specs.declared.steps.Stage.TheVariants as stage
+use Rattle.nook_defs.specs.declared.steps.Step.TheVariants as step
+use Rattle.nook_defs.specs.Calls.{answer_in, after_invoke, invoked_by}
 use Rattle.nook_defs.specs.Classes.{same_class, static_check}
 use Rattle.nook_defs.specs.Contract.{first_break, known_first}
 use Rattle.nook_defs.specs.Ideal.{IsClassRun}
 use Rattle.nook_defs.specs.Log.{IsNumbered, call_of_thread, gone_answers, opening_log}
-use Rattle.nook_defs.specs.Runs.{IsRun, IsRunFrom, answer_at, event_of, if_call, state_after, state_from, state_of, step_of}
-use Rattle.nook_defs.specs.Stages.{collects, stage_due, stage_turned}
+use Rattle.nook_defs.specs.Answers.{one_answer}
+use Rattle.nook_defs.specs.Runs.{IsRun, IsRunFrom, answer_at, event_of, state_after, state_from, state_of, step_of, answer_among}
+use Rattle.nook_defs.specs.Stages.{collects, stage_due, stage_stepped}
 use Rattle.nook_defs.specs.State.{PartState}
-use Rattle.nook_defs.specs.Steps.{enabled, is_driven, is_inside, is_ready, is_running, opening, turned}
+use Rattle.nook_defs.specs.Steps.{enabled, is_driven, is_inside, is_ready, is_running, opening, stepped}
 use Rattle.nook_defs.specs.Trace.{Track, shown_answers, trace, trace_from}
-use Rattle.app_threads.proofs.CallNumbers.{CameFrom, HasEntry, Quiet, small_calls}
-use Rattle.app_threads.proofs.OpenCalls.{open_after}
-use Rattle.device_laws.proofs.DeviceStays.{spec_after, run_spec}
+use Rattle.part_laws.proofs.CallNumbers.{CameFrom, HasEntry, Quiet, small_calls}
+use Rattle.part_laws.proofs.UnansweredCalls.{open_after}
+use Rattle.part_laws.proofs.DeviceStays.{spec_after, run_spec}
 use Rattle.part_laws.specs.Bound.{calls_of, is_invoke}
 use Rattle.part_laws.specs.Facts.{is_dead}
 use Rattle.part_laws.specs.Recovery.{Gone}
@@ -44,7 +45,7 @@ use Rattle.mirrored_run.proofs.GivingUp.{GivenUp, StopsAll, given_up_in, gives_u
 
 -- the static check of a disk of so many blocks passes each
 abbrev pub AreChecked : ℕ → List Invocation → Type 0
-AreChecked blocks invoked = AllByRecursion (λ i. static_check class.Block blocks i.op ≡ None) invoked
+AreChecked blocks after_invoke = AllByRecursion (λ i. static_check class.Block blocks i.op ≡ None) after_invoke
 
 -- ---- behind what was given up
 
@@ -61,12 +62,13 @@ dead_answer (mode.Dead collected) t o p d = refl
 -- a call that passes the static check is answered Gone
 dead_invoke : (p : PartState) (c t : ℕ) (o : Op) (a : Option Answer) → is_dead p.mode ≡ true → static_check p.spec.class p.spec.blocks o ≡ None
     → event_of p (step.Invoke t o) ≡ event.Invoke c t o a → a ≡ Some (answered.Gone p.failures)
-unfolding turned invoked
+unfolding stepped after_invoke
 dead_invoke p c t o a d check e =
     sym (ap told_in e) ∙ ap (λ (r : Option Answer). told_in (invoked_by p t o r).event) check ∙ dead_answer p.mode t o p d
 
-own_call : (call : ℕ) (a : Option Answer) → if_call call call a ≡ a
-own_call call a = cond-true (eqb call call) a None (eq-eqb call call refl)
+own_call : (call : ℕ) (a : Option Answer) → answer_among call (one_answer call a) ≡ a
+own_call call None = refl
+own_call call (Some a) = cond-true (eqb call call) (Some a) None (eq-eqb call call refl)
 
 -- it is then among the answers
 gone_first : (c t f : ℕ) (o : Op) (a : Option Answer) (events : List Event) → a ≡ Some (answered.Gone f) → has_gone (answers_given (event.Invoke c t o a ∷ events)) ≡ true
@@ -90,8 +92,8 @@ abbrev answers_in : Event → List (ℕ × Answer)
 answers_in (event.Stage s answers released) = answers
 answers_in _ = []
 
-dead_stage : (m : Mode) (p : PartState) → is_dead m ≡ true → is_some (stage_due m) ≡ true → answers_in (stage_turned (with_mode m p)).event ≡ []
-unfolding stage_turned collects
+dead_stage : (m : Mode) (p : PartState) → is_dead m ≡ true → is_some (stage_due m) ≡ true → answers_in (stage_stepped (with_mode m p)).event ≡ []
+unfolding stage_stepped collects
 dead_stage (mode.Dead false) p d s = refl
 dead_stage (mode.Dead true) p d s = absurd cc
 dead_stage (mode.Boot s) p d e = absurd cc
@@ -112,7 +114,7 @@ module _ (spec : PartSpec) (block : spec.class ≡ class.Block) where
   -- nothing is shown where nothing more is answered Gone
   nothing_shown : (events : List Event) (p : PartState) → Gone p → p.spec ≡ spec → IsRunFrom p events → AreChecked spec.blocks (invocations events)
       → has_gone (answers_given events) ≡ false → (ts : List Track) → trace_from ts events ≡ []
-  unfolding IsRunFrom trace_from enabled turned
+  unfolding IsRunFrom trace_from enabled stepped
   nothing_shown [] p g s r c n ts = refl
   nothing_shown (event.Invoke k t o a ∷ events) p g s r c n ts =
       absurd (true≢false (sym (gone_first k t p.failures o a events (dead_invoke p k t o a g.0 (checked_so p o s c.0) r.1)) ∙ n))
@@ -146,7 +148,7 @@ number_is p c t o None a e = ap call_number (sym e)
 number_is p c t o (Some refusal) a e = ap call_number (sym e)
 
 invoke_number : (p : PartState) (c t : ℕ) (o : Op) (a : Option Answer) → event_of p (step.Invoke t o) ≡ event.Invoke c t o a → c ≡ p.log.count + 1
-unfolding turned invoked
+unfolding stepped after_invoke
 invoke_number p c t o a e = number_is p c t o (static_check p.spec.class p.spec.blocks o) a e
 
 -- the next number was given by the event
@@ -271,7 +273,7 @@ one_run spec seen block run contract checked none = split (is_dead (state_of spe
         parts : IsRun spec k.before × IsRunFrom q (k.event ∷ k.behind)
         parts = run_parts (opening spec) k.before (k.event ∷ k.behind) (subst (IsRun spec) (sym k.parts) run)
 
-        stops : StopsAll q (turned q (step_of k.event))
+        stops : StopsAll q (stepped q (step_of k.event))
         stops = gives_up q (step_of k.event) k.alive k.dead
 
         event_is : k.event ≡ event.Stage stage.Stop (gone_answers q.failures q.log.pending) []

@@ -6,36 +6,38 @@ use Rattle.nook_defs.specs.declared.classes.Accept.{Accept}
 use Rattle.nook_defs.specs.declared.classes.Accept.TheVariants as accepts
 use Rattle.nook_defs.specs.declared.classes.Admit.{Admit}
 use Rattle.nook_defs.specs.declared.classes.Admit.TheVariants as admits
-use Rattle.nook_defs.specs.declared.data.Answer.{Answer}
-use Rattle.nook_defs.specs.declared.data.Answer.TheVariants as answered
-use Rattle.nook_defs.specs.declared.data.Break.{Break}
-use Rattle.nook_defs.specs.declared.data.CallEntry.{CallEntry}
-use Rattle.nook_defs.specs.declared.data.End.TheVariants as end
-use Rattle.nook_defs.specs.declared.data.FailCause.TheVariants as fail
-use Rattle.nook_defs.specs.declared.data.Event.{Event}
-use Rattle.nook_defs.specs.declared.data.Event.TheVariants as event
-use Rattle.nook_defs.specs.declared.data.Mode.{Mode}
-use Rattle.nook_defs.specs.declared.data.Mode.TheVariants as mode
-use Rattle.nook_defs.specs.declared.data.Op.{Op}
-use Rattle.nook_defs.specs.declared.data.Stage.TheVariants as stage
-use Rattle.nook_defs.specs.declared.data.Step.{Step}
-use Rattle.nook_defs.specs.declared.data.Step.TheVariants as step
+use Rattle.nook_defs.specs.declared.calls.Answer.{Answer}
+use Rattle.nook_defs.specs.declared.calls.Answer.TheVariants as answered
+use Rattle.nook_defs.specs.declared.verdicts.Break.{Break}
+use Rattle.nook_defs.specs.declared.calls.CallEntry.{CallEntry}
+use Rattle.nook_defs.specs.declared.steps.End.TheVariants as end
+use Rattle.nook_defs.specs.declared.steps.FailCause.TheVariants as fail
+use Rattle.nook_defs.specs.declared.steps.Event.{Event}
+use Rattle.nook_defs.specs.declared.steps.Event.TheVariants as event
+use Rattle.nook_defs.specs.declared.steps.Mode.{Mode}
+use Rattle.nook_defs.specs.declared.steps.Mode.TheVariants as mode
+use Rattle.nook_defs.specs.declared.calls.Op.{Op}
+use Rattle.nook_defs.specs.declared.steps.Stage.{Stage}
+use Rattle.nook_defs.specs.declared.steps.Stage.TheVariants as stage
+use Rattle.nook_defs.specs.declared.steps.Step.{Step}
+use Rattle.nook_defs.specs.declared.steps.Step.TheVariants as step
 use Rattle.nook_defs.specs.declared.machine.BadParam.{BadParam}
 use Rattle.nook_defs.specs.declared.machine.BurstEnd.{BurstEnd}
 use Rattle.nook_defs.specs.declared.machine.BurstEnd.TheVariants as ends
 use Rattle.nook_defs.specs.declared.machine.Service.{Service}
-use Rattle.nook_defs.specs.Calls.{Turned, admitted, entered_by, entered_part, invoked, invoked_by}
+use Rattle.nook_defs.specs.Calls.{Stepped, after_admit, entered_by, after_enter, after_invoke, invoked_by}
 use Rattle.nook_defs.specs.Classes.{accept, admit, static_check}
 use Rattle.nook_defs.specs.declared.clause.Clause.{Clause}
-use Rattle.nook_defs.specs.Contract.{Known, after, break_from, break_or, broken}
-use Rattle.nook_defs.specs.Crossing.{Crossed, call_replied, closes, crossed, failed, fails, goes_on, is_accepted, is_last, kernel_call, next_mode, next_stage, refused_service, reply_by, serve_by, shadow_fault, shadow_replied, stage_in}
+use Rattle.nook_defs.specs.Contract.{Known, after, break_from, broken}
+use Rattle.nook_defs.proofs.Changes.{break_or}
+use Rattle.nook_defs.specs.Crossing.{Crossed, call_replied, closes_call, after_crossing, failed_crossing, fails, goes_on, is_accepted, is_last, kernel_call, next_mode, next_stage, refused_service, reply_by, serve_by, shadow_fault, shadow_replied, stage_in}
 use Rattle.nook_defs.specs.Domain.{domain_burst, first_argument, second_argument, stopped_domain}
 use Rattle.nook_defs.specs.Log.{call_of_thread, gone_answers}
 use Rattle.nook_defs.specs.Runs.{answer_at, state_after, state_from, step_of}
 use Rattle.nook_defs.specs.Services.{checked}
-use Rattle.nook_defs.specs.Stages.{collects, given_up, inits, is_given_up, loads_image, replays_open, replays_set, resets, resumes, stage_turned, stopped}
+use Rattle.nook_defs.specs.Stages.{collects, gives_up_part, inits, is_given_up, loads_image, replays_open, replays_set, resets, resumes, stage_stepped, stops}
 use Rattle.nook_defs.specs.State.{PartState}
-use Rattle.nook_defs.specs.Steps.{arrived, burst_turned, faults_of_burst, is_driven, turned, with_burst}
+use Rattle.nook_defs.specs.Steps.{after_arrival, burst_stepped, faults_of_burst, is_driven, stepped, with_burst}
 use Rattle.nook_defs.specs.Trace.{Track, Visible, shown, trace_from, tracks_after}
 use Rattle.part_laws.specs.Facts.{is_dead}
 use Rattle.part_laws.proofs.Places.{split}
@@ -131,11 +133,15 @@ served_mode number context p (Ok s) h = h
 next_mode_lives : (m : Mode) (p : PartState) → is_dead m ≡ false → is_dead (next_mode m p) ≡ false
 next_mode_lives (mode.Boot s) p h = refl
 next_mode_lives mode.Running p h = h
-next_mode_lives (mode.Recovering s) p h = refl
+next_mode_lives (mode.Recovering s) p h = by_stage s
+  where
+    by_stage : (s : Stage) → is_dead (next_mode (mode.Recovering s) p) ≡ false
+    by_stage stage.Stop = refl
+    by_stage _ = refl
 next_mode_lives (mode.Dead collected) p h = h
 
 reply_mode : (status : ℕ) (p : PartState) (o : Option CallEntry) → is_dead p.mode ≡ false → is_dead (call_replied status p o).state.mode ≡ false
-unfolding fails closes
+unfolding fails closes_call
 reply_mode status p None h = h
 reply_mode status p (Some c) h = by_accept (accept c.op status)
   where
@@ -149,37 +155,37 @@ by_either : {X : Type 0} (P : X → Type 0) (b : Bool) (x y : X) → P x → P y
 by_either P true x y h k = h
 by_either P false x y h k = k
 
-crossed_lives : (context : ℕ) (e : BurstEnd) (p : PartState) → is_dead p.mode ≡ false → is_dead (crossed context e p).state.mode ≡ false
-unfolding crossed fails next_stage
+crossed_lives : (context : ℕ) (e : BurstEnd) (p : PartState) → is_dead p.mode ≡ false → is_dead (after_crossing context e p).state.mode ≡ false
+unfolding after_crossing fails next_stage
 crossed_lives context (ends.Trap cause) p h = refl
 crossed_lives context (ends.Kcall number) p h =
-    by_either (λ (x : Crossed). is_dead x.state.mode ≡ false) (is_last context p) (failed p (refused_service number context p) fail.TooManyCrossings)
+    by_either (λ (x : Crossed). is_dead x.state.mode ≡ false) (is_last context p) (failed_crossing p (refused_service number context p) fail.TooManyCrossings)
     (kernel_call number context p) refl
     (served_mode number context p (checked number (first_argument context p.domain) (second_argument context p.domain) p.spec.class p.domain.entries) h)
 crossed_lives context ends.Pause p h =
-    by_either (λ (x : Crossed). is_dead x.state.mode ≡ false) (is_last context p) (failed p end.Pause fail.TooManyCrossings) (goes_on p end.Pause) refl h
+    by_either (λ (x : Crossed). is_dead x.state.mode ≡ false) (is_last context p) (failed_crossing p end.Pause fail.TooManyCrossings) (goes_on p end.Pause) refl h
 crossed_lives context (ends.Reply status) p h =
     by_either (λ (x : Crossed). is_dead x.state.mode ≡ false) (context == 16) (shadow_replied status p) (call_replied status p (call_of_thread context p.log.pending))
     (by_either (λ (x : Crossed). is_dead x.state.mode ≡ false) (is_accepted status p) (goes_on (next_stage p) (end.Reply status))
-    (failed p (end.Reply status) (shadow_fault status (stage_in p.mode))) (next_mode_lives p.mode p h) refl)
+    (failed_crossing p (end.Reply status) (shadow_fault status (stage_in p.mode))) (next_mode_lives p.mode p h) refl)
     (reply_mode status p (call_of_thread context p.log.pending) h)
 
 -- a step is a Stop that answers all open calls Gone, and nothing is driven behind it
-abbrev pub StopsAll : PartState → Turned → Type 0
+abbrev pub StopsAll : PartState → Stepped → Type 0
 StopsAll p t = (t.event ≡ event.Stage stage.Stop (gone_answers p.failures p.log.pending) []) × (is_driven t.state ≡ false)
 
-stop_gives_up : (p : PartState) → is_dead (if is_given_up p then given_up p else stopped p).state.mode ≡ true
-    → StopsAll p (if is_given_up p then given_up p else stopped p)
-unfolding given_up stopped stopped_domain
+stop_gives_up : (p : PartState) → is_dead (if is_given_up p then gives_up_part p else stops p).state.mode ≡ true
+    → StopsAll p (if is_given_up p then gives_up_part p else stops p)
+unfolding gives_up_part stops stopped_domain
 stop_gives_up p d = by_test (is_given_up p) d
   where
-    by_test : (b : Bool) → is_dead (if b then given_up p else stopped p).state.mode ≡ true → StopsAll p (if b then given_up p else stopped p)
+    by_test : (b : Bool) → is_dead (if b then gives_up_part p else stops p).state.mode ≡ true → StopsAll p (if b then gives_up_part p else stops p)
     by_test true d = (refl, refl)
     by_test false d = absurd cc
 
-stage_gives_up : (m : Mode) (p : PartState) → is_dead m ≡ false → is_dead (stage_turned (with_mode m p)).state.mode ≡ true
-    → StopsAll (with_mode m p) (stage_turned (with_mode m p))
-unfolding stage_turned collects resets loads_image inits replays_set replays_open resumes
+stage_gives_up : (m : Mode) (p : PartState) → is_dead m ≡ false → is_dead (stage_stepped (with_mode m p)).state.mode ≡ true
+    → StopsAll (with_mode m p) (stage_stepped (with_mode m p))
+unfolding stage_stepped collects resets loads_image inits replays_set replays_open resumes
 stage_gives_up mode.Running p a d = absurd cc
 stage_gives_up (mode.Dead collected) p a d = absurd cc
 stage_gives_up (mode.Boot stage.Stop) p a d = stop_gives_up (with_mode (mode.Boot stage.Stop) p) d
@@ -203,7 +209,7 @@ invoke_mode : (p : PartState) (t : ℕ) (o : Op) (r : Option Answer) → (invoke
 invoke_mode p t o None = refl
 invoke_mode p t o (Some a) = refl
 
-admit_mode : (p : PartState) (c : CallEntry) (a : Admit) → (admitted p c a).state.mode ≡ p.mode
+admit_mode : (p : PartState) (c : CallEntry) (a : Admit) → (after_admit p c a).state.mode ≡ p.mode
 admit_mode p c (admits.Reply a) = refl
 admit_mode p c admits.TakeFrame = refl
 admit_mode p c (admits.Enter place) = refl
@@ -216,10 +222,10 @@ lives_and_dies : (m n : Mode) → n ≡ m → is_dead m ≡ false → is_dead n 
 lives_and_dies m n e a d = true≢false (sym d ∙ ap is_dead e ∙ a)
 
 -- only a Stop gives a part up
-pub gives_up : (p : PartState) (s : Step) → is_dead p.mode ≡ false → is_dead (turned p s).state.mode ≡ true → StopsAll p (turned p s)
-unfolding turned invoked entered_part burst_turned arrived
-gives_up p (step.Invoke t o) a d = absurd (lives_and_dies p.mode (turned p (step.Invoke t o)).state.mode (invoke_mode p t o (static_check p.spec.class p.spec.blocks o)) a d)
-gives_up p (step.Enter t) a d = absurd (lives_and_dies p.mode (turned p (step.Enter t)).state.mode (enter_mode p t (call_of_thread t p.log.pending)) a d)
+pub gives_up : (p : PartState) (s : Step) → is_dead p.mode ≡ false → is_dead (stepped p s).state.mode ≡ true → StopsAll p (stepped p s)
+unfolding stepped after_invoke after_enter burst_stepped after_arrival
+gives_up p (step.Invoke t o) a d = absurd (lives_and_dies p.mode (stepped p (step.Invoke t o)).state.mode (invoke_mode p t o (static_check p.spec.class p.spec.blocks o)) a d)
+gives_up p (step.Enter t) a d = absurd (lives_and_dies p.mode (stepped p (step.Enter t)).state.mode (enter_mode p t (call_of_thread t p.log.pending)) a d)
 gives_up p (step.Burst context) a d =
     let b = domain_burst context (faults_of_burst (p.bursts + 1) p.spec.faults) p.domain in
     absurd (true≢false (sym d ∙ crossed_lives context b.ending (with_burst b.domain p) a))

@@ -1,7 +1,6 @@
 pub mod Adding
 pub mod Behind
 pub mod ClassRuns
-pub mod Closed
 pub mod GivingUp
 pub mod Plain
 pub mod Room

@@ -3,16 +3,16 @@
 use Rattle.std.proofs.Common.{◌≡◌, ◌⊎◌, inl, inr, ℕ, ◌||◌, not, is_some, Bool, true, false, Option, Some, None, List, [], ◌∷◌, ◌++◌, refl, sym, ap, subst, ◌∙◌, true≢false}
 use Rattle.std.specs.Prelude.{if◌then◌else◌, option_and_then}
 use Rattle.std.proofs.lemmas.Bool.{and_parts}
-use Rattle.nook_defs.specs.declared.data.Answer.{Answer}
-use Rattle.nook_defs.specs.declared.data.Answer.TheVariants as answered
-use Rattle.nook_defs.specs.declared.data.Class.TheVariants.{Block}
-use Rattle.nook_defs.specs.declared.data.MirrorAnswer.{MirrorAnswer}
-use Rattle.nook_defs.specs.declared.data.MirrorAnswer.TheVariants as mirror
-use Rattle.nook_defs.specs.declared.data.Op.{Op}
-use Rattle.nook_defs.specs.declared.data.Op.TheVariants.{Read, Write, Send, Recv, Open, Play, Close, Get, Set}
+use Rattle.nook_defs.specs.declared.calls.Answer.{Answer}
+use Rattle.nook_defs.specs.declared.calls.Answer.TheVariants as answered
+use Rattle.nook_defs.specs.declared.classes.Class.TheVariants.{Block}
+use Rattle.nook_defs.specs.declared.mirror.MirrorAnswer.{MirrorAnswer}
+use Rattle.nook_defs.specs.declared.mirror.MirrorAnswer.TheVariants as mirror
+use Rattle.nook_defs.specs.declared.calls.Op.{Op}
+use Rattle.nook_defs.specs.declared.calls.Op.TheVariants.{Read, Write, Send, Recv, Open, Play, Close, Get, Set}
 use Rattle.nook_defs.specs.Classes.{is_write, static_check}
 use Rattle.part_laws.proofs.Places.{split}
-use Rattle.mirror_block.specs.Rule.{Outcome, Presence, Said, Stepped, after_asking, after_failed_write, after_read, after_write, asks_right, failed_block, is_done, mirror_step, outcome, refusal_of, says, stays_after_read, step_asking, step_checked, step_refused, stepped, words_read}
+use Rattle.mirror_block.specs.Rule.{Outcome, Presence, Said, MirrorStep, after_asking, after_failed_write, after_read, after_write, asks_right, failed_block, is_done, mirror_step, outcome, refusal_of, says, stays_after_read, step_asking, step_checked, step_refused, mirror_step_of, words_read}
 use Rattle.mirror_block.specs.Sides.{and_more}
 use Rattle.mirrored_run.proofs.GivingUp.{has_gone, is_gone}
 
@@ -37,26 +37,26 @@ says_so true (a ∷ answers) s e =
 -- ---- one step
 
 -- a step of the rule: the sides said these, or the static check refused the operation
-record Asks (blocks : ℕ) (present : Presence) (o : Op) (lefts rights : List Answer) (z : Stepped) : Type 0 where
+record Asks (blocks : ℕ) (present : Presence) (o : Op) (lefts rights : List Answer) (z : MirrorStep) : Type 0 where
   left : Said
   right : Said
   checked : static_check Block blocks o ≡ None
   left_says : Says present.left lefts left
   right_says : Says (asks_right present o left.said) rights right
-  is : stepped present o left right ≡ z
+  is : mirror_step_of present o left right ≡ z
   more : (l r : List Answer) → mirror_step blocks present o (lefts ++ l) (rights ++ r)
       ≡ Some (record { outcome = after_asking present o left.said right.said; left = left.rest ++ l; right = right.rest ++ r })
 
-record Refuses (blocks : ℕ) (present : Presence) (o : Op) (lefts rights : List Answer) (z : Stepped) : Type 0 where
+record Refuses (blocks : ℕ) (present : Presence) (o : Op) (lefts rights : List Answer) (z : MirrorStep) : Type 0 where
   answer : MirrorAnswer
   is : record { outcome = record { present = present; answer = answer }; left = lefts; right = rights } ≡ z
   more : (l r : List Answer) → mirror_step blocks present o (lefts ++ l) (rights ++ r)
       ≡ Some (record { outcome = record { present = present; answer = answer }; left = lefts ++ l; right = rights ++ r })
 
-the_step : (x z : Stepped) → Some x ≡ Some z → x ≡ z
+the_step : (x z : MirrorStep) → Some x ≡ Some z → x ≡ z
 the_step x z e = cc
 
-module _ (blocks : ℕ) (present : Presence) (o : Op) (lefts rights : List Answer) (z : Stepped) where
+module _ (blocks : ℕ) (present : Presence) (o : Op) (lefts rights : List Answer) (z : MirrorStep) where
   -- the rule for a Read or a Write
   abbrev IsStep : Type 0
   IsStep = (l r : List Answer) → mirror_step blocks present o l r ≡ step_checked (static_check Block blocks o) present o l r
@@ -64,14 +64,14 @@ module _ (blocks : ℕ) (present : Presence) (o : Op) (lefts rights : List Answe
   abbrev Result : Type 0
   Result = Asks blocks present o lefts rights z ⊎ Refuses blocks present o lefts rights z
 
-  abbrev right_step : List Answer → Said → Option Stepped
-  right_step rs left = option_and_then (λ right. Some (stepped present o left right)) (says (asks_right present o left.said) rs)
+  abbrev right_step : List Answer → Said → Option MirrorStep
+  right_step rs left = option_and_then (λ right. Some (mirror_step_of present o left right)) (says (asks_right present o left.said) rs)
 
   asked_step : IsStep → static_check Block blocks o ≡ None → step_asking present o lefts rights ≡ Some z → Result
   asked_step rule checked e = by_left (says present.left lefts) refl e
     where
       by_right : (left : Said) (s : Option Said) → says present.left lefts ≡ Some left → says (asks_right present o left.said) rights ≡ s
-          → option_and_then (λ right. Some (stepped present o left right)) s ≡ Some z → Result
+          → option_and_then (λ right. Some (mirror_step_of present o left right)) s ≡ Some z → Result
       by_right left None h i e = absurd cc
       by_right left (Some right) h i e =
           let l = says_so present.left lefts left h in
@@ -82,11 +82,11 @@ module _ (blocks : ℕ) (present : Presence) (o : Op) (lefts rights : List Answe
             checked = checked;
             left_says = l;
             right_says = r;
-            is = the_step (stepped present o left right) z e;
+            is = the_step (mirror_step_of present o left right) z e;
             more = λ ls rs. rule (lefts ++ ls) (rights ++ rs)
                 ∙ ap (λ c. step_checked c present o (lefts ++ ls) (rights ++ rs)) checked
                 ∙ ap (option_and_then (right_step (rights ++ rs))) (l.more ls)
-                ∙ ap (option_and_then (λ right'. Some (stepped present o (record { said = left.said; rest = left.rest ++ ls }) right'))) (r.more rs);
+                ∙ ap (option_and_then (λ right'. Some (mirror_step_of present o (record { said = left.said; rest = left.rest ++ ls }) right'))) (r.more rs);
           })
 
       by_left : (s : Option Said) → says present.left lefts ≡ s → option_and_then (right_step rights) s ≡ Some z → Result
@@ -110,7 +110,7 @@ module _ (blocks : ℕ) (present : Presence) (o : Op) (lefts rights : List Answe
   by_check rule None h e = asked_step rule h e
   by_check rule (Some refusal) h e = refused_step rule refusal h e
 
-step_taken : (blocks : ℕ) (present : Presence) (o : Op) (lefts rights : List Answer) (z : Stepped) → mirror_step blocks present o lefts rights ≡ Some z
+step_taken : (blocks : ℕ) (present : Presence) (o : Op) (lefts rights : List Answer) (z : MirrorStep) → mirror_step blocks present o lefts rights ≡ Some z
     → Asks blocks present o lefts rights z ⊎ Refuses blocks present o lefts rights z
 step_taken blocks present (Read first count) lefts rights z e =
     by_check blocks present (Read first count) lefts rights z (λ l r. refl) (static_check Block blocks (Read first count)) refl e
@@ -134,8 +134,8 @@ step_more blocks present o lefts rights l r x e = by_step (step_taken blocks pre
   where
     by_step : Asks blocks present o lefts rights (record { outcome = x; left = []; right = [] }) ⊎ Refuses blocks present o lefts rights (record { outcome = x; left = []; right = [] })
         → mirror_step blocks present o (lefts ++ l) (rights ++ r) ≡ Some (record { outcome = x; left = l; right = r })
-    by_step (inl k) = k.more l r ∙ ap (λ (z : Stepped). Some (record { outcome = z.outcome; left = z.left ++ l; right = z.right ++ r })) k.is
-    by_step (inr k) = k.more l r ∙ ap (λ (z : Stepped). Some (record { outcome = z.outcome; left = z.left ++ l; right = z.right ++ r })) k.is
+    by_step (inl k) = k.more l r ∙ ap (λ (z : MirrorStep). Some (record { outcome = z.outcome; left = z.left ++ l; right = z.right ++ r })) k.is
+    by_step (inr k) = k.more l r ∙ ap (λ (z : MirrorStep). Some (record { outcome = z.outcome; left = z.left ++ l; right = z.right ++ r })) k.is
 
 -- an operation that some side answered passed the static check
 pub step_checks : (blocks : ℕ) (present : Presence) (o : Op) (lefts rights : List Answer) (x : Outcome)
@@ -146,7 +146,7 @@ step_checks blocks present o lefts rights x e = by_step (step_taken blocks prese
     by_step : Asks blocks present o lefts rights (record { outcome = x; left = []; right = [] }) ⊎ Refuses blocks present o lefts rights (record { outcome = x; left = []; right = [] })
         → (static_check Block blocks o ≡ None) ⊎ ((lefts ≡ []) × (rights ≡ []))
     by_step (inl k) = inl k.checked
-    by_step (inr k) = inr (ap (λ (z : Stepped). z.left) k.is, ap (λ (z : Stepped). z.right) k.is)
+    by_step (inr k) = inr (ap (λ (z : MirrorStep). z.left) k.is, ap (λ (z : MirrorStep). z.right) k.is)
 
 -- ---- who stays
 
@@ -235,17 +235,17 @@ step_stays blocks present o lefts rights x e = by_step (step_taken blocks presen
     by_step : Asks blocks present o lefts rights (record { outcome = x; left = []; right = [] }) ⊎ Refuses blocks present o lefts rights (record { outcome = x; left = []; right = [] })
         → StaysBy x.present.left present.left lefts × StaysBy x.present.right present.right rights
     by_step (inl k) =
-        let left_used = used_up lefts k.left present.left k.left_says (ap (λ (z : Stepped). z.left) k.is) in
-        let right_used = used_up rights k.right (asks_right present o k.left.said) k.right_says (ap (λ (z : Stepped). z.right) k.is) in (
+        let left_used = used_up lefts k.left present.left k.left_says (ap (λ (z : MirrorStep). z.left) k.is) in
+        let right_used = used_up rights k.right (asks_right present o k.left.said) k.right_says (ap (λ (z : MirrorStep). z.right) k.is) in (
           λ h.
-              let s = left_stays present o k.left.said k.right.said k.left_says.so (ap (λ (z : Stepped). z.outcome.present.left) k.is ∙ h) in
+              let s = left_stays present o k.left.said k.right.said k.left_says.so (ap (λ (z : MirrorStep). z.outcome.present.left) k.is ∙ h) in
               (s.0, ap has_gone left_used ∙ s.1),
           λ h.
               let s = right_stays present o k.left.said k.right.said (λ a i. (and_parts present.right (is_write o || not (is_some (words_read k.left.said))) (k.right_says.so a i)).0)
-              (ap (λ (z : Stepped). z.outcome.present.right) k.is ∙ h) in
+              (ap (λ (z : MirrorStep). z.outcome.present.right) k.is ∙ h) in
               (s.0, ap has_gone right_used ∙ s.1),
         )
     by_step (inr k) = (
-      λ h. (ap (λ (z : Stepped). z.outcome.present.left) k.is ∙ h, ap has_gone (ap (λ (z : Stepped). z.left) k.is)),
-      λ h. (ap (λ (z : Stepped). z.outcome.present.right) k.is ∙ h, ap has_gone (ap (λ (z : Stepped). z.right) k.is)),
+      λ h. (ap (λ (z : MirrorStep). z.outcome.present.left) k.is ∙ h, ap has_gone (ap (λ (z : MirrorStep). z.left) k.is)),
+      λ h. (ap (λ (z : MirrorStep). z.outcome.present.right) k.is ∙ h, ap has_gone (ap (λ (z : MirrorStep). z.right) k.is)),
     )

@@ -4,16 +4,16 @@ use Rattle.std.specs.List.{All, list_any}
 use Rattle.std.proofs.lemmas.List.{length-map}
 use Rattle.std.proofs.lemmas.List.Elements.{All-head, All-tail}
 use Rattle.std.proofs.lemmas.Bool.{and_parts}
-use Rattle.nook_defs.specs.declared.data.Answer.{Answer}
-use Rattle.nook_defs.specs.declared.data.Break.{Break}
-use Rattle.nook_defs.specs.declared.data.Class.{Class}
-use Rattle.nook_defs.specs.declared.data.Class.TheVariants as class
-use Rattle.nook_defs.specs.declared.data.Event.{Event}
-use Rattle.nook_defs.specs.declared.data.MirrorAnswer.{MirrorAnswer}
-use Rattle.nook_defs.specs.declared.data.Op.{Op}
-use Rattle.nook_defs.specs.declared.data.PartSpec.{PartSpec}
-use Rattle.nook_defs.specs.declared.data.Scenario.{Scenario}
-use Rattle.nook_defs.specs.declared.data.ThreadSpec.{ThreadSpec}
+use Rattle.nook_defs.specs.declared.calls.Answer.{Answer}
+use Rattle.nook_defs.specs.declared.verdicts.Break.{Break}
+use Rattle.nook_defs.specs.declared.classes.Class.{Class}
+use Rattle.nook_defs.specs.declared.classes.Class.TheVariants as class
+use Rattle.nook_defs.specs.declared.steps.Event.{Event}
+use Rattle.nook_defs.specs.declared.mirror.MirrorAnswer.{MirrorAnswer}
+use Rattle.nook_defs.specs.declared.calls.Op.{Op}
+use Rattle.nook_defs.specs.declared.scenario.PartSpec.{PartSpec}
+use Rattle.nook_defs.specs.declared.scenario.Scenario.{Scenario}
+use Rattle.nook_defs.specs.declared.scenario.ThreadSpec.{ThreadSpec}
 use Rattle.nook_defs.specs.Blocks.{blank_blocks}
 use Rattle.nook_defs.specs.Classes.{same_class}
 use Rattle.nook_defs.specs.Contract.{first_break}
@@ -32,7 +32,7 @@ use Rattle.report_text.specs.declared.whole_report.PartEnd.{PartEnd}
 use Rattle.report_text.specs.Whole.{HaveEnds}
 use Rattle.run_ends.specs.Journals.{AreRuns, events_in}
 use Rattle.mirrored_run.specs.declared.running.Unheard.{Unheard}
-use Rattle.mirrored_run.specs.Closing.{GoesOn, IsLeftBehind}
+use Rattle.threaded_run.specs.Leaving.{GoesOn, IsLeft}
 use Rattle.mirrored_run.specs.Hearing.{HearAllOrNothing}
 use Rattle.nook_defs.specs.Listening.{Listening}
 use Rattle.request_taps.specs.Bus.{told_all}
@@ -218,11 +218,11 @@ served_alone spec ld rd ov ow blocks ops answers lv rv l r h =
 pub whole_run : {D : Type 0} (spec : D → PartSpec) (scenario : Scenario) (l r : PartSpec) (ld rd : D) (ov ow lv rv : DeskView) (answers : List MirrorAnswer)
     (lj rj : Kept Event) (le re : PartEnd) (made : Unheard) → scenario.parts ≡ l ∷ r ∷ [] → spec ld ≡ l → spec rd ≡ r → ov ≡ opening_view → ow ≡ opening_view
     → HasServed spec ld rd ov ow l.blocks (ops_of_thread scenario.threads) answers lv rv
-    → IsLeftBehind (spec ld) lv.seen lj le → IsLeftBehind (spec rd) rv.seen rj re
+    → IsLeft (spec ld) lv.seen lj le → IsLeft (spec rd) rv.seen rj re
     → made.journals ≡ lj ∷ rj ∷ [] → made.ends ≡ le ∷ re ∷ [] → made.answers ≡ answers → IsWholeRun scenario made
 whole_run spec scenario l r ld rd ov ow lv rv answers lj rj le re made parts left_is right_is old_left old_right h hl hr journals ends same =
-    let kl : IsLeftBehind l lv.seen lj le = subst (λ (s : PartSpec). IsLeftBehind s lv.seen lj le) left_is hl in
-    let kr : IsLeftBehind r rv.seen rj re = subst (λ (s : PartSpec). IsLeftBehind s rv.seen rj re) right_is hr in
+    let kl : IsLeft l lv.seen lj le = subst (λ (s : PartSpec). IsLeft s lv.seen lj le) left_is hl in
+    let kr : IsLeft r rv.seen rj re = subst (λ (s : PartSpec). IsLeft s rv.seen rj re) right_is hr in
     record {
       runs = subst (λ (specs : List PartSpec). AreRuns specs (map events_in made.journals)) (sym parts)
           (subst (λ (js : List (Kept Event)). AreRuns (l ∷ r ∷ []) (map events_in js)) (sym journals) (kl.run, (kr.run, tt)));

@@ -1,4 +1,3 @@
-pub mod Closing
 pub mod Hearing
 pub mod Mirrors
 pub mod Serving

@@ -1,7 +1,6 @@
 //! The run of a mirror: a scenario's thread reads and writes one disk that two parts keep.
 #![tactic(auto)]
 
-mod closing;
 mod running;
 mod serving;
 #[cfg(test)]

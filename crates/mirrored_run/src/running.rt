@@ -7,7 +7,7 @@ ghost use Rattle.mirrored_run.specs.Mirrors.{IsMirrorRun, is_mirror, is_single, 
 ghost use Rattle.mirrored_run.specs.Serving.{HasServed};
 ghost use Rattle.mirrored_run.specs.Unheard.{IsWholeRun};
 ghost use Rattle.nook_defs.specs.Valid.{IsValidPart, IsValidScenario};
-ghost use Rattle.nook_defs.specs.declared.data.Event.{Event};
+ghost use Rattle.nook_defs.specs.declared.steps.Event.{Event};
 ghost use Rattle.part_server.specs.Desk.{IsDeskSeat, desk_spec, desk_view};
 ghost use Rattle.part_server.specs.Turns.{opening_view};
 ghost use Rattle.report_text.specs.Whole.{HaveEnds};
@@ -15,13 +15,14 @@ ghost use Rattle.request_taps.specs.Bus.{result_of, seen, told_all};
 ghost use Rattle.run_ends.specs.Journals.{AreRuns, events_in};
 ghost use Rattle.threaded_run.specs.Threaded.{in_parts};
 
-use crate::closing::{Left, leave};
 use crate::serving::serve_first;
 use mirror_block::Mirror;
-use nook_defs::data::{AnswerTable, MirrorAnswers, PartSpec, Scenario, ThreadSpec};
+use nook_defs::calls::AnswerTable;
 use nook_defs::lists::TryCopy;
 use nook_defs::memory::NoMemory;
+use nook_defs::mirror::MirrorAnswers;
 use nook_defs::outside::Listener;
+use nook_defs::scenario::{PartSpec, Scenario, ThreadSpec};
 use part_core::Part;
 use part_server::{DeskSeat, PartDesk};
 use report_text::report::{Journals, Run};
@@ -30,7 +31,7 @@ use request_taps::Bus;
 use run_ends::WholeRun;
 use std::alloc::Global;
 use std::sync::Wait;
-use threaded_run::publish_all;
+use threaded_run::{Left, leave, publish_all};
 
 /// What the run of a mirror left: its journals, totals and ends (with no answers of threads), and the mirror's answers.
 #[derive(Drop)]

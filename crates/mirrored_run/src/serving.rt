@@ -9,8 +9,10 @@ ghost use Rattle.mirrored_run.specs.Serving.{AreServedBy, HasAsked};
 
 use desk_like::DeskLike;
 use mirror_block::{Mirror, MirrorStop};
-use nook_defs::data::{MirrorAnswer, MirrorAnswers, Op, ThreadSpec};
+use nook_defs::calls::Op;
 use nook_defs::memory::NoMemory;
+use nook_defs::mirror::{MirrorAnswer, MirrorAnswers};
+use nook_defs::scenario::ThreadSpec;
 use std::alloc::Global;
 use std::sync::Wait;
 

@@ -4,8 +4,10 @@ ghost use Rattle.std.specs.Prelude.{IfOk};
 ghost use Rattle.nook_defs.specs.Valid.{IsValidScenario};
 
 use crate::{is_mirror, run_mirror};
-use nook_defs::data::{Event, MirrorAnswer, Scenario};
 use nook_defs::listeners::CountListener;
+use nook_defs::mirror::MirrorAnswer;
+use nook_defs::scenario::Scenario;
+use nook_defs::steps::Event;
 use request_taps::Bus;
 use scenario_read::read_scenario;
 use std::alloc::Global;

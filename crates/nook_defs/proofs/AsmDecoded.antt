@@ -1,65 +1,105 @@
 -- A word that is decoded is the word of its instruction, whose fields are in range.
-use Rattle.std.specs.Prelude.{◌≡◌, refl, ℕ, ◌+◌, ◌^◌, ◌<◌, ◌==◌, Bool, true, false, Option, Some, None, if◌then◌else◌}
+use Rattle.std.specs.Prelude.{◌≡◌, refl, ℕ, ◌^◌, ◌<◌, ◌==◌, ◌&&◌, Bool, true, false, List, [], ◌∷◌, Option, Some, None, IfSome, option_map, if◌then◌else◌}
+use Rattle.std.specs.List.{find}
 use native.Mathlib.Omega.{arith}
-use mathlib.Core.Path.{subst}
+use mathlib.Core.Path.{ap, subst, sym, ◌∙◌}
 use Rattle.std.proofs.lemmas.Bool.{eqb-true}
-use Rattle.nook_defs.specs.Machine.{op_field, a_field, b_field, imm_field, if_zero, row_of, decode_of, word_of, encode_of}
-use Rattle.nook_defs.specs.Mnemonics.{fields_of}
+use Rattle.nook_defs.specs.Machine.{op_field, a_field, b_field, imm_field, has_no_other, is_of_row, decode_of, word_of, encode_of}
+use Rattle.nook_defs.specs.Mnemonics.{Fields, fields, fields_of, form_of, instr_with, instruction_row, mnemonics}
+use Rattle.nook_defs.specs.declared.assembler.Form.{Form}
+use Rattle.nook_defs.specs.declared.assembler.Form.TheVariants as form
+use Rattle.nook_defs.specs.declared.assembler.Mnemonic.{Mnemonic}
+use Rattle.nook_defs.specs.declared.assembler.Mnemonic.TheVariants as mnemonic
 use Rattle.nook_defs.specs.declared.machine.Instr.{Instr}
-use Rattle.nook_defs.specs.declared.machine.Instr.TheVariants as instr
 use Rattle.nook_defs.proofs.AsmInstrs.{InRange}
 
 -- the instruction of a word, with the word
 abbrev pub Fits : ℕ → Instr → Type 0
 Fits word i = (encode_of i ≡ word) × InRange (fields_of i)
 
-abbrev Good : ℕ → Option Instr → Type 0
-Good word None = Unit {0}
-Good word (Some i) = Fits word i
+-- the operands of a form, and 0 for the others
+fields_in : Mnemonic → Form → ℕ → ℕ → ℕ → Fields
+fields_in m form.Bare a b imm = fields m 0 0 0
+fields_in m form.A a b imm = fields m a 0 0
+fields_in m form.Imm a b imm = fields m 0 0 imm
+fields_in m form.AB a b imm = fields m a b 0
+fields_in m form.AImm a b imm = fields m a 0 imm
+fields_in m form.ABImm a b imm = fields m a b imm
 
-test_good : (word a b : ℕ) (there other : Option Instr) → (a ≡ b → Good word there) → Good word other → Good word (if a == b then there else other)
-test_good word a b there other h k = by_test (a == b) refl
+-- each instruction has its form's operands
+fields_back : (m : Mnemonic) (a b imm : ℕ) → fields_of (instr_with m a b imm) ≡ fields_in m (form_of m) a b imm
+unfolding fields_in
+fields_back mnemonic.Li a b imm = refl
+fields_back mnemonic.Lui a b imm = refl
+fields_back mnemonic.Mov a b imm = refl
+fields_back mnemonic.Add a b imm = refl
+fields_back mnemonic.Sub a b imm = refl
+fields_back mnemonic.And a b imm = refl
+fields_back mnemonic.Or a b imm = refl
+fields_back mnemonic.Xor a b imm = refl
+fields_back mnemonic.Shl a b imm = refl
+fields_back mnemonic.Shr a b imm = refl
+fields_back mnemonic.Addi a b imm = refl
+fields_back mnemonic.Ld a b imm = refl
+fields_back mnemonic.St a b imm = refl
+fields_back mnemonic.Jmp a b imm = refl
+fields_back mnemonic.Beq a b imm = refl
+fields_back mnemonic.Bne a b imm = refl
+fields_back mnemonic.Blt a b imm = refl
+fields_back mnemonic.Jal a b imm = refl
+fields_back mnemonic.Jr a b imm = refl
+fields_back mnemonic.In a b imm = refl
+fields_back mnemonic.Out a b imm = refl
+fields_back mnemonic.Kcall a b imm = refl
+fields_back mnemonic.Ret a b imm = refl
+fields_back mnemonic.Fault a b imm = refl
+
+both : (s t : Bool) → (s && t) ≡ true → (s ≡ true) × (t ≡ true)
+both true t h = (refl, h)
+both false t h = (h, subst (λ s. (s && t) ≡ true) h h)
+
+-- where the other operands are 0, those are all
+all_in : (m : Mnemonic) (x : Form) (a b imm : ℕ) → has_no_other x a b imm ≡ true
+    → fields_in m x a b imm ≡ fields m a b imm
+unfolding fields_in
+all_in m form.Bare a b imm h = let first = both (a == 0 && b == 0) (imm == 0) h in let more = both (a == 0) (b == 0) first.0 in
+    rw (eqb-true a 0 more.0, eqb-true b 0 more.1, eqb-true imm 0 first.1) refl
+all_in m form.A a b imm h = let more = both (b == 0) (imm == 0) h in rw (eqb-true b 0 more.0, eqb-true imm 0 more.1) refl
+all_in m form.Imm a b imm h = let more = both (a == 0) (b == 0) h in rw (eqb-true a 0 more.0, eqb-true b 0 more.1) refl
+all_in m form.AB a b imm h = rw (eqb-true imm 0 h) refl
+all_in m form.AImm a b imm h = rw (eqb-true b 0 h) refl
+all_in m form.ABImm a b imm h = refl
+
+-- the instruction of a row that a word is of
+row_fits : (w : ℕ) (m : Mnemonic) → w < 2 ^ 32 → is_of_row w m ≡ true → Fits w (instr_with m (a_field w) (b_field w) (imm_field w))
+row_fits w m small h =
+    let is = both (op_field w == (instruction_row m).number) (has_no_other (form_of m) (a_field w) (b_field w) (imm_field w)) h in
+    let same : fields_of (instr_with m (a_field w) (b_field w) (imm_field w)) ≡ fields m (a_field w) (b_field w) (imm_field w) =
+    fields_back m (a_field w) (b_field w) (imm_field w) ∙ all_in m (form_of m) (a_field w) (b_field w) (imm_field w) is.1 in
+    let op : op_field w ≡ (instruction_row m).number = eqb-true (op_field w) (instruction_row m).number is.0 in
+    let whole : word_of (op_field w) (a_field w) (b_field w) (imm_field w) ≡ w = omega arith in (
+      ap (λ (f : Fields). word_of (instruction_row f.mnemonic).number f.a f.b f.imm) same
+          ∙ (ap (λ n. word_of n (a_field w) (b_field w) (imm_field w)) (sym op) ∙ whole),
+      subst InRange (sym same) (record { low_a = omega arith; low_b = omega arith; low_imm = omega arith }),
+    )
+
+-- what is found passes the test
+found_passes : {X : Type 0} (p : X → Bool) (xs : List X) → IfSome (find p xs) (λ x. p x ≡ true)
+found_passes p [] = tt
+found_passes p (x ∷ xs) = by_test (p x) refl (found_passes p xs)
   where
-    by_test : (t : Bool) → (a == b) ≡ t → Good word (if t then there else other)
-    by_test true e = h (eqb-true a b e)
-    by_test false e = k
+    by_test : (t : Bool) → p x ≡ t → IfSome (find p xs) (λ y. p y ≡ true) → IfSome (if t then Some x else find p xs) (λ y. p y ≡ true)
+    by_test true e later = e
+    by_test false e later = later
 
-zero_good : (word unused : ℕ) (i : Instr) → (unused ≡ 0 → Fits word i) → Good word (if_zero unused i)
-zero_good word unused i h = test_good word unused 0 (Some i) None h tt
-
-row_good : (op a b imm : ℕ) → a < 16 → b < 16 → imm < 2 ^ 16 → Good (word_of op a b imm) (row_of op a b imm)
-row_good op a b imm ha hb hi =
-    let w : ℕ = word_of op a b imm in
-    (test_good w op 0x01 _ _ (λ e. zero_good w b (instr.Li a imm) (λ z. (omega arith, record { low_a = ha; low_b = omega arith; low_imm = hi })))
-    (test_good w op 0x02 _ _ (λ e. zero_good w b (instr.Lui a imm) (λ z. (omega arith, record { low_a = ha; low_b = omega arith; low_imm = hi })))
-    (test_good w op 0x03 _ _ (λ e. zero_good w imm (instr.Mov a b) (λ z. (omega arith, record { low_a = ha; low_b = hb; low_imm = omega arith })))
-    (test_good w op 0x04 _ _ (λ e. zero_good w imm (instr.Add a b) (λ z. (omega arith, record { low_a = ha; low_b = hb; low_imm = omega arith })))
-    (test_good w op 0x05 _ _ (λ e. zero_good w imm (instr.Sub a b) (λ z. (omega arith, record { low_a = ha; low_b = hb; low_imm = omega arith })))
-    (test_good w op 0x06 _ _ (λ e. zero_good w imm (instr.And a b) (λ z. (omega arith, record { low_a = ha; low_b = hb; low_imm = omega arith })))
-    (test_good w op 0x07 _ _ (λ e. zero_good w imm (instr.Or a b) (λ z. (omega arith, record { low_a = ha; low_b = hb; low_imm = omega arith })))
-    (test_good w op 0x08 _ _ (λ e. zero_good w imm (instr.Xor a b) (λ z. (omega arith, record { low_a = ha; low_b = hb; low_imm = omega arith })))
-    (test_good w op 0x09 _ _ (λ e. zero_good w imm (instr.Shl a b) (λ z. (omega arith, record { low_a = ha; low_b = hb; low_imm = omega arith })))
-    (test_good w op 0x0a _ _ (λ e. zero_good w imm (instr.Shr a b) (λ z. (omega arith, record { low_a = ha; low_b = hb; low_imm = omega arith })))
-    (test_good w op 0x0b _ _ (λ e. (omega arith, record { low_a = ha; low_b = hb; low_imm = hi }))
-    (test_good w op 0x0c _ _ (λ e. (omega arith, record { low_a = ha; low_b = hb; low_imm = hi }))
-    (test_good w op 0x0d _ _ (λ e. (omega arith, record { low_a = ha; low_b = hb; low_imm = hi }))
-    (test_good w op 0x0e _ _ (λ e. zero_good w (a + b) (instr.Jmp imm) (λ z. (omega arith, record { low_a = omega arith; low_b = omega arith; low_imm = hi })))
-    (test_good w op 0x0f _ _ (λ e. (omega arith, record { low_a = ha; low_b = hb; low_imm = hi }))
-    (test_good w op 0x10 _ _ (λ e. (omega arith, record { low_a = ha; low_b = hb; low_imm = hi }))
-    (test_good w op 0x11 _ _ (λ e. (omega arith, record { low_a = ha; low_b = hb; low_imm = hi }))
-    (test_good w op 0x12 _ _ (λ e. zero_good w b (instr.Jal a imm) (λ z. (omega arith, record { low_a = ha; low_b = omega arith; low_imm = hi })))
-    (test_good w op 0x13 _ _ (λ e. zero_good w (b + imm) (instr.Jr a) (λ z. (omega arith, record { low_a = ha; low_b = omega arith; low_imm = omega arith })))
-    (test_good w op 0x14 _ _ (λ e. zero_good w b (instr.In a imm) (λ z. (omega arith, record { low_a = ha; low_b = omega arith; low_imm = hi })))
-    (test_good w op 0x15 _ _ (λ e. zero_good w b (instr.Out a imm) (λ z. (omega arith, record { low_a = ha; low_b = omega arith; low_imm = hi })))
-    (test_good w op 0x16 _ _ (λ e. zero_good w (a + b) (instr.Kcall imm) (λ z. (omega arith, record { low_a = omega arith; low_b = omega arith; low_imm = hi })))
-    (test_good w op 0x17 _ _ (λ e. zero_good w (b + imm) (instr.Ret a) (λ z. (omega arith, record { low_a = ha; low_b = omega arith; low_imm = omega arith })))
-    (test_good w op 0x18 _ _ (λ e. zero_good w (a + b + imm) instr.Fault (λ z. (omega arith, record { low_a = omega arith; low_b = omega arith; low_imm = omega arith })))
-    tt))))))))))))))))))))))))
+found_fits : (w : ℕ) (found : Option Mnemonic) → w < 2 ^ 32 → IfSome found (λ m. is_of_row w m ≡ true)
+    → IfSome (option_map (λ m. instr_with m (a_field w) (b_field w) (imm_field w)) found) (Fits w)
+found_fits w None small h = tt
+found_fits w (Some m) small h = row_fits w m small h
 
 pub decoded : (w : ℕ) (i : Instr) → w < 2 ^ 32 → decode_of w ≡ Some i → Fits w i
 decoded w i small e =
-    let same : word_of (op_field w) (a_field w) (b_field w) (imm_field w) ≡ w = omega arith in
-    subst (λ o. Good w o) e (subst (λ x. Good x (decode_of w)) same (row_good (op_field w) (a_field w) (b_field w) (imm_field w) (omega arith) (omega arith) (omega arith)))
+    subst (λ o. IfSome o (Fits w)) e (found_fits w (find (is_of_row w) mnemonics) small (found_passes (is_of_row w) mnemonics))
 
 pub encodes_back : (w : ℕ) (i : Instr) → w < 2 ^ 32 → decode_of w ≡ Some i → encode_of i ≡ w
 encodes_back w i small e = (decoded w i small e).0

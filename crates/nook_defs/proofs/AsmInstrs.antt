@@ -17,7 +17,7 @@ use Rattle.nook_defs.specs.declared.assembler.Section.TheVariants as section
 use Rattle.nook_defs.specs.declared.assembler.Statement.TheVariants as statement
 use Rattle.nook_defs.specs.declared.assembler.TokenKind.TheVariants as kind
 use Rattle.nook_defs.specs.declared.assembler.Value.TheVariants as value
-use Rattle.nook_defs.specs.declared.data.Class.{Class}
+use Rattle.nook_defs.specs.declared.classes.Class.{Class}
 use Rattle.nook_defs.specs.declared.machine.Instr.{Instr}
 use Rattle.nook_defs.specs.declared.machine.Instr.TheVariants as instr
 use Rattle.nook_defs.proofs.AsmText.{IsPlainToken}

@@ -13,8 +13,7 @@ use Rattle.std.proofs.lemmas.Str.Parse.{digit_from_value}
 use Rattle.std.proofs.Math.Nat.{min-eq_left, eq-or-lt_of_le, suc-le-suc_iff}
 use native.Mathlib.Omega.{arith}
 use mathlib.Core.Path.{ap, subst, sym}
-use Rattle.nook_defs.specs.AsmTokens.{is_letter, is_label_name, is_numeral, but_last, kind_of, register_of, is_not_empty}
-use Rattle.nook_defs.specs.Disassembler.{register_text}
+use Rattle.nook_defs.specs.AsmTokens.{is_letter, is_label_name, is_numeral, but_last, kind_of, register_of, register_text, is_not_empty}
 use Rattle.nook_defs.specs.declared.assembler.TokenKind.TheVariants as kind
 use Rattle.nook_defs.proofs.AsmText.{is_plain, IsPlainToken}
 

@@ -13,9 +13,9 @@ use Rattle.nook_defs.specs.Valid.{IsValidImage, IsWord, IsTextPlace}
 use Rattle.nook_defs.specs.declared.assembler.Section.{Section}
 use Rattle.nook_defs.specs.declared.assembler.Section.TheVariants as section
 use Rattle.nook_defs.specs.declared.assembler.TokenKind.TheVariants as kind
-use Rattle.nook_defs.specs.declared.data.Class.{Class}
-use Rattle.nook_defs.specs.declared.data.Class.TheVariants as class
-use Rattle.nook_defs.specs.declared.data.Image.{Image}
+use Rattle.nook_defs.specs.declared.classes.Class.{Class}
+use Rattle.nook_defs.specs.declared.classes.Class.TheVariants as class
+use Rattle.nook_defs.specs.declared.scenario.Image.{Image}
 use Rattle.nook_defs.specs.declared.input.Key.{Key}
 use Rattle.nook_defs.specs.declared.input.Key.TheVariants as key
 use Rattle.nook_defs.proofs.AsmText.{IsPlainToken, IsLine, AreLines, tokens_of_line, lines_of_text}

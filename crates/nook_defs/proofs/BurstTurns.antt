@@ -1,9 +1,9 @@
 -- What a burst comes to, by what its next turn does.
 use Rattle.std.proofs.Common.{◌≡◌, ◌-◌, ℕ, suc, nat_le, Bool, true, false, Option, Some, None, List, ◌++◌, length, refl, sym, subst, ◌∙◌, ap}
-use Rattle.nook_defs.specs.declared.data.Act.{Act}
-use Rattle.nook_defs.specs.declared.data.Entry.{Entry}
-use Rattle.nook_defs.specs.declared.data.Fault.{Fault}
-use Rattle.nook_defs.specs.declared.data.TrapCause.{TrapCause}
+use Rattle.nook_defs.specs.declared.machine.Act.{Act}
+use Rattle.nook_defs.specs.declared.entries.Entry.{Entry}
+use Rattle.nook_defs.specs.declared.scenario.Fault.{Fault}
+use Rattle.nook_defs.specs.declared.machine.TrapCause.{TrapCause}
 use Rattle.nook_defs.specs.declared.machine.BurstEnd.{BurstEnd}
 use Rattle.nook_defs.specs.declared.machine.BurstEnd.TheVariants as ends
 use Rattle.nook_defs.specs.Burst.{Burst, Struck, acts_of, burst_from, count_at, ended, strikes_at}

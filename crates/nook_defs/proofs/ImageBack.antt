@@ -18,9 +18,9 @@ use Rattle.nook_defs.specs.ImageText.{hex_text, word_items, entry_members, image
 use Rattle.nook_defs.specs.Keys.{class_text, class_named, entry_keys}
 use Rattle.nook_defs.specs.Reading.{count_of, items_from}
 use Rattle.nook_defs.specs.Valid.{IsValidImage, IsWord}
-use Rattle.nook_defs.specs.declared.data.Class.{Class}
-use Rattle.nook_defs.specs.declared.data.Class.TheVariants as class
-use Rattle.nook_defs.specs.declared.data.Image.{Image}
+use Rattle.nook_defs.specs.declared.classes.Class.{Class}
+use Rattle.nook_defs.specs.declared.classes.Class.TheVariants as class
+use Rattle.nook_defs.specs.declared.scenario.Image.{Image}
 use Rattle.nook_defs.specs.declared.input.Refusal.{Refusal}
 use Rattle.nook_defs.proofs.AsmNumbers.{at_below}
 use Rattle.nook_defs.proofs.AsmWhole.{Words, words_from, Low, low_from, five, six}

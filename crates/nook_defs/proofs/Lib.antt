@@ -12,3 +12,8 @@ pub mod AsmDecoded
 pub mod AsmSteps
 pub mod AsmWhole
 pub mod ImageBack
+pub mod ChoicesInOrder
+pub mod Changes
+pub mod DeviceClasses
+pub mod Padded
+pub mod Options

@@ -1,15 +1,13 @@
 -- What a thread's next step is, and when it has none.
-use Rattle.std.proofs.Common.{◌≡◌, ℕ, Bool, true, false, is_some, if◌then◌else◌, Option, Some, None, refl, sym, subst, ◌∙◌, ap}
-use Rattle.nook_defs.specs.declared.data.CallEntry.{CallEntry}
-use Rattle.nook_defs.specs.declared.data.Step.{Step}
-use Rattle.nook_defs.specs.declared.data.Step.TheVariants as step
+use Rattle.std.proofs.Common.{◌≡◌, ℕ, Bool, true, false, is_some, if◌then◌else◌, Option, Some, None, refl, subst}
+use Rattle.nook_defs.specs.declared.calls.CallEntry.{CallEntry}
+use Rattle.nook_defs.specs.declared.steps.Step.{Step}
+use Rattle.nook_defs.specs.declared.steps.Step.TheVariants as step
 use Rattle.nook_defs.specs.Log.{call_of_thread}
 use Rattle.nook_defs.specs.Runs.{if_enabled, next_for}
 use Rattle.nook_defs.specs.State.{PartState}
 use Rattle.nook_defs.specs.Steps.{enabled}
-
-inner : {X : Type 0} {x y : X} → Some x ≡ Some y → x ≡ y
-inner h = cc
+use Rattle.nook_defs.proofs.Options.{same_inside}
 
 -- a step that is told is the first, which may be taken, or one of the others
 pub if_enabled_case : (P : Step → Type 0) (p : PartState) (first next : Step) (others : Option Step)
@@ -17,7 +15,7 @@ pub if_enabled_case : (P : Step → Type 0) (p : PartState) (first next : Step) 
 if_enabled_case P p first next others here more h = by_test (enabled p first) refl h
   where
     by_test : (b : Bool) → enabled p first ≡ b → (if b then Some first else others) ≡ Some next → P next
-    by_test true may e = subst P (inner e) (here may)
+    by_test true may e = subst P (same_inside e) (here may)
     by_test false may e = more e
 
 -- where none is told, the first may not be taken, and the others tell none

@@ -3,19 +3,19 @@ use Rattle.std.specs.Fmt.{digits}
 use Rattle.rand_core.specs.Steps.{u32_at, word_bytes}
 use Rattle.rand_core.specs.Pcg32Seed.{pcg32_seed}
 use Rattle.nook_defs.specs.Burst.{burst, burst_from}
-use Rattle.nook_defs.specs.Calls.{invoked, entered_part}
-use Rattle.nook_defs.specs.Crossing.{fails, next_stage, closes, crossed}
+use Rattle.nook_defs.specs.Calls.{after_invoke, after_enter}
+use Rattle.nook_defs.specs.Crossing.{fails, next_stage, closes_call, after_crossing}
 use Rattle.nook_defs.specs.Devices.{reset_device, opening_device, with_arrival}
 use Rattle.nook_defs.specs.Domain.{opening_domain, entered_domain, plainly_entered, domain_burst, result_set, left_domain, stopped_domain, collected_domain, loaded_domain, noted}
 use Rattle.nook_defs.specs.Entries.{lowest_run}
-use Rattle.nook_defs.specs.Log.{opening_log, with_call, numbered, entered, held, answered, acknowledged, shadow_answer, replay_after}
+use Rattle.nook_defs.specs.Log.{opening_log, with_call, with_answered_call, after_entering, after_holding, after_answering, after_acknowledging, shadow_answer, replay_after}
 use Rattle.nook_defs.specs.Pages.{opening_memory, loaded_memory}
 use Rattle.nook_defs.specs.Runs.{state_from, next_for, next_recovery, next_any}
 use Rattle.nook_defs.specs.Schedules.{opening_order, picked}
 use Rattle.nook_defs.specs.Services.{served}
 use Rattle.nook_defs.specs.Simulation.{begins, choices_of, taken, runs}
-use Rattle.nook_defs.specs.Stages.{stopped, given_up, collects, resets, loads_image, inits, replays_set, replays_open, resumes, stage_turned}
-use Rattle.nook_defs.specs.Steps.{opening, enabled, faults_of_burst, burst_turned, arrived, turned}
+use Rattle.nook_defs.specs.Stages.{stops, gives_up_part, collects, resets, loads_image, inits, replays_set, replays_open, resumes, stage_stepped}
+use Rattle.nook_defs.specs.Steps.{opening, enabled, faults_of_burst, burst_stepped, after_arrival, stepped}
 use Rattle.nook_defs.specs.Turn.{turn}
 use Rattle.nook_defs.proofs.InputOnLiterals.{input_on_literals}
 use Rattle.nook_defs.proofs.TraceOnLiterals.{trace_on_literals}
@@ -23,12 +23,12 @@ use Rattle.nook_defs.proofs.TraceOnLiterals.{trace_on_literals}
 -- a law that computes unfolds this one name, and with it every definition of a part and its runs
 unfoldable pub part_on_literals : ⊤
 unfolding digits u32_at word_bytes pcg32_seed
-    burst burst_from invoked entered_part fails next_stage closes crossed reset_device opening_device with_arrival
+    burst burst_from after_invoke after_enter fails next_stage closes_call after_crossing reset_device opening_device with_arrival
     opening_domain entered_domain plainly_entered domain_burst result_set left_domain stopped_domain collected_domain loaded_domain noted
-    lowest_run opening_log with_call numbered entered held answered acknowledged shadow_answer replay_after
+    lowest_run opening_log with_call with_answered_call after_entering after_holding after_answering after_acknowledging shadow_answer replay_after
     opening_memory loaded_memory state_from next_for next_recovery next_any opening_order picked served begins choices_of taken runs
-    stopped given_up collects resets loads_image inits replays_set replays_open resumes stage_turned
-    opening enabled faults_of_burst burst_turned arrived turned turn
+    stops gives_up_part collects resets loads_image inits replays_set replays_open resumes stage_stepped
+    opening enabled faults_of_burst burst_stepped after_arrival stepped turn
 part_on_literals = tt
 
 -- a law that computes unfolds this one name, and with it every definition

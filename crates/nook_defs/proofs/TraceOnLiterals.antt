@@ -2,7 +2,7 @@ use Rattle.std.specs.Prelude.{⊤}
 use Rattle.std.specs.Fmt.{digits}
 use Rattle.nook_defs.specs.Contract.{break_from, first_break}
 use Rattle.nook_defs.specs.Ideal.{ran, class_run}
-use Rattle.nook_defs.specs.Licence.{licensed_from, licensed}
+use Rattle.nook_defs.specs.Licence.{is_licensed_from, is_licensed}
 use Rattle.nook_defs.specs.Losses.{losses}
 use Rattle.nook_defs.specs.ReportLines.{event_line, event_lines}
 use Rattle.nook_defs.specs.ReportText.{part_text, parts_text, threads_text, taps_text, has_break, has_given_up, report_text, failures_count, summary_line}
@@ -11,7 +11,7 @@ use Rattle.nook_defs.specs.Trace.{trace_from, trace}
 
 -- a law that computes unfolds this one name, and with it every definition of traces, contracts, losses and reports
 unfoldable pub trace_on_literals : ⊤
-unfolding digits break_from first_break ran class_run licensed_from licensed losses event_line event_lines
+unfolding digits break_from first_break ran class_run is_licensed_from is_licensed losses event_line event_lines
     part_text parts_text threads_text taps_text has_break has_given_up report_text failures_count summary_line
     heard_events trace_from trace
 trace_on_literals = tt

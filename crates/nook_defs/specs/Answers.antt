@@ -1,7 +1,6 @@
-use Rattle.std.specs.Prelude.{ℕ, List, [], ◌∷◌, Option, Some, None, flat_map}
-use Rattle.nook_defs.specs.declared.data.Answer.{Answer}
-use Rattle.nook_defs.specs.declared.data.Event.{Event}
-use Rattle.nook_defs.specs.declared.data.Event.TheVariants as event
+use Rattle.std.specs.Prelude.{ℕ, List, [], ◌∷◌, Option, Some, None}
+use Rattle.nook_defs.specs.Types.{Answer, Event}
+use Rattle.nook_defs.specs.declared.steps.Event.TheVariants as event
 
 -- one answer, where there is one
 abbrev pub one_answer : ℕ → Option Answer → List (ℕ × Answer)

@@ -1,27 +1,20 @@
-use Rattle.std.specs.Prelude.{ℕ, ◌+◌, List, [], ◌∷◌, codes, bytes_eq, Bool, true, false, ◌||◌, Option, Some, None, Result, Ok, Err, if◌then◌else◌}
+use Rattle.std.specs.Prelude.{ℕ, ◌+◌, List, [], ◌∷◌, codes, bytes_eq, Bool, true, false, Option, Some, None, Result, Ok}
+use Rattle.std.specs.Prelude.{Err, if◌then◌else◌}
+use Rattle.std.specs.List.{find, list_any}
 use Rattle.nook_defs.specs.AsmTokens.{kind_of, but_last, register_of, is_register}
 use Rattle.nook_defs.specs.Keys.{key_text, class_named, entry_keys}
 use Rattle.nook_defs.specs.Mnemonics.{mnemonic_named, form_of}
-use Rattle.nook_defs.specs.declared.assembler.AsmKind.{AsmKind}
+use Rattle.nook_defs.specs.Types.{AsmKind, Class, Form, Key, Label, Mnemonic, Operands, Section, Statement, TokenKind}
+use Rattle.nook_defs.specs.Types.{Value}
 use Rattle.nook_defs.specs.declared.assembler.AsmKind.TheVariants as fault
-use Rattle.nook_defs.specs.declared.assembler.Form.{Form}
 use Rattle.nook_defs.specs.declared.assembler.Form.TheVariants as form
-use Rattle.nook_defs.specs.declared.assembler.Label.{Label}
-use Rattle.nook_defs.specs.declared.assembler.Mnemonic.{Mnemonic}
-use Rattle.nook_defs.specs.declared.assembler.Operands.{Operands}
-use Rattle.nook_defs.specs.declared.assembler.Section.{Section}
 use Rattle.nook_defs.specs.declared.assembler.Section.TheVariants as section
-use Rattle.nook_defs.specs.declared.assembler.Statement.{Statement}
 use Rattle.nook_defs.specs.declared.assembler.Statement.TheVariants as statement
-use Rattle.nook_defs.specs.declared.assembler.TokenKind.{TokenKind}
 use Rattle.nook_defs.specs.declared.assembler.TokenKind.TheVariants as kind
-use Rattle.nook_defs.specs.declared.assembler.Value.{Value}
 use Rattle.nook_defs.specs.declared.assembler.Value.TheVariants as value
-use Rattle.nook_defs.specs.declared.data.Class.{Class}
-use Rattle.nook_defs.specs.declared.input.Key.{Key}
 
--- What the tokens of one line say, or the smallest of the kinds 1 to 3 that the line has. It hangs on the labels of the
--- text only by the values that they give, on the class so far, and on the section that the line stands in.
+-- What the tokens of one line say, or the smallest of its faults among BadToken, UnknownName and WrongOperands. It
+-- depends on the labels of the text only by the values that they give, on the class so far, and on the line's section.
 
 -- what each name is defined as, if it is
 abbrev pub Labels : Type 0
@@ -33,8 +26,7 @@ no_labels name = None
 
 -- the first definition of a name
 abbrev pub first_of : List Label → Labels
-first_of [] name = None
-first_of (label ∷ more) name = if bytes_eq name label.name then Some label else first_of more name
+first_of labels name = find (λ label. bytes_eq name label.name) labels
 
 -- ---- operands
 
@@ -46,10 +38,8 @@ label_value (Some label) = value.Known label.place
 -- the value of a token of a kind: a number, or a name that is no register
 abbrev pub value_by : TokenKind → Labels → List ℕ → Option Value
 value_by kind.Name labels token = if is_register token then None else Some (label_value (labels token))
-value_by kind.Definition labels token = None
-value_by kind.Directive labels token = None
 value_by (kind.Number number) labels token = Some (value.Known number)
-value_by kind.Bad labels token = None
+value_by _ labels token = None
 
 -- the value of a token, where it may be one
 unfoldable pub value_of : Labels → List ℕ → Option Value
@@ -87,7 +77,8 @@ right_or_wrong says None = Err fault.WrongOperands
 
 -- an instruction stands in the text alone
 abbrev pub instr_statement : Labels → Section → Mnemonic → List (List ℕ) → Result Statement AsmKind
-instr_statement labels section.Text mnemonic rest = right_or_wrong (statement.Instr mnemonic) (operands_of labels (form_of mnemonic) rest)
+instr_statement labels section.Text mnemonic rest =
+    right_or_wrong (statement.Instr mnemonic) (operands_of labels (form_of mnemonic) rest)
 instr_statement labels section.Data mnemonic rest = Err fault.WrongOperands
 
 -- a first token that is a name must be a mnemonic
@@ -119,7 +110,8 @@ class_statement (name ∷ more) = class_by (kind_of name) (class_named name) mor
 -- the place of an entry's name among the entries of a class
 abbrev pub place_among : ℕ → List Key → List ℕ → Option ℕ
 place_among place [] name = None
-place_among place (known ∷ more) name = if bytes_eq name (key_text known) then Some place else place_among (place + 1) more name
+place_among place (known ∷ more) name =
+    if bytes_eq name (key_text known) then Some place else place_among (place + 1) more name
 
 -- the one value of an entry
 abbrev pub entry_value : Labels → ℕ → List (List ℕ) → Result Statement AsmKind
@@ -134,7 +126,8 @@ entry_by labels _ _ more = Err fault.WrongOperands
 
 -- `.entry`, a name of the class so far and a value
 unfoldable pub entry_statement : Labels → Option Class → List (List ℕ) → Result Statement AsmKind
-entry_statement labels (Some class) (name ∷ more) = entry_by labels (kind_of name) (place_among 0 (entry_keys class) name) more
+entry_statement labels (Some class) (name ∷ more) =
+    entry_by labels (kind_of name) (place_among 0 (entry_keys class) name) more
 entry_statement labels _ _ = Err fault.WrongOperands
 
 -- one of the five directives and its operands
@@ -148,7 +141,8 @@ directive_statement labels class directive rest =
     else Err fault.WrongOperands
 
 -- a statement, by what its first token is
-abbrev pub statement_by : TokenKind → Labels → Option Class → Section → List ℕ → List (List ℕ) → Result Statement AsmKind
+abbrev pub statement_by : TokenKind → Labels → Option Class → Section → List ℕ → List (List ℕ)
+    → Result Statement AsmKind
 statement_by kind.Name labels class section first rest = named_statement labels section (mnemonic_named first) rest
 statement_by kind.Directive labels class section first rest = directive_statement labels class first rest
 statement_by _ labels class section first rest = Err fault.WrongOperands
@@ -182,8 +176,7 @@ is_bad _ = false
 
 -- one of the tokens is none of the language
 abbrev pub has_bad_token : List (List ℕ) → Bool
-has_bad_token [] = false
-has_bad_token (token ∷ more) = is_bad (kind_of token) || has_bad_token more
+has_bad_token tokens = list_any (λ token. is_bad (kind_of token)) tokens
 
 -- the smaller of a statement's fault and WrongOperands
 abbrev pub at_most_wrong : Result Statement AsmKind → Result Statement AsmKind
@@ -195,7 +188,7 @@ abbrev pub behind_name : Option (List ℕ) → Result Statement AsmKind → Resu
 behind_name None said = said
 behind_name (Some name) said = if is_register name then at_most_wrong said else said
 
--- what a line says, or the smallest of its faults of the kinds 1 to 3
+-- what a line says, or the smallest of its faults among BadToken, UnknownName and WrongOperands
 unfoldable pub line_says : Labels → Option Class → Section → List (List ℕ) → Result Statement AsmKind
 line_says labels class section tokens =
     if has_bad_token tokens then Err fault.BadToken

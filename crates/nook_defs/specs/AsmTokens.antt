@@ -1,8 +1,10 @@
-use Rattle.std.specs.Prelude.{ℕ, ◌+◌, ◌-◌, ◌==◌, ◌&&◌, ◌||◌, not, nat_le, min, Bool, List, [], ◌∷◌, length, take, drop, take_while, filter, slice_index, codes, bytes_eq, Option, Some, None, is_some, if◌then◌else◌}
-use Rattle.std.specs.Char.{is_digit, digit_value}
+use Rattle.std.specs.Prelude.{ℕ, ◌-◌, ◌==◌, ◌&&◌, ◌||◌, not, nat_le, min, Bool, List, [], ◌∷◌, ◌++◌, length, take, drop}
+use Rattle.std.specs.Prelude.{take_while, filter, slice_index, codes, decimal, bytes_eq, Option, is_some, if◌then◌else◌}
+use Rattle.std.specs.Char.{is_digit}
 use Rattle.std.specs.List.{list_all, slice_split}
 use Rattle.std.specs.Str.Parse.{digits_value}
-use Rattle.nook_defs.specs.declared.assembler.TokenKind.{TokenKind}
+use Rattle.nook_defs.specs.Names.{of_text}
+use Rattle.nook_defs.specs.Types.{TokenKind}
 use Rattle.nook_defs.specs.declared.assembler.TokenKind.TheVariants as kind
 
 -- the bytes that end a line, begin a comment and stand between tokens
@@ -47,7 +49,9 @@ is_letter_or_digit b = is_letter b || nat_le 48 b && nat_le b 57
 
 -- 1 to 32 letters, digits and `_`, no digit first
 unfoldable pub is_label_name : List ℕ → Bool
-is_label_name bytes = nat_le 1 (length bytes) && nat_le (length bytes) 32 && is_letter (slice_index bytes 0) && list_all is_letter_or_digit bytes
+is_label_name bytes =
+    nat_le 1 (length bytes) && nat_le (length bytes) 32 && is_letter (slice_index bytes 0)
+    && list_all is_letter_or_digit bytes
 
 -- one digit or more of the base, and nothing else
 unfoldable pub is_numeral : ℕ → List ℕ → Bool
@@ -68,15 +72,18 @@ kind_of token =
     else if is_label_name (but_last token) && slice_index token (length token - 1) == 58 then kind.Definition
     else if slice_index token 0 == 46 && is_label_name (drop 1 token) then kind.Directive
     else if is_numeral 10 token then kind.Number (numeral_value 10 token)
-    else if bytes_eq (take 2 token) (codes "0x") && is_numeral 16 (drop 2 token) then kind.Number (numeral_value 16 (drop 2 token))
+    else if bytes_eq (take 2 token) (codes "0x") && is_numeral 16 (drop 2 token)
+    then kind.Number (numeral_value 16 (drop 2 token))
     else kind.Bad
 
--- the register that a name is, of `r0` to `r15`
+-- `r` and the number
+abbrev pub register_text : ℕ → List ℕ
+register_text register = codes "r" ++ decimal register
+
+-- the register whose text a name is
 unfoldable pub register_of : List ℕ → Option ℕ
 register_of name =
-    if length name == 2 && slice_index name 0 == 114 && is_digit (slice_index name 1) 10 then Some (digit_value (slice_index name 1))
-    else if length name == 3 && slice_index name 0 == 114 && slice_index name 1 == 49 && is_digit (slice_index name 2) 6 then Some (10 + digit_value (slice_index name 2))
-    else None
+    of_text register_text (0 ∷ 1 ∷ 2 ∷ 3 ∷ 4 ∷ 5 ∷ 6 ∷ 7 ∷ 8 ∷ 9 ∷ 10 ∷ 11 ∷ 12 ∷ 13 ∷ 14 ∷ 15 ∷ []) name
 
 -- a register's name, which is no label
 abbrev pub is_register : List ℕ → Bool

@@ -1,22 +1,18 @@
-use Rattle.std.specs.Prelude.{ℕ, ◌+◌, ◌==◌, ◌++◌, nat_lt, List, [], ◌∷◌, length, replicate, slice_get, slice_set, Bool, true, false, not, ◌||◌, Option, Some, None, is_some, option_map, Result, Ok, Err, ⊤, if◌then◌else◌}
+use Rattle.std.specs.Prelude.{ℕ, ◌+◌, ◌-◌, ◌==◌, ◌++◌, nat_lt, List, [], ◌∷◌, length, replicate, slice_get, slice_set}
+use Rattle.std.specs.Prelude.{Bool, true, false, not, ◌||◌, Option, Some, None, is_some, option_map, Result, Ok, Err, ⊤}
+use Rattle.std.specs.Prelude.{if◌then◌else◌}
 use Rattle.nook_defs.specs.AsmLines.{Labels, no_labels, first_of, definition_of, line_says}
 use Rattle.nook_defs.specs.AsmTokens.{is_register, lines_of, tokens_of}
 use Rattle.nook_defs.specs.Classes.{entry_count}
 use Rattle.nook_defs.specs.Machine.{encode_of}
 use Rattle.nook_defs.specs.Mnemonics.{instr_with}
 use Rattle.nook_defs.specs.Results.{◌>>=◌}
-use Rattle.nook_defs.specs.declared.assembler.AsmFault.{AsmFault}
-use Rattle.nook_defs.specs.declared.assembler.AsmKind.{AsmKind}
+use Rattle.nook_defs.specs.Types.{AsmFault, AsmKind, Class, Image, Label, Section, Statement, Value}
 use Rattle.nook_defs.specs.declared.assembler.AsmKind.TheVariants as fault
-use Rattle.nook_defs.specs.declared.assembler.Label.{Label}
-use Rattle.nook_defs.specs.declared.assembler.Section.{Section}
 use Rattle.nook_defs.specs.declared.assembler.Section.TheVariants as section
-use Rattle.nook_defs.specs.declared.assembler.Statement.{Statement}
 use Rattle.nook_defs.specs.declared.assembler.Statement.TheVariants as statement
-use Rattle.nook_defs.specs.declared.assembler.Value.{Value}
 use Rattle.nook_defs.specs.declared.assembler.Value.TheVariants as value
-use Rattle.nook_defs.specs.declared.data.Class.{Class}
-use Rattle.nook_defs.specs.declared.data.Image.{Image}
+use Rattle.nook_defs.specs.declared.memory_map.TheConstants.{TEXT_WORDS, DATA_START, DATA_WORDS}
 
 -- ---- first pass: the labels
 
@@ -30,12 +26,13 @@ pub record Places : Type 0 where
 -- the place of the next word; data comes behind the 2,048 words of the text
 abbrev pub place_in : Section → Places → ℕ
 place_in section.Text at = at.text
-place_in section.Data at = 2048 + at.initial
+place_in section.Data at = DATA_START + at.initial
 
 -- the label that a line defines: a register's name defines none
 abbrev pub label_of : Option (List ℕ) → Places → List Label
 label_of None at = []
-label_of (Some name) at = if is_register name then [] else record { name = name; place = place_in at.in_section at; line = at.line } ∷ []
+label_of (Some name) at =
+    if is_register name then [] else record { name = name; place = place_in at.in_section at; line = at.line } ∷ []
 
 -- one line further
 abbrev pub next_line : Places → Places
@@ -46,18 +43,19 @@ abbrev pub one_word : Section → Places → Places
 one_word section.Text at = record at { text = at.text + 1 }
 one_word section.Data at = record at { initial = at.initial + 1 }
 
--- places behind a line: one with a fault of the kinds 1 to 3 adds no word and leaves the section
+-- places after a line: one that `line_says` finds a fault in adds no word and stays in the section
 abbrev pub places_after : Result Statement AsmKind → Places → Places
 places_after (Ok (statement.Section in_section)) at = record at { in_section = in_section }
 places_after (Ok (statement.Word value)) at = one_word at.in_section at
 places_after (Ok (statement.Instr mnemonic operands)) at = one_word at.in_section at
 places_after _ at = at
 
--- the labels that the lines define, in order. No place hangs on a label's value or on the class.
+-- the labels that the lines define, in order. No place depends on a label's value or on the class.
 unfoldable pub labels_from : Places → List (List ℕ) → List Label
 labels_from at [] = []
 labels_from at (line ∷ more) = let tokens = tokens_of line in
-    label_of (definition_of tokens) at ++ labels_from (next_line (places_after (line_says no_labels None at.in_section tokens) at)) more
+    label_of (definition_of tokens) at
+    ++ labels_from (next_line (places_after (line_says no_labels None at.in_section tokens) at)) more
 
 -- places at the first line
 abbrev pub first_places : Places
@@ -89,7 +87,7 @@ is_above most value.Missing = false
 
 -- a value is above what it may be
 abbrev pub is_out_of_range : Statement → Bool
-is_out_of_range (statement.Entry place value) = is_above 2047 value
+is_out_of_range (statement.Entry place value) = is_above (TEXT_WORDS - 1) value
 is_out_of_range (statement.Word value) = is_above 4294967295 value
 is_out_of_range (statement.Instr mnemonic operands) = is_above 65535 operands.imm
 is_out_of_range _ = false
@@ -123,9 +121,11 @@ known value.Missing = Err fault.MissingLabel
 -- the draft with one more word, of at most 2,048 in each section
 abbrev pub with_word : Section → ℕ → Draft → Result Draft AsmKind
 with_word section.Text word draft =
-    if nat_lt (length draft.text) 2048 then Ok (record draft { text = draft.text ++ word ∷ [] }) else Err fault.TextTooLong
+    if nat_lt (length draft.text) TEXT_WORDS then Ok (record draft { text = draft.text ++ word ∷ [] })
+    else Err fault.TextTooLong
 with_word section.Data word draft =
-    if nat_lt (length draft.initial) 2048 then Ok (record draft { initial = draft.initial ++ word ∷ [] }) else Err fault.DataTooLong
+    if nat_lt (length draft.initial) DATA_WORDS then Ok (record draft { initial = draft.initial ++ word ∷ [] })
+    else Err fault.DataTooLong
 
 -- the draft with its class, and none of its entries given
 abbrev pub with_class : Class → Draft → Draft
@@ -146,7 +146,8 @@ with_statement (statement.Instr mnemonic operands) draft = do
   number ← known operands.imm
   with_word draft.in_section (encode_of (instr_with mnemonic operands.a operands.b number)) draft
 
--- the draft after a line, or the smallest kind of fault that the line has: kinds 1 to 3, then 4, then 5, then 6 to 8
+-- the draft after a line, or the smallest kind of fault that the line has: one of `line_says`, then NumberRange, then
+-- DoubleLabel, then MissingLabel, TextTooLong or DataTooLong
 unfoldable pub draft_after : Labels → ℕ → List (List ℕ) → Draft → Result Draft AsmKind
 draft_after labels line tokens draft = do
   says ← line_says labels draft.class draft.in_section tokens
@@ -174,7 +175,8 @@ all_given (Some number ∷ more) = option_map (number ∷◌) (all_given more)
 
 -- the image of a draft that has a class and its entries
 abbrev pub image_with : Option Class → Option (List ℕ) → Draft → Result Image AsmKind
-image_with (Some class) (Some entries) draft = Ok (record { class = class; entries = entries; text = draft.text; initial = draft.initial })
+image_with (Some class) (Some entries) draft =
+    Ok (record { class = class; entries = entries; text = draft.text; initial = draft.initial })
 image_with _ _ draft = Err fault.MissingEntry
 
 -- the image of an assembler text, or its first fault. A class or an entry that is missing stands behind the last line.

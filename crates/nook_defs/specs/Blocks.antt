@@ -1,15 +1,17 @@
-use Rattle.std.specs.Prelude.{ℕ, zero, suc, Bool, true, false, List, [], ◌∷◌, ◌++◌, ◌*◌, ◌-◌, take, drop, replicate, slice_get, unwrap_or, ◌==◌, ◌&&◌, ◌||◌, not, bytes_eq}
-use Rattle.nook_defs.specs.declared.data.Class.{Class}
-use Rattle.nook_defs.specs.declared.data.Class.TheVariants.{Block, Net, Sound}
-use Rattle.nook_defs.specs.declared.data.Op.{Op}
-use Rattle.nook_defs.specs.declared.data.Op.TheVariants.{Write}
+use Rattle.std.specs.Prelude.{ℕ, zero, suc, Bool, true, false, List, [], ◌∷◌, ◌++◌, ◌*◌, ◌-◌, take, drop, replicate}
+use Rattle.std.specs.Prelude.{slice_get, unwrap_or, ◌==◌, ◌&&◌, ◌||◌, not, bytes_eq}
+use Rattle.std.specs.List.{list_any}
+use Rattle.nook_defs.specs.Types.{Class, Op}
+use Rattle.nook_defs.specs.declared.classes.Class.TheVariants.{Block, Net, Sound}
+use Rattle.nook_defs.specs.declared.calls.Op.TheVariants.{Write}
+use Rattle.nook_defs.specs.declared.limits.TheConstants.{BLOCK_WORDS}
 use Rattle.nook_defs.specs.Classes.{covers}
 
 -- The blocks of a disk, 16 words each, as a monitor and the plain disk see them.
 
 -- a disk of zeros; the other classes have no blocks
 abbrev pub blank_blocks : Class → ℕ → List (List ℕ)
-blank_blocks Block count = replicate count (replicate 16 0)
+blank_blocks Block count = replicate count (replicate BLOCK_WORDS 0)
 blank_blocks Net count = []
 blank_blocks Sound count = []
 
@@ -20,7 +22,7 @@ get_blocks blocks first (suc more) = unwrap_or (slice_get blocks first) [] ++ ge
 
 -- what a Write has for a block that it covers
 abbrev pub words_for : Op → ℕ → List ℕ
-words_for (Write first words) block = take 16 (drop (16 * (block - first)) words)
+words_for (Write first words) block = take BLOCK_WORDS (drop (BLOCK_WORDS * (block - first)) words)
 words_for o block = []
 
 -- a block, or what a Write has for it
@@ -41,5 +43,4 @@ holds_from block o (words ∷ blocks) =
 
 -- a block is among these
 abbrev pub has_block : ℕ → List ℕ → Bool
-has_block block [] = false
-has_block block (other ∷ blocks) = (other == block) || has_block block blocks
+has_block block blocks = list_any (λ other. other == block) blocks

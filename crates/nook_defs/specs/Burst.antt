@@ -1,12 +1,10 @@
-use Rattle.std.specs.Prelude.{ℕ, zero, suc, ◌-◌, ◌+◌, ◌==◌, nat_le, nat_lt, if◌then◌else◌, Bool, true, false, Option, Some, None, List, [], ◌∷◌, ◌++◌, length, slice_set}
-use Rattle.nook_defs.specs.declared.data.Act.{Act}
-use Rattle.nook_defs.specs.declared.data.Entry.{Entry}
-use Rattle.nook_defs.specs.declared.data.Fault.{Fault}
-use Rattle.nook_defs.specs.declared.data.FaultKind.{FaultKind}
-use Rattle.nook_defs.specs.declared.data.FaultKind.TheVariants as fault
-use Rattle.nook_defs.specs.declared.data.TrapCause.{TrapCause}
-use Rattle.nook_defs.specs.declared.data.TrapCause.TheVariants as trap
-use Rattle.nook_defs.specs.declared.machine.BurstEnd.{BurstEnd}
+use Rattle.std.specs.Prelude.{ℕ, zero, suc, ◌-◌, ◌+◌, ◌==◌, nat_le, nat_lt, if◌then◌else◌, Bool, true, false, Option}
+use Rattle.std.specs.Prelude.{Some, None, List, [], ◌∷◌, ◌++◌, length, slice_set}
+use Rattle.nook_defs.specs.Types.{Act, BurstEnd, Entry, Fault, FaultKind, TrapCause}
+use Rattle.nook_defs.specs.declared.scenario.FaultKind.TheVariants as fault
+use Rattle.nook_defs.specs.declared.machine.TrapCause.TheVariants as trap
+use Rattle.nook_defs.specs.declared.limits.TheConstants.{MOST_ACTS, MOST_TURNS}
+use Rattle.nook_defs.specs.declared.memory_map.TheConstants.{TEXT_WORDS}
 use Rattle.nook_defs.specs.declared.machine.BurstEnd.TheVariants as ends
 use Rattle.nook_defs.specs.Pages.{written}
 use Rattle.nook_defs.specs.Turn.{Machine, Turn, turn}
@@ -30,29 +28,22 @@ pub record Struck : Type 0 where
 
 -- a fault's change of memory: a poke only where the driver may write, a code fault only in the text
 abbrev pub struck_memory : List Entry → FaultKind → List ℕ → List ℕ
-struck_memory entries fault.Trap memory = memory
-struck_memory entries fault.Hang memory = memory
 struck_memory entries (fault.Poke address value) memory = written entries address value memory
 struck_memory entries (fault.Code address value) memory =
-    if nat_lt address 2048 then slice_set memory address value else memory
-struck_memory entries (fault.Reg register value) memory = memory
+    if nat_lt address TEXT_WORDS then slice_set memory address value else memory
+struck_memory entries _ memory = memory
 
 -- a fault's change of the registers
 abbrev pub struck_registers : FaultKind → List ℕ → List ℕ
-struck_registers fault.Trap registers = registers
-struck_registers fault.Hang registers = registers
-struck_registers (fault.Poke address value) registers = registers
-struck_registers (fault.Code address value) registers = registers
 struck_registers (fault.Reg register value) registers =
     if nat_lt register 16 then slice_set registers register value else registers
+struck_registers _ registers = registers
 
 -- the trap that a fault is
 abbrev pub trap_of : FaultKind → Option TrapCause
 trap_of fault.Trap = Some trap.Injected
 trap_of fault.Hang = Some trap.Hang
-trap_of (fault.Poke address value) = None
-trap_of (fault.Code address value) = None
-trap_of (fault.Reg register value) = None
+trap_of _ = None
 
 -- the machine after a fault struck
 abbrev pub struck_machine : List Entry → FaultKind → Machine → Machine
@@ -77,7 +68,7 @@ strikes_at place entries (f ∷ faults) m =
 
 -- an injected hang has the count of a whole burst, an injected trap that of the turns before it
 abbrev pub count_at : ℕ → TrapCause → ℕ
-count_at count trap.Hang = 4096
+count_at count trap.Hang = MOST_TURNS
 count_at count _ = count
 
 -- the act of a turn, where it does one
@@ -96,23 +87,24 @@ after_turn count rest acts t =
     let acts' : List Act = acts ++ acts_of t.act in
     elim t.crossing [
       | Some crossing ↦ over (ended count t.machine acts' crossing)
-      | None ↦ if nat_le 64 (length acts') then over (ended count t.machine acts' ends.Pause) else on t.machine rest acts'
+      | None ↦ if nat_le MOST_ACTS (length acts') then over (ended count t.machine acts' ends.Pause)
+          else on t.machine rest acts'
     ]
 
 -- one turn, with so many left after it: the faults of its place strike, and a trap among them ends the burst;
 -- then comes the machine's turn
 abbrev pub one_turn : ℕ → List Entry → List Fault → Machine → List Act → Going
 one_turn left entries faults m acts =
-    let place : ℕ = 4096 - suc left in
+    let place : ℕ = MOST_TURNS - suc left in
     let struck : Struck = strikes_at place entries faults m in
     elim struck.stopped [
       | Some cause ↦ over (ended (count_at place cause) struck.machine acts (ends.Trap cause))
-      | None ↦ after_turn (4096 - left) struck.rest acts (turn entries struck.machine)
+      | None ↦ after_turn (MOST_TURNS - left) struck.rest acts (turn entries struck.machine)
     ]
 
 -- a burst with so many turns left: one turn after the other until it is over; a burst without a crossing is a hang
 unfoldable pub burst_from : ℕ → List Entry → List Fault → Machine → List Act → Burst
-burst_from zero entries faults m acts = ended 4096 m acts (ends.Trap trap.Hang)
+burst_from zero entries faults m acts = ended MOST_TURNS m acts (ends.Trap trap.Hang)
 burst_from (suc left) entries faults m acts =
     elim (one_turn left entries faults m acts) [
       | on m' rest acts' ↦ burst_from left entries rest m' acts'
@@ -121,4 +113,4 @@ burst_from (suc left) entries faults m acts =
 
 -- one burst up to its crossing, with the faults of the burst in rising order of their places
 unfoldable pub burst : List Entry → List Fault → Machine → Burst
-burst entries faults m = burst_from 4096 entries faults m []
+burst entries faults m = burst_from MOST_TURNS entries faults m []

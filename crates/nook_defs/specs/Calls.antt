@@ -1,22 +1,19 @@
-use Rattle.std.specs.Prelude.{ℕ, ◌+◌, Bool, true, false, Option, Some, None, List, [], ◌∷◌, length}
-use Rattle.nook_defs.specs.declared.classes.Admit.{Admit}
+use Rattle.std.specs.Prelude.{ℕ, ◌+◌, Option, Some, None, List, length}
+use Rattle.nook_defs.specs.Types.{Admit, Answer, CallEntry, Event, Mode, Op}
 use Rattle.nook_defs.specs.declared.classes.Admit.TheVariants as admits
-use Rattle.nook_defs.specs.declared.data.Answer.{Answer}
-use Rattle.nook_defs.specs.declared.data.Answer.TheVariants as answer
-use Rattle.nook_defs.specs.declared.data.CallEntry.{CallEntry}
-use Rattle.nook_defs.specs.declared.data.Event.{Event}
-use Rattle.nook_defs.specs.declared.data.Event.TheVariants as event
-use Rattle.nook_defs.specs.declared.data.Mode.{Mode}
-use Rattle.nook_defs.specs.declared.data.Mode.TheVariants as mode
-use Rattle.nook_defs.specs.declared.data.Op.{Op}
+use Rattle.nook_defs.specs.declared.calls.Answer.TheVariants as answer
+use Rattle.nook_defs.specs.declared.steps.Event.TheVariants as event
+use Rattle.nook_defs.specs.declared.steps.Mode.TheVariants as mode
 use Rattle.nook_defs.specs.Classes.{static_check, admit}
 use Rattle.nook_defs.specs.Devices.{head_of, tail_of}
 use Rattle.nook_defs.specs.Domain.{entered_domain}
-use Rattle.nook_defs.specs.Log.{with_call, numbered, answered, entered, call_of_thread, shadow_answer, queue_after}
+use Rattle.nook_defs.specs.Log.{with_call, with_answered_call, after_answering, after_entering, call_of_thread}
+use Rattle.nook_defs.specs.Log.{shadow_answer}
+use Rattle.nook_defs.specs.Log.{queue_after}
 use Rattle.nook_defs.specs.State.{CallLog, PartState}
 
 -- the part after a step, and the step's one event
-pub record Turned : Type 0 where
+pub record Stepped : Type 0 where
   pub state : PartState
   pub event : Event
 
@@ -24,38 +21,35 @@ pub record Turned : Type 0 where
 
 -- the answer that the mode gives to an operation past the static check; None where the call is held
 abbrev pub answer_in : Mode → ℕ → Op → PartState → Option Answer
-answer_in (mode.Boot s) thread o p = None
-answer_in mode.Running thread o p = None
 answer_in (mode.Recovering s) thread o p = shadow_answer o thread p.log.config p.log.holder s p.queue
 answer_in (mode.Dead collected) thread o p = Some (answer.Gone p.failures)
+answer_in _ thread o p = None
 
 -- the queue after an invocation past the static check
 abbrev pub queue_in : Mode → Op → List (List ℕ) → List (List ℕ)
-queue_in (mode.Boot s) o queue = queue
-queue_in mode.Running o queue = queue
 queue_in (mode.Recovering s) o queue = queue_after o queue
-queue_in (mode.Dead collected) o queue = queue
+queue_in _ o queue = queue
 
 -- a call that the shadow or the static check answers is only counted; another is open
-abbrev pub logged : ℕ → Op → Option Answer → CallLog → CallLog
-logged thread o None log = with_call thread o log
-logged thread o (Some a) log = numbered log
+abbrev pub log_after_invoke : ℕ → Op → Option Answer → CallLog → CallLog
+log_after_invoke thread o None log = with_call thread o log
+log_after_invoke thread o (Some a) log = with_answered_call log
 
 -- the part after an Invoke with its answer, if it has one
-abbrev pub invoked_with : PartState → ℕ → Op → Option Answer → List (List ℕ) → Turned
+abbrev pub invoked_with : PartState → ℕ → Op → Option Answer → List (List ℕ) → Stepped
 invoked_with p thread o a queue = record {
-  state = record p { log = logged thread o a p.log; queue = queue };
+  state = record p { log = log_after_invoke thread o a p.log; queue = queue };
   event = event.Invoke (p.log.count + 1) thread o a;
 }
 
 -- an operation that the static check answers changes nothing else
-abbrev pub invoked_by : PartState → ℕ → Op → Option Answer → Turned
+abbrev pub invoked_by : PartState → ℕ → Op → Option Answer → Stepped
 invoked_by p thread o None = invoked_with p thread o (answer_in p.mode thread o p) (queue_in p.mode o p.queue)
 invoked_by p thread o (Some a) = invoked_with p thread o (Some a) p.queue
 
 -- a thread invokes an operation: the static check answers it, or the mode answers or holds it
-unfoldable pub invoked : ℕ → Op → PartState → Turned
-invoked thread o p = invoked_by p thread o (static_check p.spec.class p.spec.blocks o)
+unfoldable pub after_invoke : ℕ → Op → PartState → Stepped
+after_invoke thread o p = invoked_by p thread o (static_check p.spec.class p.spec.blocks o)
 
 -- Entering
 
@@ -64,26 +58,26 @@ abbrev pub entering : PartState → CallEntry → Option Answer → Event
 entering p c a = event.Enter c.call c.thread (c.attempts + 1) a
 
 -- a call that its class answers is over; another begins an attempt
-abbrev pub admitted : PartState → CallEntry → Admit → Turned
-admitted p c (admits.Reply a) = record {
-  state = record p { log = answered c.call p.log };
+abbrev pub after_admit : PartState → CallEntry → Admit → Stepped
+after_admit p c (admits.Reply a) = record {
+  state = record p { log = after_answering c.call p.log };
   event = entering p c (Some a);
 }
-admitted p c admits.TakeFrame = record {
-  state = record p { log = answered c.call p.log; queue = tail_of p.queue };
+after_admit p c admits.TakeFrame = record {
+  state = record p { log = after_answering c.call p.log; queue = tail_of p.queue };
   event = entering p c (Some (answer.Frame (head_of p.queue)));
 }
-admitted p c (admits.Enter place) = record {
-  state = record p { log = entered c.call p.log; domain = entered_domain c.thread place c.op p.domain };
+after_admit p c (admits.Enter place) = record {
+  state = record p { log = after_entering c.call p.log; domain = entered_domain c.thread place c.op p.domain };
   event = entering p c None;
 }
 
 -- the Enter of a thread's open call; a thread that has none may not take this step
-abbrev pub entered_by : PartState → ℕ → Option CallEntry → Turned
+abbrev pub entered_by : PartState → ℕ → Option CallEntry → Stepped
 entered_by p thread None = record { state = p; event = event.Enter 0 thread 0 None }
 entered_by p thread (Some c) =
-    admitted p c (admit p.spec.class thread c.op p.log.holder (length p.queue))
+    after_admit p c (admit p.spec.class thread c.op p.log.holder (length p.queue))
 
 -- a thread's held call is answered by the class, or goes Inside with its parameters copied from the log
-unfoldable pub entered_part : ℕ → PartState → Turned
-entered_part thread p = entered_by p thread (call_of_thread thread p.log.pending)
+unfoldable pub after_enter : ℕ → PartState → Stepped
+after_enter thread p = entered_by p thread (call_of_thread thread p.log.pending)

@@ -5,28 +5,27 @@ use Rattle.nook_defs.specs.PartReading.{fault_of}
 use Rattle.nook_defs.specs.Reading.{json_of, list_of, number_at, object_with, refuse_if, required, under}
 use Rattle.nook_defs.specs.Results.{◌>>=◌}
 use Rattle.nook_defs.specs.ScenarioReading.{scenario_of}
-use Rattle.nook_defs.specs.declared.data.Campaign.{Campaign}
-use Rattle.nook_defs.specs.declared.data.Fault.{Fault}
-use Rattle.nook_defs.specs.declared.data.Scenario.{Scenario}
-use Rattle.nook_defs.specs.declared.data.ThreadSpec.{ThreadSpec}
+use Rattle.nook_defs.specs.Types.{Campaign, Fault, Refusal, Scenario, ThreadSpec}
 use Rattle.nook_defs.specs.declared.input.InputFault.TheVariants as fault
 use Rattle.nook_defs.specs.declared.input.Key.TheVariants as key
 use Rattle.nook_defs.specs.declared.input.PathStep.TheVariants as step
-use Rattle.nook_defs.specs.declared.input.Refusal.{Refusal}
+use Rattle.nook_defs.specs.declared.limits.TheConstants.{MOST_CAMPAIGN_FAULTS, MOST_CAMPAIGN_OPS, MOST_FAULTS}
 
 -- 1 to 4,096 faults
 abbrev pub member_faults_of : Data → Result (List Fault) Refusal
-member_faults_of d = list_of (λ earlier. fault_of) 1 4096 d
+member_faults_of d = list_of (λ earlier. fault_of) 1 MOST_CAMPAIGN_FAULTS d
 
 -- at most 64 operations in all threads together
 abbrev pub check_ops : List ThreadSpec → Result ⊤ Refusal
-check_ops threads = under (step.At key.Base) (under (step.At key.Threads) (refuse_if (nat_lt 64 (ops_count threads)) fault.TooMany))
+check_ops threads =
+    under (step.At key.Base) (under (step.At key.Threads)
+    (refuse_if (nat_lt MOST_CAMPAIGN_OPS (ops_count threads)) fault.TooMany))
 
 -- at most 63 faults that the part at a place has of its own
 abbrev pub check_own_faults : ℕ → List Fault → Result ⊤ Refusal
 check_own_faults part own =
     under (step.At key.Base) (under (step.At key.Parts) (under (step.Place part) (under (step.At key.Faults)
-    (refuse_if (nat_lt 63 (length own)) fault.TooMany))))
+    (refuse_if (nat_lt (MOST_FAULTS - 1) (length own)) fault.TooMany))))
 
 -- the limits of a scenario whose part at a place gets one more fault
 abbrev pub check_base : Scenario → ℕ → Result ⊤ Refusal

@@ -1,22 +1,17 @@
-use Rattle.std.specs.Prelude.{◌≡◌, ℕ, suc, ◌+◌, ◌<◌, ◌≤◌, ◌==◌, Bool, true, false, List, [], ◌∷◌, ◌++◌, length, All, count_by, Option, Some, None, slice_get, slice_set, codes, decimal}
+use Rattle.std.specs.Prelude.{◌≡◌, ℕ, suc, ◌+◌, ◌-◌, ◌<◌, ◌≤◌, ◌==◌, Bool, true, false, List, [], ◌∷◌, ◌++◌, length}
+use Rattle.std.specs.Prelude.{All, count_by, Option, Some, None, slice_get, slice_set, codes, decimal}
 use Rattle.std.specs.List.{AllZip}
-use Rattle.nook_defs.specs.declared.data.Answer.{Answer}
-use Rattle.nook_defs.specs.declared.data.Answer.TheVariants as answered
-use Rattle.nook_defs.specs.declared.data.Campaign.{Campaign}
-use Rattle.nook_defs.specs.declared.data.Event.{Event}
-use Rattle.nook_defs.specs.declared.data.Fault.{Fault}
-use Rattle.nook_defs.specs.declared.data.Losses.{Losses}
-use Rattle.nook_defs.specs.declared.data.MemberRow.{MemberRow}
-use Rattle.nook_defs.specs.declared.data.PartSpec.{PartSpec}
-use Rattle.nook_defs.specs.declared.data.Scenario.{Scenario}
-use Rattle.nook_defs.specs.declared.data.ThreadSpec.{ThreadSpec}
+use Rattle.nook_defs.specs.Types.{Answer, Campaign, Event, Fault, Losses, MemberRow, PartSpec, Scenario, ThreadSpec}
+use Rattle.nook_defs.specs.declared.calls.Answer.TheVariants as answered
+use Rattle.nook_defs.specs.declared.limits.TheConstants.{MOST_CAMPAIGN_FAULTS, MOST_CAMPAIGN_OPS, MOST_FAULTS}
 use Rattle.nook_defs.specs.Losses.{losses, one_if}
 use Rattle.nook_defs.specs.ReportLines.{with_number, line_feed}
 use Rattle.nook_defs.specs.ReportText.{events_count, failures_count, status_of}
 use Rattle.nook_defs.specs.Simulation.{IsScheduledRun, Simulation, answer_table, journals_of}
 use Rattle.nook_defs.specs.Valid.{IsValidFault, IsValidScenario}
 
--- A campaign: one scenario, run once for each fault of a list, and the table of what became of it. Each run is a member.
+-- A campaign: one scenario, run once for each fault of a list, and the table of what became of it. Each run is a
+-- member.
 
 -- ---- limits
 
@@ -38,10 +33,10 @@ ops_count (thread ∷ threads) = length thread.ops + ops_count threads
 pub record IsValidCampaign (campaign : Campaign) : Type 0 where
   pub base : IsValidScenario campaign.base
   pub part : campaign.part < length campaign.base.parts
-  pub fault_count : (1 ≤ length campaign.faults) × (length campaign.faults ≤ 4096)
+  pub fault_count : (1 ≤ length campaign.faults) × (length campaign.faults ≤ MOST_CAMPAIGN_FAULTS)
   pub faults : All IsValidFault campaign.faults
-  pub op_count : ops_count campaign.base.threads ≤ 64
-  pub room : length (faults_at campaign.base.parts campaign.part) ≤ 63
+  pub op_count : ops_count campaign.base.threads ≤ MOST_CAMPAIGN_OPS
+  pub room : length (faults_at campaign.base.parts campaign.part) ≤ MOST_FAULTS - 1
 
 -- ---- members
 

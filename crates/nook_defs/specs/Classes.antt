@@ -1,15 +1,13 @@
-use Rattle.std.specs.Prelude.{ℕ, Bool, true, false, List, [], ◌∷◌, length, Option, Some, None, ◌+◌, ◌-◌, ◌/◌, ◌%◌, nat_le, nat_lt, ◌==◌, ◌&&◌, ◌||◌, if◌then◌else◌, slice_index, bytes_eq}
-use Rattle.nook_defs.specs.declared.classes.Accept.{Accept}
+use Rattle.std.specs.Prelude.{ℕ, Bool, true, false, List, [], ◌∷◌, length, Option, Some, None, ◌+◌, ◌-◌, ◌*◌, ◌/◌, ◌%◌}
+use Rattle.std.specs.Prelude.{nat_le, nat_lt, ◌==◌, ◌&&◌, ◌||◌, if◌then◌else◌, slice_index, bytes_eq}
+use Rattle.nook_defs.specs.Types.{Accept, Admit, Answer, Class, Op}
 use Rattle.nook_defs.specs.declared.classes.Accept.TheVariants as accepted
-use Rattle.nook_defs.specs.declared.classes.Admit.{Admit}
 use Rattle.nook_defs.specs.declared.classes.Admit.TheVariants.{Reply, TakeFrame, Enter}
-use Rattle.nook_defs.specs.declared.data.Answer.{Answer}
-use Rattle.nook_defs.specs.declared.data.Answer.TheVariants as answer
-use Rattle.nook_defs.specs.declared.data.Class.{Class}
-use Rattle.nook_defs.specs.declared.data.Class.TheVariants.{Block, Net, Sound}
-use Rattle.nook_defs.specs.declared.data.FailCause.TheVariants.{BadReply}
-use Rattle.nook_defs.specs.declared.data.Op.{Op}
-use Rattle.nook_defs.specs.declared.data.Op.TheVariants.{Read, Write, Send, Recv, Open, Play, Close, Get, Set}
+use Rattle.nook_defs.specs.declared.calls.Answer.TheVariants as answer
+use Rattle.nook_defs.specs.declared.classes.Class.TheVariants.{Block, Net, Sound}
+use Rattle.nook_defs.specs.declared.steps.FailCause.TheVariants.{BadReply}
+use Rattle.nook_defs.specs.declared.limits.TheConstants.{BLOCK_WORDS, MOST_BLOCKS, MOST_FRAME_WORDS}
+use Rattle.nook_defs.specs.declared.calls.Op.TheVariants.{Read, Write, Send, Recv, Open, Play, Close, Get, Set}
 
 -- the number by which a driver registers for its class
 abbrev pub class_code : Class → ℕ
@@ -96,10 +94,10 @@ first_of_op (Read first count) = first
 first_of_op (Write first words) = first
 first_of_op o = 0
 
--- how many blocks an operation covers; a block has 16 words
+-- how many blocks an operation covers
 abbrev pub blocks_of_op : Op → ℕ
 blocks_of_op (Read first count) = count
-blocks_of_op (Write first words) = length words / 16
+blocks_of_op (Write first words) = length words / BLOCK_WORDS
 blocks_of_op o = 0
 
 -- a block of a Read or Write
@@ -114,18 +112,20 @@ check_range blocks first count = if nat_le (first + count) blocks then None else
 
 -- a frame or samples
 abbrev pub check_length : List ℕ → Option Answer
-check_length words = if nat_le 1 (length words) && nat_le (length words) 64 then None else Some answer.BadLength
+check_length words =
+    if nat_le 1 (length words) && nat_le (length words) MOST_FRAME_WORDS then None else Some answer.BadLength
 
 -- the words of 1 to 8 blocks
 abbrev pub is_block_length : ℕ → Bool
-is_block_length n = nat_le 16 n && nat_le n 128 && (n % 16 == 0)
+is_block_length n = nat_le BLOCK_WORDS n && nat_le n (MOST_BLOCKS * BLOCK_WORDS) && (n % BLOCK_WORDS == 0)
 
 -- an operation of the class
 abbrev pub check_op : Class → ℕ → Op → Option Answer
 check_op class blocks (Read first count) =
-    if nat_le 1 count && nat_le count 8 then check_range blocks first count else Some answer.BadLength
+    if nat_le 1 count && nat_le count MOST_BLOCKS then check_range blocks first count else Some answer.BadLength
 check_op class blocks (Write first words) =
-    if is_block_length (length words) then check_range blocks first (length words / 16) else Some answer.BadLength
+    if is_block_length (length words) then check_range blocks first (length words / BLOCK_WORDS)
+    else Some answer.BadLength
 check_op class blocks (Send frame) = check_length frame
 check_op class blocks Recv = None
 check_op class blocks Open = None
@@ -133,7 +133,8 @@ check_op class blocks (Play samples) = check_length samples
 check_op class blocks Close = None
 check_op class blocks (Get key) = if nat_le key 3 then None else Some answer.BadKey
 check_op class blocks (Set key value) =
-    if nat_le key 3 then if nat_le value (maximum_of class key) then None else Some answer.BadValue else Some answer.BadKey
+    if nat_le key 3 then if nat_le value (maximum_of class key) then None else Some answer.BadValue
+    else Some answer.BadKey
 
 -- the answer that an operation gets in every state, if there is one; the second argument is the disk's blocks
 abbrev pub static_check : Class → ℕ → Op → Option Answer
@@ -143,7 +144,8 @@ static_check class blocks o = if is_of_class class o then check_op class blocks 
 
 -- two ranges of blocks
 abbrev pub overlap : Op → Op → Bool
-overlap a b = nat_lt (first_of_op a) (first_of_op b + blocks_of_op b) && nat_lt (first_of_op b) (first_of_op a + blocks_of_op a)
+overlap a b =
+    nat_lt (first_of_op a) (first_of_op b + blocks_of_op b) && nat_lt (first_of_op b) (first_of_op a + blocks_of_op a)
 
 -- two operations of a class, neither of them a Set
 abbrev pub clash : Class → Op → Op → Bool
@@ -216,7 +218,8 @@ admit_holder false place = Reply answer.NotOpen
 abbrev pub admit : Class → ℕ → Op → Option ℕ → ℕ → Admit
 admit class thread Recv holder queued = if queued == 0 then Enter (entry_place class Recv) else TakeFrame
 admit class thread Open holder queued = admit_open holder
-admit class thread (Play samples) holder queued = admit_holder (is_holder holder thread) (entry_place class (Play samples))
+admit class thread (Play samples) holder queued =
+    admit_holder (is_holder holder thread) (entry_place class (Play samples))
 admit class thread Close holder queued = admit_holder (is_holder holder thread) (entry_place class Close)
 admit class thread o holder queued = Enter (entry_place class o)
 

@@ -1,36 +1,34 @@
-use Rattle.std.specs.Prelude.{ℕ, suc, Bool, true, false, List, [], ◌∷◌, ◌++◌, map, filter, find, length, drop, fold, Option, Some, None, is_some, nat_lt, ◌==◌, ◌&&◌, ◌||◌, not, if◌then◌else◌, slice_index, slice_set, bytes_eq}
+use Rattle.std.specs.Prelude.{ℕ, suc, Bool, true, false, List, [], ◌∷◌, ◌++◌, map, filter, find, length, drop, fold}
+use Rattle.std.specs.Prelude.{Option, Some, None, is_some, nat_lt, ◌==◌, ◌&&◌, ◌||◌, not, if◌then◌else◌, slice_index}
+use Rattle.std.specs.Prelude.{slice_set, bytes_eq}
 use Rattle.std.specs.List.{list_any}
-use Rattle.nook_defs.specs.declared.clause.Clause.{Clause}
-use Rattle.nook_defs.specs.declared.clause.Clause.TheVariants.{UnaskedStore, OtherStore, UnstoredWrite, OtherRead, UnaskedFrame, SecondFrame, UnsentSend, OutOfOrder, LeftInRing, OtherSample, UnplayedPlay, UnaskedRegister, UnmadeSet, OtherGet, UnseenFailure}
-use Rattle.nook_defs.specs.declared.data.Act.{Act}
-use Rattle.nook_defs.specs.declared.data.Act.TheVariants as act
-use Rattle.nook_defs.specs.declared.data.Answer.{Answer}
-use Rattle.nook_defs.specs.declared.data.Answer.TheVariants as answer
-use Rattle.nook_defs.specs.declared.data.Break.{Break}
-use Rattle.nook_defs.specs.declared.data.Class.{Class}
-use Rattle.nook_defs.specs.declared.data.End.{End}
-use Rattle.nook_defs.specs.declared.data.End.TheVariants as end
-use Rattle.nook_defs.specs.declared.data.Event.{Event}
-use Rattle.nook_defs.specs.declared.data.Event.TheVariants as event
-use Rattle.nook_defs.specs.declared.data.FailCause.{FailCause}
-use Rattle.nook_defs.specs.declared.data.Op.{Op}
-use Rattle.nook_defs.specs.declared.data.Op.TheVariants.{Read, Write, Send, Recv, Play, Get, Set}
-use Rattle.nook_defs.specs.declared.data.Stage.{Stage}
-use Rattle.nook_defs.specs.declared.data.Stage.TheVariants as stage
+use Rattle.nook_defs.specs.Types.{Act, Answer, Break, Class, Clause, End, Event, FailCause, Op, Stage}
+use Rattle.nook_defs.specs.declared.clause.Clause.TheVariants.{UnaskedStore, OtherStore, UnstoredWrite, OtherRead}
+use Rattle.nook_defs.specs.declared.clause.Clause.TheVariants.{UnaskedFrame, SecondFrame, UnsentSend, OutOfOrder}
+use Rattle.nook_defs.specs.declared.clause.Clause.TheVariants.{LeftInRing, OtherSample, UnplayedPlay, UnaskedRegister}
+use Rattle.nook_defs.specs.declared.clause.Clause.TheVariants.{UnmadeSet, OtherGet, UnseenFailure}
+use Rattle.nook_defs.specs.declared.machine.Act.TheVariants as act
+use Rattle.nook_defs.specs.declared.calls.Answer.TheVariants as answer
+use Rattle.nook_defs.specs.declared.steps.End.TheVariants as end
+use Rattle.nook_defs.specs.declared.steps.Event.TheVariants as event
+use Rattle.nook_defs.specs.declared.calls.Op.TheVariants.{Read, Write, Send, Play, Get, Set}
+use Rattle.nook_defs.specs.declared.steps.Stage.TheVariants as stage
 use Rattle.nook_defs.specs.Blocks.{blank_blocks, get_blocks, has_block, holds_from, words_for}
 use Rattle.nook_defs.specs.Classes.{covers, defaults_of, is_next, is_play, is_write, sends, is_recv}
 use Rattle.nook_defs.specs.Answers.{answers_of}
+use Rattle.nook_defs.specs.declared.calls.Op.TheVariants.{Recv}
 
--- The contract of a class is what a driver owes its device and its callers, in fifteen clauses. It is judged by the events
--- of a journal alone. Two things are said apart: what is known after some events, and what the next event breaks.
+-- The contract of a class is what a driver owes its device and its callers, in fifteen clauses. It is judged by the
+-- events of a journal alone. Two things are said apart: what is known after some events, and what the next event
+-- breaks.
 
 -- ---- the clauses
 
 -- all of them, in the order of their numbers
 abbrev pub all_clauses : List Clause
 all_clauses =
-    UnaskedStore ∷ OtherStore ∷ UnstoredWrite ∷ OtherRead ∷ UnaskedFrame ∷ SecondFrame ∷ UnsentSend ∷ OutOfOrder ∷ LeftInRing
-    ∷ OtherSample ∷ UnplayedPlay ∷ UnaskedRegister ∷ UnmadeSet ∷ OtherGet ∷ UnseenFailure ∷ []
+    UnaskedStore ∷ OtherStore ∷ UnstoredWrite ∷ OtherRead ∷ UnaskedFrame ∷ SecondFrame ∷ UnsentSend ∷ OutOfOrder
+    ∷ LeftInRing ∷ OtherSample ∷ UnplayedPlay ∷ UnaskedRegister ∷ UnmadeSet ∷ OtherGet ∷ UnseenFailure ∷ []
 
 -- the number by which a clause is printed
 abbrev pub number_of : Clause → ℕ
@@ -116,13 +114,9 @@ deeds_of done e a failure = map acts done ++ crossing_deeds e a failure
 
 -- ---- questions about the open calls
 
--- the call with this number
-abbrev pub has_number : ℕ → OpenCall → Bool
-has_number number c = c.number == number
-
 -- the open call with a number
 abbrev pub call_of : ℕ → List OpenCall → Option OpenCall
-call_of number calls = find (has_number number) calls
+call_of number calls = find (λ c. c.number == number) calls
 
 -- a Write that is Inside and covers a block
 abbrev pub stores : ℕ → OpenCall → Bool
@@ -181,41 +175,10 @@ is_empty (frame ∷ frames) = false
 
 -- ---- questions about an operation that is answered
 
--- what a Read is told is in the medium; nothing is asked of others
-abbrev pub is_in_medium : List ℕ → List (List ℕ) → Op → Bool
-is_in_medium words medium (Read first count) = bytes_eq words (get_blocks medium first count)
-is_in_medium words medium o = true
-
--- a Send
-abbrev pub is_send : Op → Bool
-is_send (Send frame) = true
-is_send o = false
-
--- a Play is played to its end; nothing is asked of others
-abbrev pub is_played_out : ℕ → Op → Bool
-is_played_out played (Play samples) = played == length samples
-is_played_out played o = true
-
--- the register has the value that a Set gives it; nothing is asked of others
-abbrev pub is_in_register : List ℕ → Op → Bool
-is_in_register registers (Set key value) = slice_index registers key == value
-is_in_register registers o = true
-
--- the register has the value that a Get is told; nothing is asked of others
-abbrev pub is_register_of : ℕ → List ℕ → Op → Bool
-is_register_of word registers (Get key) = slice_index registers key == word
-is_register_of word registers o = true
-
 -- the register has the value of the ReplaySet that is Inside, if one is
 abbrev pub is_replayed : Option (ℕ × ℕ) → List ℕ → Bool
 is_replayed None registers = true
 is_replayed (Some set) registers = slice_index registers set.0 == set.1
-
--- a Read or a Write
-abbrev pub is_of_disk : Op → Bool
-is_of_disk (Read first count) = true
-is_of_disk (Write first words) = true
-is_of_disk o = false
 
 -- ---- the fifteen clauses
 
@@ -228,13 +191,14 @@ breaks OtherStore k c (acts (act.Store block words)) = list_any (stores_other bl
 -- 3: a Write is accepted, and a block that it covers does not hold its words
 breaks UnstoredWrite k (Some c) (replies answer.Done) = is_write c.op && not (holds_from 0 c.op k.medium)
 -- 4: a Read is accepted with other words than the medium's
-breaks OtherRead k (Some c) (replies (answer.Blocks words)) = not (is_in_medium words k.medium c.op)
+breaks OtherRead k (Some c) (replies (answer.Blocks words)) =
+    elim c.op [ (Read first count) ↦ not (bytes_eq words (get_blocks k.medium first count)) | _ ↦ false ]
 -- 5: a frame is sent outside a burst of a Send, or another frame than that Send's
 breaks UnaskedFrame k c (acts (act.Sent frame)) = not (is_send_of frame c)
 -- 6: a second frame is sent in one Send
 breaks SecondFrame k (Some c) (acts (act.Sent frame)) = nat_lt 0 c.sent
 -- 7: a Send is accepted, and no frame was sent in it
-breaks UnsentSend k (Some c) (replies answer.Done) = is_send c.op && c.sent == 0
+breaks UnsentSend k (Some c) (replies answer.Done) = elim c.op [ (Send frame) ↦ c.sent == 0 | _ ↦ false ]
 -- 8: a frame is handed up so that those handed up since the last Load are not the first of those popped since then
 breaks OutOfOrder k c (hands_up frame) = not (is_front (k.handed ++ frame ∷ []) k.popped)
 -- 9: a Recv is accepted while the ring is not empty, and no frame was handed up in a burst of that attempt
@@ -242,17 +206,24 @@ breaks LeftInRing k (Some c) (replies a) = is_recv c.op && not (is_empty k.ring)
 -- 10: a sample is played that is not the next one of the Play Inside, or while none is Inside
 breaks OtherSample k c (acts (act.Played word rate volume)) = not (is_next_of word (play_inside k.calls))
 -- 11: a Play is accepted that was not played to its end
-breaks UnplayedPlay k (Some c) (replies answer.Done) = not (is_played_out c.played c.op)
+breaks UnplayedPlay k (Some c) (replies answer.Done) =
+    elim c.op [ (Play samples) ↦ not (c.played == length samples) | _ ↦ false ]
 -- 12: a register is changed to a value that no Set and no ReplaySet Inside gives it
 breaks UnaskedRegister k c (acts (act.Register key value)) =
     not (slice_index k.registers key == value) && not (is_asked key value k)
 -- 13: a Set or a ReplaySet is accepted, and the register does not hold its value
-breaks UnmadeSet k (Some c) (replies answer.Done) = not (is_in_register k.registers c.op)
+breaks UnmadeSet k (Some c) (replies answer.Done) =
+    elim c.op [ (Set key value) ↦ not (slice_index k.registers key == value) | _ ↦ false ]
 breaks UnmadeSet k c replays = not (is_replayed k.replay k.registers)
 -- 14: a Get is accepted with a value that is not the register's
-breaks OtherGet k (Some c) (replies (answer.Value word)) = not (is_register_of word k.registers c.op)
+breaks OtherGet k (Some c) (replies (answer.Value word)) =
+    elim c.op [ (Get key) ↦ not (slice_index k.registers key == word) | _ ↦ false ]
 -- 15: a Read or Write is accepted with an IoError of a block on which no command failed in that attempt
-breaks UnseenFailure k (Some c) (replies (answer.IoError block)) = is_of_disk c.op && not (has_block block c.failed)
+breaks UnseenFailure k (Some c) (replies (answer.IoError block)) = elim c.op [
+  | (Read first count) ↦ not (has_block block c.failed)
+  | (Write first words) ↦ not (has_block block c.failed)
+  | _ ↦ false
+]
 breaks clause k c d = false
 
 -- ---- what is known after a deed
@@ -261,21 +232,9 @@ breaks clause k c d = false
 abbrev pub change_call : ℕ → (OpenCall → OpenCall) → List OpenCall → List OpenCall
 change_call number change calls = map (λ c. if c.number == number then change c else c) calls
 
--- a frame was sent in a burst of the call
-abbrev pub sent_more : OpenCall → OpenCall
-sent_more c = record c { sent = suc c.sent }
-
 -- a sample of the Play was played
 abbrev pub played_more : OpenCall → OpenCall
 played_more c = record c { played = suc c.played }
-
--- a frame was handed up in the attempt
-abbrev pub handed_frame : OpenCall → OpenCall
-handed_frame c = record c { handed = true }
-
--- a command on the block failed in the attempt
-abbrev pub failed_at : ℕ → OpenCall → OpenCall
-failed_at block c = record c { failed = block ∷ c.failed }
 
 -- the first call that passes a test is changed, the others stay
 abbrev pub change_first : (OpenCall → Bool) → (OpenCall → OpenCall) → List OpenCall → List OpenCall
@@ -285,30 +244,26 @@ change_first test change (c ∷ calls) = if test c then change c ∷ calls else 
 -- after a deed in a burst of the call with this number
 abbrev pub after_deed : ℕ → Known → Deed → Known
 after_deed call k (acts (act.Load block)) = k
-after_deed call k (acts (act.Failed block store)) = record k { calls = change_call call (failed_at block) k.calls }
+after_deed call k (acts (act.Failed block store)) = record k
+    { calls = change_call call (λ c. record c { failed = block ∷ c.failed }) k.calls }
 after_deed call k (acts (act.Store block words)) = record k { medium = slice_set k.medium block words }
-after_deed call k (acts (act.Sent frame)) = record k { calls = change_call call sent_more k.calls }
+after_deed call k (acts (act.Sent frame)) = record k
+    { calls = change_call call (λ c. record c { sent = suc c.sent }) k.calls }
 after_deed call k (acts (act.Popped frame)) = record k { ring = drop 1 k.ring; popped = k.popped ++ frame ∷ [] }
-after_deed call k (acts (act.Played word rate volume)) = record k { calls = change_first is_playing played_more k.calls }
+after_deed call k (acts (act.Played word rate volume)) = record k
+    { calls = change_first is_playing played_more k.calls }
 after_deed call k (acts (act.Register key value)) = record k { registers = slice_set k.registers key value }
 after_deed call k (hands_up frame) = record k
-    { handed = k.handed ++ frame ∷ []; calls = change_call call handed_frame k.calls }
+    { handed = k.handed ++ frame ∷ []; calls = change_call call (λ c. record c { handed = true }) k.calls }
 after_deed call k (replies a) = k
 after_deed call k replays = record k { replay = None }
-
--- after all of them, in order
-abbrev pub after_deeds : ℕ → Known → List Deed → Known
-after_deeds call k ds = fold (after_deed call) k ds
 
 -- ---- what is known after an event
 
 -- a call that is made is open, and not yet Inside
 abbrev pub new_call : ℕ → Op → OpenCall
-new_call number o = record { number = number; op = o; inside = false; sent = 0; played = 0; handed = false; failed = [] }
-
--- a new attempt of a call begins: it is Inside
-abbrev pub enter_call : OpenCall → OpenCall
-enter_call c = record c { inside = true; handed = false; failed = [] }
+new_call number o = record
+    { number = number; op = o; inside = false; sent = 0; played = 0; handed = false; failed = [] }
 
 -- an attempt ends, and the call stays open
 abbrev pub leave_call : OpenCall → OpenCall
@@ -331,9 +286,10 @@ after_failure (Some cause) k = record k { replay = None }
 -- what an event leaves, but that the calls which it answers are still there
 abbrev pub during : Known → Event → Known
 during k (event.Invoke call thread o a) = record k { calls = k.calls ++ new_call call o ∷ [] }
-during k (event.Enter call thread attempt a) = record k { calls = change_call call enter_call k.calls }
+during k (event.Enter call thread attempt a) = record k
+    { calls = change_call call (λ c. record c { inside = true; handed = false; failed = [] }) k.calls }
 during k (event.Burst context call burst count e done a failure) =
-    after_failure failure (after_deeds call k (deeds_of done e a failure))
+    after_failure failure (fold (after_deed call) k (deeds_of done e a failure))
 during k (event.Stage s answers released) = after_stage s k
 during k (event.Arrive frame kept) = record k { ring = if kept then k.ring ++ frame ∷ [] else k.ring }
 
@@ -359,15 +315,13 @@ broken k (event.Burst context call burst count e done a failure) =
     filter (λ clause. is_broken_by clause call k (deeds_of done e a failure)) all_clauses
 broken k e = []
 
--- the break that an event is, or else that of the later ones
-abbrev pub break_or : ℕ → List Clause → Option Break → Option Break
-break_or place [] later = later
-break_or place (clause ∷ more) later = Some (record { event = place; clause = number_of clause })
-
 -- the first break of events that follow, the first of them number `place`
 unfoldable pub break_from : ℕ → Known → List Event → Option Break
 break_from place k [] = None
-break_from place k (e ∷ events) = break_or place (broken k e) (break_from (suc place) (after k e) events)
+break_from place k (e ∷ events) = elim (broken k e) [
+  | [] ↦ break_from (suc place) (after k e) events
+  | (clause ∷ more) ↦ Some (record { event = place; clause = number_of clause })
+]
 
 -- the first event that breaks a clause, with the smallest clause that it breaks
 unfoldable pub first_break : Class → ℕ → List Event → Option Break

@@ -1,29 +1,25 @@
-use Rattle.std.specs.Prelude.{ℕ, ◌+◌, ◌*◌, ◌==◌, ◌&&◌, if◌then◌else◌, Bool, true, false, Option, Some, None, Result, Ok, Err, List, [], ◌∷◌, length, slice_index, slice_set}
-use Rattle.nook_defs.specs.declared.classes.Accept.{Accept}
+use Rattle.std.specs.Prelude.{ℕ, ◌+◌, ◌*◌, ◌==◌, ◌&&◌, if◌then◌else◌, Bool, true, false, Option, Some, None, Result, Ok}
+use Rattle.std.specs.Prelude.{Err, [], length, slice_index, slice_set}
+use Rattle.nook_defs.specs.Types.{Accept, Answer, BadParam, BurstEnd, CallEntry, End, FailCause, Mode, Op, Service}
+use Rattle.nook_defs.specs.Types.{Stage}
 use Rattle.nook_defs.specs.declared.classes.Accept.TheVariants as accepts
-use Rattle.nook_defs.specs.declared.data.Answer.{Answer}
-use Rattle.nook_defs.specs.declared.data.Answer.TheVariants as answer
-use Rattle.nook_defs.specs.declared.data.CallEntry.{CallEntry}
-use Rattle.nook_defs.specs.declared.data.End.{End}
-use Rattle.nook_defs.specs.declared.data.End.TheVariants as end
-use Rattle.nook_defs.specs.declared.data.FailCause.{FailCause}
-use Rattle.nook_defs.specs.declared.data.FailCause.TheVariants as fail
-use Rattle.nook_defs.specs.declared.data.Mode.{Mode}
-use Rattle.nook_defs.specs.declared.data.Mode.TheVariants as mode
-use Rattle.nook_defs.specs.declared.data.Op.{Op}
-use Rattle.nook_defs.specs.declared.data.Op.TheVariants as op
-use Rattle.nook_defs.specs.declared.data.Stage.{Stage}
-use Rattle.nook_defs.specs.declared.data.Stage.TheVariants as stage
-use Rattle.nook_defs.specs.declared.machine.BadParam.{BadParam}
-use Rattle.nook_defs.specs.declared.machine.BurstEnd.{BurstEnd}
+use Rattle.nook_defs.specs.declared.calls.Answer.TheVariants as answer
+use Rattle.nook_defs.specs.declared.steps.End.TheVariants as end
+use Rattle.nook_defs.specs.declared.steps.FailCause.TheVariants as fail
+use Rattle.nook_defs.specs.declared.steps.Mode.TheVariants as mode
+use Rattle.nook_defs.specs.declared.calls.Op.TheVariants as op
+use Rattle.nook_defs.specs.declared.steps.Stage.TheVariants as stage
+use Rattle.nook_defs.specs.declared.limits.TheConstants.{BLOCK_WORDS, MOST_BURSTS, SHADOW}
+use Rattle.nook_defs.specs.declared.memory_map.TheConstants.{DATA_START}
 use Rattle.nook_defs.specs.declared.machine.BurstEnd.TheVariants as ends
-use Rattle.nook_defs.specs.declared.machine.Service.{Service}
 use Rattle.nook_defs.specs.Classes.{accept}
-use Rattle.nook_defs.specs.Domain.{no_context, first_argument, second_argument, attempt_bursts, result_set, left_domain, noted, buffer_words}
+use Rattle.nook_defs.specs.Domain.{no_context, first_argument, second_argument, attempt_bursts, result_set, left_domain}
+use Rattle.nook_defs.specs.Domain.{noted, buffer_words}
 use Rattle.nook_defs.specs.Entries.{is_registered}
-use Rattle.nook_defs.specs.Log.{call_of_thread, acknowledged, answered, frame_or_empty, queue_after, replay_after}
+use Rattle.nook_defs.specs.Log.{call_of_thread, after_acknowledging, after_answering, frame_or_empty, queue_after}
 use Rattle.nook_defs.specs.Pages.{buffer_start}
 use Rattle.nook_defs.specs.Services.{Served, checked, served}
+use Rattle.nook_defs.specs.Stages.{mode_after}
 use Rattle.nook_defs.specs.State.{DomainState, PartState}
 
 -- What the crossing at the end of a burst asks is done in the same step.
@@ -39,7 +35,7 @@ pub record Crossed : Type 0 where
 
 -- the shadow's own call ends
 abbrev pub without_shadow : DomainState → DomainState
-without_shadow d = record d { contexts = slice_set d.contexts 16 no_context }
+without_shadow d = record d { contexts = slice_set d.contexts SHADOW no_context }
 
 -- a failure: it is counted, also in object 0, the shadow's call ends, and the part recovers from Stop on
 unfoldable pub fails : PartState → PartState
@@ -50,16 +46,16 @@ fails p = record p {
 }
 
 -- the crossing of a failure: nothing is answered
-abbrev pub failed : PartState → End → FailCause → Crossed
-failed p e cause = record { state = fails p; end = e; answer = None; failure = Some cause }
+abbrev pub failed_crossing : PartState → End → FailCause → Crossed
+failed_crossing p e cause = record { state = fails p; end = e; answer = None; failure = Some cause }
 
 -- the crossing of a call that is not over: nothing is answered, and nothing fails
 abbrev pub goes_on : PartState → End → Crossed
 goes_on p e = record { state = p; end = e; answer = None; failure = None }
 
--- the burst was the 32nd of its attempt
+-- the burst was the last that an attempt may have
 abbrev pub is_last : ℕ → PartState → Bool
-is_last context p = attempt_bursts context p.domain == 32
+is_last context p = attempt_bursts context p.domain == MOST_BURSTS
 
 -- Kernel calls
 
@@ -70,24 +66,22 @@ refused_service number context p =
 
 -- where the driver's heap begins: after the initial words of its image
 abbrev pub heap_start : PartState → ℕ
-heap_start p = 2048 + length p.spec.image.initial
+heap_start p = DATA_START + length p.spec.image.initial
 
--- the part after a served call: the driver finds the answer in a register
-abbrev pub with_served : ℕ → Served → PartState → PartState
-with_served context s p = record p {
-  domain = result_set context s.answer (record p.domain { memory = s.memory; entries = s.entries });
-  queue = s.queue;
-}
-
--- the crossing of a served call: the end tells the answer and the words that were moved
+-- the crossing of a served call: the driver finds the answer in a register, and the end tells it with the words that
+-- were moved
 abbrev pub served_call : ℕ → ℕ → Served → PartState → Crossed
-served_call number context s p = goes_on (with_served context s p)
+served_call number context s p = goes_on
+    (record p {
+      domain = result_set context s.answer (record p.domain { memory = s.memory; entries = s.entries });
+      queue = s.queue;
+    })
     (end.Service number (first_argument context p.domain) (second_argument context p.domain) (Some s.answer) s.moved)
 
 -- a call with a bad argument fails the driver; another is served
 abbrev pub serve_by : ℕ → ℕ → PartState → Result Service BadParam → Crossed
 serve_by number context p (Err bad) =
-    failed p (refused_service number context p) (fail.BadParam bad.service bad.argument)
+    failed_crossing p (refused_service number context p) (fail.BadParam bad.service bad.argument)
 serve_by number context p (Ok s) =
     served_call number context (served (heap_start p) s p.domain.memory p.domain.entries p.queue) p
 
@@ -110,10 +104,11 @@ abbrev pub is_init : Stage → Bool
 is_init stage.Init = true
 is_init _ = false
 
--- the mode after the shadow's call was accepted; in the other modes the shadow has no call
+-- the mode after the shadow's call was accepted: a boot has nothing to replay, and a recovery goes on to the stage that
+-- follows; in the other modes the shadow has no call
 abbrev pub next_mode : Mode → PartState → Mode
 next_mode (mode.Boot s) p = mode.Boot stage.Resume
-next_mode (mode.Recovering s) p = mode.Recovering (replay_after s p.log)
+next_mode (mode.Recovering s) p = mode_after s p.log (mode.Recovering s)
 next_mode m p = m
 
 -- the shadow's call is accepted: status 0, and for Init the driver is registered
@@ -127,28 +122,23 @@ shadow_fault status s = if is_init s then fail.BadInit status else fail.BadReply
 
 -- the shadow's call is over, and the next stage is due
 unfoldable pub next_stage : PartState → PartState
-next_stage p = record p { domain = left_domain 16 p.domain; mode = next_mode p.mode p }
+next_stage p = record p { domain = left_domain SHADOW p.domain; mode = next_mode p.mode p }
 
 -- the reply to the shadow's own call
 abbrev pub shadow_replied : ℕ → PartState → Crossed
 shadow_replied status p =
     if is_accepted status p
     then goes_on (next_stage p) (end.Reply status)
-    else failed p (end.Reply status) (shadow_fault status (stage_in p.mode))
+    else failed_crossing p (end.Reply status) (shadow_fault status (stage_in p.mode))
 
 -- Replies of applications' calls
 
 -- the answer to an operation whose reply has status 0
 abbrev pub reply_answer : Op → ℕ → PartState → Answer
-reply_answer (op.Read first count) thread p = answer.Blocks (buffer_words thread (16 * count) p.domain)
-reply_answer (op.Write first words) thread p = answer.Done
-reply_answer (op.Send frame) thread p = answer.Done
+reply_answer (op.Read first count) thread p = answer.Blocks (buffer_words thread (BLOCK_WORDS * count) p.domain)
 reply_answer op.Recv thread p = frame_or_empty p.queue
-reply_answer op.Open thread p = answer.Done
-reply_answer (op.Play samples) thread p = answer.Done
-reply_answer op.Close thread p = answer.Done
 reply_answer (op.Get key) thread p = answer.Value (slice_index p.domain.memory (buffer_start thread))
-reply_answer (op.Set key value) thread p = answer.Done
+reply_answer _ thread p = answer.Done
 
 -- an acknowledged Set stands in object 0
 abbrev pub noted_set : Op → DomainState → DomainState
@@ -156,22 +146,23 @@ noted_set (op.Set key value) d = noted key value d
 noted_set _ d = d
 
 -- the call is answered: its loan ends, and the record and the holder follow
-unfoldable pub closes : CallEntry → PartState → PartState
-closes c p = record p {
+unfoldable pub closes_call : CallEntry → PartState → PartState
+closes_call c p = record p {
   domain = noted_set c.op (left_domain c.thread p.domain);
-  log = answered c.call (acknowledged c.thread c.op p.log);
+  log = after_answering c.call (after_acknowledging c.thread c.op p.log);
   queue = queue_after c.op p.queue;
 }
 
 -- an accepted reply answers its call
-abbrev pub accepted : CallEntry → ℕ → Answer → PartState → Crossed
-accepted c status a p = record { state = closes c p; end = end.Reply status; answer = Some a; failure = None }
+abbrev pub accepted_crossing : CallEntry → ℕ → Answer → PartState → Crossed
+accepted_crossing c status a p =
+    record { state = closes_call c p; end = end.Reply status; answer = Some a; failure = None }
 
 -- a reply is accepted, tells a failure of the medium, or fails the driver
 abbrev pub reply_by : CallEntry → ℕ → PartState → Accept → Crossed
-reply_by c status p accepts.Take = accepted c status (reply_answer c.op c.thread p) p
-reply_by c status p (accepts.IoError block) = accepted c status (answer.IoError block) p
-reply_by c status p (accepts.Fail cause) = failed p (end.Reply status) cause
+reply_by c status p accepts.Take = accepted_crossing c status (reply_answer c.op c.thread p) p
+reply_by c status p (accepts.IoError block) = accepted_crossing c status (answer.IoError block) p
+reply_by c status p (accepts.Fail cause) = failed_crossing p (end.Reply status) cause
 
 -- the reply to a thread's open call; a context in which none is open has no burst, so it gives no reply
 abbrev pub call_replied : ℕ → PartState → Option CallEntry → Crossed
@@ -179,18 +170,18 @@ call_replied status p None = goes_on p (end.Reply status)
 call_replied status p (Some c) = reply_by c status p (accept c.op status)
 
 -- a reply, by the context that gives it
-abbrev pub replied : ℕ → ℕ → PartState → Crossed
-replied status context p =
-    if context == 16 then shadow_replied status p
+abbrev pub after_reply : ℕ → ℕ → PartState → Crossed
+after_reply status context p =
+    if context == SHADOW then shadow_replied status p
     else call_replied status p (call_of_thread context p.log.pending)
 
 -- the crossing of a context: a trap; a 32nd burst that is no reply; a kernel call; a pause; a reply
-unfoldable pub crossed : ℕ → BurstEnd → PartState → Crossed
-crossed context (ends.Trap cause) p = failed p end.Trap (fail.Trap cause)
-crossed context (ends.Kcall number) p =
+unfoldable pub after_crossing : ℕ → BurstEnd → PartState → Crossed
+after_crossing context (ends.Trap cause) p = failed_crossing p end.Trap (fail.Trap cause)
+after_crossing context (ends.Kcall number) p =
     if is_last context p
-    then failed p (refused_service number context p) fail.TooManyCrossings
+    then failed_crossing p (refused_service number context p) fail.TooManyCrossings
     else kernel_call number context p
-crossed context ends.Pause p =
-    if is_last context p then failed p end.Pause fail.TooManyCrossings else goes_on p end.Pause
-crossed context (ends.Reply status) p = replied status context p
+after_crossing context ends.Pause p =
+    if is_last context p then failed_crossing p end.Pause fail.TooManyCrossings else goes_on p end.Pause
+after_crossing context (ends.Reply status) p = after_reply status context p

@@ -1,15 +1,12 @@
-use Rattle.std.specs.Prelude.{ℕ, ◌+◌, ◌-◌, ◌*◌, ◌%◌, ◌^◌, min, ◌==◌, ◌&&◌, ◌||◌, nat_le, nat_lt, not, if◌then◌else◌, Bool, true, false, Option, Some, None, List, [], ◌∷◌, ◌++◌, take, length, replicate, slice_get, slice_index, slice_index_or, slice_set, unwrap_or}
+use Rattle.std.specs.Prelude.{ℕ, ◌+◌, ◌-◌, ◌*◌, ◌%◌, ◌^◌, min, ◌==◌, ◌&&◌, ◌||◌, nat_le, nat_lt, not, if◌then◌else◌}
+use Rattle.std.specs.Prelude.{Bool, true, false, Option, Some, None, List, [], ◌∷◌, ◌++◌, take, length, replicate}
+use Rattle.std.specs.Prelude.{slice_get, slice_index, slice_index_or, slice_set, unwrap_or}
 use Rattle.std.specs.List.{list_any}
-use Rattle.nook_defs.specs.declared.data.Act.{Act}
-use Rattle.nook_defs.specs.declared.data.Act.TheVariants as act
-use Rattle.nook_defs.specs.declared.data.BadBlock.{BadBlock}
-use Rattle.nook_defs.specs.declared.data.Class.{Class}
-use Rattle.nook_defs.specs.declared.data.Class.TheVariants as class
-use Rattle.nook_defs.specs.declared.data.DeviceKind.{DeviceKind}
-use Rattle.nook_defs.specs.declared.data.DeviceKind.TheVariants as kind
-use Rattle.nook_defs.specs.declared.data.DeviceState.{DeviceState}
-use Rattle.nook_defs.specs.declared.data.Disk.{Disk}
-use Rattle.nook_defs.specs.declared.data.Link.{Link}
+use Rattle.nook_defs.specs.Types.{Act, BadBlock, Class, DeviceKind, DeviceState, Disk, Link}
+use Rattle.nook_defs.specs.declared.machine.Act.TheVariants as act
+use Rattle.nook_defs.specs.declared.classes.Class.TheVariants as class
+use Rattle.nook_defs.specs.declared.devices.DeviceKind.TheVariants as kind
+use Rattle.nook_defs.specs.declared.limits.TheConstants.{BLOCK_WORDS, MOST_FRAME_WORDS, MOST_RING_FRAMES}
 
 -- what a device gives at a port, and the device after it
 pub record Given : Type 0 where
@@ -59,38 +56,53 @@ is_failing k = list_any (strikes k.block (slice_index k.counts k.block)) k.bad
 abbrev pub raised : ℕ → ℕ
 raised count = min (count + 1) (2 ^ 32 - 1)
 
--- the disk after a command: a load fills the buffer, a store the medium, a command that fails neither
-abbrev pub commanded : ℕ → Disk → Disk
-commanded word k = record k {
-  medium = if word == 2 && not (is_failing k) then slice_set k.medium k.block k.buffer else k.medium;
+-- the disk after any command: its block has had one command more, and the buffer stands at its first word
+abbrev pub counted : ℕ → Disk → Disk
+counted status k = record k {
   counts = slice_set k.counts k.block (raised (slice_index k.counts k.block));
-  buffer = if word == 1 && not (is_failing k) then block_at k.medium k.block else k.buffer;
   position = 0;
-  status = if is_failing k then 1 else 0;
+  status = status;
 }
+
+-- the disk after a command that succeeds: a load fills the buffer, a store the block of the medium
+abbrev pub obeyed : ℕ → Disk → Disk
+obeyed word k = record (counted 0 k) {
+  medium = if word == 2 then slice_set k.medium k.block k.buffer else k.medium;
+  buffer = if word == 1 then block_at k.medium k.block else k.buffer;
+}
+
+-- the disk after a command: one that fails leaves the medium and the buffer
+abbrev pub commanded : ℕ → Disk → Disk
+commanded word k = if is_failing k then counted 1 k else obeyed word k
 
 -- the act of a command
 abbrev pub command_act : ℕ → Disk → Act
 command_act word k =
     if is_failing k then act.Failed k.block (word == 2)
-    else (if word == 1 then act.Load k.block else act.Store k.block k.buffer)
+    else if word == 1 then act.Load k.block
+    else act.Store k.block k.buffer
 
 -- what IN gives of a disk; there is nothing at other ports
 abbrev pub disk_input : ℕ → DeviceState → Disk → Option Given
 disk_input port d k =
     if port == 1 then gives k.block d
-    else (if port == 2 then gives (slice_index k.buffer k.position) (with_disk d (record k { position = (k.position + 1) % 16 }))
-    else (if port == 3 then gives k.status d
-    else None))
+    else if port == 2 then
+    gives (slice_index k.buffer k.position) (with_disk d (record k { position = (k.position + 1) % BLOCK_WORDS }))
+    else if port == 3 then gives k.status d
+    else None
 
 -- what OUT does to a disk; there is nothing at other ports
 abbrev pub disk_output : ℕ → ℕ → DeviceState → Disk → Option Taken
 disk_output port word d k =
     if port == 0 then
-    (if is_command word k then takes (Some (command_act word k)) (with_disk d (commanded word k)) else takes None d)
-    else (if port == 1 then takes None (with_disk d (record k { block = word; position = 0 }))
-    else (if port == 2 then takes None (with_disk d (record k { buffer = slice_set k.buffer k.position word; position = (k.position + 1) % 16 }))
-    else None))
+    if is_command word k then takes (Some (command_act word k)) (with_disk d (commanded word k)) else takes None d
+    else if port == 1 then takes None (with_disk d (record k { block = word; position = 0 }))
+    else if port == 2 then
+    takes None (with_disk d (record k {
+      buffer = slice_set k.buffer k.position word;
+      position = (k.position + 1) % BLOCK_WORDS;
+    }))
+    else None
 
 -- the net device
 
@@ -109,34 +121,39 @@ abbrev pub is_empty_ring : List (List ℕ) → Bool
 is_empty_ring [] = true
 is_empty_ring (frame ∷ ring) = false
 
--- the receive position after a word was read: it stays at an empty ring, and at 64, where no frame has a word
+-- the receive position after a word was read: it stays at an empty ring, and past the longest frame
 abbrev pub next_reading : Link → ℕ
-next_reading k = if is_empty_ring k.ring then k.reading else min (k.reading + 1) 64
+next_reading k = if is_empty_ring k.ring then k.reading else min (k.reading + 1) MOST_FRAME_WORDS
 
 -- what IN gives of a link; there is nothing at other ports
 abbrev pub link_input : ℕ → DeviceState → Link → Option Given
 link_input port d k =
     if port == 1 then gives k.length d
-    else (if port == 3 then gives (length (head_of k.ring)) d
-    else (if port == 4 then gives (slice_index_or (head_of k.ring) k.reading 0) (with_link d (record k { reading = next_reading k }))
-    else None))
+    else if port == 3 then gives (length (head_of k.ring)) d
+    else if port == 4 then
+    gives (slice_index_or (head_of k.ring) k.reading 0) (with_link d (record k { reading = next_reading k }))
+    else None
 
 -- word 1 sends the first words of the transmit buffer, word 2 lets the ring's head leave
 abbrev pub link_command : ℕ → DeviceState → Link → Option Taken
 link_command word d k =
-    if word == 1 && (nat_le 1 k.length && nat_le k.length 64) then takes (Some (act.Sent (take k.length k.buffer))) d
-    else (if word == 2 && not (is_empty_ring k.ring) then
+    if word == 1 && (nat_le 1 k.length && nat_le k.length MOST_FRAME_WORDS) then
+    takes (Some (act.Sent (take k.length k.buffer))) d
+    else if word == 2 && not (is_empty_ring k.ring) then
     takes (Some (act.Popped (head_of k.ring))) (with_link d (record k { ring = tail_of k.ring; reading = 0 }))
-    else takes None d)
+    else takes None d
 
 -- what OUT does to a link; there is nothing at other ports
 abbrev pub link_output : ℕ → ℕ → DeviceState → Link → Option Taken
 link_output port word d k =
     if port == 0 then link_command word d k
-    else (if port == 1 then takes None (with_link d (record k { length = word; buffer = replicate 64 0; position = 0 }))
-    else (if port == 2 then
-    (if nat_lt k.position 64 then takes None (with_link d (record k { buffer = slice_set k.buffer k.position word; position = k.position + 1 })) else takes None d)
-    else None))
+    else if port == 1 then
+    takes None (with_link d (record k { length = word; buffer = replicate MOST_FRAME_WORDS 0; position = 0 }))
+    else if port == 2 then
+    if nat_lt k.position MOST_FRAME_WORDS then
+    takes None (with_link d (record k { buffer = slice_set k.buffer k.position word; position = k.position + 1 }))
+    else takes None d
+    else None
 
 -- the sound device
 
@@ -176,10 +193,15 @@ output_of port word d =
     takes (Some (act.Register (port - 8) word)) (record d { registers = slice_set d.registers (port - 8) word })
     else kind_output port word d d.kind
 
+-- a link in which nothing waits and nothing is prepared
+abbrev pub idle_link : Link
+idle_link = record { length = 0; buffer = replicate MOST_FRAME_WORDS 0; position = 0; ring = []; reading = 0 }
+
 -- a Reset clears all but the medium, the bad blocks and the counts of commands
 abbrev pub reset_kind : DeviceKind → DeviceKind
-reset_kind (kind.Disk k) = kind.Disk (record k { block = 0; buffer = replicate 16 0; position = 0; status = 0 })
-reset_kind (kind.Link k) = kind.Link (record { length = 0; buffer = replicate 64 0; position = 0; ring = []; reading = 0 })
+reset_kind (kind.Disk k) =
+    kind.Disk (record k { block = 0; buffer = replicate BLOCK_WORDS 0; position = 0; status = 0 })
+reset_kind (kind.Link k) = kind.Link idle_link
 reset_kind kind.Speaker = kind.Speaker
 
 -- a reset: the registers take the defaults, all else is cleared but the medium and the counts of commands
@@ -189,15 +211,15 @@ reset_device defaults d = record { registers = defaults; kind = reset_kind d.kin
 -- the device of a class at first
 abbrev pub opening_kind : Class → ℕ → List BadBlock → DeviceKind
 opening_kind class.Block blocks bad = kind.Disk (record {
-  medium = replicate blocks (replicate 16 0);
+  medium = replicate blocks (replicate BLOCK_WORDS 0);
   bad = bad;
   counts = replicate blocks 0;
   block = 0;
-  buffer = replicate 16 0;
+  buffer = replicate BLOCK_WORDS 0;
   position = 0;
   status = 0;
 })
-opening_kind class.Net blocks bad = kind.Link (record { length = 0; buffer = replicate 64 0; position = 0; ring = []; reading = 0 })
+opening_kind class.Net blocks bad = kind.Link idle_link
 opening_kind class.Sound blocks bad = kind.Speaker
 
 -- a device as after a reset, its medium zeros
@@ -206,9 +228,8 @@ opening_device c blocks bad defaults = record { registers = defaults; kind = ope
 
 -- the frames in the ring
 abbrev pub ring_of_kind : DeviceKind → List (List ℕ)
-ring_of_kind (kind.Disk k) = []
 ring_of_kind (kind.Link k) = k.ring
-ring_of_kind kind.Speaker = []
+ring_of_kind _ = []
 
 -- the frames that wait in the ring; a device that is no link has none
 abbrev pub ring_of : DeviceState → List (List ℕ)
@@ -217,23 +238,25 @@ ring_of d = ring_of_kind d.kind
 -- a disk's blocks; the other devices have none
 abbrev pub medium_of_kind : DeviceKind → List (List ℕ)
 medium_of_kind (kind.Disk k) = k.medium
-medium_of_kind (kind.Link k) = []
-medium_of_kind kind.Speaker = []
+medium_of_kind _ = []
 
 -- the same of a device
 abbrev pub medium_of : DeviceState → List (List ℕ)
 medium_of d = medium_of_kind d.kind
 
--- an arriving frame is kept where the ring holds fewer than 16
+-- an arriving frame is kept where the ring holds fewer than the most that it may
+abbrev pub is_below_most : List (List ℕ) → Bool
+is_below_most ring = nat_lt (length ring) MOST_RING_FRAMES
+
+-- the device keeps a frame that arrives now
 abbrev pub has_room : DeviceState → Bool
-has_room d = nat_lt (length (ring_of d)) 16
+has_room d = is_below_most (ring_of d)
 
 -- a frame arrives in the ring; the other devices take none
 abbrev pub kind_with_arrival : List ℕ → DeviceKind → DeviceKind
-kind_with_arrival frame (kind.Disk k) = kind.Disk k
 kind_with_arrival frame (kind.Link k) =
-    kind.Link (record k { ring = if nat_lt (length k.ring) 16 then k.ring ++ frame ∷ [] else k.ring })
-kind_with_arrival frame kind.Speaker = kind.Speaker
+    kind.Link (record k { ring = if is_below_most k.ring then k.ring ++ frame ∷ [] else k.ring })
+kind_with_arrival frame other = other
 
 -- the device after a frame arrived
 unfoldable pub with_arrival : List ℕ → DeviceState → DeviceState

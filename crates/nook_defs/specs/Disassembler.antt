@@ -1,19 +1,12 @@
 use Rattle.std.specs.Prelude.{ℕ, List, [], ◌∷◌, ◌++◌, map, flat_map, codes, decimal, Option, Some, None}
+use Rattle.nook_defs.specs.AsmTokens.{register_text}
 use Rattle.nook_defs.specs.Keys.{key_text, class_text, entry_keys}
 use Rattle.nook_defs.specs.Machine.{decode_of}
 use Rattle.nook_defs.specs.Mnemonics.{Fields, fields_of, form_of, mnemonic_text}
-use Rattle.nook_defs.specs.declared.assembler.Form.{Form}
+use Rattle.nook_defs.specs.Types.{Class, Form, Image, Instr, Key}
 use Rattle.nook_defs.specs.declared.assembler.Form.TheVariants as form
-use Rattle.nook_defs.specs.declared.data.Class.{Class}
-use Rattle.nook_defs.specs.declared.data.Image.{Image}
-use Rattle.nook_defs.specs.declared.input.Key.{Key}
-use Rattle.nook_defs.specs.declared.machine.Instr.{Instr}
 
 -- The text of an image, as lines of tokens: its class, its entries, its text words and its initial words.
-
--- `r` and the number
-abbrev pub register_text : ℕ → List ℕ
-register_text register = codes "r" ++ decimal register
 
 -- the operands of a form
 abbrev pub operand_tokens : Form → Fields → List (List ℕ)
@@ -47,7 +40,8 @@ class_tokens class = codes ".class" ∷ class_text class ∷ []
 
 -- a line for each entry, in the class's order
 abbrev pub entry_lines : List Key → List ℕ → List (List (List ℕ))
-entry_lines (entry ∷ more) (place ∷ places) = (codes ".entry" ∷ key_text entry ∷ decimal place ∷ []) ∷ entry_lines more places
+entry_lines (entry ∷ more) (place ∷ places) =
+    (codes ".entry" ∷ key_text entry ∷ decimal place ∷ []) ∷ entry_lines more places
 entry_lines _ _ = []
 
 -- the lines of the initial words, where there are any
@@ -57,7 +51,9 @@ initial_lines (word ∷ more) = (codes ".data" ∷ []) ∷ map word_tokens (word
 
 -- all lines of an image
 unfoldable pub image_lines : Image → List (List (List ℕ))
-image_lines image = class_tokens image.class ∷ entry_lines (entry_keys image.class) image.entries ++ (map text_tokens image.text ++ initial_lines image.initial)
+image_lines image =
+    class_tokens image.class ∷ entry_lines (entry_keys image.class) image.entries
+    ++ (map text_tokens image.text ++ initial_lines image.initial)
 
 -- a token behind another
 abbrev pub later_token : List ℕ → List ℕ

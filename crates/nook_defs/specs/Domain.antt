@@ -1,22 +1,17 @@
-use Rattle.std.specs.Prelude.{ℕ, ◌+◌, ◌*◌, ◌/◌, Bool, true, false, Option, Some, None, List, [], ◌∷◌, ◌++◌, length, replicate, slice_get, slice_index, slice_range, slice_set}
-use Rattle.nook_defs.specs.declared.data.Act.{Act}
-use Rattle.nook_defs.specs.declared.data.DeviceState.{DeviceState}
-use Rattle.nook_defs.specs.declared.data.Entry.{Entry}
-use Rattle.nook_defs.specs.declared.data.Entry.TheVariants as entry
-use Rattle.nook_defs.specs.declared.data.Fault.{Fault}
-use Rattle.nook_defs.specs.declared.data.Image.{Image}
-use Rattle.nook_defs.specs.declared.data.Op.{Op}
-use Rattle.nook_defs.specs.declared.data.Op.TheVariants as op
-use Rattle.nook_defs.specs.declared.data.PartSpec.{PartSpec}
-use Rattle.nook_defs.specs.declared.machine.BurstEnd.{BurstEnd}
+use Rattle.std.specs.Prelude.{ℕ, ◌+◌, ◌*◌, ◌/◌, Bool, true, false, Option, Some, None, List, [], ◌∷◌, ◌++◌, length}
+use Rattle.std.specs.Prelude.{replicate, slice_get, slice_index, slice_range, slice_set, unwrap_or}
+use Rattle.nook_defs.specs.Types.{Act, BurstEnd, Context, Cpu, DeviceState, Entry, Fault, Image, Op, PartSpec}
+use Rattle.nook_defs.specs.declared.entries.Entry.TheVariants as entry
+use Rattle.nook_defs.specs.declared.calls.Op.TheVariants as op
+use Rattle.nook_defs.specs.declared.limits.TheConstants.{BLOCK_WORDS, CONTEXTS}
+use Rattle.nook_defs.specs.declared.memory_map.TheConstants.{BUFFER_WORDS}
 use Rattle.nook_defs.specs.declared.machine.BurstEnd.TheVariants as ends
-use Rattle.nook_defs.specs.declared.machine.Context.{Context}
-use Rattle.nook_defs.specs.declared.machine.Cpu.{Cpu}
 use Rattle.nook_defs.specs.Burst.{Burst, burst}
 use Rattle.nook_defs.specs.Classes.{defaults_of}
 use Rattle.nook_defs.specs.Devices.{opening_device}
 use Rattle.nook_defs.specs.Entries.{opening_entries, with_entry, without_buffer, registered, collected}
-use Rattle.nook_defs.specs.Pages.{buffer_start, stack_end, object_start, opening_memory, loaded_memory, padded_words, with_words}
+use Rattle.nook_defs.specs.Pages.{buffer_start, stack_end, object_start, opening_memory, loaded_memory, padded_words}
+use Rattle.nook_defs.specs.Pages.{with_words}
 use Rattle.nook_defs.specs.State.{DomainState}
 use Rattle.nook_defs.specs.Turn.{Machine}
 
@@ -27,7 +22,7 @@ opening_domain spec = record {
   memory = opening_memory (defaults_of spec.class);
   entries = opening_entries;
   device = opening_device spec.class spec.blocks spec.bad (defaults_of spec.class);
-  contexts = replicate 17 None;
+  contexts = replicate CONTEXTS None;
 }
 
 -- what an entry is given
@@ -45,14 +40,12 @@ three first second third = record { first = first; second = second; third = thir
 -- the arguments of an operation in the registers of its context
 abbrev pub arguments_of : ℕ → Op → Arguments
 arguments_of context (op.Read first count) = three first count (buffer_start context)
-arguments_of context (op.Write first words) = three first (length words / 16) (buffer_start context)
+arguments_of context (op.Write first words) = three first (length words / BLOCK_WORDS) (buffer_start context)
 arguments_of context (op.Send frame) = three 0 (length frame) (buffer_start context)
-arguments_of context op.Recv = three 0 0 0
-arguments_of context op.Open = three 0 0 0
 arguments_of context (op.Play samples) = three 0 (length samples) (buffer_start context)
-arguments_of context op.Close = three 0 0 0
 arguments_of context (op.Get key) = three key 0 (buffer_start context)
 arguments_of context (op.Set key value) = three key value 0
+arguments_of context _ = three 0 0 0
 
 -- the words that a buffer is lent with, and whether the driver may write them
 pub record Lent : Type 0 where
@@ -68,12 +61,9 @@ abbrev pub buffer_of : Op → Option Lent
 buffer_of (op.Read first count) = lent true []
 buffer_of (op.Write first words) = lent false words
 buffer_of (op.Send frame) = lent false frame
-buffer_of op.Recv = None
-buffer_of op.Open = None
 buffer_of (op.Play samples) = lent false samples
-buffer_of op.Close = None
 buffer_of (op.Get key) = lent true []
-buffer_of (op.Set key value) = None
+buffer_of _ = None
 
 -- the processor at an entry: r14 is the end of the context's stack, all other registers are zero
 abbrev pub entry_registers : ℕ → Arguments → List ℕ
@@ -88,7 +78,7 @@ entry_context start context a =
 -- the buffer's two pages hold the words and then zeros
 abbrev pub lent_memory : ℕ → Option Lent → List ℕ → List ℕ
 lent_memory context None memory = memory
-lent_memory context (Some l) memory = with_words (buffer_start context) (padded_words 128 l.words) memory
+lent_memory context (Some l) memory = with_words (buffer_start context) (padded_words BUFFER_WORDS l.words) memory
 
 -- the entries with the buffer that is lent
 abbrev pub lent_entries : ℕ → Option Lent → List Entry → List Entry
@@ -100,13 +90,16 @@ unfoldable pub entered_domain : ℕ → ℕ → Op → DomainState → DomainSta
 entered_domain context place o d = record d {
   memory = lent_memory context (buffer_of o) d.memory;
   entries = lent_entries context (buffer_of o) d.entries;
-  contexts = slice_set d.contexts context (Some (entry_context (slice_index d.starts place) context (arguments_of context o)));
+  contexts = slice_set d.contexts context
+      (Some (entry_context (slice_index d.starts place) context (arguments_of context o)));
 }
 
 -- the context enters the entry at a place, with no arguments
 unfoldable pub plainly_entered : ℕ → ℕ → DomainState → DomainState
-plainly_entered context place d = record d
-    { contexts = slice_set d.contexts context (Some (entry_context (slice_index d.starts place) context (three 0 0 0))) }
+plainly_entered context place d = record d {
+  contexts = slice_set d.contexts context
+      (Some (entry_context (slice_index d.starts place) context (three 0 0 0)));
+}
 
 -- one context, where it is Inside
 
@@ -116,11 +109,7 @@ no_context = None
 
 -- what runs in a context
 abbrev pub context_of : ℕ → List (Option Context) → Option Context
-context_of context contexts = joined (slice_get contexts context)
-  where
-    joined : Option (Option Context) → Option Context
-    joined None = None
-    joined (Some x) = x
+context_of context contexts = unwrap_or (slice_get contexts context) None
 
 -- what a burst of a context leaves
 pub record DomainBurst : Type 0 where
@@ -197,7 +186,7 @@ left_domain context d = record d {
 
 -- every context is free, and the driver is not registered
 unfoldable pub stopped_domain : DomainState → DomainState
-stopped_domain d = record d { entries = registered false d.entries; contexts = replicate 17 None }
+stopped_domain d = record d { entries = registered false d.entries; contexts = replicate CONTEXTS None }
 
 -- everything but the registration is released
 unfoldable pub collected_domain : DomainState → DomainState

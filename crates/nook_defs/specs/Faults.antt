@@ -1,12 +1,9 @@
 use Rattle.std.specs.Prelude.{ℕ, List, [], ◌∷◌, ◌++◌, flat_map, codes, decimal, Result, Ok, Err}
 use Rattle.nook_defs.specs.Keys.{key_text}
-use Rattle.nook_defs.specs.declared.assembler.AsmKind.{AsmKind}
+use Rattle.nook_defs.specs.Types.{AsmKind, InputFault, PathStep, Refusal}
 use Rattle.nook_defs.specs.declared.assembler.AsmKind.TheVariants as asm
-use Rattle.nook_defs.specs.declared.input.InputFault.{InputFault}
 use Rattle.nook_defs.specs.declared.input.InputFault.TheVariants as fault
-use Rattle.nook_defs.specs.declared.input.PathStep.{PathStep}
 use Rattle.nook_defs.specs.declared.input.PathStep.TheVariants as step
-use Rattle.nook_defs.specs.declared.input.Refusal.{Refusal}
 
 -- the number of an assembler text's fault
 abbrev pub asm_number : AsmKind → ℕ

@@ -1,32 +1,29 @@
-use Rattle.std.specs.Prelude.{ℕ, zero, suc, ◌+◌, ◌*◌, ◌%◌, ◌==◌, List, [], ◌∷◌, ◌++◌, map, replicate, codes, decimal, if◌then◌else◌}
+use Rattle.std.specs.Prelude.{ℕ, zero, suc, ◌+◌, ◌*◌, ◌%◌, ◌==◌, List, [], ◌∷◌, ◌++◌, map, replicate, codes, decimal}
+use Rattle.std.specs.Prelude.{if◌then◌else◌}
 use Rattle.nook_defs.specs.References.{block_image, net_image, sound_image}
-use Rattle.nook_defs.specs.declared.data.Class.TheVariants as class
-use Rattle.nook_defs.specs.declared.data.Fault.{Fault}
-use Rattle.nook_defs.specs.declared.data.FaultKind.TheVariants as strikes
-use Rattle.nook_defs.specs.declared.data.Op.{Op}
-use Rattle.nook_defs.specs.declared.data.Op.TheVariants as op
-use Rattle.nook_defs.specs.declared.data.PartSpec.{PartSpec}
-use Rattle.nook_defs.specs.declared.data.Scenario.{Scenario}
-use Rattle.nook_defs.specs.declared.data.ScheduleSpec.TheVariants as schedule
-use Rattle.nook_defs.specs.declared.data.ThreadSpec.{ThreadSpec}
+use Rattle.nook_defs.specs.Types.{Class, Fault, Image, Op, PartSpec, Scenario, ThreadSpec}
+use Rattle.nook_defs.specs.declared.classes.Class.TheVariants as class
+use Rattle.nook_defs.specs.declared.scenario.FaultKind.TheVariants as strikes
+use Rattle.nook_defs.specs.declared.calls.Op.TheVariants as op
+use Rattle.nook_defs.specs.declared.scenario.ScheduleSpec.TheVariants as schedule
 
--- The scenario that `gen` makes for a number: a disk that fails eight times, a link and a sound stream, and four threads.
+-- The scenario that `gen` makes for a number: a disk that fails eight times, a link and a sound stream, and four
+-- threads.
 
 -- a trap in a burst, after 40 turns
 abbrev pub trap_at : ℕ → Fault
 trap_at burst = record { burst = burst; after = 40; kind = strikes.Trap }
 
+-- a part without blocks, faults and arrivals, which may fail sixteen times
+abbrev pub generated_part : List ℕ → Class → Image → PartSpec
+generated_part name class image =
+    record { name = name; class = class; blocks = 0; bad = []; limit = 16; image = image; faults = []; arrivals = [] }
+
 -- a block part of 64 blocks, with a trap in every fifth burst
 abbrev pub generated_disk : PartSpec
-generated_disk = record {
-  name = codes "disk";
-  class = class.Block;
+generated_disk = record (generated_part (codes "disk") class.Block block_image) {
   blocks = 64;
-  bad = [];
-  limit = 16;
-  image = block_image;
   faults = map trap_at (5 ∷ 10 ∷ 15 ∷ 20 ∷ 25 ∷ 30 ∷ 35 ∷ 40 ∷ []);
-  arrivals = [];
 }
 
 -- frames of one word each, 1 to n
@@ -36,29 +33,11 @@ frames_to (suc n) = frames_to n ++ (suc n ∷ []) ∷ []
 
 -- a net part with n arrivals
 abbrev pub generated_link : ℕ → PartSpec
-generated_link n = record {
-  name = codes "link";
-  class = class.Net;
-  blocks = 0;
-  bad = [];
-  limit = 16;
-  image = net_image;
-  faults = [];
-  arrivals = frames_to n;
-}
+generated_link n = record (generated_part (codes "link") class.Net net_image) { arrivals = frames_to n }
 
 -- a sound part
 abbrev pub generated_audio : PartSpec
-generated_audio = record {
-  name = codes "audio";
-  class = class.Sound;
-  blocks = 0;
-  bad = [];
-  limit = 16;
-  image = sound_image;
-  faults = [];
-  arrivals = [];
-}
+generated_audio = generated_part (codes "audio") class.Sound sound_image
 
 -- operation k of thread t, by which of six it is
 abbrev pub generated_op : ℕ → ℕ → ℕ → ℕ × Op
@@ -86,8 +65,3 @@ generated n = record {
   parts = generated_disk ∷ generated_link n ∷ generated_audio ∷ [];
   threads = generated_thread n 0 ∷ generated_thread n 1 ∷ generated_thread n 2 ∷ generated_thread n 3 ∷ [];
 }
-
--- the line that `gen` writes: the number, the events and failures of all parts, and the status
-abbrev pub gen_line : ℕ → ℕ → ℕ → ℕ → List ℕ
-gen_line n events failures status =
-    codes "gen " ++ decimal n ++ codes " events " ++ decimal events ++ codes " failures " ++ decimal failures ++ codes " status " ++ decimal status ++ 10 ∷ []

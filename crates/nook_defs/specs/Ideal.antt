@@ -1,11 +1,11 @@
-use Rattle.std.specs.Prelude.{◌≡◌, ℕ, suc, Bool, true, false, List, [], ◌∷◌, ◌++◌, length, Option, Some, None, is_some, option_and_then, unwrap_or, ◌==◌, ◌&&◌, not, if◌then◌else◌, slice_index, slice_set, bytes_eq}
+use Rattle.std.specs.Prelude.{◌≡◌, ℕ, suc, Bool, true, false, List, [], ◌∷◌, ◌++◌, length, Option, Some, None, is_some}
+use Rattle.std.specs.Prelude.{option_and_then, unwrap_or, ◌==◌, ◌&&◌, not, if◌then◌else◌, slice_index, slice_set}
+use Rattle.std.specs.Prelude.{bytes_eq}
 use Rattle.std.specs.List.{list_any}
-use Rattle.nook_defs.specs.declared.data.Answer.{Answer}
-use Rattle.nook_defs.specs.declared.data.Answer.TheVariants as answered
-use Rattle.nook_defs.specs.declared.data.Class.{Class}
-use Rattle.nook_defs.specs.declared.data.Class.TheVariants.{Net, Sound}
-use Rattle.nook_defs.specs.declared.data.Op.{Op}
-use Rattle.nook_defs.specs.declared.data.Op.TheVariants.{Read, Write, Send, Recv, Open, Play, Close, Get, Set}
+use Rattle.nook_defs.specs.Types.{Answer, Class, Op}
+use Rattle.nook_defs.specs.declared.calls.Answer.TheVariants as answered
+use Rattle.nook_defs.specs.declared.classes.Class.TheVariants.{Net, Sound}
+use Rattle.nook_defs.specs.declared.calls.Op.TheVariants.{Read, Write, Send, Recv, Open, Play, Close, Get, Set}
 use Rattle.nook_defs.specs.Blocks.{blank_blocks, get_blocks, put_from, has_block}
 use Rattle.nook_defs.specs.Classes.{covers, defaults_of, is_holder, is_next, is_play, same_class, sends, static_check}
 use Rattle.nook_defs.specs.Places.{at_number, change_number, number_where}
@@ -52,27 +52,16 @@ when false m = None
 
 -- ---- a call is made
 
--- the call that a thread makes: it waits, and nothing of it was sent or played
-abbrev pub opens : ℕ → Op → Opened
-opens thread o = record { thread = thread; op = o; waits = true; wired = false; played = 0 }
-
--- a call of the thread that waits for its answer
-abbrev pub waits_for : ℕ → Opened → Bool
-waits_for thread o = o.waits && (o.thread == thread)
-
 -- calls are numbered from 1, and a thread has one open call
 abbrev pub may_call : ℕ → ℕ → List Opened → Bool
-may_call call thread opened = (call == suc (length opened)) && not (list_any (waits_for thread) opened)
+may_call call thread opened =
+    (call == suc (length opened)) && not (list_any (λ o. o.waits && (o.thread == thread)) opened)
 
 -- ---- the wire and the speaker
 
 -- a Send that waits sends its own frame, once
 abbrev pub may_wire : List ℕ → Opened → Bool
 may_wire frame o = o.waits && not o.wired && sends frame o.op
-
--- the call with its frame on the wire
-abbrev pub wired_once : Opened → Opened
-wired_once o = record o { wired = true }
 
 -- a Play that waits, of the thread that has the stream
 abbrev pub plays_for : Option ℕ → Opened → Bool
@@ -86,10 +75,6 @@ play_of m = number_where (plays_for m.holder) m.opened
 abbrev pub may_sound : ℕ → ℕ → ℕ → Ideal → Opened → Bool
 may_sound word rate volume m o =
     is_next o.op o.played word && (slice_index m.config 0 == rate) && (slice_index m.config 1 == volume)
-
--- the call with one sample more played
-abbrev pub played_once : Opened → Opened
-played_once o = record o { played = suc o.played }
 
 -- ---- a call is answered
 
@@ -118,17 +103,15 @@ may_answer m thread (Get key) (answered.Value word) = slice_index m.config key =
 may_answer m thread (Set key value) answered.Done = true
 may_answer m thread o a = false
 
--- the device with the chosen blocks of a Write put
-abbrev pub with_blocks : (ℕ → Bool) → Op → Ideal → Ideal
-with_blocks chosen o m = record m { blocks = put_from chosen o 0 m.blocks }
-
 -- what an answer changes: a Write's blocks are put, a frame leaves with all before it, the stream is taken or freed, a
 -- key gets its value; the last list has the blocks of a Write that were stored although the medium failed
 abbrev pub after_answer : Ideal → ℕ → Op → Answer → List ℕ → Ideal
 after_answer m thread (Write first words) answered.Done stored =
-    with_blocks (covers (Write first words)) (Write first words) m
+    record m { blocks = put_from (covers (Write first words)) (Write first words) 0 m.blocks }
 after_answer m thread (Write first words) (answered.IoError block) stored =
-    with_blocks (λ b. covers (Write first words) b && has_block b stored) (Write first words) m
+    record m {
+      blocks = put_from (λ b. covers (Write first words) b && has_block b stored) (Write first words) 0 m.blocks;
+    }
 after_answer m thread Recv (answered.Frame frame) stored =
     record m { pending = unwrap_or (after_frame frame m.pending) m.pending }
 after_answer m thread Open answered.Done stored = record m { holder = Some thread }
@@ -145,13 +128,9 @@ same_refusal answered.BadKey answered.BadKey = true
 same_refusal answered.BadValue answered.BadValue = true
 same_refusal a b = false
 
--- the call with its answer given
-abbrev pub stops_waiting : Opened → Opened
-stops_waiting o = record o { waits = false }
-
 -- the device where the call with a number waits no more
 abbrev pub closes : ℕ → Ideal → Ideal
-closes call m = record m { opened = change_number stops_waiting call m.opened }
+closes call m = record m { opened = change_number (λ o. record o { waits = false }) call m.opened }
 
 -- the answer that the static check gives, or else one that may come
 abbrev pub is_due : Ideal → Opened → Answer → Bool
@@ -170,14 +149,15 @@ answers m a stored o = when (o.waits && is_due m o a) (after_answer m o.thread o
 -- and only a stream shows samples
 abbrev pub shows : Ideal → Visible → Option Ideal
 shows m (called call thread o) =
-    when (may_call call thread m.opened) (record m { opened = m.opened ++ opens thread o ∷ [] })
+    when (may_call call thread m.opened) (record m
+    { opened = m.opened ++ record { thread = thread; op = o; waits = true; wired = false; played = 0 } ∷ [] })
 shows m (wire call frame) = option_and_then
     (λ o. when (same_class m.class Net && may_wire frame o)
-    (record m { opened = change_number wired_once call m.opened }))
+    (record m { opened = change_number (λ o. record o { wired = true }) call m.opened }))
     (at_number call m.opened)
 shows m (sample word rate volume) = option_and_then
     (λ o. when (same_class m.class Sound && may_sound word rate volume m o)
-    (record m { opened = change_number played_once (play_of m) m.opened }))
+    (record m { opened = change_number (λ o. record o { played = suc o.played }) (play_of m) m.opened }))
     (at_number (play_of m) m.opened)
 shows m (arrived frame) = when (same_class m.class Net) (record m { pending = m.pending ++ frame ∷ [] })
 shows m (answer call a stored) = option_and_then (answers (closes call m) a stored) (at_number call m.opened)

@@ -1,4 +1,5 @@
-use Rattle.std.specs.Prelude.{ℕ, ◌==◌, ◌&&◌, not, List, [], ◌∷◌, ◌++◌, length, Bool, Option, Some, None, is_some, Result, Ok, Err, if◌then◌else◌}
+use Rattle.std.specs.Prelude.{ℕ, ◌-◌, ◌==◌, ◌&&◌, not, List, [], ◌∷◌, ◌++◌, length, Bool, Option, Some, None, is_some}
+use Rattle.std.specs.Prelude.{Result, Ok, Err, if◌then◌else◌}
 use Rattle.std.specs.Char.{is_digit}
 use Rattle.std.specs.List.{list_all}
 use Rattle.std.specs.Str.Parse.{digits_value}
@@ -6,33 +7,23 @@ use Rattle.serde_json.specs.Data.{Data}
 use Rattle.serde_json.specs.Find.{get}
 use Rattle.nook_defs.specs.Assembler.{assembled}
 use Rattle.nook_defs.specs.Classes.{same_class}
-use Rattle.nook_defs.specs.Disassembler.{disassembled}
-use Rattle.nook_defs.specs.Faults.{told}
-use Rattle.nook_defs.specs.ImageText.{image_text}
 use Rattle.nook_defs.specs.Keys.{key_text, class_named, entry_keys}
-use Rattle.nook_defs.specs.Reading.{bad, refuse_if, under, text_of, object_with, required, number_at, list_of, json_of}
+use Rattle.nook_defs.specs.Reading.{bad, or_bad, refuse_if, under, text_of, object_with, required, number_at, list_of}
+use Rattle.nook_defs.specs.Reading.{json_of}
 use Rattle.nook_defs.specs.Results.{◌>>=◌}
-use Rattle.nook_defs.specs.declared.assembler.AsmFault.{AsmFault}
-use Rattle.nook_defs.specs.declared.data.Class.{Class}
-use Rattle.nook_defs.specs.declared.data.Image.{Image}
+use Rattle.nook_defs.specs.Types.{AsmFault, Class, Image, Key, Refusal}
 use Rattle.nook_defs.specs.declared.input.InputFault.TheVariants as fault
-use Rattle.nook_defs.specs.declared.input.Key.{Key}
 use Rattle.nook_defs.specs.declared.input.Key.TheVariants as key
 use Rattle.nook_defs.specs.declared.input.PathStep.TheVariants as step
-use Rattle.nook_defs.specs.declared.input.Refusal.{Refusal}
+use Rattle.nook_defs.specs.declared.memory_map.TheConstants.{TEXT_WORDS}
 
 -- ---- images
-
--- a class, where the name is one
-abbrev pub class_or_bad : Option Class → Result Class Refusal
-class_or_bad None = bad fault.BadClass
-class_or_bad (Some class) = Ok class
 
 -- a class
 abbrev pub class_of : Data → Result Class Refusal
 class_of d = do
   name ← text_of d
-  class_or_bad (class_named name)
+  or_bad fault.BadClass (class_named name)
 
 -- a hexadecimal digit of either case
 abbrev pub is_hex_digit : ℕ → Bool
@@ -40,7 +31,8 @@ is_hex_digit b = is_digit b 16
 
 -- the word of exactly eight hexadecimal digits, of either case
 unfoldable pub hex_word : List ℕ → Result ℕ Refusal
-hex_word digits = if length digits == 8 && list_all is_hex_digit digits then Ok (digits_value 16 digits) else bad fault.BadImage
+hex_word digits =
+    if length digits == 8 && list_all is_hex_digit digits then Ok (digits_value 16 digits) else bad fault.BadImage
 
 -- a text of eight hexadecimal digits
 abbrev pub word_of : List ℕ → Data → Result ℕ Refusal
@@ -48,14 +40,15 @@ word_of earlier d = do
   digits ← text_of d
   hex_word digits
 
--- up to 2,048 words
+-- the words of the text or of the data, which are as many at most
 abbrev pub words_of : Data → Result (List ℕ) Refusal
-words_of d = list_of word_of 0 2048 d
+words_of d = list_of word_of 0 TEXT_WORDS d
 
 -- the places of entries, behind those that were read before
 abbrev pub places_from : List Key → List ℕ → Data → Result (List ℕ) Refusal
 places_from [] earlier d = Ok earlier
-places_from (entry ∷ more) earlier d = number_at entry 0 2047 d >>= λ place. places_from more (earlier ++ place ∷ []) d
+places_from (entry ∷ more) earlier d =
+    number_at entry 0 (TEXT_WORDS - 1) d >>= λ place. places_from more (earlier ++ place ∷ []) d
 
 -- exactly the entries of a class, in the class's order
 abbrev pub entries_of : Class → Data → Result (List ℕ) Refusal
@@ -111,11 +104,3 @@ image_from bytes = do
 -- the image of an assembler text, or its first fault
 unfoldable pub image_from_asm : List ℕ → Result Image Refusal
 image_from_asm bytes = or_bad_asm (assembled bytes)
-
--- what `asm` writes for the bytes that it reads
-abbrev pub asm_output : List ℕ → List ℕ
-asm_output bytes = told image_text (image_from_asm bytes)
-
--- what `dis` writes for the bytes that it reads
-abbrev pub dis_output : List ℕ → List ℕ
-dis_output bytes = told disassembled (image_from bytes)

@@ -1,10 +1,10 @@
 use Rattle.std.specs.Prelude.{ℕ, zero, suc, ◌/◌, ◌%◌, List, [], ◌∷◌, ◌++◌, codes, false}
 use Rattle.std.specs.Fmt.{digit_glyph}
-use Rattle.serde_json.specs.Data.{Data, string, number, array, object, unsigned, Items, no_items, item, Members, no_members, member, put}
+use Rattle.serde_json.specs.Data.{Data, string, number, array, object, unsigned, Items, no_items, item, Members}
+use Rattle.serde_json.specs.Data.{no_members, member, put}
 use Rattle.serde_json.specs.Written.{compact_text}
 use Rattle.nook_defs.specs.Keys.{key_text, class_text, entry_keys}
-use Rattle.nook_defs.specs.declared.data.Image.{Image}
-use Rattle.nook_defs.specs.declared.input.Key.{Key}
+use Rattle.nook_defs.specs.Types.{Image, Key}
 
 -- the last n hexadecimal digits of a word, in lower case
 abbrev pub hex_text : ℕ → ℕ → List ℕ
@@ -18,7 +18,8 @@ word_items (word ∷ more) = item (string (hex_text 8 word)) (word_items more)
 
 -- the members, with the entries and their places
 abbrev pub entry_members : List Key → List ℕ → Members → Members
-entry_members (entry ∷ more) (place ∷ places) members = entry_members more places (put (key_text entry) (number (unsigned place)) members)
+entry_members (entry ∷ more) (place ∷ places) members =
+    entry_members more places (put (key_text entry) (number (unsigned place)) members)
 entry_members _ _ members = members
 
 -- an image as a JSON value, its keys in byte order

@@ -1,17 +1,12 @@
-use Rattle.std.specs.Prelude.{◌≡◌, ◌⊎◌, ℕ, ◌+◌, ◌<◌, ◌≤◌, ◌==◌, ◌&&◌, ◌||◌, nat_lt, Bool, true, false, is_some, Option, Some, None, List, [], ◌∷◌, ◌++◌, replicate, slice_index}
+use Rattle.std.specs.Prelude.{◌≡◌, ◌⊎◌, ℕ, ◌≤◌, ◌==◌, ◌&&◌, ◌||◌, nat_lt, Bool, true, false, is_some, Option, Some}
+use Rattle.std.specs.Prelude.{None, List, [], ◌∷◌, ◌++◌, replicate, slice_index}
 use Rattle.std.specs.List.{list_any}
-use Rattle.nook_defs.specs.declared.data.Answer.{Answer}
-use Rattle.nook_defs.specs.declared.data.Answer.TheVariants as answers
-use Rattle.nook_defs.specs.declared.data.CallEntry.{CallEntry}
-use Rattle.nook_defs.specs.declared.data.End.{End}
-use Rattle.nook_defs.specs.declared.data.End.TheVariants as end
-use Rattle.nook_defs.specs.declared.data.Entry.{Entry}
-use Rattle.nook_defs.specs.declared.data.Event.{Event}
-use Rattle.nook_defs.specs.declared.data.Event.TheVariants as event
-use Rattle.nook_defs.specs.declared.data.Fault.{Fault}
-use Rattle.nook_defs.specs.declared.data.FaultKind.{FaultKind}
-use Rattle.nook_defs.specs.declared.data.FaultKind.TheVariants as fault
-use Rattle.nook_defs.specs.declared.data.PartSpec.{PartSpec}
+use Rattle.nook_defs.specs.Types.{Answer, CallEntry, End, Entry, Event, Fault, FaultKind, PartSpec}
+use Rattle.nook_defs.specs.declared.calls.Answer.TheVariants as answers
+use Rattle.nook_defs.specs.declared.steps.End.TheVariants as end
+use Rattle.nook_defs.specs.declared.steps.Event.TheVariants as event
+use Rattle.nook_defs.specs.declared.scenario.FaultKind.TheVariants as fault
+use Rattle.nook_defs.specs.declared.memory_map.TheConstants.{TEXT_WORDS}
 use Rattle.nook_defs.specs.Classes.{is_set}
 use Rattle.nook_defs.specs.Domain.{domain_burst}
 use Rattle.nook_defs.specs.Entries.{is_borrow_of}
@@ -27,7 +22,7 @@ use Rattle.nook_defs.specs.Steps.{opening, faults_of_burst}
 
 -- a fault writes the text word at the address
 abbrev pub is_code_at : ℕ → FaultKind → Bool
-is_code_at address (fault.Code a value) = nat_lt a 2048 && a == address
+is_code_at address (fault.Code a value) = nat_lt a TEXT_WORDS && a == address
 is_code_at address _ = false
 
 -- a fault that writes the text word at the address
@@ -58,9 +53,7 @@ object_of object p = object_words object p.domain.memory
 abbrev pub IsGiveBack : ℕ → List ℕ → End → Type 0
 IsGiveBack object words (end.Service number first second answer moved) =
     (number ≡ 5) × (first ≡ object) × (is_some answer ≡ true) × (moved ≡ words)
-IsGiveBack object words end.Pause = ⊥
-IsGiveBack object words end.Trap = ⊥
-IsGiveBack object words (end.Reply status) = ⊥
+IsGiveBack object words _ = ⊥
 
 -- an event that is a served give_back of an object that moved these words
 abbrev pub GivesBack : ℕ → List ℕ → Event → Type 0
@@ -74,9 +67,9 @@ KeepsObject object p e q =
     ⊎ ((list_any (is_borrow_of object) p.domain.entries ≡ true) × GivesBack object (object_of object q) e)
 
 -- the answer Done
-abbrev pub is_done : Option Answer → Bool
-is_done (Some answers.Done) = true
-is_done _ = false
+abbrev pub is_done_answer : Option Answer → Bool
+is_done_answer (Some answers.Done) = true
+is_done_answer _ = false
 
 -- a Set
 abbrev pub is_set_call : Option CallEntry → Bool
@@ -86,7 +79,7 @@ is_set_call (Some c) = is_set c.op
 -- the event answers a Set Done, or carries a failure: what the kernel notes in object 0
 abbrev pub is_noted : PartState → Event → Bool
 is_noted p (event.Burst context call burst count e acts answer failure) =
-    is_some failure || (is_done answer && is_set_call (call_of_thread context p.log.pending))
+    is_some failure || (is_done_answer answer && is_set_call (call_of_thread context p.log.pending))
 is_noted p _ = false
 
 -- object 0 is the record, the count of failures, and zeros

@@ -1,7 +1,8 @@
-use Rattle.std.specs.Prelude.{ℕ, List, [], ◌∷◌, codes, bytes_eq, Bool, true, false, ◌||◌, Option, Some, None, if◌then◌else◌}
-use Rattle.nook_defs.specs.declared.data.Class.{Class}
-use Rattle.nook_defs.specs.declared.data.Class.TheVariants as class
-use Rattle.nook_defs.specs.declared.input.Key.{Key}
+use Rattle.std.specs.Prelude.{ℕ, List, [], ◌∷◌, codes, bytes_eq, Bool, Option}
+use Rattle.std.specs.List.{list_any}
+use Rattle.nook_defs.specs.Names.{of_text}
+use Rattle.nook_defs.specs.Types.{Class, Key}
+use Rattle.nook_defs.specs.declared.classes.Class.TheVariants as class
 use Rattle.nook_defs.specs.declared.input.Key.TheVariants as key
 
 -- the text of a key
@@ -54,8 +55,7 @@ key_text key.Write = codes "write"
 
 -- the bytes are one of these keys
 abbrev pub is_key : List Key → List ℕ → Bool
-is_key [] name = false
-is_key (known ∷ more) name = bytes_eq name (key_text known) || is_key more name
+is_key known name = list_any (λ key. bytes_eq name (key_text key)) known
 
 -- a class's name
 abbrev pub class_text : Class → List ℕ
@@ -65,11 +65,7 @@ class_text class.Sound = codes "sound"
 
 -- the class of a name
 unfoldable pub class_named : List ℕ → Option Class
-class_named name =
-    if bytes_eq name (codes "block") then Some class.Block
-    else if bytes_eq name (codes "net") then Some class.Net
-    else if bytes_eq name (codes "sound") then Some class.Sound
-    else None
+class_named name = of_text class_text (class.Block ∷ class.Net ∷ class.Sound ∷ []) name
 
 -- the entries of a class, in the class's order
 abbrev pub entry_keys : Class → List Key

@@ -1,17 +1,12 @@
-use Rattle.std.specs.Prelude.{◌≡◌, ℕ, Bool, true, false, List, [], ◌∷◌, length, Option, Some, None, is_some, is_none, nat_lt, not, ◌+◌, ◌==◌, ◌&&◌, ◌||◌}
+use Rattle.std.specs.Prelude.{◌≡◌, ℕ, Bool, true, false, List, [], ◌∷◌, length, Option, Some, None, is_some, is_none}
+use Rattle.std.specs.Prelude.{nat_lt, not, ◌+◌, ◌==◌, ◌&&◌, ◌||◌}
 use Rattle.std.specs.List.{list_any}
-use Rattle.nook_defs.specs.declared.data.Answer.{Answer}
-use Rattle.nook_defs.specs.declared.data.Answer.TheVariants as answer
-use Rattle.nook_defs.specs.declared.data.Event.{Event}
-use Rattle.nook_defs.specs.declared.data.Event.TheVariants as event
-use Rattle.nook_defs.specs.declared.data.Losses.{Losses}
-use Rattle.nook_defs.specs.declared.data.Mode.{Mode}
-use Rattle.nook_defs.specs.declared.data.Mode.TheVariants as mode
-use Rattle.nook_defs.specs.declared.data.Op.{Op}
-use Rattle.nook_defs.specs.declared.data.Op.TheVariants.{Send, Play}
-use Rattle.nook_defs.specs.declared.data.PartSpec.{PartSpec}
-use Rattle.nook_defs.specs.declared.data.Stage.{Stage}
-use Rattle.nook_defs.specs.declared.data.Stage.TheVariants as stage
+use Rattle.nook_defs.specs.Types.{Answer, Event, Losses, Mode, Op, PartSpec, Stage}
+use Rattle.nook_defs.specs.declared.calls.Answer.TheVariants as answer
+use Rattle.nook_defs.specs.declared.steps.Event.TheVariants as event
+use Rattle.nook_defs.specs.declared.steps.Mode.TheVariants as mode
+use Rattle.nook_defs.specs.declared.calls.Op.TheVariants.{Send, Play}
+use Rattle.nook_defs.specs.declared.steps.Stage.TheVariants as stage
 use Rattle.nook_defs.specs.Answers.{answers_of}
 use Rattle.nook_defs.specs.Blocks.{has_block}
 use Rattle.nook_defs.specs.Contract.{Known, OpenCall, known_first, call_of, is_empty, during, after}
@@ -36,20 +31,10 @@ same_stage a b = false
 
 -- ---- where the shadow answers
 
--- the stage of a recovery
-abbrev pub recovery_stage : Mode → Option Stage
-recovery_stage (mode.Recovering s) = Some s
-recovery_stage m = None
-
--- the stage Stop alone
-abbrev pub stop_alone : Stage → Option Stage
-stop_alone stage.Stop = Some stage.Stop
-stop_alone s = None
-
 -- the current stage where the shadow answers: at an invocation while the part recovers, and at Stop
 abbrev pub shadow_stage : Mode → Event → Option Stage
-shadow_stage m (event.Invoke call thread o a) = recovery_stage m
-shadow_stage m (event.Stage s answers released) = stop_alone s
+shadow_stage m (event.Invoke call thread o a) = elim m as (λ m. Option Stage) [ mode.Recovering s ↦ Some s | _ ↦ None ]
+shadow_stage m (event.Stage stage.Stop answers released) = Some stage.Stop
 shadow_stage m e = None
 
 -- ---- one answer
@@ -75,8 +60,8 @@ abbrev pub has_failed : ℕ → Option OpenCall → Bool
 has_failed block None = false
 has_failed block (Some c) = has_block block c.failed
 
--- an answer of a call: `shadow` is the current stage where the shadow answers, `queue` is the kernel's queue, and `k` is
--- what is known with the event, the calls that it answers among them
+-- an answer of a call: `shadow` is the current stage where the shadow answers, `queue` is the kernel's queue, and `k`
+-- is what is known with the event, the calls that it answers among them
 abbrev pub allows : Option Stage → List (List ℕ) → Known → ℕ → Answer → Bool
 allows shadow queue k call answer.Done = is_some shadow || is_served_call (call_of call k.calls)
 allows shadow queue k call (answer.Busy s) = is_stage shadow s
@@ -95,9 +80,10 @@ abbrev pub licenses : PartState → Known → Event → Bool
 licenses p k e = not (list_any (refuses (shadow_stage p.mode e) p.queue k) (answers_of e))
 
 -- events of a part in this state, before which this is known
-unfoldable pub licensed_from : PartState → Known → List Event → Bool
-licensed_from p k [] = true
-licensed_from p k (e ∷ events) = licenses p (during k e) e && licensed_from (state_after p (step_of e)) (after k e) events
+unfoldable pub is_licensed_from : PartState → Known → List Event → Bool
+is_licensed_from p k [] = true
+is_licensed_from p k (e ∷ events) =
+    licenses p (during k e) e && is_licensed_from (state_after p (step_of e)) (after k e) events
 
 -- each frame that arrived was received, or is somewhere, or was lost where it is told
 abbrev pub is_balanced : Losses → Bool
@@ -105,10 +91,10 @@ is_balanced n =
     n.arrived == n.received + n.queued + n.ring + n.driver + n.reset + n.full_ring + n.full_queue
 
 -- a journal of a part
-unfoldable pub licensed : PartSpec → List Event → Bool
-licensed spec events =
-    licensed_from (opening spec) (known_first spec.class spec.blocks) events && is_balanced (losses events)
+unfoldable pub is_licensed : PartSpec → List Event → Bool
+is_licensed spec events =
+    is_licensed_from (opening spec) (known_first spec.class spec.blocks) events && is_balanced (losses events)
 
 -- the same as a proposition
 abbrev pub IsLicensed : PartSpec → List Event → Type 0
-IsLicensed spec events = licensed spec events ≡ true
+IsLicensed spec events = is_licensed spec events ≡ true

@@ -1,9 +1,7 @@
 -- What a listener hears.
-use Rattle.std.specs.Prelude.{ℕ, ◌+◌, ◌^◌, Bool, true, false, ◌&&◌, nat_lt, List, [], ◌∷◌, Option, Some, None, bit_and}
-use Rattle.nook_defs.specs.declared.data.Answer.{Answer}
-use Rattle.nook_defs.specs.declared.data.Event.{Event}
-use Rattle.nook_defs.specs.declared.data.Event.TheVariants as events
-use Rattle.nook_defs.specs.declared.data.FailCause.{FailCause}
+use Rattle.std.specs.Prelude.{ℕ, ◌+◌, ◌^◌, Bool, true, false, ◌&&◌, nat_lt, length, is_some, if◌then◌else◌, bit_and}
+use Rattle.nook_defs.specs.Types.{Event}
+use Rattle.nook_defs.specs.declared.steps.Event.TheVariants as events
 
 -- the parts and the kinds of event that a listener hears, the total at which it is done, and its total so far
 pub record Listening : Type 0 where
@@ -12,27 +10,17 @@ pub record Listening : Type 0 where
   pub limit : ℕ
   pub total : ℕ
 
--- bit 5 where an event carries a failure
-abbrev pub kind_of_failure : Option FailCause → ℕ
-kind_of_failure None = 0
-kind_of_failure (Some cause) = 32
-
--- bit 6 where an event carries an answer
-abbrev pub kind_of_answer : Option Answer → ℕ
-kind_of_answer None = 0
-kind_of_answer (Some answer) = 64
-
--- bit 6 where a stage answers calls
-abbrev pub kind_of_answers : {T : Type 0} → List T → ℕ
-kind_of_answers [] = 0
-kind_of_answers (answer ∷ rest) = 64
+-- a bit that is set where the test holds
+abbrev pub bit_if : ℕ → Bool → ℕ
+bit_if bit test = if test then bit else 0
 
 -- the kinds of an event as bits: 0 Invoke, 1 Enter, 2 Burst, 3 Stage, 4 Arrive, 5 a failure, 6 an answer
 abbrev pub kinds_of : Event → ℕ
-kinds_of (events.Invoke call thread op answer) = 1 + kind_of_answer answer
-kinds_of (events.Enter call thread attempt answer) = 2 + kind_of_answer answer
-kinds_of (events.Burst context call burst count end acts answer failure) = 4 + kind_of_failure failure + kind_of_answer answer
-kinds_of (events.Stage stage answers released) = 8 + kind_of_answers answers
+kinds_of (events.Invoke call thread op answer) = 1 + bit_if 64 (is_some answer)
+kinds_of (events.Enter call thread attempt answer) = 2 + bit_if 64 (is_some answer)
+kinds_of (events.Burst context call burst count end acts answer failure) =
+    4 + bit_if 32 (is_some failure) + bit_if 64 (is_some answer)
+kinds_of (events.Stage stage answers released) = 8 + bit_if 64 (nat_lt 0 (length answers))
 kinds_of (events.Arrive frame kept) = 16
 
 -- whether two masks have a bit together

@@ -1,15 +1,13 @@
-use Rattle.std.specs.Prelude.{ℕ, zero, suc, ◌+◌, ◌-◌, ◌<◌, ◌≤◌, ◌==◌, ◌&&◌, not, if◌then◌else◌, Bool, true, false, Option, Some, None, List, [], ◌∷◌, ◌++◌, filter, map, nat_lt, slice_index, slice_set}
+use Rattle.std.specs.Prelude.{ℕ, zero, suc, ◌+◌, ◌-◌, ◌<◌, ◌≤◌, ◌==◌, ◌&&◌, not, if◌then◌else◌, Bool, true, false}
+use Rattle.std.specs.Prelude.{is_none, Option, Some, None, List, [], ◌∷◌, ◌++◌, filter, map, nat_lt, slice_index}
+use Rattle.std.specs.Prelude.{slice_set}
 use Rattle.std.specs.List.{find, list_any}
-use Rattle.nook_defs.specs.declared.data.Answer.{Answer}
-use Rattle.nook_defs.specs.declared.data.Answer.TheVariants as answer
-use Rattle.nook_defs.specs.declared.data.CallEntry.{CallEntry}
-use Rattle.nook_defs.specs.declared.data.Class.{Class}
-use Rattle.nook_defs.specs.declared.data.Op.{Op}
-use Rattle.nook_defs.specs.declared.data.Op.TheVariants as op
-use Rattle.nook_defs.specs.declared.data.Stage.{Stage}
-use Rattle.nook_defs.specs.declared.data.Stage.TheVariants as stage
+use Rattle.nook_defs.specs.Types.{Answer, CallEntry, Class, Op, Stage}
+use Rattle.nook_defs.specs.declared.calls.Answer.TheVariants as answer
+use Rattle.nook_defs.specs.declared.calls.Op.TheVariants as op
+use Rattle.nook_defs.specs.declared.steps.Stage.TheVariants as stage
 use Rattle.nook_defs.specs.Classes.{conflicts, is_holder}
-use Rattle.nook_defs.specs.Devices.{head_of, tail_of}
+use Rattle.nook_defs.specs.Devices.{tail_of}
 use Rattle.nook_defs.specs.State.{CallLog}
 
 -- What the shadow keeps while the driver runs: the open calls, the record and the holder.
@@ -35,17 +33,17 @@ abbrev pub open_call : ℕ → List CallEntry → Option CallEntry
 open_call call pending = find (is_call call) pending
 
 -- a new call, Held and never entered
-abbrev pub new_call : ℕ → ℕ → Op → CallEntry
-new_call call thread o = record { call = call; thread = thread; op = o; inside = false; attempts = 0 }
+abbrev pub new_entry : ℕ → ℕ → Op → CallEntry
+new_entry call thread o = record { call = call; thread = thread; op = o; inside = false; attempts = 0 }
 
 -- a call is invoked and stays open
 unfoldable pub with_call : ℕ → Op → CallLog → CallLog
 with_call thread o log = record log
-    { pending = log.pending ++ new_call (log.count + 1) thread o ∷ []; count = log.count + 1 }
+    { pending = log.pending ++ new_entry (log.count + 1) thread o ∷ []; count = log.count + 1 }
 
 -- a call is invoked and answered at once: only its number is given
-unfoldable pub numbered : CallLog → CallLog
-numbered log = record log { count = log.count + 1 }
+unfoldable pub with_answered_call : CallLog → CallLog
+with_answered_call log = record log { count = log.count + 1 }
 
 -- an open call as it is Inside, one attempt more
 abbrev pub entered_call : CallEntry → CallEntry
@@ -56,20 +54,20 @@ abbrev pub held_call : CallEntry → CallEntry
 held_call c = record c { inside = false }
 
 -- a call changed, if it has the number
-abbrev pub change_call : ℕ → (CallEntry → CallEntry) → CallEntry → CallEntry
-change_call call f c = if is_call call c then f c else c
+abbrev pub change_entry : ℕ → (CallEntry → CallEntry) → CallEntry → CallEntry
+change_entry call f c = if is_call call c then f c else c
 
 -- the call goes Inside
-unfoldable pub entered : ℕ → CallLog → CallLog
-entered call log = record log { pending = map (change_call call entered_call) log.pending }
+unfoldable pub after_entering : ℕ → CallLog → CallLog
+after_entering call log = record log { pending = map (change_entry call entered_call) log.pending }
 
 -- the call is Held, with its number and its attempts
-unfoldable pub held : ℕ → CallLog → CallLog
-held call log = record log { pending = map (change_call call held_call) log.pending }
+unfoldable pub after_holding : ℕ → CallLog → CallLog
+after_holding call log = record log { pending = map (change_entry call held_call) log.pending }
 
 -- the call is open no more
-unfoldable pub answered : ℕ → CallLog → CallLog
-answered call log = record log { pending = filter (λ c. not (is_call call c)) log.pending }
+unfoldable pub after_answering : ℕ → CallLog → CallLog
+after_answering call log = record log { pending = filter (λ c. not (is_call call c)) log.pending }
 
 -- the configuration after an acknowledged operation
 abbrev pub config_after : Op → List ℕ → List ℕ
@@ -83,17 +81,14 @@ holder_after thread op.Close holder = None
 holder_after thread _ holder = holder
 
 -- the driver's reply to an operation was accepted with status 0
-unfoldable pub acknowledged : ℕ → Op → CallLog → CallLog
-acknowledged thread o log = record log { config = config_after o log.config; holder = holder_after thread o log.holder }
+unfoldable pub after_acknowledging : ℕ → Op → CallLog → CallLog
+after_acknowledging thread o log =
+    record log { config = config_after o log.config; holder = holder_after thread o log.holder }
 
 -- the same for an open call by its number; nothing where none is open
-abbrev pub acknowledged_by : Option CallEntry → CallLog → CallLog
-acknowledged_by None log = log
-acknowledged_by (Some c) log = acknowledged c.thread c.op log
-
--- the record and the holder after an open call is answered as done
 unfoldable pub acknowledged_call : ℕ → CallLog → CallLog
-acknowledged_call call log = acknowledged_by (open_call call log.pending) log
+acknowledged_call call log =
+    elim (open_call call log.pending) as (λ o. CallLog) [ None ↦ log | Some c ↦ after_acknowledging c.thread c.op log ]
 
 -- the call has been Inside
 abbrev pub is_touched : Option CallEntry → Bool
@@ -129,30 +124,20 @@ abbrev pub frame_or_empty : List (List ℕ) → Answer
 frame_or_empty [] = answer.Empty
 frame_or_empty (frame ∷ queue) = answer.Frame frame
 
--- a Play while the driver is away: its samples are dropped, if its caller has the stream
-abbrev pub play_dropped : Bool → Answer
-play_dropped true = answer.Done
-play_dropped false = answer.NotOpen
-
--- the shadow's answer to an operation of a thread at a stage; None where the call is held
+-- the shadow's answer to an operation of a thread at a stage: the samples of a Play are dropped, if its caller has the
+-- stream; None where the call is held
 unfoldable pub shadow_answer : Op → ℕ → List ℕ → Option ℕ → Stage → List (List ℕ) → Option Answer
-shadow_answer (op.Read first count) thread config holder s queue = None
-shadow_answer (op.Write first words) thread config holder s queue = None
 shadow_answer (op.Send frame) thread config holder s queue = Some answer.Done
 shadow_answer op.Recv thread config holder s queue = Some (frame_or_empty queue)
 shadow_answer op.Open thread config holder s queue = Some (answer.Busy s)
-shadow_answer (op.Play samples) thread config holder s queue = Some (play_dropped (is_holder holder thread))
-shadow_answer op.Close thread config holder s queue = None
+shadow_answer (op.Play samples) thread config holder s queue =
+    Some (if is_holder holder thread then answer.Done else answer.NotOpen)
 shadow_answer (op.Get key) thread config holder s queue = Some (answer.Value (slice_index config key))
-shadow_answer (op.Set key value) thread config holder s queue = None
+shadow_answer _ thread config holder s queue = None
 
--- the shadow holds the operation and does not answer it
-abbrev pub is_kept : Op → Bool
-is_kept (op.Read first count) = true
-is_kept (op.Write first words) = true
-is_kept op.Close = true
-is_kept (op.Set key value) = true
-is_kept _ = false
+-- the shadow's table has no answer to the operation, whoever asks and whatever is known: it is held
+abbrev pub is_held : Op → Bool
+is_held o = is_none (shadow_answer o 0 [] None stage.Stop [])
 
 -- the queue after the shadow's answer: a Recv takes its front
 abbrev pub queue_after : Op → List (List ℕ) → List (List ℕ)
@@ -174,7 +159,7 @@ next_replay key (suc more) config defaults holder =
     then next_replay (key + 1) more config defaults holder
     else stage.ReplaySet key (slice_index config key)
 
--- the stage behind Init or a replay
+-- the stage behind Init or a replay; behind no other stage is it asked for
 unfoldable pub replay_after : Stage → CallLog → Stage
 replay_after stage.Init log = next_replay 0 4 log.config log.defaults log.holder
 replay_after (stage.ReplaySet key value) log = next_replay (key + 1) (3 - key) log.config log.defaults log.holder
@@ -186,10 +171,8 @@ following stage.Stop log = Some stage.Collect
 following stage.Collect log = Some stage.Reset
 following stage.Reset log = Some stage.Load
 following stage.Load log = Some stage.Init
-following stage.Init log = Some (replay_after stage.Init log)
-following (stage.ReplaySet key value) log = Some (replay_after (stage.ReplaySet key value) log)
-following stage.ReplayOpen log = Some (replay_after stage.ReplayOpen log)
 following stage.Resume log = None
+following s log = Some (replay_after s log)
 
 -- Stop: each open call is answered by the shadow's table or held, in order of numbers; where the part is given up,
 -- each is answered Gone
@@ -213,20 +196,16 @@ stop_queue (c ∷ pending) queue = stop_queue pending (queue_after c.op queue)
 
 -- the calls that stay open, all Held
 abbrev pub stop_calls : List CallEntry → List CallEntry
-stop_calls pending = map held_call (filter (λ c. is_kept c.op) pending)
+stop_calls pending = map held_call (filter (λ c. is_held c.op) pending)
 
--- a given-up part's answer to an open call, and to each of them
-abbrev pub gone_answer : ℕ → CallEntry → ℕ × Answer
-gone_answer failures c = (c.call, answer.Gone failures)
-
--- the same to each of them
+-- a given-up part's answers to the open calls
 abbrev pub gone_answers : ℕ → List CallEntry → List (ℕ × Answer)
-gone_answers failures pending = map (gone_answer failures) pending
+gone_answers failures pending = map (λ c. (c.call, answer.Gone failures)) pending
 
 -- the log after Stop within the limit
-unfoldable pub held_by_shadow : CallLog → CallLog
+abbrev pub held_by_shadow : CallLog → CallLog
 held_by_shadow log = record log { pending = stop_calls log.pending }
 
 -- the log after Stop past the limit
-unfoldable pub no_call_open : CallLog → CallLog
+abbrev pub no_call_open : CallLog → CallLog
 no_call_open log = record log { pending = [] }

@@ -1,18 +1,13 @@
-use Rattle.std.specs.Prelude.{ℕ, suc, Bool, true, false, List, [], ◌∷◌, ◌++◌, map, filter, find, fold, length, count_by, sum_by, flat_map, Option, Some, None, is_some, ◌+◌, ◌-◌, ◌==◌, ◌&&◌, not, if◌then◌else◌}
+use Rattle.std.specs.Prelude.{ℕ, Bool, true, false, List, [], ◌∷◌, ◌++◌, map, filter, find, fold, length, count_by}
+use Rattle.std.specs.Prelude.{sum_by, flat_map, Option, Some, None, is_some, ◌+◌, ◌-◌, ◌==◌, not, if◌then◌else◌}
 use Rattle.std.specs.List.{list_any}
-use Rattle.nook_defs.specs.declared.data.Act.{Act}
-use Rattle.nook_defs.specs.declared.data.Act.TheVariants as act
-use Rattle.nook_defs.specs.declared.data.Answer.{Answer}
-use Rattle.nook_defs.specs.declared.data.Answer.TheVariants as answer
-use Rattle.nook_defs.specs.declared.data.End.{End}
-use Rattle.nook_defs.specs.declared.data.End.TheVariants as end
-use Rattle.nook_defs.specs.declared.data.Event.{Event}
-use Rattle.nook_defs.specs.declared.data.Event.TheVariants as event
-use Rattle.nook_defs.specs.declared.data.Losses.{Losses}
-use Rattle.nook_defs.specs.declared.data.Op.{Op}
-use Rattle.nook_defs.specs.declared.data.Op.TheVariants.{Send, Play}
-use Rattle.nook_defs.specs.declared.data.Stage.{Stage}
-use Rattle.nook_defs.specs.declared.data.Stage.TheVariants as stage
+use Rattle.nook_defs.specs.Types.{Act, Answer, End, Event, Losses, Op, Stage}
+use Rattle.nook_defs.specs.declared.machine.Act.TheVariants as act
+use Rattle.nook_defs.specs.declared.calls.Answer.TheVariants as answer
+use Rattle.nook_defs.specs.declared.steps.End.TheVariants as end
+use Rattle.nook_defs.specs.declared.steps.Event.TheVariants as event
+use Rattle.nook_defs.specs.declared.calls.Op.TheVariants.{Send, Play}
+use Rattle.nook_defs.specs.declared.steps.Stage.TheVariants as stage
 use Rattle.nook_defs.specs.Answers.{answers_of}
 
 -- What was lost, and where frames went: counts over a journal's events.
@@ -82,10 +77,6 @@ abbrev pub is_played : Act → Bool
 is_played (act.Played word rate volume) = true
 is_played a = false
 
--- the call with the acts of one of its bursts
-abbrev pub with_acts : List Act → Tally → Tally
-with_acts acts t = record t { sent = t.sent + count_by is_sent acts; played = t.played + count_by is_played acts }
-
 -- a call that is made
 abbrev pub new_tally : ℕ → Op → Tally
 new_tally number o = record { number = number; op = o; sent = 0; played = 0 }
@@ -94,7 +85,8 @@ new_tally number o = record { number = number; op = o; sent = 0; played = 0 }
 abbrev pub tallies_during : List Tally → Event → List Tally
 tallies_during ts (event.Invoke call thread o a) = ts ++ new_tally call o ∷ []
 tallies_during ts (event.Burst context call burst count e acts a failure) =
-    map (λ t. if t.number == call then with_acts acts t else t) ts
+    map (λ (t : Tally). if t.number == call
+    then record t { sent = t.sent + count_by is_sent acts; played = t.played + count_by is_played acts } else t) ts
 tallies_during ts e = ts
 
 -- a call is open until an event answers it
@@ -105,16 +97,6 @@ tallies_after ts e = filter (λ t. not (list_any (λ a. a.0 == t.number) (answer
 abbrev pub is_done : Answer → Bool
 is_done answer.Done = true
 is_done a = false
-
--- a Send in which no frame was sent
-abbrev pub unsent : Op → ℕ → ℕ
-unsent (Send frame) sent = if sent == 0 then 1 else 0
-unsent o sent = 0
-
--- the samples of a Play that were not played
-abbrev pub unplayed : Op → ℕ → ℕ
-unplayed (Play samples) played = length samples - played
-unplayed o played = 0
 
 -- what is lost by an answer of an open call: something only if it is Done
 abbrev pub lost_by : (Tally → ℕ) → List Tally → ℕ × Answer → ℕ
@@ -128,11 +110,13 @@ lost_from lost ts (e ∷ events) =
 
 -- Sends that were answered Done though no frame was sent in them
 abbrev pub lost_sends : List Event → ℕ
-lost_sends events = lost_from (λ t. unsent t.op t.sent) [] events
+lost_sends events =
+    lost_from (λ t. elim t.op [ (Send frame) ↦ if t.sent == 0 then 1 else 0 | _ ↦ 0 ]) [] events
 
 -- samples that were not played, of Plays that were answered Done
 abbrev pub lost_samples : List Event → ℕ
-lost_samples events = lost_from (λ t. unplayed t.op t.played) [] events
+lost_samples events =
+    lost_from (λ t. elim t.op [ (Play samples) ↦ length samples - t.played | _ ↦ 0 ]) [] events
 
 -- ---- where frames are: in the ring, in the driver, or cleared by a Reset
 

@@ -1,120 +1,74 @@
-use Rattle.std.specs.Prelude.{ℕ, List, codes, bytes_eq, Option, Some, None, if◌then◌else◌}
-use Rattle.nook_defs.specs.declared.assembler.Form.{Form}
+use Rattle.std.specs.Prelude.{ℕ, List, [], ◌∷◌, codes, Option}
+use Rattle.nook_defs.specs.Names.{of_text}
+use Rattle.nook_defs.specs.Types.{Form, Instr, Mnemonic}
 use Rattle.nook_defs.specs.declared.assembler.Form.TheVariants as form
-use Rattle.nook_defs.specs.declared.assembler.Mnemonic.{Mnemonic}
 use Rattle.nook_defs.specs.declared.assembler.Mnemonic.TheVariants as mnemonic
-use Rattle.nook_defs.specs.declared.machine.Instr.{Instr}
 use Rattle.nook_defs.specs.declared.machine.Instr.TheVariants as instr
+
+-- The instruction table. Words are decoded and encoded by it, and texts assembled and disassembled.
+
+-- a row: the instruction's name and number, its form, and the instruction of its operands: registers a and b and the
+-- immediate, of which it has those of its form
+pub record InstructionRow : Type 0 where
+  pub name : List ℕ
+  pub number : ℕ
+  pub form : Form
+  pub of_operands : ℕ → ℕ → ℕ → Instr
+
+-- a row of these
+abbrev pub row : List ℕ → ℕ → Form → (ℕ → ℕ → ℕ → Instr) → InstructionRow
+row name number operands make = record { name = name; number = number; form = operands; of_operands = make }
+
+-- the table
+abbrev pub instruction_row : Mnemonic → InstructionRow
+instruction_row mnemonic.Li = row (codes "LI") 0x01 form.AImm (λ a b imm. instr.Li a imm)
+instruction_row mnemonic.Lui = row (codes "LUI") 0x02 form.AImm (λ a b imm. instr.Lui a imm)
+instruction_row mnemonic.Mov = row (codes "MOV") 0x03 form.AB (λ a b imm. instr.Mov a b)
+instruction_row mnemonic.Add = row (codes "ADD") 0x04 form.AB (λ a b imm. instr.Add a b)
+instruction_row mnemonic.Sub = row (codes "SUB") 0x05 form.AB (λ a b imm. instr.Sub a b)
+instruction_row mnemonic.And = row (codes "AND") 0x06 form.AB (λ a b imm. instr.And a b)
+instruction_row mnemonic.Or = row (codes "OR") 0x07 form.AB (λ a b imm. instr.Or a b)
+instruction_row mnemonic.Xor = row (codes "XOR") 0x08 form.AB (λ a b imm. instr.Xor a b)
+instruction_row mnemonic.Shl = row (codes "SHL") 0x09 form.AB (λ a b imm. instr.Shl a b)
+instruction_row mnemonic.Shr = row (codes "SHR") 0x0a form.AB (λ a b imm. instr.Shr a b)
+instruction_row mnemonic.Addi = row (codes "ADDI") 0x0b form.ABImm (λ a b imm. instr.Addi a b imm)
+instruction_row mnemonic.Ld = row (codes "LD") 0x0c form.ABImm (λ a b imm. instr.Ld a b imm)
+instruction_row mnemonic.St = row (codes "ST") 0x0d form.ABImm (λ a b imm. instr.St a b imm)
+instruction_row mnemonic.Jmp = row (codes "JMP") 0x0e form.Imm (λ a b imm. instr.Jmp imm)
+instruction_row mnemonic.Beq = row (codes "BEQ") 0x0f form.ABImm (λ a b imm. instr.Beq a b imm)
+instruction_row mnemonic.Bne = row (codes "BNE") 0x10 form.ABImm (λ a b imm. instr.Bne a b imm)
+instruction_row mnemonic.Blt = row (codes "BLT") 0x11 form.ABImm (λ a b imm. instr.Blt a b imm)
+instruction_row mnemonic.Jal = row (codes "JAL") 0x12 form.AImm (λ a b imm. instr.Jal a imm)
+instruction_row mnemonic.Jr = row (codes "JR") 0x13 form.A (λ a b imm. instr.Jr a)
+instruction_row mnemonic.In = row (codes "IN") 0x14 form.AImm (λ a b imm. instr.In a imm)
+instruction_row mnemonic.Out = row (codes "OUT") 0x15 form.AImm (λ a b imm. instr.Out a imm)
+instruction_row mnemonic.Kcall = row (codes "KCALL") 0x16 form.Imm (λ a b imm. instr.Kcall imm)
+instruction_row mnemonic.Ret = row (codes "RET") 0x17 form.A (λ a b imm. instr.Ret a)
+instruction_row mnemonic.Fault = row (codes "FAULT") 0x18 form.Bare (λ a b imm. instr.Fault)
+
+-- all mnemonics, in the order of their numbers
+abbrev pub mnemonics : List Mnemonic
+mnemonics =
+    mnemonic.Li ∷ mnemonic.Lui ∷ mnemonic.Mov ∷ mnemonic.Add ∷ mnemonic.Sub ∷ mnemonic.And ∷ mnemonic.Or ∷
+    mnemonic.Xor ∷ mnemonic.Shl ∷ mnemonic.Shr ∷ mnemonic.Addi ∷ mnemonic.Ld ∷ mnemonic.St ∷ mnemonic.Jmp ∷
+    mnemonic.Beq ∷ mnemonic.Bne ∷ mnemonic.Blt ∷ mnemonic.Jal ∷ mnemonic.Jr ∷ mnemonic.In ∷ mnemonic.Out ∷
+    mnemonic.Kcall ∷ mnemonic.Ret ∷ mnemonic.Fault ∷ []
 
 -- the text of a mnemonic
 abbrev pub mnemonic_text : Mnemonic → List ℕ
-mnemonic_text mnemonic.Li = codes "LI"
-mnemonic_text mnemonic.Lui = codes "LUI"
-mnemonic_text mnemonic.Mov = codes "MOV"
-mnemonic_text mnemonic.Add = codes "ADD"
-mnemonic_text mnemonic.Sub = codes "SUB"
-mnemonic_text mnemonic.And = codes "AND"
-mnemonic_text mnemonic.Or = codes "OR"
-mnemonic_text mnemonic.Xor = codes "XOR"
-mnemonic_text mnemonic.Shl = codes "SHL"
-mnemonic_text mnemonic.Shr = codes "SHR"
-mnemonic_text mnemonic.Addi = codes "ADDI"
-mnemonic_text mnemonic.Ld = codes "LD"
-mnemonic_text mnemonic.St = codes "ST"
-mnemonic_text mnemonic.Jmp = codes "JMP"
-mnemonic_text mnemonic.Beq = codes "BEQ"
-mnemonic_text mnemonic.Bne = codes "BNE"
-mnemonic_text mnemonic.Blt = codes "BLT"
-mnemonic_text mnemonic.Jal = codes "JAL"
-mnemonic_text mnemonic.Jr = codes "JR"
-mnemonic_text mnemonic.In = codes "IN"
-mnemonic_text mnemonic.Out = codes "OUT"
-mnemonic_text mnemonic.Kcall = codes "KCALL"
-mnemonic_text mnemonic.Ret = codes "RET"
-mnemonic_text mnemonic.Fault = codes "FAULT"
+mnemonic_text m = (instruction_row m).name
 
--- the mnemonic of a name
+-- the mnemonic whose text a name is
 unfoldable pub mnemonic_named : List ℕ → Option Mnemonic
-mnemonic_named name =
-    if bytes_eq name (codes "LI") then Some mnemonic.Li
-    else if bytes_eq name (codes "LUI") then Some mnemonic.Lui
-    else if bytes_eq name (codes "MOV") then Some mnemonic.Mov
-    else if bytes_eq name (codes "ADD") then Some mnemonic.Add
-    else if bytes_eq name (codes "SUB") then Some mnemonic.Sub
-    else if bytes_eq name (codes "AND") then Some mnemonic.And
-    else if bytes_eq name (codes "OR") then Some mnemonic.Or
-    else if bytes_eq name (codes "XOR") then Some mnemonic.Xor
-    else if bytes_eq name (codes "SHL") then Some mnemonic.Shl
-    else if bytes_eq name (codes "SHR") then Some mnemonic.Shr
-    else if bytes_eq name (codes "ADDI") then Some mnemonic.Addi
-    else if bytes_eq name (codes "LD") then Some mnemonic.Ld
-    else if bytes_eq name (codes "ST") then Some mnemonic.St
-    else if bytes_eq name (codes "JMP") then Some mnemonic.Jmp
-    else if bytes_eq name (codes "BEQ") then Some mnemonic.Beq
-    else if bytes_eq name (codes "BNE") then Some mnemonic.Bne
-    else if bytes_eq name (codes "BLT") then Some mnemonic.Blt
-    else if bytes_eq name (codes "JAL") then Some mnemonic.Jal
-    else if bytes_eq name (codes "JR") then Some mnemonic.Jr
-    else if bytes_eq name (codes "IN") then Some mnemonic.In
-    else if bytes_eq name (codes "OUT") then Some mnemonic.Out
-    else if bytes_eq name (codes "KCALL") then Some mnemonic.Kcall
-    else if bytes_eq name (codes "RET") then Some mnemonic.Ret
-    else if bytes_eq name (codes "FAULT") then Some mnemonic.Fault
-    else None
+mnemonic_named name = of_text mnemonic_text mnemonics name
 
 -- which operands follow a mnemonic
 abbrev pub form_of : Mnemonic → Form
-form_of mnemonic.Li = form.AImm
-form_of mnemonic.Lui = form.AImm
-form_of mnemonic.Mov = form.AB
-form_of mnemonic.Add = form.AB
-form_of mnemonic.Sub = form.AB
-form_of mnemonic.And = form.AB
-form_of mnemonic.Or = form.AB
-form_of mnemonic.Xor = form.AB
-form_of mnemonic.Shl = form.AB
-form_of mnemonic.Shr = form.AB
-form_of mnemonic.Addi = form.ABImm
-form_of mnemonic.Ld = form.ABImm
-form_of mnemonic.St = form.ABImm
-form_of mnemonic.Jmp = form.Imm
-form_of mnemonic.Beq = form.ABImm
-form_of mnemonic.Bne = form.ABImm
-form_of mnemonic.Blt = form.ABImm
-form_of mnemonic.Jal = form.AImm
-form_of mnemonic.Jr = form.A
-form_of mnemonic.In = form.AImm
-form_of mnemonic.Out = form.AImm
-form_of mnemonic.Kcall = form.Imm
-form_of mnemonic.Ret = form.A
-form_of mnemonic.Fault = form.Bare
+form_of m = (instruction_row m).form
 
 -- the instruction of a mnemonic and its operands; those that its form does not have are not read
 abbrev pub instr_with : Mnemonic → ℕ → ℕ → ℕ → Instr
-instr_with mnemonic.Li a b imm = instr.Li a imm
-instr_with mnemonic.Lui a b imm = instr.Lui a imm
-instr_with mnemonic.Mov a b imm = instr.Mov a b
-instr_with mnemonic.Add a b imm = instr.Add a b
-instr_with mnemonic.Sub a b imm = instr.Sub a b
-instr_with mnemonic.And a b imm = instr.And a b
-instr_with mnemonic.Or a b imm = instr.Or a b
-instr_with mnemonic.Xor a b imm = instr.Xor a b
-instr_with mnemonic.Shl a b imm = instr.Shl a b
-instr_with mnemonic.Shr a b imm = instr.Shr a b
-instr_with mnemonic.Addi a b imm = instr.Addi a b imm
-instr_with mnemonic.Ld a b imm = instr.Ld a b imm
-instr_with mnemonic.St a b imm = instr.St a b imm
-instr_with mnemonic.Jmp a b imm = instr.Jmp imm
-instr_with mnemonic.Beq a b imm = instr.Beq a b imm
-instr_with mnemonic.Bne a b imm = instr.Bne a b imm
-instr_with mnemonic.Blt a b imm = instr.Blt a b imm
-instr_with mnemonic.Jal a b imm = instr.Jal a imm
-instr_with mnemonic.Jr a b imm = instr.Jr a
-instr_with mnemonic.In a b imm = instr.In a imm
-instr_with mnemonic.Out a b imm = instr.Out a imm
-instr_with mnemonic.Kcall a b imm = instr.Kcall imm
-instr_with mnemonic.Ret a b imm = instr.Ret a
-instr_with mnemonic.Fault a b imm = instr.Fault
+instr_with m a b imm = (instruction_row m).of_operands a b imm
 
 -- an instruction as a mnemonic and operands, 0 where its form has none
 pub record Fields : Type 0 where

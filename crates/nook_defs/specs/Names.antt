@@ -1,14 +1,18 @@
-use Rattle.std.specs.Prelude.{ℕ, Bool, true, List, [], ◌∷◌, length, nat_le, ◌==◌, ◌&&◌, ◌||◌}
+use Rattle.std.specs.Prelude.{ℕ, List, Bool, Option, option_map, length, bytes_eq, nat_le, ◌==◌, ◌&&◌, ◌||◌}
+use Rattle.std.specs.List.{find, list_all}
 
 -- a byte of `a` to `z`, `0` to `9` or `_`
 abbrev pub is_name_byte : ℕ → Bool
 is_name_byte b = nat_le 97 b && nat_le b 122 || nat_le 48 b && nat_le b 57 || b == 95
 
--- each byte may stand in a name
-abbrev pub all_name_bytes : List ℕ → Bool
-all_name_bytes [] = true
-all_name_bytes (b ∷ bs) = is_name_byte b && all_name_bytes bs
-
 -- 1 to 16 such bytes
 abbrev pub is_name : List ℕ → Bool
-is_name bytes = nat_le 1 (length bytes) && nat_le (length bytes) 16 && all_name_bytes bytes
+is_name bytes = nat_le 1 (length bytes) && nat_le (length bytes) 16 && list_all is_name_byte bytes
+
+-- the first of all values whose text a name is
+abbrev pub of_text : {T : Type 0} → (T → List ℕ) → List T → List ℕ → Option T
+of_text text all name = find (λ value. bytes_eq name (text value)) all
+
+-- the value that stands beside a name in a table
+abbrev pub value_named : {T : Type 0} → List (List ℕ × T) → List ℕ → Option T
+value_named table name = option_map (λ row. row.1) (find (λ row. bytes_eq name row.0) table)

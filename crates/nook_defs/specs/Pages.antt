@@ -1,48 +1,56 @@
-use Rattle.std.specs.Prelude.{ℕ, zero, suc, ◌+◌, ◌-◌, ◌*◌, ◌/◌, ◌<◌, ◌≡◌, ◌==◌, ◌&&◌, ◌||◌, nat_le, nat_lt, if◌then◌else◌, Bool, true, false, Option, Some, None, List, [], ◌∷◌, ◌++◌, take, drop, length, replicate, slice_index, slice_set, slice_range}
+use Rattle.std.specs.Prelude.{ℕ, zero, suc, ◌+◌, ◌-◌, ◌*◌, ◌/◌, ◌<◌, ◌≡◌, ◌==◌, ◌&&◌, ◌||◌, nat_le, nat_lt}
+use Rattle.std.specs.Prelude.{if◌then◌else◌, Bool, true, false, Option, Some, None, List, [], ◌∷◌, ◌++◌, take, drop}
+use Rattle.std.specs.Prelude.{length, replicate, slice_index, slice_set, slice_range}
 use Rattle.std.specs.List.{list_any}
-use Rattle.nook_defs.specs.declared.data.Entry.{Entry}
-use Rattle.nook_defs.specs.declared.data.Entry.TheVariants as entry
-use Rattle.nook_defs.specs.declared.data.Image.{Image}
+use Rattle.nook_defs.specs.Types.{Entry, Image}
+use Rattle.nook_defs.specs.declared.entries.Entry.TheVariants as entry
+use Rattle.nook_defs.specs.declared.memory_map.TheConstants.{TEXT_WORDS, DATA_START, DATA_END, STACKS_END, STACK_WORDS}
+use Rattle.nook_defs.specs.declared.memory_map.TheConstants.{BUFFERS_END, BUFFER_WORDS, LAST_OBJECT, OBJECT_WORDS}
+use Rattle.nook_defs.specs.declared.memory_map.TheConstants.{MEMORY_WORDS}
 
 -- Addresses 0 to 8,191 in pages of 64 words: text to 2,047; initial words and the heap to 4,095; a stack page for
--- each of the 17 contexts to 5,183; two buffer pages for each to 7,359; and the 13 kernel objects, a page each.
+-- each of the 17 contexts to 5,183; two buffer pages for each to 7,359; and the 13 kernel objects, a page each. The
+-- memory map names these numbers.
 
 -- the first address behind a context's stack page
 abbrev pub stack_end : ℕ → ℕ
-stack_end context = (65 + context) * 64
+stack_end context = DATA_END + STACK_WORDS * (context + 1)
 
 -- where a context's buffer begins
 abbrev pub buffer_start : ℕ → ℕ
-buffer_start context = (81 + 2 * context) * 64
+buffer_start context = STACKS_END + BUFFER_WORDS * context
 
 -- where a kernel object begins
 abbrev pub object_start : ℕ → ℕ
-object_start object = (115 + object) * 64
+object_start object = BUFFERS_END + OBJECT_WORDS * object
 
 -- the entry lends the buffer of the context for writing
 abbrev pub lends : ℕ → Entry → Bool
-lends context (entry.Heap start len) = false
-lends context (entry.Borrow object start) = false
 lends context (entry.Buffer c writable) = c == context && writable
-lends context (entry.Registration live) = false
+lends context _ = false
 
 -- the context's buffer is lent for writing
 abbrev pub is_lent : List Entry → ℕ → Bool
 is_lent entries context = list_any (lends context) entries
 
--- a driver may write the address: the data area and the stacks, and a buffer while it is lent for writing
+-- a driver may write the address, where these contexts have their buffers lent for writing: an address of the data
+-- or the stacks, or of a buffer that is lent
+abbrev pub may_write_where : (ℕ → Bool) → ℕ → Bool
+may_write_where lent address =
+    nat_le DATA_START address && nat_lt address STACKS_END
+    || (nat_le STACKS_END address && nat_lt address BUFFERS_END) && lent ((address - STACKS_END) / BUFFER_WORDS)
+
+-- a driver may write the address while its domain has these entries
 abbrev pub may_write : List Entry → ℕ → Bool
-may_write entries address =
-    nat_le 2048 address && nat_lt address 5184
-    || (nat_le 5184 address && nat_lt address 7360) && is_lent entries ((address - 5184) / 128)
+may_write entries address = may_write_where (is_lent entries) address
 
 -- the word at an address, where it may be read
 abbrev pub read_word : List ℕ → ℕ → Option ℕ
-read_word memory address = if nat_lt address 8192 then Some (slice_index memory address) else None
+read_word memory address = if nat_lt address MEMORY_WORDS then Some (slice_index memory address) else None
 
 -- the word at an address of the text, where it may be fetched
 abbrev pub fetch_word : List ℕ → ℕ → Option ℕ
-fetch_word memory address = if nat_lt address 2048 then Some (slice_index memory address) else None
+fetch_word memory address = if nat_lt address TEXT_WORDS then Some (slice_index memory address) else None
 
 -- memory after a driver's write: as before where it may not write there
 abbrev pub written : List Entry → ℕ → ℕ → List ℕ → List ℕ
@@ -59,11 +67,12 @@ padded_words n words = words ++ replicate (n - length words) 0
 
 -- the 64 words of a kernel object
 abbrev pub object_words : ℕ → List ℕ → List ℕ
-object_words object memory = slice_range memory (object_start object) (object_start object + 64)
+object_words object memory = slice_range memory (object_start object) (object_start object + OBJECT_WORDS)
 
--- what a kernel object from 1 to 12 holds at first: its number and zeros. What object 0 holds is said by the memory below
+-- what a kernel object from 1 to 12 holds at first: its number and zeros. What object 0 holds is said by the memory
+-- below
 abbrev pub opening_object : ℕ → List ℕ
-opening_object object = object ∷ replicate 63 0
+opening_object object = padded_words OBJECT_WORDS (object ∷ [])
 
 -- so many kernel objects from a number on, one after the other
 abbrev pub opening_objects : ℕ → ℕ → List ℕ
@@ -72,9 +81,11 @@ opening_objects object (suc more) = opening_object object ++ opening_objects (su
 
 -- memory at first: zeros, then object 0 with the defaults, then objects 1 to 12
 unfoldable pub opening_memory : List ℕ → List ℕ
-opening_memory defaults = replicate 7360 0 ++ (padded_words 64 defaults ++ opening_objects 1 12)
+opening_memory defaults =
+    replicate BUFFERS_END 0 ++ (padded_words OBJECT_WORDS defaults ++ opening_objects 1 LAST_OBJECT)
 
 -- memory with an image put in place: its text, its initial words, zeros to the last buffer page; the objects stay
 unfoldable pub loaded_memory : Image → List ℕ → List ℕ
 loaded_memory image memory =
-    padded_words 2048 image.text ++ (padded_words 5312 image.initial ++ drop 7360 memory)
+    padded_words TEXT_WORDS image.text
+    ++ (padded_words (BUFFERS_END - DATA_START) image.initial ++ drop BUFFERS_END memory)

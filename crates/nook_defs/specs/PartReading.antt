@@ -1,35 +1,31 @@
-use Rattle.std.specs.Prelude.{ℕ, ◌-◌, ◌==◌, ◌||◌, List, [], ◌∷◌, codes, bytes_eq, Bool, false, Option, Some, None, Result, Ok, if◌then◌else◌}
+use Rattle.std.specs.Prelude.{ℕ, ◌-◌, ◌==◌, List, [], ◌∷◌, map, codes, bytes_eq, Bool, Option, Result, Ok}
+use Rattle.std.specs.Prelude.{if◌then◌else◌}
+use Rattle.std.specs.List.{list_any}
 use Rattle.serde_json.specs.Data.{Data}
 use Rattle.nook_defs.specs.ImageReading.{class_of, driver_of}
-use Rattle.nook_defs.specs.Names.{is_name}
-use Rattle.nook_defs.specs.Reading.{bad, text_of, named_of, is_object, object_with, required, optional, number_at, number_or, list_of, numbers_of}
+use Rattle.nook_defs.specs.Names.{is_name, value_named}
+use Rattle.nook_defs.specs.Reading.{bad, text_of, named_of, is_object, object_with, required, optional, number_at}
+use Rattle.nook_defs.specs.Reading.{number_or, list_of, numbers_of}
 use Rattle.nook_defs.specs.Results.{◌>>=◌}
-use Rattle.nook_defs.specs.declared.data.BadBlock.{BadBlock}
-use Rattle.nook_defs.specs.declared.data.Class.{Class}
-use Rattle.nook_defs.specs.declared.data.Class.TheVariants as class
-use Rattle.nook_defs.specs.declared.data.Fault.{Fault}
-use Rattle.nook_defs.specs.declared.data.FaultKind.{FaultKind}
-use Rattle.nook_defs.specs.declared.data.FaultKind.TheVariants as strikes
-use Rattle.nook_defs.specs.declared.data.PartSpec.{PartSpec}
-use Rattle.nook_defs.specs.declared.input.FaultName.{FaultName}
+use Rattle.nook_defs.specs.Types.{BadBlock, Class, Fault, FaultKind, FaultName, Key, PartSpec, Refusal}
+use Rattle.nook_defs.specs.declared.classes.Class.TheVariants as class
+use Rattle.nook_defs.specs.declared.scenario.FaultKind.TheVariants as strikes
 use Rattle.nook_defs.specs.declared.input.FaultName.TheVariants as named
 use Rattle.nook_defs.specs.declared.input.InputFault.TheVariants as fault
-use Rattle.nook_defs.specs.declared.input.Key.{Key}
 use Rattle.nook_defs.specs.declared.input.Key.TheVariants as key
-use Rattle.nook_defs.specs.declared.input.Refusal.{Refusal}
+use Rattle.nook_defs.specs.declared.limits.TheConstants.{MOST_BAD_BLOCKS, MOST_FAILURES, MOST_FAULTS, MOST_FRAME_WORDS}
+use Rattle.nook_defs.specs.declared.limits.TheConstants.{MOST_TURNS}
 
 -- ---- names
 
 -- one of the names is this one
 abbrev pub is_among : List (List ℕ) → List ℕ → Bool
-is_among [] name = false
-is_among (earlier ∷ more) name = bytes_eq name earlier || is_among more name
+is_among names name = list_any (bytes_eq name) names
 
 -- a name of 1 to 16 bytes that is not among the earlier ones
 unfoldable pub new_name : List (List ℕ) → List ℕ → Result (List ℕ) Refusal
 new_name earlier name =
-    if is_name name then (if is_among earlier name then bad fault.DoubleName else Ok name)
-    else bad fault.WrongKind
+    if is_name name then (if is_among earlier name then bad fault.DoubleName else Ok name) else bad fault.WrongKind
 
 -- a name that none of the earlier ones is
 abbrev pub name_of : List (List ℕ) → Data → Result (List ℕ) Refusal
@@ -41,13 +37,9 @@ name_of earlier d = do
 
 -- the kind of fault of a name
 unfoldable pub fault_named : List ℕ → Option FaultName
-fault_named name =
-    if bytes_eq name (codes "trap") then Some named.Trap
-    else if bytes_eq name (codes "hang") then Some named.Hang
-    else if bytes_eq name (codes "poke") then Some named.Poke
-    else if bytes_eq name (codes "code") then Some named.Code
-    else if bytes_eq name (codes "reg") then Some named.Reg
-    else None
+fault_named name = value_named (
+    (codes "trap", named.Trap) ∷ (codes "hang", named.Hang) ∷ (codes "poke", named.Poke) ∷ (codes "code", named.Code)
+    ∷ (codes "reg", named.Reg) ∷ []) name
 
 -- the keys that only some kinds of fault have
 abbrev pub fault_keys : FaultName → List Key
@@ -81,13 +73,13 @@ fault_of d = do
   name ← required key.Kind (named_of fault_named) d
   known ← object_with (key.Burst ∷ key.After ∷ key.Kind ∷ fault_keys name) d
   burst ← number_at key.Burst 1 4294967295 d
-  after ← number_at key.After 0 4095 d
+  after ← number_at key.After 0 (MOST_TURNS - 1) d
   kind ← fault_kind name d
   Ok (record { burst = burst; after = after; kind = kind })
 
 -- up to 64 faults
 abbrev pub faults_of : Data → Result (List Fault) Refusal
-faults_of d = list_of (λ earlier. fault_of) 0 64 d
+faults_of d = list_of (λ earlier. fault_of) 0 MOST_FAULTS d
 
 -- ---- bad blocks
 
@@ -101,7 +93,7 @@ bad_block_of blocks d = do
 
 -- up to 64 bad blocks
 abbrev pub bad_blocks_of : ℕ → Data → Result (List BadBlock) Refusal
-bad_blocks_of blocks d = list_of (λ earlier. bad_block_of blocks) 0 64 d
+bad_blocks_of blocks d = list_of (λ earlier. bad_block_of blocks) 0 MOST_BAD_BLOCKS d
 
 -- ---- parts
 
@@ -111,25 +103,24 @@ bad_key version = if version == 2 then key.Bad ∷ [] else []
 
 -- the keys of a part, by its class
 abbrev pub part_keys : ℕ → Class → List Key
-part_keys version class.Block = key.Name ∷ key.Class ∷ key.Limit ∷ key.Driver ∷ key.Faults ∷ key.Blocks ∷ bad_key version
+part_keys version class.Block =
+    key.Name ∷ key.Class ∷ key.Limit ∷ key.Driver ∷ key.Faults ∷ key.Blocks ∷ bad_key version
 part_keys version class.Net = key.Name ∷ key.Class ∷ key.Limit ∷ key.Driver ∷ key.Faults ∷ key.Arrivals ∷ []
 part_keys version class.Sound = key.Name ∷ key.Class ∷ key.Limit ∷ key.Driver ∷ key.Faults ∷ []
 
 -- the blocks of a disk; other classes have none
 abbrev pub part_blocks : Class → Data → Result ℕ Refusal
 part_blocks class.Block d = number_at key.Blocks 1 256 d
-part_blocks class.Net d = Ok 0
-part_blocks class.Sound d = Ok 0
+part_blocks _ d = Ok 0
 
 -- the bad blocks of a disk; other classes have none
 abbrev pub part_bad : Class → ℕ → Data → Result (List BadBlock) Refusal
 part_bad class.Block blocks d = optional key.Bad (bad_blocks_of blocks) [] d
-part_bad class.Net blocks d = Ok []
-part_bad class.Sound blocks d = Ok []
+part_bad _ blocks d = Ok []
 
 -- a frame of 1 to 64 words
 abbrev pub frame_of : List (List ℕ) → Data → Result (List ℕ) Refusal
-frame_of earlier d = numbers_of 1 64 4294967295 d
+frame_of earlier d = numbers_of 1 MOST_FRAME_WORDS 4294967295 d
 
 -- up to 256 frames
 abbrev pub frames_of : Data → Result (List (List ℕ)) Refusal
@@ -138,13 +129,11 @@ frames_of d = list_of frame_of 0 256 d
 -- the arrivals of a net part; other classes have none
 abbrev pub part_arrivals : Class → Data → Result (List (List ℕ)) Refusal
 part_arrivals class.Net d = optional key.Arrivals frames_of [] d
-part_arrivals class.Block d = Ok []
-part_arrivals class.Sound d = Ok []
+part_arrivals _ d = Ok []
 
 -- the names of parts
 abbrev pub part_names : List PartSpec → List (List ℕ)
-part_names [] = []
-part_names (part ∷ more) = part.name ∷ part_names more
+part_names parts = map (λ part. part.name) parts
 
 -- a part of a scenario of a version, behind the earlier parts
 unfoldable pub part_of : ℕ → List PartSpec → Data → Result PartSpec Refusal
@@ -155,8 +144,17 @@ part_of version earlier d = do
   name ← required key.Name (name_of (part_names earlier)) d
   blocks ← part_blocks class d
   bad ← part_bad class blocks d
-  limit ← number_or key.Limit 0 16 0 d
+  limit ← number_or key.Limit 0 MOST_FAILURES 0 d
   image ← required key.Driver (driver_of class) d
   faults ← optional key.Faults faults_of [] d
   arrivals ← part_arrivals class d
-  Ok (record { name = name; class = class; blocks = blocks; bad = bad; limit = limit; image = image; faults = faults; arrivals = arrivals })
+  Ok (record {
+    name = name;
+    class = class;
+    blocks = blocks;
+    bad = bad;
+    limit = limit;
+    image = image;
+    faults = faults;
+    arrivals = arrivals;
+  })

@@ -1,19 +1,18 @@
-use Rattle.std.specs.Prelude.{ℕ, ◌+◌, ◌&&◌, ◌||◌, nat_lt, List, [], ◌∷◌, ◌++◌, Bool, true, false, Option, Some, None, option_and_then, Result, Ok, Err, ⊤, chars, encode_utf8_all, bytes_eq, if◌then◌else◌}
+use Rattle.std.specs.Prelude.{ℕ, ◌+◌, ◌&&◌, ◌||◌, not, nat_lt, List, [], ◌∷◌, ◌++◌, Bool, true, false, Option, Some}
+use Rattle.std.specs.Prelude.{None, option_and_then, Result, Ok, Err, ⊤, chars, encode_utf8_all, bytes_eq}
+use Rattle.std.specs.Prelude.{if◌then◌else◌}
 use Rattle.std.specs.Str.{all_scalars}
 use Rattle.serde_json.specs.Data.{Data, Items, no_items, item, Members, no_members, member}
 use Rattle.serde_json.specs.Find.{get, as_array, as_number, as_object, as_str, as_u64}
 use Rattle.serde_json.specs.Read.{read}
 use Rattle.nook_defs.specs.Keys.{key_text, is_key}
 use Rattle.nook_defs.specs.Results.{◌>>=◌}
-use Rattle.nook_defs.specs.declared.input.InputFault.{InputFault}
+use Rattle.nook_defs.specs.Types.{InputFault, Key, PathStep, Refusal}
 use Rattle.nook_defs.specs.declared.input.InputFault.TheVariants as fault
-use Rattle.nook_defs.specs.declared.input.Key.{Key}
-use Rattle.nook_defs.specs.declared.input.PathStep.{PathStep}
 use Rattle.nook_defs.specs.declared.input.PathStep.TheVariants as step
-use Rattle.nook_defs.specs.declared.input.Refusal.{Refusal}
 
--- How a value is read out of JSON, or refused by the first fault and its place. Each reading gives the place from its own
--- value on; whatever holds the value puts its key or place in front.
+-- How a value is read out of JSON, or refused by the first fault and its place. Each reading gives the place from its
+-- own value on; whatever holds the value puts its key or place in front.
 
 -- ---- faults
 
@@ -31,29 +30,26 @@ abbrev pub under : {T : Type 0} → PathStep → Result T Refusal → Result T R
 under step (Ok read) = Ok read
 under step (Err refusal) = Err (record { fault = refusal.fault; path = step ∷ refusal.path })
 
--- a value of the right kind
-abbrev pub or_wrong_kind : {T : Type 0} → Option T → Result T Refusal
-or_wrong_kind None = bad fault.WrongKind
-or_wrong_kind (Some value) = Ok value
+-- a value, or a fault here where there is none
+abbrev pub or_bad : {T : Type 0} → InputFault → Option T → Result T Refusal
+or_bad fault None = bad fault
+or_bad fault (Some value) = Ok value
 
 -- ---- values
 
--- a number, where there is one, from low to high
-abbrev pub number_within : ℕ → ℕ → Option ℕ → Result ℕ Refusal
-number_within low high None = bad fault.WrongKind
-number_within low high (Some n) = if nat_lt n low || nat_lt high n then bad fault.NumberRange else Ok n
-
 -- a whole number from low to high, which the reader shows as one of 64 bits
 abbrev pub number_of : ℕ → ℕ → Data → Result ℕ Refusal
-number_of low high d = number_within low high (option_and_then as_u64 (as_number d))
+number_of low high d = do
+  n ← or_bad fault.WrongKind (option_and_then as_u64 (as_number d))
+  if nat_lt n low || nat_lt high n then bad fault.NumberRange else Ok n
 
 -- a text
 abbrev pub text_of : Data → Result (List ℕ) Refusal
-text_of d = or_wrong_kind (as_str d)
+text_of d = or_bad fault.WrongKind (as_str d)
 
 -- a text that is one of some names
 abbrev pub named_of : {T : Type 0} → (List ℕ → Option T) → Data → Result T Refusal
-named_of named d = or_wrong_kind (option_and_then named (as_str d))
+named_of named d = or_bad fault.WrongKind (option_and_then named (as_str d))
 
 -- ---- objects
 
@@ -62,36 +58,24 @@ abbrev pub all_known : List Key → Members → Bool
 all_known known no_members = true
 all_known known (member name d more) = is_key known name && all_known known more
 
--- the members of an object, where it is one, have no other names than these keys
-abbrev pub known_members : List Key → Option Members → Result ⊤ Refusal
-known_members known None = bad fault.WrongKind
-known_members known (Some members) = if all_known known members then Ok tt else bad fault.UnknownKey
-
 -- an object
 abbrev pub is_object : Data → Result Members Refusal
-is_object d = or_wrong_kind (as_object d)
+is_object d = or_bad fault.WrongKind (as_object d)
 
 -- an object with no other keys than these
 abbrev pub object_with : List Key → Data → Result ⊤ Refusal
-object_with known d = known_members known (as_object d)
-
--- the reading of a value that must be there, under its key
-abbrev pub value_at : {T : Type 0} → Key → (Data → Result T Refusal) → Option Data → Result T Refusal
-value_at key of None = under (step.At key) (bad fault.MissingKey)
-value_at key of (Some d) = under (step.At key) (of d)
-
--- the reading of a value that may be left out, under its key
-abbrev pub value_or : {T : Type 0} → Key → (Data → Result T Refusal) → T → Option Data → Result T Refusal
-value_or key of default None = Ok default
-value_or key of default (Some d) = under (step.At key) (of d)
+object_with known d = do
+  members ← is_object d
+  refuse_if (not (all_known known members)) fault.UnknownKey
 
 -- the value of a key that must be there
 abbrev pub required : {T : Type 0} → Key → (Data → Result T Refusal) → Data → Result T Refusal
-required key of d = value_at key of (get (key_text key) d)
+required key of d = under (step.At key) (or_bad fault.MissingKey (get (key_text key) d) >>= of)
 
 -- the value of a key, or the default where it is left out
 abbrev pub optional : {T : Type 0} → Key → (Data → Result T Refusal) → T → Data → Result T Refusal
-optional key of default d = value_or key of default (get (key_text key) d)
+optional key of default d =
+    elim (get (key_text key) d) [ None ↦ Ok default | Some value ↦ under (step.At key) (of value) ]
 
 -- a number from low to high at a key that must be there
 abbrev pub number_at : Key → ℕ → ℕ → Data → Result ℕ Refusal
@@ -111,19 +95,16 @@ count_of (item d more) = count_of more + 1
 -- the items from a place on, behind those that stand before it; an item's reading may look at those
 abbrev pub items_from : {T : Type 0} → (List T → Data → Result T Refusal) → List T → ℕ → Items → Result (List T) Refusal
 items_from of earlier place no_items = Ok earlier
-items_from of earlier place (item d more) = under (step.Place place) (of earlier d) >>= λ read. items_from of (earlier ++ read ∷ []) (place + 1) more
+items_from of earlier place (item d more) =
+    under (step.Place place) (of earlier d) >>= λ read. items_from of (earlier ++ read ∷ []) (place + 1) more
 
--- the items of a list, where it is one, of least to most: too many are told before too few
-abbrev pub list_within : {T : Type 0} → (List T → Data → Result T Refusal) → ℕ → ℕ → Option Items → Result (List T) Refusal
-list_within of least most None = bad fault.WrongKind
-list_within of least most (Some items) = do
-  short ← refuse_if (nat_lt most (count_of items)) fault.TooMany
-  long ← refuse_if (nat_lt (count_of items) least) fault.NumberRange
-  items_from of [] 0 items
-
--- a list of least to most items
+-- a list of least to most items: too many are told before too few
 abbrev pub list_of : {T : Type 0} → (List T → Data → Result T Refusal) → ℕ → ℕ → Data → Result (List T) Refusal
-list_of of least most d = list_within of least most (as_array d)
+list_of of least most d = do
+  items ← or_bad fault.WrongKind (as_array d)
+  few ← refuse_if (nat_lt most (count_of items)) fault.TooMany
+  enough ← refuse_if (nat_lt (count_of items) least) fault.NumberRange
+  items_from of [] 0 items
 
 -- a list of numbers
 abbrev pub numbers_of : ℕ → ℕ → ℕ → Data → Result (List ℕ) Refusal
@@ -135,11 +116,6 @@ numbers_of least most high d = list_of (λ earlier. number_of 0 high) least most
 unfoldable pub is_utf8 : List ℕ → Bool
 is_utf8 bytes = all_scalars (chars bytes) && bytes_eq (encode_utf8_all (chars bytes)) bytes
 
--- a value, where the bytes are one
-abbrev pub or_not_json : Option Data → Result Data Refusal
-or_not_json None = bad fault.NotJson
-or_not_json (Some d) = Ok d
-
 -- the JSON value of some bytes
 unfoldable pub json_of : List ℕ → Result Data Refusal
-json_of bytes = if is_utf8 bytes then or_not_json (read bytes) else bad fault.NotJson
+json_of bytes = if is_utf8 bytes then or_bad fault.NotJson (read bytes) else bad fault.NotJson

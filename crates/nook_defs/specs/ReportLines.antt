@@ -1,22 +1,15 @@
-use Rattle.std.specs.Prelude.{ℕ, suc, Bool, true, false, List, [], ◌∷◌, ◌++◌, Option, Some, None, codes, decimal}
-use Rattle.nook_defs.specs.declared.data.Act.{Act}
-use Rattle.nook_defs.specs.declared.data.Act.TheVariants as act
-use Rattle.nook_defs.specs.declared.data.Answer.{Answer}
-use Rattle.nook_defs.specs.declared.data.Answer.TheVariants as answered
-use Rattle.nook_defs.specs.declared.data.End.{End}
-use Rattle.nook_defs.specs.declared.data.End.TheVariants as ends
-use Rattle.nook_defs.specs.declared.data.Entry.{Entry}
-use Rattle.nook_defs.specs.declared.data.Entry.TheVariants as entry
-use Rattle.nook_defs.specs.declared.data.Event.{Event}
-use Rattle.nook_defs.specs.declared.data.Event.TheVariants as event
-use Rattle.nook_defs.specs.declared.data.FailCause.{FailCause}
-use Rattle.nook_defs.specs.declared.data.FailCause.TheVariants as cause
-use Rattle.nook_defs.specs.declared.data.Op.{Op}
-use Rattle.nook_defs.specs.declared.data.Op.TheVariants as op
-use Rattle.nook_defs.specs.declared.data.Stage.{Stage}
-use Rattle.nook_defs.specs.declared.data.Stage.TheVariants as stages
-use Rattle.nook_defs.specs.declared.data.TrapCause.{TrapCause}
-use Rattle.nook_defs.specs.declared.data.TrapCause.TheVariants as trap
+use Rattle.std.specs.Prelude.{ℕ, suc, Bool, true, false, List, [], ◌∷◌, ◌++◌, flat_map, Option, Some, None, codes}
+use Rattle.std.specs.Prelude.{decimal}
+use Rattle.nook_defs.specs.Types.{Act, Answer, End, Entry, Event, FailCause, Op, Stage, TrapCause}
+use Rattle.nook_defs.specs.declared.machine.Act.TheVariants as act
+use Rattle.nook_defs.specs.declared.calls.Answer.TheVariants as answered
+use Rattle.nook_defs.specs.declared.steps.End.TheVariants as ends
+use Rattle.nook_defs.specs.declared.entries.Entry.TheVariants as entry
+use Rattle.nook_defs.specs.declared.steps.Event.TheVariants as event
+use Rattle.nook_defs.specs.declared.steps.FailCause.TheVariants as cause
+use Rattle.nook_defs.specs.declared.calls.Op.TheVariants as op
+use Rattle.nook_defs.specs.declared.steps.Stage.TheVariants as stages
+use Rattle.nook_defs.specs.declared.machine.TrapCause.TheVariants as trap
 
 -- The text of one line of a report for each event.
 
@@ -30,10 +23,9 @@ with_number text number = text ++ decimal number
 abbrev pub spaced : ℕ → List ℕ
 spaced number = with_number (codes " ") number
 
--- each word behind a comma
+-- each word after a comma
 abbrev pub comma_words : List ℕ → List ℕ
-comma_words [] = []
-comma_words (word ∷ words) = with_number (codes ",") word ++ comma_words words
+comma_words words = flat_map (with_number (codes ",")) words
 
 -- words with commas between them
 abbrev pub inner_words : List ℕ → List ℕ
@@ -173,18 +165,15 @@ cause_tail (Some c) = codes " ! " ++ cause_text c
 
 -- acts at the end of a line
 abbrev pub acts_tail : List Act → List ℕ
-acts_tail [] = []
-acts_tail (a ∷ acts) = codes " | " ++ (act_text a ++ acts_tail acts)
+acts_tail acts = flat_map (λ a. codes " | " ++ act_text a) acts
 
 -- answers at the end of a line
 abbrev pub answers_tail : List (ℕ × Answer) → List ℕ
-answers_tail [] = []
-answers_tail (a ∷ answers) = with_number (codes " -> c") a.0 ++ (codes " " ++ (answer_text a.1 ++ answers_tail answers))
+answers_tail answers = flat_map (λ a. with_number (codes " -> c") a.0 ++ (codes " " ++ answer_text a.1)) answers
 
 -- entries at the end of a line
 abbrev pub released_tail : List Entry → List ℕ
-released_tail [] = []
-released_tail (e ∷ released) = released_text e ++ released_tail released
+released_tail released = flat_map released_text released
 
 -- whether the ring took a frame
 abbrev pub kept_text : Bool → List ℕ
@@ -196,12 +185,15 @@ kept_text false = codes " lost"
 -- an event without its number
 abbrev pub event_text : Event → List ℕ
 event_text (event.Invoke call thread o a) =
-    with_number (codes "invoke c") call ++ (with_number (codes " t") thread ++ (codes " " ++ (op_text o ++ answer_tail a)))
+    with_number (codes "invoke c") call
+    ++ (with_number (codes " t") thread ++ (codes " " ++ (op_text o ++ answer_tail a)))
 event_text (event.Enter call thread attempt a) =
-    with_number (codes "enter c") call ++ (with_number (codes " x") thread ++ (with_number (codes " try ") attempt ++ answer_tail a))
+    with_number (codes "enter c") call
+    ++ (with_number (codes " x") thread ++ (with_number (codes " try ") attempt ++ answer_tail a))
 event_text (event.Burst context call burst count end acts a failure) =
     with_number (codes "burst x") context ++ (with_number (codes " c") call ++ (with_number (codes " b") burst
-    ++ (with_number (codes " n") count ++ (codes " " ++ (end_text end ++ (acts_tail acts ++ (answer_tail a ++ cause_tail failure)))))))
+    ++ (with_number (codes " n") count
+    ++ (codes " " ++ (end_text end ++ (acts_tail acts ++ (answer_tail a ++ cause_tail failure)))))))
 event_text (event.Stage stage answers released) =
     codes "stage " ++ (stage_text stage ++ (answers_tail answers ++ released_tail released))
 event_text (event.Arrive frame kept) = with_list (codes "arrive ") frame ++ kept_text kept

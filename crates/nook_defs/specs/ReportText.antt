@@ -1,16 +1,9 @@
-use Rattle.std.specs.Prelude.{ℕ, zero, suc, Bool, true, false, List, [], ◌∷◌, ◌++◌, length, replicate, Option, Some, None, is_some, ◌+◌, ◌||◌, if◌then◌else◌, bytes_eq, codes, decimal}
-use Rattle.nook_defs.specs.declared.data.Act.{Act}
-use Rattle.nook_defs.specs.declared.data.Act.TheVariants as act
-use Rattle.nook_defs.specs.declared.data.Answer.{Answer}
-use Rattle.nook_defs.specs.declared.data.Break.{Break}
-use Rattle.nook_defs.specs.declared.data.Class.{Class}
-use Rattle.nook_defs.specs.declared.data.Class.TheVariants as class
-use Rattle.nook_defs.specs.declared.data.Event.{Event}
-use Rattle.nook_defs.specs.declared.data.Event.TheVariants as event
-use Rattle.nook_defs.specs.declared.data.Losses.{Losses}
-use Rattle.nook_defs.specs.declared.data.PartSpec.{PartSpec}
-use Rattle.nook_defs.specs.declared.data.Scenario.{Scenario}
-use Rattle.nook_defs.specs.declared.data.ThreadSpec.{ThreadSpec}
+use Rattle.std.specs.Prelude.{ℕ, zero, suc, Bool, true, false, List, [], ◌∷◌, ◌++◌, length, replicate, flat_map, Option}
+use Rattle.std.specs.Prelude.{Some, None, is_some, ◌+◌, ◌||◌, if◌then◌else◌, bytes_eq, codes, decimal}
+use Rattle.nook_defs.specs.Types.{Act, Answer, Break, Class, Event, Losses, PartSpec, Scenario, ThreadSpec}
+use Rattle.nook_defs.specs.declared.machine.Act.TheVariants as act
+use Rattle.nook_defs.specs.declared.classes.Class.TheVariants as class
+use Rattle.nook_defs.specs.declared.steps.Event.TheVariants as event
 use Rattle.nook_defs.specs.Contract.{first_break}
 use Rattle.nook_defs.specs.Devices.{medium_of}
 use Rattle.nook_defs.specs.Losses.{losses}
@@ -63,36 +56,28 @@ acts_of_event e = []
 
 -- the acts of a journal
 abbrev pub acts_of : List Event → List Act
-acts_of [] = []
-acts_of (e ∷ events) = acts_of_event e ++ acts_of events
+acts_of events = flat_map acts_of_event events
 
--- the frames sent
-abbrev pub wire_lines : List Act → List ℕ
-wire_lines [] = []
-wire_lines (act.Sent frame ∷ acts) = with_list (codes "wire ") frame ++ (line_feed ++ wire_lines acts)
-wire_lines (a ∷ acts) = wire_lines acts
+-- the line of an act that sent a frame
+abbrev pub wire_line : Act → List ℕ
+wire_line (act.Sent frame) = with_list (codes "wire ") frame ++ line_feed
+wire_line a = []
 
--- the samples played
-abbrev pub played_lines : List Act → List ℕ
-played_lines [] = []
-played_lines (act.Played word rate volume ∷ acts) =
-    with_number (codes "played ") word ++ (spaced rate ++ (spaced volume ++ (line_feed ++ played_lines acts)))
-played_lines (a ∷ acts) = played_lines acts
+-- the line of an act that played a sample
+abbrev pub played_line : Act → List ℕ
+played_line (act.Played word rate volume) =
+    with_number (codes "played ") word ++ (spaced rate ++ (spaced volume ++ line_feed))
+played_line a = []
 
 -- what the device was left with or gave
 abbrev pub device_lines : Class → List Event → PartState → List ℕ
 device_lines class.Block events p = block_lines 0 (medium_of p.domain.device)
-device_lines class.Net events p = wire_lines (acts_of events)
-device_lines class.Sound events p = played_lines (acts_of events)
-
--- numbers, each after a space
-abbrev pub spaced_each : List ℕ → List ℕ
-spaced_each [] = []
-spaced_each (word ∷ words) = spaced word ++ spaced_each words
+device_lines class.Net events p = flat_map wire_line (acts_of events)
+device_lines class.Sound events p = flat_map played_line (acts_of events)
 
 -- the line of the record
 abbrev pub config_line : List ℕ → List ℕ
-config_line config = codes "config" ++ (spaced_each config ++ line_feed)
+config_line config = codes "config" ++ (flat_map spaced config ++ line_feed)
 
 -- the numbers of losses that are told of a class
 abbrev pub losses_lines : Class → Losses → List ℕ
@@ -102,7 +87,8 @@ losses_lines class.Net n =
     ++ (with_number (codes "frames arrived ") n.arrived ++ (with_number (codes " received ") n.received
     ++ (with_number (codes " queued ") n.queued ++ (with_number (codes " ring ") n.ring
     ++ (with_number (codes " driver ") n.driver ++ (with_number (codes " reset ") n.reset
-    ++ (with_number (codes " full_ring ") n.full_ring ++ (with_number (codes " full_queue ") n.full_queue ++ line_feed)))))))))
+    ++ (with_number (codes " full_ring ") n.full_ring
+    ++ (with_number (codes " full_queue ") n.full_queue ++ line_feed)))))))))
 losses_lines class.Sound n =
     with_number (codes "losses samples ") n.samples ++ (with_number (codes " busy ") n.busy ++ line_feed)
 
@@ -140,7 +126,9 @@ parts_text place (s ∷ specs) (events ∷ journals) = part_text place s events 
 abbrev pub answer_lines : ℕ → List (ℕ × Answer) → List ℕ
 answer_lines place [] = []
 answer_lines place (a ∷ answers) =
-    decimal place ++ (with_number (codes " p") a.0 ++ (codes " " ++ (answer_text a.1 ++ (line_feed ++ answer_lines (suc place) answers))))
+    decimal place
+    ++ (with_number (codes " p") a.0
+    ++ (codes " " ++ (answer_text a.1 ++ (line_feed ++ answer_lines (suc place) answers))))
 
 -- the line of a thread's answers
 abbrev pub thread_line : ℕ → ThreadSpec → List ℕ
@@ -209,8 +197,12 @@ failures_count (s ∷ specs) [] = 0
 failures_count (s ∷ specs) (events ∷ journals) = (state_of s events).failures + failures_count specs journals
 
 -- gen N events E failures F status S
+abbrev pub gen_line : ℕ → ℕ → ℕ → ℕ → List ℕ
+gen_line n events failures status =
+    codes "gen " ++ decimal n ++ codes " events " ++ decimal events ++ codes " failures " ++ decimal failures
+    ++ codes " status " ++ decimal status ++ line_feed
+
+-- that line of the journals of some parts
 unfoldable pub summary_line : ℕ → List PartSpec → List (List Event) → List ℕ
 summary_line n specs journals =
-    with_number (codes "gen ") n ++ (with_number (codes " events ") (events_count journals)
-    ++ (with_number (codes " failures ") (failures_count specs journals)
-    ++ (with_number (codes " status ") (status_of specs journals) ++ line_feed)))
+    gen_line n (events_count journals) (failures_count specs journals) (status_of specs journals)

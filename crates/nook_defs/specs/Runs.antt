@@ -1,16 +1,13 @@
-use Rattle.std.specs.Prelude.{◌≡◌, ℕ, zero, suc, ◌+◌, ◌==◌, ◌&&◌, if◌then◌else◌, Bool, true, false, is_some, Option, Some, None, List, [], ◌∷◌, ◌++◌, length}
-use Rattle.std.specs.List.{list_any}
-use Rattle.nook_defs.specs.declared.data.Answer.{Answer}
-use Rattle.nook_defs.specs.declared.data.CallEntry.{CallEntry}
-use Rattle.nook_defs.specs.declared.data.Event.{Event}
-use Rattle.nook_defs.specs.declared.data.Event.TheVariants as event
-use Rattle.nook_defs.specs.declared.data.PartSpec.{PartSpec}
-use Rattle.nook_defs.specs.declared.data.Step.{Step}
-use Rattle.nook_defs.specs.declared.data.Step.TheVariants as step
-use Rattle.nook_defs.specs.Calls.{Turned}
+use Rattle.std.specs.Prelude.{◌≡◌, ℕ, ◌+◌, ◌==◌, if◌then◌else◌, true, is_some, Option, Some, None, List, [], ◌∷◌, ◌++◌}
+use Rattle.std.specs.Option.{option_or}
+use Rattle.nook_defs.specs.Types.{Answer, CallEntry, Event, PartSpec, Step}
+use Rattle.nook_defs.specs.declared.steps.Event.TheVariants as event
+use Rattle.nook_defs.specs.declared.steps.Step.TheVariants as step
+use Rattle.nook_defs.specs.declared.limits.TheConstants.{SHADOW}
+use Rattle.nook_defs.specs.Answers.{answers_of}
 use Rattle.nook_defs.specs.Log.{call_of_thread}
 use Rattle.nook_defs.specs.State.{PartState}
-use Rattle.nook_defs.specs.Steps.{opening, enabled, turned}
+use Rattle.nook_defs.specs.Steps.{opening, enabled, stepped}
 
 -- a part with its journal
 pub record PartRun : Type 0 where
@@ -23,11 +20,11 @@ opening_run spec = record { state = opening spec; journal = [] }
 
 -- the part after a step
 abbrev pub state_after : PartState → Step → PartState
-state_after p s = (turned p s).state
+state_after p s = (stepped p s).state
 
 -- the event that a step makes
 abbrev pub event_of : PartState → Step → Event
-event_of p s = (turned p s).event
+event_of p s = (stepped p s).event
 
 -- the part after a step: the journal has its event
 abbrev pub run_after : PartRun → Step → PartRun
@@ -75,27 +72,18 @@ next_for p thread =
 
 -- the stage or the burst of the shadow's context, where it may be taken
 unfoldable pub next_recovery : PartState → Option Step
-next_recovery p = if_enabled p step.Stage (if_enabled p (step.Burst 16) None)
-
--- the first step, where there is one, else the second
-abbrev pub or_step : Option Step → Option Step → Option Step
-or_step None others = others
-or_step (Some s) others = Some s
+next_recovery p = if_enabled p step.Stage (if_enabled p (step.Burst SHADOW) None)
 
 -- the next step of the first of the calls that has one
 abbrev pub next_of_calls : PartState → List CallEntry → Option Step
 next_of_calls p [] = None
-next_of_calls p (c ∷ calls) = or_step (next_for p c.thread) (next_of_calls p calls)
+next_of_calls p (c ∷ calls) = option_or (next_for p c.thread) (next_of_calls p calls)
 
 -- the recovery's step, else that of the open call with the smallest number that has one
 unfoldable pub next_any : PartState → Option Step
-next_any p = or_step (next_recovery p) (next_of_calls p p.log.pending)
+next_any p = option_or (next_recovery p) (next_of_calls p p.log.pending)
 
 -- Answers
-
--- an answer, where it is of this call
-abbrev pub if_call : ℕ → ℕ → Option Answer → Option Answer
-if_call call c answer = if c == call then answer else None
 
 -- the answer of a call among answers
 abbrev pub answer_among : ℕ → List (ℕ × Answer) → Option Answer
@@ -104,11 +92,7 @@ answer_among call ((c, a) ∷ answers) = if c == call then Some a else answer_am
 
 -- the answer that an event gives to a call
 abbrev pub answer_at : ℕ → Event → Option Answer
-answer_at call (event.Invoke c thread o answer) = if_call call c answer
-answer_at call (event.Enter c thread attempt answer) = if_call call c answer
-answer_at call (event.Burst context c burst count end acts answer failure) = if_call call c answer
-answer_at call (event.Stage stage answers released) = answer_among call answers
-answer_at call (event.Arrive frame kept) = None
+answer_at call e = answer_among call (answers_of e)
 
 -- the number of the first event from a place on that answers a call
 abbrev pub answered_from : ℕ → ℕ → List Event → Option ℕ

@@ -1,32 +1,24 @@
-use Rattle.std.specs.Prelude.{ℕ, ◌-◌, List, [], ◌∷◌, length, codes, bytes_eq, Option, Some, None, Result, Ok, if◌then◌else◌}
+use Rattle.std.specs.Prelude.{ℕ, ◌-◌, List, [], ◌∷◌, length, map, codes, Option, Result, Ok}
 use Rattle.serde_json.specs.Data.{Data}
+use Rattle.nook_defs.specs.Names.{value_named}
 use Rattle.nook_defs.specs.PartReading.{name_of, part_of}
-use Rattle.nook_defs.specs.Reading.{named_of, is_object, object_with, required, optional, number_at, list_of, numbers_of, json_of}
+use Rattle.nook_defs.specs.Reading.{named_of, is_object, object_with, required, optional, number_at, list_of}
+use Rattle.nook_defs.specs.Reading.{numbers_of, json_of}
 use Rattle.nook_defs.specs.Results.{◌>>=◌}
-use Rattle.nook_defs.specs.declared.data.Op.{Op}
-use Rattle.nook_defs.specs.declared.data.Op.TheVariants as op
-use Rattle.nook_defs.specs.declared.data.PartSpec.{PartSpec}
-use Rattle.nook_defs.specs.declared.data.Scenario.{Scenario}
-use Rattle.nook_defs.specs.declared.data.ScheduleSpec.{ScheduleSpec}
-use Rattle.nook_defs.specs.declared.data.ScheduleSpec.TheVariants as schedule
-use Rattle.nook_defs.specs.declared.data.ThreadSpec.{ThreadSpec}
-use Rattle.nook_defs.specs.declared.input.Key.{Key}
+use Rattle.nook_defs.specs.Types.{Key, Op, OpName, PartSpec, Refusal, Scenario, ScheduleName, ScheduleSpec, ThreadSpec}
+use Rattle.nook_defs.specs.declared.calls.Op.TheVariants as op
+use Rattle.nook_defs.specs.declared.scenario.ScheduleSpec.TheVariants as schedule
 use Rattle.nook_defs.specs.declared.input.Key.TheVariants as key
-use Rattle.nook_defs.specs.declared.input.OpName.{OpName}
 use Rattle.nook_defs.specs.declared.input.OpName.TheVariants as asks
-use Rattle.nook_defs.specs.declared.input.Refusal.{Refusal}
-use Rattle.nook_defs.specs.declared.input.ScheduleName.{ScheduleName}
 use Rattle.nook_defs.specs.declared.input.ScheduleName.TheVariants as named
+use Rattle.nook_defs.specs.declared.limits.TheConstants.{MOST_PARTS, MOST_THREADS}
 
 -- ---- schedules
 
 -- the kind of schedule of a name
 unfoldable pub schedule_named : List ℕ → Option ScheduleName
-schedule_named name =
-    if bytes_eq name (codes "round_robin") then Some named.RoundRobin
-    else if bytes_eq name (codes "drawn") then Some named.Drawn
-    else if bytes_eq name (codes "listed") then Some named.Listed
-    else None
+schedule_named name = value_named (
+    (codes "round_robin", named.RoundRobin) ∷ (codes "drawn", named.Drawn) ∷ (codes "listed", named.Listed) ∷ []) name
 
 -- the keys of a kind of schedule
 abbrev pub schedule_keys : ScheduleName → List Key
@@ -60,17 +52,10 @@ schedule_of d = do
 
 -- the operation of a name
 unfoldable pub op_named : List ℕ → Option OpName
-op_named name =
-    if bytes_eq name (codes "read") then Some asks.Read
-    else if bytes_eq name (codes "write") then Some asks.Write
-    else if bytes_eq name (codes "send") then Some asks.Send
-    else if bytes_eq name (codes "recv") then Some asks.Recv
-    else if bytes_eq name (codes "open") then Some asks.Open
-    else if bytes_eq name (codes "play") then Some asks.Play
-    else if bytes_eq name (codes "close") then Some asks.Close
-    else if bytes_eq name (codes "get") then Some asks.Get
-    else if bytes_eq name (codes "set") then Some asks.Set
-    else None
+op_named name = value_named (
+    (codes "read", asks.Read) ∷ (codes "write", asks.Write) ∷ (codes "send", asks.Send) ∷ (codes "recv", asks.Recv)
+    ∷ (codes "open", asks.Open) ∷ (codes "play", asks.Play) ∷ (codes "close", asks.Close) ∷ (codes "get", asks.Get)
+    ∷ (codes "set", asks.Set) ∷ []) name
 
 -- the keys that only some operations have
 abbrev pub op_keys : OpName → List Key
@@ -133,8 +118,7 @@ op_of parts d = do
 
 -- the names of threads
 abbrev pub thread_names : List ThreadSpec → List (List ℕ)
-thread_names [] = []
-thread_names (thread ∷ more) = thread.name ∷ thread_names more
+thread_names threads = map (λ thread. thread.name) threads
 
 -- up to 256 operations
 abbrev pub ops_of : ℕ → Data → Result (List (ℕ × Op)) Refusal
@@ -152,11 +136,11 @@ thread_of parts earlier d = do
 
 -- 1 to 8 parts
 abbrev pub parts_of : ℕ → Data → Result (List PartSpec) Refusal
-parts_of version d = list_of (part_of version) 1 8 d
+parts_of version d = list_of (part_of version) 1 MOST_PARTS d
 
 -- up to 16 threads
 abbrev pub threads_of : ℕ → Data → Result (List ThreadSpec) Refusal
-threads_of parts d = list_of (thread_of parts) 0 16 d
+threads_of parts d = list_of (thread_of parts) 0 MOST_THREADS d
 
 -- a scenario of version 1 or 2
 unfoldable pub scenario_of : Data → Result Scenario Refusal

@@ -1,9 +1,10 @@
-use Rattle.std.specs.Prelude.{ℕ, ◌+◌, ◌%◌, ◌==◌, nat_le, unwrap_or, Option, Some, None, List, [], ◌∷◌, length, position, slice_index}
+use Rattle.std.specs.Prelude.{ℕ, ◌+◌, ◌%◌, ◌==◌, nat_le, unwrap_or, Some, None, List, [], ◌∷◌, length, position}
+use Rattle.std.specs.Prelude.{slice_index}
 use Rattle.rand_core.specs.Pcg32Seed.{pcg32_seed}
 use Rattle.rand_pcg.specs.Lcg.{Lcg}
 use Rattle.rand_pcg.specs.Pcg.{pcg32, pcg32_of_seed}
-use Rattle.nook_defs.specs.declared.data.ScheduleSpec.{ScheduleSpec}
-use Rattle.nook_defs.specs.declared.data.ScheduleSpec.TheVariants as schedule
+use Rattle.nook_defs.specs.Types.{ScheduleSpec}
+use Rattle.nook_defs.specs.declared.scenario.ScheduleSpec.TheVariants as schedule
 
 -- where a schedule stands: the cursor of a round robin, the generator, or the picks that are left
 pub data Order : Type 0 where
@@ -26,17 +27,10 @@ pub record Picked : Type 0 where
 abbrev pub place_from : ℕ → List ℕ → ℕ
 place_from cursor actors = unwrap_or (position (λ a. nat_le cursor a) actors) 0
 
--- the pick at a place, with the cursor one past the actor that was picked
-abbrev pub round_at : ℕ → List ℕ → Picked
-round_at place actors = record { place = place; order = round (slice_index actors place + 1) }
-
--- the first actor at or after the cursor, else the first of all
+-- that actor, with the cursor one past it
 abbrev pub round_pick : ℕ → List ℕ → Picked
-round_pick cursor actors = round_at (place_from cursor actors) actors
-
--- the next word of the generator, modulo the number of actors
-abbrev pub drawn_pick : ℕ × Lcg → List ℕ → Picked
-drawn_pick word actors = record { place = word.0 % length actors; order = drawn word.1 }
+round_pick cursor actors =
+    let place = place_from cursor actors in record { place = place; order = round (slice_index actors place + 1) }
 
 -- the first of the picks that is enabled; behind the last one a round robin from its start
 abbrev pub listed_pick : List ℕ → List ℕ → Picked
@@ -47,8 +41,10 @@ listed_pick (pick ∷ picks) actors =
       | None ↦ listed_pick picks actors
     ]
 
--- the pick of a schedule among the enabled actors, which are in rising order and at least one
+-- the pick of a schedule among the enabled actors, which are in rising order and at least one; a drawn one is the next
+-- word of the generator, modulo their number
 unfoldable pub picked : Order → List ℕ → Picked
 picked (round cursor) actors = round_pick cursor actors
-picked (drawn g) actors = drawn_pick (pcg32 g) actors
+picked (drawn g) actors =
+    let word = pcg32 g in record { place = word.0 % length actors; order = drawn word.1 }
 picked (listed picks) actors = listed_pick picks actors

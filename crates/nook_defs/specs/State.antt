@@ -1,10 +1,5 @@
 use Rattle.std.specs.Prelude.{ℕ, List, Option}
-use Rattle.nook_defs.specs.declared.data.CallEntry.{CallEntry}
-use Rattle.nook_defs.specs.declared.data.DeviceState.{DeviceState}
-use Rattle.nook_defs.specs.declared.data.Entry.{Entry}
-use Rattle.nook_defs.specs.declared.data.Mode.{Mode}
-use Rattle.nook_defs.specs.declared.data.PartSpec.{PartSpec}
-use Rattle.nook_defs.specs.declared.machine.Context.{Context}
+use Rattle.nook_defs.specs.Types.{CallEntry, Context, DeviceState, Entry, Mode, PartSpec}
 
 -- a driver's domain: where its entries start, the 8,192 words of memory, what it holds in Collect's order,
 -- the device, and the 17 contexts, each free or Inside

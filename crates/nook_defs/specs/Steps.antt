@@ -1,21 +1,19 @@
-use Rattle.std.specs.Prelude.{ℕ, ◌+◌, ◌==◌, ◌&&◌, nat_lt, nat_le, not, if◌then◌else◌, Bool, true, false, is_some, is_none, Option, Some, None, List, [], ◌∷◌, filter, length}
-use Rattle.nook_defs.specs.declared.data.CallEntry.{CallEntry}
-use Rattle.nook_defs.specs.declared.data.Class.TheVariants as class
-use Rattle.nook_defs.specs.declared.data.Event.TheVariants as event
-use Rattle.nook_defs.specs.declared.data.Fault.{Fault}
-use Rattle.nook_defs.specs.declared.data.Mode.{Mode}
-use Rattle.nook_defs.specs.declared.data.Mode.TheVariants as mode
-use Rattle.nook_defs.specs.declared.data.PartSpec.{PartSpec}
-use Rattle.nook_defs.specs.declared.data.Stage.TheVariants as stage
-use Rattle.nook_defs.specs.declared.data.Step.{Step}
-use Rattle.nook_defs.specs.declared.data.Step.TheVariants as step
-use Rattle.nook_defs.specs.Calls.{Turned, invoked, entered_part}
+use Rattle.std.specs.Prelude.{ℕ, ◌+◌, ◌==◌, ◌&&◌, nat_lt, nat_le, not, if◌then◌else◌, Bool, true, false, is_some}
+use Rattle.std.specs.Prelude.{is_none, Option, Some, None, List, [], ◌∷◌, filter, length}
+use Rattle.nook_defs.specs.Types.{CallEntry, Fault, Mode, PartSpec, Step}
+use Rattle.nook_defs.specs.declared.classes.Class.TheVariants as class
+use Rattle.nook_defs.specs.declared.steps.Event.TheVariants as event
+use Rattle.nook_defs.specs.declared.steps.Mode.TheVariants as mode
+use Rattle.nook_defs.specs.declared.steps.Stage.TheVariants as stage
+use Rattle.nook_defs.specs.declared.steps.Step.TheVariants as step
+use Rattle.nook_defs.specs.declared.limits.TheConstants.{MOST_CALLS, MOST_FRAME_WORDS, MOST_THREADS, SHADOW}
+use Rattle.nook_defs.specs.Calls.{Stepped, after_invoke, after_enter}
 use Rattle.nook_defs.specs.Classes.{defaults_of, same_class}
-use Rattle.nook_defs.specs.Crossing.{Crossed, crossed}
+use Rattle.nook_defs.specs.Crossing.{Crossed, after_crossing}
 use Rattle.nook_defs.specs.Devices.{has_room, with_arrival}
 use Rattle.nook_defs.specs.Domain.{DomainBurst, opening_domain, domain_burst, context_of}
 use Rattle.nook_defs.specs.Log.{opening_log, call_of_thread, is_blocked}
-use Rattle.nook_defs.specs.Stages.{stage_due, stage_turned}
+use Rattle.nook_defs.specs.Stages.{stage_due, stage_stepped}
 use Rattle.nook_defs.specs.State.{DomainState, PartState}
 
 -- The one step of a part.
@@ -37,14 +35,12 @@ opening spec = record {
 
 -- applications are served by the driver
 abbrev pub is_running : Mode → Bool
-is_running (mode.Boot s) = false
 is_running mode.Running = true
-is_running (mode.Recovering s) = false
-is_running (mode.Dead collected) = false
+is_running _ = false
 
 -- the shadow's own call is Inside
 abbrev pub is_driven : PartState → Bool
-is_driven p = is_some (context_of 16 p.domain.contexts)
+is_driven p = is_some (context_of SHADOW p.domain.contexts)
 
 -- a held call that no open call with a smaller number conflicts with
 abbrev pub is_ready : PartState → Option CallEntry → Bool
@@ -59,7 +55,7 @@ is_inside (Some c) = c.inside
 -- one of 16 threads that has no open call may invoke, up to 100,000 calls
 abbrev pub can_invoke : PartState → ℕ → Bool
 can_invoke p thread =
-    nat_lt thread 16 && is_none (call_of_thread thread p.log.pending) && nat_lt p.log.count 100000
+    nat_lt thread MOST_THREADS && is_none (call_of_thread thread p.log.pending) && nat_lt p.log.count MOST_CALLS
 
 -- a thread's open call may be entered while the driver serves, if it is Held and nothing blocks it
 abbrev pub can_enter : PartState → ℕ → Bool
@@ -68,7 +64,7 @@ can_enter p thread = is_running p.mode && is_ready p (call_of_thread thread p.lo
 -- the shadow may run where a stage drives the driver, and a call while it is Inside
 abbrev pub can_burst : PartState → ℕ → Bool
 can_burst p context =
-    if context == 16 then is_driven p
+    if context == SHADOW then is_driven p
     else is_running p.mode && is_inside (call_of_thread context p.log.pending)
 
 -- a stage is due, and the shadow has no call Inside
@@ -78,7 +74,8 @@ can_stage p = is_some (stage_due p.mode) && not (is_driven p)
 -- a frame of 1 to 64 words may arrive on a link, up to 100,000 of them
 abbrev pub can_arrive : PartState → List ℕ → Bool
 can_arrive p frame =
-    same_class p.spec.class class.Net && (nat_le 1 (length frame) && nat_le (length frame) 64) && nat_lt p.arrived 100000
+    same_class p.spec.class class.Net && (nat_le 1 (length frame) && nat_le (length frame) MOST_FRAME_WORDS)
+    && nat_lt p.arrived MOST_CALLS
 
 -- the step may be taken
 unfoldable pub enabled : PartState → Step → Bool
@@ -94,54 +91,55 @@ enabled p (step.Arrive frame) = can_arrive p frame
 abbrev pub is_of_burst : ℕ → Fault → Bool
 is_of_burst number f = f.burst == number
 
--- a fault put before the first of a list that does not come earlier, so before those of its own place, which it preceded
-abbrev pub with_fault : Fault → List Fault → List Fault
-with_fault f [] = f ∷ []
-with_fault f (g ∷ faults) = if nat_le f.after g.after then f ∷ g ∷ faults else g ∷ with_fault f faults
+-- a fault put before the first of a list that does not come earlier, so before those of its own place, which it
+-- preceded
+abbrev pub insert_fault : Fault → List Fault → List Fault
+insert_fault f [] = f ∷ []
+insert_fault f (g ∷ faults) = if nat_le f.after g.after then f ∷ g ∷ faults else g ∷ insert_fault f faults
 
 -- faults in rising order of their places, those of one place as they are given
 abbrev pub in_order : List Fault → List Fault
 in_order [] = []
-in_order (f ∷ faults) = with_fault f (in_order faults)
+in_order (f ∷ faults) = insert_fault f (in_order faults)
 
 -- the faults of a burst in rising order of their places, those of one place as given
 unfoldable pub faults_of_burst : ℕ → List Fault → List Fault
 faults_of_burst number faults = in_order (filter (is_of_burst number) faults)
 
 -- a call's number; 0 stands for the shadow's own call
-abbrev pub number_of : Option CallEntry → ℕ
-number_of None = 0
-number_of (Some c) = c.call
+abbrev pub number_of_call : Option CallEntry → ℕ
+number_of_call None = 0
+number_of_call (Some c) = c.call
 
 -- the number of the call that a context serves; 0 for the shadow's own
 abbrev pub served_number : ℕ → PartState → ℕ
-served_number context p = if context == 16 then 0 else number_of (call_of_thread context p.log.pending)
+served_number context p = if context == SHADOW then 0 else number_of_call (call_of_thread context p.log.pending)
 
 -- the part with a domain that ran once more
 abbrev pub with_burst : DomainState → PartState → PartState
 with_burst d p = record p { domain = d; bursts = p.bursts + 1 }
 
 -- the part after a burst and its crossing, with the event of both
-abbrev pub burst_event : ℕ → PartState → DomainBurst → Crossed → Turned
+abbrev pub burst_event : ℕ → PartState → DomainBurst → Crossed → Stepped
 burst_event context p b c = record {
   state = c.state;
   event = event.Burst context (served_number context p) (p.bursts + 1) b.count c.end b.acts c.answer c.failure;
 }
 
 -- a burst, then what its crossing asks
-abbrev pub past_burst : ℕ → PartState → DomainBurst → Turned
-past_burst context p b = burst_event context p b (crossed context b.ending (with_burst b.domain p))
+abbrev pub burst_step : ℕ → PartState → DomainBurst → Stepped
+burst_step context p b = burst_event context p b (after_crossing context b.ending (with_burst b.domain p))
 
 -- a burst of a context with the faults of its number, and what its crossing asks
-unfoldable pub burst_turned : ℕ → PartState → Turned
-burst_turned context p =
-    past_burst context p (domain_burst context (faults_of_burst (p.bursts + 1) p.spec.faults) p.domain)
+unfoldable pub burst_stepped : ℕ → PartState → Stepped
+burst_stepped context p =
+    burst_step context p (domain_burst context (faults_of_burst (p.bursts + 1) p.spec.faults) p.domain)
 
 -- A frame arrives
 
 -- a frame arrives: the ring takes it, or loses it where it is full
-unfoldable pub arrived : List ℕ → PartState → Turned
-arrived frame p = record {
+unfoldable pub after_arrival : List ℕ → PartState → Stepped
+after_arrival frame p = record {
   state = record p {
     domain = record p.domain { device = with_arrival frame p.domain.device };
     arrived = p.arrived + 1;
@@ -150,9 +148,9 @@ arrived frame p = record {
 }
 
 -- the part after a step that may be taken, and the step's event
-unfoldable pub turned : PartState → Step → Turned
-turned p (step.Invoke thread o) = invoked thread o p
-turned p (step.Enter thread) = entered_part thread p
-turned p (step.Burst context) = burst_turned context p
-turned p step.Stage = stage_turned p
-turned p (step.Arrive frame) = arrived frame p
+unfoldable pub stepped : PartState → Step → Stepped
+stepped p (step.Invoke thread o) = after_invoke thread o p
+stepped p (step.Enter thread) = after_enter thread p
+stepped p (step.Burst context) = burst_stepped context p
+stepped p step.Stage = stage_stepped p
+stepped p (step.Arrive frame) = after_arrival frame p

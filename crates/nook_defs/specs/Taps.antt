@@ -1,5 +1,5 @@
 use Rattle.std.specs.Prelude.{ℕ, Bool, List, [], ◌∷◌, ◌+◌, min, nat_le, nat_lt, if◌then◌else◌}
-use Rattle.nook_defs.specs.declared.data.Event.{Event}
+use Rattle.nook_defs.specs.Types.{Event}
 use Rattle.nook_defs.specs.Listening.{Listening, hears, count_if}
 
 -- What a listener has counted when all events were published, each with its part.

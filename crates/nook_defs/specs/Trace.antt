@@ -1,11 +1,10 @@
-use Rattle.std.specs.Prelude.{ℕ, Bool, true, false, List, [], ◌∷◌, ◌++◌, map, Option, Some, None, ◌&&◌, if◌then◌else◌}
-use Rattle.nook_defs.specs.declared.data.Act.{Act}
-use Rattle.nook_defs.specs.declared.data.Act.TheVariants as act
-use Rattle.nook_defs.specs.declared.data.Answer.{Answer}
-use Rattle.nook_defs.specs.declared.data.Answer.TheVariants as answered
-use Rattle.nook_defs.specs.declared.data.Event.{Event}
-use Rattle.nook_defs.specs.declared.data.Event.TheVariants as event
-use Rattle.nook_defs.specs.declared.data.Op.{Op}
+use Rattle.std.specs.Prelude.{ℕ, Bool, true, false, List, [], ◌∷◌, ◌++◌, fold, map, Option, Some, ◌&&◌}
+use Rattle.std.specs.Prelude.{if◌then◌else◌}
+use Rattle.nook_defs.specs.Types.{Act, Answer, Event, Op}
+use Rattle.nook_defs.specs.declared.machine.Act.TheVariants as act
+use Rattle.nook_defs.specs.declared.calls.Answer.TheVariants as answered
+use Rattle.nook_defs.specs.declared.steps.Event.TheVariants as event
+use Rattle.nook_defs.specs.Answers.{one_answer}
 use Rattle.nook_defs.specs.Classes.{covers, is_write}
 use Rattle.nook_defs.specs.Places.{at_number, change_number}
 
@@ -28,35 +27,19 @@ pub record Track : Type 0 where
   pub entered : Bool
   pub stored : List ℕ
 
--- a call that was made
-abbrev pub first_track : Op → Track
-first_track o = record { op = o; entered = false; stored = [] }
-
--- a call that was entered
-abbrev pub enter_track : Track → Track
-enter_track t = record t { entered = true }
-
--- a block was stored
-abbrev pub store_track : ℕ → Track → Track
-store_track block t = record t { stored = if t.entered && covers t.op block then block ∷ t.stored else t.stored }
-
 -- ---- each call after an event
 
--- each call after an act: a stored block belongs to the Writes that cover it
-abbrev pub tracks_after_act : Act → List Track → List Track
-tracks_after_act (act.Store block words) ts = map (store_track block) ts
-tracks_after_act a ts = ts
-
--- each call after the acts of a burst, in order
-abbrev pub tracks_after_acts : List Act → List Track → List Track
-tracks_after_acts [] ts = ts
-tracks_after_acts (a ∷ acts) ts = tracks_after_acts acts (tracks_after_act a ts)
+-- each call after an act: a stored block belongs to the entered Writes that cover it
+abbrev pub tracks_after_act : List Track → Act → List Track
+tracks_after_act ts (act.Store block words) =
+    map (λ (t : Track). record t { stored = if t.entered && covers t.op block then block ∷ t.stored else t.stored }) ts
+tracks_after_act ts a = ts
 
 -- each call after an event
 abbrev pub tracks_after : Event → List Track → List Track
-tracks_after (event.Invoke call thread o a) ts = ts ++ first_track o ∷ []
-tracks_after (event.Enter call thread attempt a) ts = change_number enter_track call ts
-tracks_after (event.Burst context call burst count end acts a failure) ts = tracks_after_acts acts ts
+tracks_after (event.Invoke call thread o a) ts = ts ++ record { op = o; entered = false; stored = [] } ∷ []
+tracks_after (event.Enter call thread attempt a) ts = change_number (λ t. record t { entered = true }) call ts
+tracks_after (event.Burst context call burst count end acts a failure) ts = fold tracks_after_act ts acts
 tracks_after (event.Stage stage answers released) ts = ts
 tracks_after (event.Arrive frame kept) ts = ts
 
@@ -67,19 +50,13 @@ abbrev pub kept_blocks : Answer → Option Track → List ℕ
 kept_blocks (answered.IoError block) (Some t) = if is_write t.op then t.stored else []
 kept_blocks a t = []
 
--- an answer that an application sees
-abbrev pub shown_answer : ℕ → Answer → List Track → Visible
-shown_answer call a ts = answer call a (kept_blocks a (at_number call ts))
-
--- the same where an answer is given
-abbrev pub shown_option : ℕ → Option Answer → List Track → List Visible
-shown_option call None ts = []
-shown_option call (Some a) ts = shown_answer call a ts ∷ []
-
 -- answers that applications see, in order
 abbrev pub shown_answers : List (ℕ × Answer) → List Track → List Visible
-shown_answers [] ts = []
-shown_answers (a ∷ answers) ts = shown_answer a.0 a.1 ts ∷ shown_answers answers ts
+shown_answers answers ts = map (λ a. answer a.0 a.1 (kept_blocks a.1 (at_number a.0 ts))) answers
+
+-- the answer that an application sees, where one is given
+abbrev pub shown_option : ℕ → Option Answer → List Track → List Visible
+shown_option call a ts = shown_answers (one_answer call a) ts
 
 -- the acts of a burst of a call; of these, frames sent and samples played are seen outside
 abbrev pub shown_acts : ℕ → List Act → List Visible

@@ -1,13 +1,8 @@
-use Rattle.std.specs.Prelude.{ℕ, ◌+◌, ◌-◌, ◌*◌, ◌/◌, ◌%◌, ◌^◌, ◌==◌, nat_lt, not, if◌then◌else◌, Bool, Option, Some, None, List, slice_index, slice_set, bit_and, bit_or, bit_xor}
-use Rattle.nook_defs.specs.declared.data.Act.{Act}
-use Rattle.nook_defs.specs.declared.data.DeviceState.{DeviceState}
-use Rattle.nook_defs.specs.declared.data.Entry.{Entry}
-use Rattle.nook_defs.specs.declared.data.TrapCause.{TrapCause}
-use Rattle.nook_defs.specs.declared.data.TrapCause.TheVariants as trap
-use Rattle.nook_defs.specs.declared.machine.BurstEnd.{BurstEnd}
+use Rattle.std.specs.Prelude.{ℕ, ◌+◌, ◌-◌, ◌*◌, ◌/◌, ◌%◌, ◌^◌, ◌==◌, nat_lt, not, if◌then◌else◌, Bool, Option, Some}
+use Rattle.std.specs.Prelude.{None, List, slice_index, slice_set, bit_and, bit_or, bit_xor}
+use Rattle.nook_defs.specs.Types.{Act, BurstEnd, Cpu, DeviceState, Entry, Instr, TrapCause}
+use Rattle.nook_defs.specs.declared.machine.TrapCause.TheVariants as trap
 use Rattle.nook_defs.specs.declared.machine.BurstEnd.TheVariants as ends
-use Rattle.nook_defs.specs.declared.machine.Cpu.{Cpu}
-use Rattle.nook_defs.specs.declared.machine.Instr.{Instr}
 use Rattle.nook_defs.specs.declared.machine.Instr.TheVariants as instr
 use Rattle.nook_defs.specs.Devices.{Given, Taken, input_of, output_of}
 use Rattle.nook_defs.specs.Machine.{decode_of}

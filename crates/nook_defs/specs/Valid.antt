@@ -1,25 +1,20 @@
-use Rattle.std.specs.Prelude.{ℕ, ◌^◌, ◌<◌, ◌≤◌, ◌≡◌, ◌&&◌, not, List, [], ◌∷◌, length, All, Bool, true, ⊤}
+use Rattle.std.specs.Prelude.{ℕ, ◌-◌, ◌^◌, ◌<◌, ◌≤◌, ◌≡◌, ◌&&◌, not, List, [], ◌∷◌, length, All, Bool, true, ⊤}
 use Rattle.nook_defs.specs.Classes.{entry_count}
 use Rattle.nook_defs.specs.Names.{is_name}
 use Rattle.nook_defs.specs.PartReading.{is_among, part_names}
 use Rattle.nook_defs.specs.ScenarioReading.{thread_names}
-use Rattle.nook_defs.specs.declared.data.BadBlock.{BadBlock}
-use Rattle.nook_defs.specs.declared.data.Class.{Class}
-use Rattle.nook_defs.specs.declared.data.Class.TheVariants as class
-use Rattle.nook_defs.specs.declared.data.Fault.{Fault}
-use Rattle.nook_defs.specs.declared.data.FaultKind.{FaultKind}
-use Rattle.nook_defs.specs.declared.data.FaultKind.TheVariants as strikes
-use Rattle.nook_defs.specs.declared.data.Image.{Image}
-use Rattle.nook_defs.specs.declared.data.Op.{Op}
-use Rattle.nook_defs.specs.declared.data.Op.TheVariants as op
-use Rattle.nook_defs.specs.declared.data.PartSpec.{PartSpec}
-use Rattle.nook_defs.specs.declared.data.Scenario.{Scenario}
-use Rattle.nook_defs.specs.declared.data.ScheduleSpec.{ScheduleSpec}
-use Rattle.nook_defs.specs.declared.data.ScheduleSpec.TheVariants as schedule
-use Rattle.nook_defs.specs.declared.data.ThreadSpec.{ThreadSpec}
+use Rattle.nook_defs.specs.Types.{BadBlock, Class, Fault, FaultKind, Image, Op, PartSpec, Scenario, ScheduleSpec}
+use Rattle.nook_defs.specs.Types.{ThreadSpec}
+use Rattle.nook_defs.specs.declared.classes.Class.TheVariants as class
+use Rattle.nook_defs.specs.declared.scenario.FaultKind.TheVariants as strikes
+use Rattle.nook_defs.specs.declared.calls.Op.TheVariants as op
+use Rattle.nook_defs.specs.declared.scenario.ScheduleSpec.TheVariants as schedule
+use Rattle.nook_defs.specs.declared.limits.TheConstants.{MOST_BAD_BLOCKS, MOST_FAILURES, MOST_FAULTS, MOST_FRAME_WORDS}
+use Rattle.nook_defs.specs.declared.limits.TheConstants.{MOST_PARTS, MOST_THREADS, MOST_TURNS}
+use Rattle.nook_defs.specs.declared.memory_map.TheConstants.{TEXT_WORDS, DATA_WORDS}
 
--- The limits that images, parts and scenarios keep. Every call that takes one has this as its condition, and every reader
--- gives what keeps it.
+-- The limits that images, parts and scenarios keep. Every call that takes one has this as its condition, and every
+-- reader gives what keeps it.
 
 -- a number of 32 bits
 abbrev pub IsWord : ℕ → Type 0
@@ -31,14 +26,14 @@ AreWords most words = (length words ≤ most) × All IsWord words
 
 -- a place in the text
 abbrev pub IsTextPlace : ℕ → Type 0
-IsTextPlace place = place ≤ 2047
+IsTextPlace place = place ≤ TEXT_WORDS - 1
 
 -- an image has a place in the text for each entry of its class, and up to 2,048 text words and initial words
 pub record IsValidImage (image : Image) : Type 0 where
   pub entries : length image.entries ≡ entry_count image.class
   pub places : All IsTextPlace image.entries
-  pub text : AreWords 2048 image.text
-  pub initial : AreWords 2048 image.initial
+  pub text : AreWords TEXT_WORDS image.text
+  pub initial : AreWords DATA_WORDS image.initial
 
 -- a fault's numbers are words, and its register is one
 abbrev pub IsValidKind : FaultKind → Type 0
@@ -51,7 +46,7 @@ IsValidKind (strikes.Reg register value) = (register ≤ 15) × IsWord value
 -- a fault of burst 1 or later, after up to 4,095 turns
 pub record IsValidFault (fault : Fault) : Type 0 where
   pub burst : (1 ≤ fault.burst) × IsWord fault.burst
-  pub after : fault.after ≤ 4095
+  pub after : fault.after ≤ MOST_TURNS - 1
   pub kind : IsValidKind fault.kind
 
 -- a bad block of a disk of so many blocks
@@ -61,24 +56,25 @@ pub record IsValidBadBlock (blocks : ℕ) (bad : BadBlock) : Type 0 where
 
 -- 1 to 64 words
 abbrev pub IsValidFrame : List ℕ → Type 0
-IsValidFrame frame = (1 ≤ length frame) × AreWords 64 frame
+IsValidFrame frame = (1 ≤ length frame) × AreWords MOST_FRAME_WORDS frame
 
 -- what only parts of one class have: a disk has 1 to 256 blocks, a net part up to 256 arrivals
 abbrev pub FitsClass : Class → PartSpec → Type 0
 FitsClass class.Block part = (1 ≤ part.blocks) × (part.blocks ≤ 256) × (part.arrivals ≡ [])
-FitsClass class.Net part = (part.blocks ≡ 0) × (part.bad ≡ []) × (length part.arrivals ≤ 256) × All IsValidFrame part.arrivals
+FitsClass class.Net part =
+    (part.blocks ≡ 0) × (part.bad ≡ []) × (length part.arrivals ≤ 256) × All IsValidFrame part.arrivals
 FitsClass class.Sound part = (part.blocks ≡ 0) × (part.bad ≡ []) × (part.arrivals ≡ [])
 
 -- a part keeps every limit, and its image is of its class
 pub record IsValidPart (part : PartSpec) : Type 0 where
   pub name : is_name part.name ≡ true
   pub fits : FitsClass part.class part
-  pub bad_count : length part.bad ≤ 64
+  pub bad_count : length part.bad ≤ MOST_BAD_BLOCKS
   pub bad : All (IsValidBadBlock part.blocks) part.bad
-  pub limit : part.limit ≤ 16
+  pub limit : part.limit ≤ MOST_FAILURES
   pub class : part.image.class ≡ part.class
   pub image : IsValidImage part.image
-  pub fault_count : length part.faults ≤ 64
+  pub fault_count : length part.faults ≤ MOST_FAULTS
   pub faults : All IsValidFault part.faults
 
 -- an operation of a script has numbers of 32 bits and up to 256 words
@@ -103,15 +99,11 @@ pub record IsValidThread (parts : ℕ) (thread : ThreadSpec) : Type 0 where
   pub op_count : length thread.ops ≤ 256
   pub ops : All (IsValidStep parts) thread.ops
 
--- a number of 16 bits
-abbrev pub IsPick : ℕ → Type 0
-IsPick pick = pick < 2 ^ 16
-
--- a start of 64 bits, or up to 65,536 picks
+-- a start of 64 bits, or up to 65,536 picks of 16 bits
 abbrev pub IsValidSchedule : ScheduleSpec → Type 0
 IsValidSchedule schedule.RoundRobin = ⊤
 IsValidSchedule (schedule.Drawn start) = start < 2 ^ 64
-IsValidSchedule (schedule.Listed picks) = (length picks ≤ 65536) × All IsPick picks
+IsValidSchedule (schedule.Listed picks) = (length picks ≤ 65536) × All (λ pick. pick < 2 ^ 16) picks
 
 -- no name stands twice
 abbrev pub are_distinct : List (List ℕ) → Bool
@@ -121,9 +113,9 @@ are_distinct (name ∷ more) = not (is_among more name) && are_distinct more
 -- 1 to 8 parts and up to 16 threads, each valid and each with a name of its own
 pub record IsValidScenario (scenario : Scenario) : Type 0 where
   pub schedule : IsValidSchedule scenario.schedule
-  pub part_count : (1 ≤ length scenario.parts) × (length scenario.parts ≤ 8)
+  pub part_count : (1 ≤ length scenario.parts) × (length scenario.parts ≤ MOST_PARTS)
   pub parts : All IsValidPart scenario.parts
   pub part_names : are_distinct (part_names scenario.parts) ≡ true
-  pub thread_count : length scenario.threads ≤ 16
+  pub thread_count : length scenario.threads ≤ MOST_THREADS
   pub threads : All (IsValidThread (length scenario.parts)) scenario.threads
   pub thread_names : are_distinct (thread_names scenario.threads) ≡ true

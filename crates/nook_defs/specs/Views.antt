@@ -1,5 +1,5 @@
--- How the data of code is seen by contracts: pages, entries, ports, rooms, streams, and the causes of errors. No promise of
--- the program has to be believed by these.
+-- How the data of code is seen by contracts: pages, entries, ports, rooms, streams, and the causes of errors. No
+-- promise of the program has to be believed by these.
 pub mod Causes
 pub mod Room
 pub mod Streams

@@ -1,6 +1,6 @@
 //! The words of the assembler's language, and the faults of its texts.
 
-use crate::data::Class;
+use crate::classes::Class;
 use crate::lists::Words8;
 
 /// A fault of an assembler text. The numbers that the program prints go from 1, in this order.

@@ -1,6 +1,15 @@
 //! What a class decides about a call at its Enter and at its driver's reply.
 
-use crate::data::{Answer, FailCause};
+use crate::calls::Answer;
+use crate::steps::FailCause;
+
+/// The class of a driver and its device.
+#[derive(Clone, Copy, Debug, PartialEq, Eq)]
+pub enum Class {
+    Block,
+    Net,
+    Sound,
+}
 
 /// What becomes of a held call when it is entered.
 #[derive(Drop)]

@@ -3,13 +3,16 @@
 ghost use Rattle.std.specs.Prelude.{◌≡◌, ◌≤◌, length};
 ghost use Rattle.nook_defs.specs.Views.Room.{answer_words};
 
-use crate::data::{
-    Act, Answer, BadBlock, Campaign, End, Entry, Event, Fault, Image, MemberRow, Op, PartSpec,
-    Scenario, ScheduleSpec, ThreadSpec,
-};
+use crate::calls::{Answer, Op};
+use crate::campaign::{Campaign, MemberRow};
+use crate::devices::{DeviceKind, DeviceState, Disk, Link};
+use crate::entries::Entry;
 use crate::lists::TryCopy;
+use crate::machine::Act;
 use crate::memory::{NoMemory, Room};
 use crate::name::Name;
+use crate::scenario::{BadBlock, Fault, Image, PartSpec, Scenario, ScheduleSpec, ThreadSpec};
+use crate::steps::{End, Event};
 use std::alloc::Global;
 
 impl TryCopy for Name {
@@ -334,5 +337,55 @@ impl TryCopy for Campaign {
 impl TryCopy for MemberRow {
     fn copy(&self, _alloc: Global) -> Result<MemberRow, NoMemory> {
         Ok(*self)
+    }
+}
+
+impl TryCopy for Disk {
+    fn copy(&self, alloc: Global) -> Result<Disk, NoMemory> {
+        let medium = self.medium.copy(alloc)?;
+        let bad = self.bad.copy(alloc)?;
+        let counts = self.counts.copy(alloc)?;
+        Ok(Disk {
+            medium,
+            bad,
+            counts,
+            block: self.block,
+            buffer: self.buffer,
+            position: self.position,
+            status: self.status,
+        })
+    }
+}
+
+impl TryCopy for Link {
+    fn copy(&self, alloc: Global) -> Result<Link, NoMemory> {
+        let ring = self.ring.copy(alloc)?;
+        Ok(Link {
+            length: self.length,
+            buffer: self.buffer,
+            position: self.position,
+            ring,
+            reading: self.reading,
+        })
+    }
+}
+
+impl TryCopy for DeviceKind {
+    fn copy(&self, alloc: Global) -> Result<DeviceKind, NoMemory> {
+        match self {
+            DeviceKind::Disk(disk) => Ok(DeviceKind::Disk(disk.copy(alloc)?)),
+            DeviceKind::Link(link) => Ok(DeviceKind::Link(link.copy(alloc)?)),
+            DeviceKind::Speaker => Ok(DeviceKind::Speaker),
+        }
+    }
+}
+
+impl TryCopy for DeviceState {
+    fn copy(&self, alloc: Global) -> Result<DeviceState, NoMemory> {
+        let kind = self.kind.copy(alloc)?;
+        Ok(DeviceState {
+            registers: self.registers,
+            kind,
+        })
     }
 }

@@ -2,9 +2,11 @@
 
 ghost use Rattle.std.specs.Prelude.{◌≡◌, ◌<◌, ◌≤◌, [], ◌∷◌, ◌++◌, ◌+◌, All, length, slice_get, IfOk, OnErr, OnOk};
 
-use crate::data::{Act, Acts, Event};
+use crate::limits::{MOST_ACTS, MOST_FRAME_WORDS};
 use crate::lists::{Items, Words};
+use crate::machine::{Act, Acts};
 use crate::memory::{NoMemory, Room};
+use crate::steps::Event;
 use std::alloc::Global;
 use std::marker::Model;
 use std::mem;
@@ -18,7 +20,7 @@ pub struct Journal {
 impl Model for Journal {
     ghost use Rattle.std.specs.Prelude.{◌-◌, vec_capacity, vec_len};
     ghost use Rattle.nook_defs.specs.Views.Room.{Kept};
-    ghost use Rattle.nook_defs.specs.declared.data.Event.{Event};
+    ghost use Rattle.nook_defs.specs.declared.steps.Event.{Event};
 
     ghost Value = { Kept Event };
 
@@ -85,14 +87,11 @@ impl Journal {
     }
 }
 
-/// The acts of one burst at most.
-const MOST_ACTS: usize = 64;
-
 /// The acts of most bursts at most.
 const FEW_ACTS: usize = 8;
 
-/// The words of one act at most.
-const ACT_WORDS: usize = 64;
+/// The words of one act at most: those of a frame.
+const ACT_WORDS: usize = MOST_FRAME_WORDS;
 
 /// The acts of a burst as they are made, with room for 64 that is taken before the burst. Contracts see the list.
 /// `SpareRooms` opens it and closes it.
@@ -104,14 +103,15 @@ pub struct ActLog {
 
 impl Model for ActLog {
     ghost use Rattle.std.specs.Prelude.{◌≤◌, ◌+◌, List, All, length, vec_capacity};
-    ghost use Rattle.nook_defs.specs.declared.data.Act.{Act};
+    ghost use Rattle.nook_defs.specs.declared.machine.Act.{Act};
+    ghost use Rattle.nook_defs.specs.declared.limits.TheConstants.{MOST_ACTS, MOST_FRAME_WORDS};
 
     ghost Value = { List Act };
 
     ghost view = { λ s. s.acts.items };
 
-    ghost invariant = { λ s. (64 ≤ vec_capacity s.acts) × (64 ≤ length s.acts.items + length s.rooms.items)
-        × All (λ room. 64 ≤ room) s.rooms.items };
+    ghost invariant = { λ s. (MOST_ACTS ≤ vec_capacity s.acts) × (MOST_ACTS ≤ length s.acts.items + length s.rooms.items)
+        × All (λ room. MOST_FRAME_WORDS ≤ room) s.rooms.items };
 }
 
 impl ActLog {
@@ -124,7 +124,7 @@ impl ActLog {
 
     /// A block came from the medium.
     pub fn load(&mut self, block: u32)
-        requires { length self.old < 64 }
+        requires { length self.old < MOST_ACTS }
         ensures { self.new ≡ self.old ++ Act.Load block ∷ [] }
     {
         self.acts.push(Act::Load { block }).unwrap();
@@ -132,7 +132,7 @@ impl ActLog {
 
     /// A block went to the medium.
     pub fn store(&mut self, block: u32, words: &[u32; 16])
-        requires { length self.old < 64 }
+        requires { length self.old < MOST_ACTS }
         ensures { self.new ≡ self.old ++ Act.Store block words.now ∷ [] }
     {
         let words = kept(&mut self.rooms, words);
@@ -141,7 +141,7 @@ impl ActLog {
 
     /// A command met a bad block; `store` tells which command.
     pub fn failed(&mut self, block: u32, store: bool)
-        requires { length self.old < 64 }
+        requires { length self.old < MOST_ACTS }
         ensures { self.new ≡ self.old ++ Act.Failed block store ∷ [] }
     {
         self.acts.push(Act::Failed { block, store }).unwrap();
@@ -149,8 +149,8 @@ impl ActLog {
 
     /// A frame of at most 64 words went to the wire.
     pub fn sent(&mut self, frame: &[u32])
-        requires room { length self.old < 64 }
-        requires words { length frame.now ≤ 64 }
+        requires room { length self.old < MOST_ACTS }
+        requires words { length frame.now ≤ ACT_WORDS }
         ensures { self.new ≡ self.old ++ Act.Sent frame.now ∷ [] }
     {
         let frame = kept(&mut self.rooms, frame);
@@ -159,7 +159,7 @@ impl ActLog {
 
     /// A frame left the ring.
     pub fn popped(&mut self, frame: Words)
-        requires { length self.old < 64 }
+        requires { length self.old < MOST_ACTS }
         ensures { self.new ≡ self.old ++ Act.Popped frame ∷ [] }
     {
         self.acts.push(Act::Popped { frame }).unwrap();
@@ -167,7 +167,7 @@ impl ActLog {
 
     /// A sample was played at a rate and a volume.
     pub fn played(&mut self, sample: u32, rate: u32, volume: u32)
-        requires { length self.old < 64 }
+        requires { length self.old < MOST_ACTS }
         ensures { self.new ≡ self.old ++ Act.Played sample rate volume ∷ [] }
     {
         self.acts
@@ -181,7 +181,7 @@ impl ActLog {
 
     /// A configuration register got a value.
     pub fn register(&mut self, key: u32, value: u32)
-        requires { length self.old < 64 }
+        requires { length self.old < MOST_ACTS }
         ensures { self.new ≡ self.old ++ Act.Register key value ∷ [] }
     {
         self.acts.push(Act::Register { key, value }).unwrap();
@@ -202,12 +202,13 @@ pub struct SpareRooms {
 
 impl Model for SpareRooms {
     ghost use Rattle.std.specs.Prelude.{◌≡◌, ◌≤◌, ℕ, [], All, length};
+    ghost use Rattle.nook_defs.specs.declared.limits.TheConstants.{MOST_FRAME_WORDS};
 
     ghost Value = { ℕ };
 
     ghost view = { λ s. length s.rooms.items };
 
-    ghost invariant = { λ s. (s.acts.items ≡ []) × (s.few.items ≡ []) × All (λ room. 64 ≤ room) s.rooms.items };
+    ghost invariant = { λ s. (s.acts.items ≡ []) × (s.few.items ≡ []) × All (λ room. MOST_FRAME_WORDS ≤ room) s.rooms.items };
 }
 
 impl SpareRooms {
@@ -242,7 +243,7 @@ impl SpareRooms {
     /// are here; an act uses one at most. It takes no memory.
     pub fn close_log(&mut self, log: ActLog) -> Acts
         ensures acts { result ≡ log }
-        ensures kept { 64 ≤ length log + self.new }
+        ensures kept { MOST_ACTS ≤ length log + self.new }
     {
         let ActLog { mut acts, rooms } = log;
         self.rooms = rooms;
@@ -258,9 +259,9 @@ impl SpareRooms {
 
 /// Takes rooms for 64 words until there are 64 rooms. Those that are there stay, also after `NoMemory`.
 fn fill_rooms(alloc: Global, rooms: &mut Vec<Room<u32>>) -> Result<(), NoMemory>
-    requires rooms { All (λ room. 64 ≤ room) rooms.old.items }
-    ensures rooms { All (λ room. 64 ≤ room) rooms.new.items }
-    ensures count { OnOk result (64 ≤ length rooms.new.items) }
+    requires rooms { All (λ room. ACT_WORDS ≤ room) rooms.old.items }
+    ensures rooms { All (λ room. ACT_WORDS ≤ room) rooms.new.items }
+    ensures count { OnOk result (MOST_ACTS ≤ length rooms.new.items) }
     ensures kept { length rooms.old.items ≤ length rooms.new.items }
 {
     for _count in rooms.len()..MOST_ACTS {
@@ -272,11 +273,11 @@ fn fill_rooms(alloc: Global, rooms: &mut Vec<Room<u32>>) -> Result<(), NoMemory>
 /// The words as a list of their own, in a room of `rooms`, which is used up; what they do not fill of it is given back.
 fn kept(rooms: &mut Vec<Room<u32>>, words: &[u32]) -> Words
     requires some { 0 < length rooms.old.items }
-    requires rooms { All (λ room. 64 ≤ room) rooms.old.items }
-    requires words { length words.now ≤ 64 }
+    requires rooms { All (λ room. ACT_WORDS ≤ room) rooms.old.items }
+    requires words { length words.now ≤ ACT_WORDS }
     ensures words { result ≡ words.now }
     ensures used { length rooms.new.items + 1 ≡ length rooms.old.items }
-    ensures rooms { All (λ room. 64 ≤ room) rooms.new.items }
+    ensures rooms { All (λ room. ACT_WORDS ≤ room) rooms.new.items }
 {
     let room = rooms.pop().unwrap();
     let mut items = room.into_vec();

@@ -4,20 +4,31 @@
 //! code computes what the definitions say.
 #![tactic(auto)]
 
+pub mod answers;
 pub mod assembler;
+pub mod calls;
+pub mod campaign;
 pub mod classes;
 pub mod clause;
 pub mod copies;
-pub mod data;
+pub mod desks;
+pub mod devices;
+pub mod entries;
 pub mod input;
 pub mod journal;
+pub mod limits;
 pub mod listeners;
 pub mod lists;
 pub mod machine;
 pub mod memory;
+pub mod memory_map;
+pub mod mirror;
 pub mod name;
 pub mod outside;
 pub mod ring;
+pub mod scenario;
 pub mod standard_streams;
+pub mod steps;
 pub mod streams_in_memory;
+pub mod verdicts;
 pub mod whole;

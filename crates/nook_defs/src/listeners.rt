@@ -1,10 +1,15 @@
 //! A listener that counts, and a gate that is always open.
 
-ghost use Rattle.std.specs.Prelude.{◌≡◌};
-ghost use Rattle.nook_defs.specs.Listening.{kind_of_answer, kind_of_answers, kind_of_failure, kinds_of, masks_meet};
+ghost use Rattle.std.specs.Prelude.{◌≡◌, is_some, length, nat_lt};
+ghost use Rattle.nook_defs.specs.Listening.{bit_if, kinds_of, masks_meet};
 
-use crate::data::{Answer, CallAnswers, Event, FailCause};
+use crate::calls::{Answer, CallAnswers};
+use crate::lists::Items;
 use crate::outside::{Gate, Listener};
+use crate::steps::{Event, FailCause};
+
+/// Each listener's total and whether it was kept.
+pub type TapTotals = Items<(u64, bool)>;
 
 /// Counts the events that its masks meet, up to a limit.
 #[derive(Drop)]
@@ -83,19 +88,19 @@ pub fn event_kinds(event: &Event) -> u8
 }
 
 fn answer_kind(answer: &Option<Answer>) -> u8
-    ensures { result ≡ kind_of_answer answer.now }
+    ensures { result ≡ bit_if 64 (is_some answer.now) }
 {
     if answer.is_some() { 64 } else { 0 }
 }
 
 fn failure_kind(failure: &Option<FailCause>) -> u8
-    ensures { result ≡ kind_of_failure failure.now }
+    ensures { result ≡ bit_if 32 (is_some failure.now) }
 {
     if failure.is_some() { 32 } else { 0 }
 }
 
 fn answers_kind(answers: &CallAnswers) -> u8
-    ensures { result ≡ kind_of_answers answers.now }
+    ensures { result ≡ bit_if 64 (nat_lt 0 (length answers.now)) }
 {
     if answers.len() == 0 { 0 } else { 64 }
 }

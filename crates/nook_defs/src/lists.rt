@@ -144,6 +144,12 @@ impl TryCopy for u32 {
     }
 }
 
+impl TryCopy for [u32; 16] {
+    fn copy(&self, _alloc: Global) -> Result<[u32; 16], NoMemory> {
+        Ok(*self)
+    }
+}
+
 impl<A: TryCopy + Drop, B: TryCopy + Drop> TryCopy for (A, B) {
     fn copy(&self, alloc: Global) -> Result<(A, B), NoMemory> {
         let first = self.0.copy(alloc)?;

@@ -1,7 +1,35 @@
 //! The driver machine's plain data: instructions, the processor, and how a burst ends.
 
-use crate::data::TrapCause;
-use crate::lists::Word;
+use crate::lists::{Items, Word, Words};
+
+/// What a driver did with its device.
+#[derive(Drop)]
+pub enum Act {
+    Load { block: u32 },
+    Store { block: u32, words: Words },
+    /// A command on a bad block; `store` tells which of the two commands.
+    Failed { block: u32, store: bool },
+    Sent { frame: Words },
+    Popped { frame: Words },
+    Played { sample: u32, rate: u32, volume: u32 },
+    Register { key: u32, value: u32 },
+}
+
+/// Why the machine stopped a driver.
+#[derive(Clone, Copy)]
+pub enum TrapCause {
+    BadOpcode,
+    BadFetch,
+    BadRead { address: u32 },
+    ForeignWrite { address: u32 },
+    BadPort { port: u32 },
+    Hang,
+    Explicit,
+    Injected,
+}
+
+/// A list of device acts.
+pub type Acts = Items<Act>;
 
 /// One instruction of the driver machine. Fields `a` and `b` are register numbers (0 to 15), `imm` is the
 /// immediate, without a sign. R(a) is register a.

@@ -1,7 +1,8 @@
 //! Names of parts and threads.
 
 ghost use Rattle.std.specs.Prelude.{◌≡◌, ◌<◌, ◌≤◌, length, slice_index, take, if◌then◌else◌};
-ghost use Rattle.nook_defs.specs.Names.{is_name, is_name_byte, all_name_bytes};
+ghost use Rattle.std.specs.List.{list_all};
+ghost use Rattle.nook_defs.specs.Names.{is_name, is_name_byte};
 
 use std::marker::Model;
 
@@ -101,7 +102,7 @@ fn make_a_name(bytes: &[u8]) -> bool
 /// Whether each byte may stand in a name.
 
 fn are_name_bytes(bytes: &[u8]) -> bool
-    ensures { result ≡ all_name_bytes bytes.now }
+    ensures { result ≡ list_all is_name_byte bytes.now }
 {
     for byte in bytes {
         if !may_name(*byte) {

@@ -12,8 +12,8 @@ ghost use Rattle.nook_defs.specs.Devices.{tail_of};
 ghost use Rattle.nook_defs.specs.Listening.{Listening, heard};
 ghost use Rattle.nook_defs.specs.Log.{front_of};
 
-use crate::data::Event;
 use crate::lists::Words;
+use crate::steps::Event;
 
 /// A read or a write failed.
 #[derive(Clone, Copy, Debug, PartialEq, Eq)]

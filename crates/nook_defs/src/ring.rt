@@ -3,17 +3,12 @@
 ghost use Rattle.std.specs.Prelude.{◌≡◌, ◌<◌, ◌≤◌, [], ◌∷◌, ◌++◌, length, slice_index_or, IfOk, MatchOption};
 ghost use Rattle.nook_defs.specs.Devices.{head_of};
 
-use crate::lists::{Word, Words};
+use crate::limits::{MOST_FRAME_WORDS, MOST_RING_FRAMES};
+use crate::lists::{TryCopy, Word, Words};
 use crate::memory::NoMemory;
 use std::alloc::Global;
 use std::collections::VecDeque;
 use std::marker::Model;
-
-/// The frames that a ring holds at most.
-pub const MOST_FRAMES: usize = 16;
-
-/// The words of a frame at most.
-pub const MOST_FRAME_WORDS: usize = 64;
 
 /// At most 16 frames in the order of their arrival, each of 1 to 64 words. Contracts see the list of the frames.
 #[derive(Drop)]
@@ -24,13 +19,14 @@ pub struct Ring {
 impl Model for Ring {
     ghost use Rattle.std.specs.Prelude.{ℕ, ◌≤◌, List, All, length};
     ghost use Rattle.std.specs.VecDeque.{deque_capacity};
+    ghost use Rattle.nook_defs.specs.declared.limits.TheConstants.{MOST_FRAME_WORDS, MOST_RING_FRAMES};
 
     ghost Value = { List (List ℕ) };
 
     ghost view = { λ s. s.frames.items };
 
-    ghost invariant = { λ s. (16 ≤ deque_capacity s.frames) × (length s.frames.items ≤ 16)
-        × All (λ frame. (1 ≤ length frame) × (length frame ≤ 64)) s.frames.items };
+    ghost invariant = { λ s. (MOST_RING_FRAMES ≤ deque_capacity s.frames) × (length s.frames.items ≤ MOST_RING_FRAMES)
+        × All (λ frame. (1 ≤ length frame) × (length frame ≤ MOST_FRAME_WORDS)) s.frames.items };
 }
 
 impl Ring {
@@ -39,23 +35,23 @@ impl Ring {
         ensures { IfOk result (λ ring. ring ≡ []) }
     {
         Ok(Ring {
-            frames: VecDeque::with_capacity(alloc, MOST_FRAMES)?,
+            frames: VecDeque::with_capacity(alloc, MOST_RING_FRAMES)?,
         })
     }
 
     /// The number of frames, at most 16.
     pub fn len(&self) -> usize
         ensures count { result ≡ length self.now }
-        ensures most { result ≤ 16 }
+        ensures most { result ≤ MOST_RING_FRAMES }
     {
         self.frames.len()
     }
 
     /// Adds a frame at the back. It takes no memory.
     pub fn push(&mut self, frame: Words)
-        requires room { length self.old < 16 }
+        requires room { length self.old < MOST_RING_FRAMES }
         requires some { 1 ≤ length frame }
-        requires most { length frame ≤ 64 }
+        requires most { length frame ≤ MOST_FRAME_WORDS }
         ensures { self.new ≡ self.old ++ frame ∷ [] }
     {
         self.frames.push_back_reserved(frame);
@@ -64,7 +60,7 @@ impl Ring {
     /// The length of the first frame, 0 where the ring is empty.
     pub fn head_len(&self) -> Word
         ensures len { result ≡ length (head_of self.now) }
-        ensures most { result ≤ 64 }
+        ensures most { result ≤ MOST_FRAME_WORDS }
     {
         match self.frames.front() {
             Some(head) => head.len() as Word,
@@ -94,5 +90,15 @@ impl Ring {
         ensures { self.new ≡ [] }
     {
         self.frames.clear();
+    }
+}
+
+impl TryCopy for Ring {
+    fn copy(&self, alloc: Global) -> Result<Ring, NoMemory> {
+        let mut made = Ring::new(alloc)?;
+        for place in 0..self.frames.len() {
+            made.push(self.frames[place].copy(alloc)?);
+        }
+        Ok(made)
     }
 }

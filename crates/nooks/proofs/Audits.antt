@@ -1,18 +1,18 @@
 -- The verdict on a report, and what it means that every line fits.
 use Rattle.std.proofs.Common.{◌≡◌, ℕ, ◌<◌, ◌≤◌, suc, List, [], ◌∷◌, Option, None, Ok, inl, inr, length, ap, subst, ◌∙◌}
 use Rattle.audit_input.specs.Handed.{Hands, HandsNothing}
-use Rattle.audit_laws.specs.Audit.{Section, audited, opening_section, section_after}
-use Rattle.audit_laws.specs.Fitting.{AllFit, FitsFrom}
-use Rattle.audit_laws.proofs.Reading.{report_read}
+use Rattle.run_laws.specs.Audit.{Section, audited, opening_section, section_after}
+use Rattle.run_laws.specs.Fitting.{AllFit, FitsFrom}
+use Rattle.run_laws.proofs.Reading.{report_read}
 use Rattle.nook_defs.specs.Faults.{fault_line}
 use Rattle.nook_defs.specs.Listening.{Listening}
 use Rattle.nook_defs.specs.Runs.{IsRunFrom}
 use Rattle.nook_defs.specs.ScenarioReading.{scenario_from}
 use Rattle.nook_defs.specs.Valid.{IsValidScenario}
-use Rattle.nook_defs.specs.declared.data.Event.{Event}
-use Rattle.nook_defs.specs.declared.data.PartSpec.{PartSpec}
-use Rattle.nook_defs.specs.declared.data.Scenario.{Scenario}
-use Rattle.nook_defs.specs.declared.data.ThreadSpec.{ThreadSpec}
+use Rattle.nook_defs.specs.declared.steps.Event.{Event}
+use Rattle.nook_defs.specs.declared.scenario.PartSpec.{PartSpec}
+use Rattle.nook_defs.specs.declared.scenario.Scenario.{Scenario}
+use Rattle.nook_defs.specs.declared.scenario.ThreadSpec.{ThreadSpec}
 use Rattle.nook_defs.specs.declared.input.InputFault.TheVariants as fault
 use Rattle.nook_defs.specs.declared.input.Refusal.{Refusal}
 use Rattle.run_ends.specs.Journals.{AreRuns}

@@ -6,12 +6,12 @@ use Rattle.fault_campaign.proofs.Tables.{table_exists}
 use Rattle.nook_defs.specs.Campaigns.{IsRowOf, IsTable, IsValidCampaign, member, table_text}
 use Rattle.nook_defs.specs.Simulation.{journals_of}
 use Rattle.nook_defs.specs.Valid.{IsValidFault, IsValidScenario}
-use Rattle.nook_defs.specs.declared.data.Campaign.{Campaign}
-use Rattle.nook_defs.specs.declared.data.Fault.{Fault}
-use Rattle.nook_defs.specs.declared.data.MemberRow.{MemberRow}
-use Rattle.nook_defs.specs.declared.data.Scenario.{Scenario}
+use Rattle.nook_defs.specs.declared.campaign.Campaign.{Campaign}
+use Rattle.nook_defs.specs.declared.scenario.Fault.{Fault}
+use Rattle.nook_defs.specs.declared.campaign.MemberRow.{MemberRow}
+use Rattle.nook_defs.specs.declared.scenario.Scenario.{Scenario}
 use Rattle.run_laws.proofs.Reached.{parts_answered}
-use Rattle.scenario_laws.proofs.Members.{member_is_valid}
+use Rattle.reading_laws.proofs.Members.{member_is_valid}
 use Rattle.nooks.proofs.Safety.{all_safe}
 use Rattle.sim_run.proofs.Ending.{runs_scheduled}
 use Rattle.std.proofs.Common.{Ok, inr}

@@ -5,4 +5,5 @@ pub mod Numerals
 pub mod Reports
 pub mod Runs
 pub mod Safety
+pub mod Traces
 pub mod Written

@@ -6,9 +6,9 @@ use Rattle.nook_defs.specs.Listening.{Listening}
 use Rattle.nook_defs.specs.ReportText.{has_break, has_given_up, status_of}
 use Rattle.nook_defs.specs.ScenarioReading.{scenario_from}
 use Rattle.nook_defs.specs.Valid.{IsValidScenario}
-use Rattle.nook_defs.specs.declared.data.Event.{Event}
-use Rattle.nook_defs.specs.declared.data.MirrorAnswer.{MirrorAnswer}
-use Rattle.nook_defs.specs.declared.data.Scenario.{Scenario}
+use Rattle.nook_defs.specs.declared.steps.Event.{Event}
+use Rattle.nook_defs.specs.declared.mirror.MirrorAnswer.{MirrorAnswer}
+use Rattle.nook_defs.specs.declared.scenario.Scenario.{Scenario}
 use Rattle.nook_defs.specs.Taps.{tap_result}
 use Rattle.part_laws.specs.Headline.{AreSafe}
 use Rattle.report_text.specs.Mirrored.{mirror_report_text}

@@ -1,8 +1,9 @@
 -- A number among the words, and its text.
-use Rattle.std.proofs.Common.{◌≡◌, ℕ, ◌^◌, ◌<◌, ◌≤◌, ◌==◌, ◌&&◌, nat_le, not, if◌then◌else◌, Bool, true, false, Option, Some, None, Result, Ok, Err, List, [], ◌∷◌, IfNone, IfSome, get_or, refl, sym, ap, ◌∙◌, arith, true≢false, decimal}
+use Rattle.std.proofs.Common.{◌≡◌, ℕ, zero, suc, ◌^◌, ◌<◌, ◌≤◌, ◌==◌, ◌&&◌, nat_le, not, if◌then◌else◌, Bool, true, false, Option, Some, None, Result, Ok, Err, List, [], ◌∷◌, IfNone, IfSome, get_or, refl, sym, ap, ◌∙◌, arith, true≢false, codes, decimal}
 use Rattle.std.proofs.lemmas.Bool.{and_parts, le-leb, leb-true}
 use Rattle.std.proofs.lemmas.Fmt.{decimal-digits_value, first_decimal, parse-decimal}
 use Rattle.std.proofs.lemmas.Str.Parse.{numerals_by_value, tells_digits}
+use Rattle.std.specs.Fmt.{digits}
 use Rattle.std.specs.Str.Parse.{ParsesUnsigned, IsNumeral, digits_value}
 use Rattle.nooks.specs.Forms.{is_plain, within}
 use Rattle.part_laws.proofs.BurstKeeps.{split}
@@ -86,3 +87,21 @@ pub number_failed : (E : Type 0) (most : ℕ) (bs : List ℕ) (r : Result ℕ E)
 number_failed E most bs r x small h e n text low high =
     let parsed : r ≡ Ok n = parse-decimal 32 n bs r (omega (arith, high, small)) (omega (arith, high, small)) text h in
     absurd (cc)
+
+-- the number of a part
+
+zero_text : decimal 0 ≡ codes "0"
+unfolding digits
+zero_text = refl
+
+pub part_zero : (bs : List ℕ) → bs ≡ codes "0" → (bs ≡ decimal 0) × (0 ≤ 7)
+part_zero bs e = (e ∙ sym zero_text, omega arith)
+
+pub part_none : (bs : List ℕ) (x : Option ℕ) → (bs ≡ codes "0" → ⊥) → IfNone x ((n : ℕ) → bs ≡ decimal n → 1 ≤ n → n ≤ 7 → ⊥)
+    → IfNone x ((n : ℕ) → bs ≡ decimal n → n ≤ 7 → ⊥)
+part_none bs (Some y) other h = tt
+part_none bs None other h = λ n e l. by_number n e l
+  where
+    by_number : (n : ℕ) → bs ≡ decimal n → n ≤ 7 → ⊥
+    by_number zero e l = other (e ∙ zero_text)
+    by_number (suc n) e l = h (suc n) e (omega arith) l

@@ -1,12 +1,12 @@
 -- The writing of reports and of summaries ends as the status tells.
-use Rattle.std.proofs.Common.{◌≡◌, ℕ, ◌^◌, ◌<◌, ◌≤◌, Bool, true, false, if◌then◌else◌, List, [], ◌∷◌, length, map, Result, Ok, Err, IfOk, refl, sym, ap, ◌∙◌, subst, arith, append_assoc}
-use Rattle.nook_defs.specs.declared.data.Event.{Event}
-use Rattle.nook_defs.specs.declared.data.PartSpec.{PartSpec}
-use Rattle.nook_defs.specs.declared.data.Scenario.{Scenario}
+use Rattle.std.proofs.Common.{◌≡◌, ℕ, ◌^◌, ◌<◌, ◌≤◌, Bool, true, false, if◌then◌else◌, List, [], ◌∷◌, length, map, Result, Ok, Err, IfOk, refl, sym, ap, ◌∙◌, subst, arith}
+use Rattle.nook_defs.specs.declared.steps.Event.{Event}
+use Rattle.nook_defs.specs.declared.scenario.PartSpec.{PartSpec}
+use Rattle.nook_defs.specs.declared.scenario.Scenario.{Scenario}
 use Rattle.nook_defs.specs.declared.memory.NoMemory.{NoMemory}
 use Rattle.nook_defs.specs.Listening.{Listening}
-use Rattle.nook_defs.specs.Generated.{gen_line, generated}
-use Rattle.nook_defs.specs.ReportText.{events_count, failures_count, has_break, has_given_up, report_text, status_of, summary_line}
+use Rattle.nook_defs.specs.Generated.{generated}
+use Rattle.nook_defs.specs.ReportText.{events_count, failures_count, gen_line, has_break, has_given_up, report_text, status_of, summary_line}
 use Rattle.nook_defs.specs.Views.Room.{Kept}
 use Rattle.nook_defs.specs.Runs.{state_of}
 use Rattle.nook_defs.specs.Simulation.{begins, journals_of}
@@ -25,7 +25,7 @@ use Rattle.nooks.specs.declared.program.Status.TheVariants as ended
 use Rattle.nooks.specs.declared.words.Form.{Form}
 use Rattle.nooks.specs.declared.words.Form.TheVariants as form
 use Rattle.threaded_run.specs.Threaded.{AreAnswered, IsThreaded, in_parts}
-use Rattle.nook_defs.specs.declared.data.Answer.{Answer}
+use Rattle.nook_defs.specs.declared.calls.Answer.{Answer}
 use Rattle.run_laws.proofs.Reached.{parts_answered}
 use Rattle.nooks.specs.Answers.{IsByThreads, IsReportStatus, IsReported, IsRunOf, IsScheduled, IsSummary, IsWhole}
 use Rattle.nooks.specs.Endings.{IsBegun, IsWritten, Writes}
@@ -164,7 +164,7 @@ few_parts_in scenario hearing report valid made =
 line_is : (n : ℕ) (specs : List PartSpec) (journals : List (List Event))
     → summary_line n specs journals ≡ gen_line n (events_count journals) (failures_count specs journals) (status_of specs journals)
 unfolding summary_line
-line_is n specs journals = simp append_assoc
+line_is n specs journals = refl
 
 pub summary_is : (scenario : Scenario) (hearing : List Listening) (report : Report) (number : ℕ) → IsMade form.Run scenario hearing report
     → gen_line number (events_count (map events_in report.run.journals)) (failures_in report.parts) report.status

@@ -50,6 +50,7 @@ any_input form.Audit a b hearing text status e answer = absurd (true≢false e)
 any_input form.Campaign a b hearing text status e answer = absurd (true≢false e)
 any_input form.Mirror a b hearing text status e answer = absurd (true≢false e)
 any_input form.List a b hearing text status e answer = absurd (true≢false e)
+any_input (form.Trace part burst) a b hearing text status e answer = absurd (true≢false e)
 any_input (form.Gen number) a b hearing text status e answer = answer
 any_input (form.GenScenario number) a b hearing text status e answer = answer
 any_input form.Help a b hearing text status e answer = answer

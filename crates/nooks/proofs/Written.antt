@@ -5,7 +5,7 @@ use Rattle.nook_defs.specs.Faults.{fault_line}
 use Rattle.nook_defs.specs.Listening.{Listening}
 use Rattle.nook_defs.specs.declared.input.InputFault.TheVariants as fault
 use Rattle.nook_defs.specs.ScenarioReading.{scenario_from}
-use Rattle.nook_defs.specs.declared.data.Scenario.{Scenario}
+use Rattle.nook_defs.specs.declared.scenario.Scenario.{Scenario}
 use Rattle.nook_defs.specs.declared.input.Refusal.{Refusal}
 use Rattle.request_taps.specs.Bus.{settled}
 use Rattle.scenario_read.specs.Gives.{Fails}
@@ -92,6 +92,7 @@ answers_input form.Audit input hearing text status reads answer = answer
 answers_input form.Campaign input hearing text status reads answer = answer
 answers_input form.Mirror input hearing text status reads answer = answer
 answers_input form.List input hearing text status reads answer = answer
+answers_input (form.Trace part burst) input hearing text status reads answer = answer
 answers_input (form.Gen number) input hearing text status reads answer = absurd (true≢false (sym reads))
 answers_input (form.GenScenario number) input hearing text status reads answer = absurd (true≢false (sym reads))
 answers_input form.Help input hearing text status reads answer = absurd (true≢false (sym reads))

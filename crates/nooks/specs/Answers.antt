@@ -15,13 +15,13 @@ use Rattle.nook_defs.specs.ScenarioReading.{scenario_from}
 use Rattle.nook_defs.specs.Simulation.{IsScheduledRun, Simulation, answer_table, begins, journals_of}
 use Rattle.nook_defs.specs.Taps.{tap_result}
 use Rattle.nook_defs.specs.declared.assembler.AsmFault.{AsmFault}
-use Rattle.nook_defs.specs.declared.data.Answer.{Answer}
-use Rattle.nook_defs.specs.declared.data.Campaign.{Campaign}
-use Rattle.nook_defs.specs.declared.data.Event.{Event}
-use Rattle.nook_defs.specs.declared.data.Image.{Image}
-use Rattle.nook_defs.specs.declared.data.MemberRow.{MemberRow}
-use Rattle.nook_defs.specs.declared.data.MirrorAnswer.{MirrorAnswer}
-use Rattle.nook_defs.specs.declared.data.Scenario.{Scenario}
+use Rattle.nook_defs.specs.declared.calls.Answer.{Answer}
+use Rattle.nook_defs.specs.declared.campaign.Campaign.{Campaign}
+use Rattle.nook_defs.specs.declared.steps.Event.{Event}
+use Rattle.nook_defs.specs.declared.scenario.Image.{Image}
+use Rattle.nook_defs.specs.declared.campaign.MemberRow.{MemberRow}
+use Rattle.nook_defs.specs.declared.mirror.MirrorAnswer.{MirrorAnswer}
+use Rattle.nook_defs.specs.declared.scenario.Scenario.{Scenario}
 use Rattle.nook_defs.specs.declared.input.InputFault.TheVariants as fault
 use Rattle.nook_defs.specs.declared.input.Refusal.{Refusal}
 use Rattle.mirrored_run.specs.Mirrors.{IsMirrorRun, is_mirror, mirror_status}
@@ -30,13 +30,14 @@ use Rattle.sim_run.specs.Published.{published}
 use Rattle.threaded_run.specs.Threaded.{AreAnswered, IsThreaded, in_parts}
 use Rattle.part_laws.specs.Headline.{AreSafe}
 use Rattle.image_list.specs.ListText.{list_text}
+use Rattle.burst_trace.specs.Text.{IsTraceText}
 use Rattle.scenario_write.specs.ScenarioText.{scenario_line}
 use Rattle.audit_input.specs.Handed.{Hands, HandsNothing}
-use Rattle.audit_laws.specs.Audit.{audited}
-use Rattle.audit_laws.specs.Fitting.{AllFit, fitting_text}
+use Rattle.run_laws.specs.Audit.{audited}
+use Rattle.run_laws.specs.Fitting.{AllFit, fitting_text}
 use Rattle.nooks.specs.Streams.{Input, TooLong, Whole}
 use Rattle.nooks.specs.Forms.{limit_of}
-use Rattle.nooks.specs.Texts.{at_root, bad_header_text, help_text, not_mirror_text, usage_text, verdict_text, version_text}
+use Rattle.nooks.specs.Texts.{at_root, bad_header_text, help_text, no_such_burst_text, not_mirror_text, usage_text, verdict_text, version_text}
 use Rattle.nooks.specs.declared.program.Status.{Status}
 use Rattle.nooks.specs.declared.program.Status.TheVariants as ended
 use Rattle.nooks.specs.declared.words.Form.{Form}
@@ -204,6 +205,14 @@ pub record IsMirrorOf (bytes : List ℕ) (hearing : List Listening) (text : List
   pub served : is_mirror scenario ≡ true
   pub mirrored : IsMirrored scenario hearing text status
 
+-- ---- traces
+
+-- the trace of a burst of a part, in the scheduled run of the scenario that some bytes are
+pub record IsTraceOf (bytes : List ℕ) (part burst : ℕ) (text : List ℕ) : Type 0 where
+  pub scenario : Scenario
+  pub reading : scenario_from bytes ≡ Ok scenario
+  pub trace : IsTraceText scenario part burst (Some text)
+
 -- a text and a status are these two
 abbrev pub Says : List ℕ → Status → List ℕ → Status → Type 0
 Says line end text status = (text ≡ line) × (status ≡ end)
@@ -218,6 +227,7 @@ Does form.Audit bytes hearing text status = IsAuditOf bytes text status
 Does form.Campaign bytes hearing text status = IsTableOf bytes text × (status ≡ ended.Done)
 Does form.Mirror bytes hearing text status = IsMirrorOf bytes hearing text status
 Does form.List bytes hearing text status = (listing_from bytes ≡ Ok text) × (status ≡ ended.Done)
+Does (form.Trace part burst) bytes hearing text status = IsTraceOf bytes part burst text × (status ≡ ended.Done)
 Does asked bytes hearing text status = ⊥
 
 -- ---- faults of an input
@@ -248,6 +258,13 @@ pub record IsUnserved (bytes text : List ℕ) : Type 0 where
   pub unserved : is_mirror scenario ≡ false
   pub text_is : text ≡ not_mirror_text
 
+-- some bytes are a scenario whose scheduled run has no such part or burst
+pub record HasNoBurst (bytes : List ℕ) (part burst : ℕ) (text : List ℕ) : Type 0 where
+  pub scenario : Scenario
+  pub reading : scenario_from bytes ≡ Ok scenario
+  pub none : IsTraceText scenario part burst None
+  pub text_is : text ≡ no_such_burst_text
+
 -- the line of the first fault of some bytes
 abbrev pub IsFaultOf : Form → List ℕ → List ℕ → Type 0
 IsFaultOf form.Run bytes text = IsRefused (scenario_from bytes) text
@@ -258,6 +275,7 @@ IsFaultOf form.Audit bytes text = (HandsNothing bytes × (text ≡ bad_header_te
 IsFaultOf form.Campaign bytes text = IsRefused (campaign_from bytes) text
 IsFaultOf form.Mirror bytes text = IsRefused (scenario_from bytes) text ⊎ IsUnserved bytes text
 IsFaultOf form.List bytes text = IsRefused (listing_from bytes) text
+IsFaultOf (form.Trace part burst) bytes text = IsRefused (scenario_from bytes) text ⊎ HasNoBurst bytes part burst text
 IsFaultOf asked bytes text = ⊥
 
 -- ---- the answer

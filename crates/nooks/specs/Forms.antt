@@ -15,6 +15,8 @@ IsForm words form.Audit = words ≡ codes "audit" ∷ []
 IsForm words form.Campaign = words ≡ codes "campaign" ∷ []
 IsForm words form.Mirror = words ≡ codes "mirror" ∷ []
 IsForm words form.List = words ≡ codes "list" ∷ []
+IsForm words (form.Trace part burst) =
+    (words ≡ codes "trace" ∷ decimal part ∷ decimal burst ∷ []) × (part ≤ 7) × (1 ≤ burst) × (burst ≤ 4294967295)
 IsForm words form.Help = words ≡ codes "--help" ∷ []
 IsForm words form.Version = words ≡ codes "--version" ∷ []
 
@@ -39,6 +41,7 @@ is_reading form.Audit = true
 is_reading form.Campaign = true
 is_reading form.Mirror = true
 is_reading form.List = true
+is_reading (form.Trace part burst) = true
 is_reading form.Help = false
 is_reading form.Version = false
 

@@ -28,6 +28,7 @@ help_text =
     ++ (line (codes "nooks audit           read a scenario and a printed report, check the report line by line")
     ++ (line (codes "nooks campaign        read a scenario and a list of faults, simulate it once for each, write the table")
     ++ (line (codes "nooks mirror          read a scenario of two disks, keep one disk on both, write the report")
+    ++ (line (codes "nooks trace P B       read a scenario, write what burst B of part P did, turn by turn (P from 0)")
     ++ (line (codes "nooks --help          write this")
     ++ (line (codes "nooks --version       write the program's version, and the kit that it is proved with")
     ++ (line (codes "status 0              done; no part was given up")
@@ -38,7 +39,7 @@ help_text =
     ++ (line (codes "status 5              writing failed; a front of the output was written")
     ++ (line (codes "status 6              memory was wanting; a front of the output was written, or nothing")
     ++ (line (codes "status 7              a driver broke its class's contract")
-    ++ line (codes "status 8              a line of the report does not fit the scenario"))))))))))))))))))))
+    ++ line (codes "status 8              a line of the report does not fit the scenario")))))))))))))))))))))
 
 -- what is said of the input of `audit` that does not begin with a length, or has fewer bytes
 abbrev pub bad_header_text : List ℕ
@@ -48,6 +49,10 @@ bad_header_text = line (codes "fault 12 bad_header /")
 abbrev pub not_mirror_text : List ℕ
 not_mirror_text = line (codes "fault 13 not_mirror /")
 
+-- what is said of a scenario whose run has no such part or burst
+abbrev pub no_such_burst_text : List ℕ
+no_such_burst_text = line (codes "fault 14 no_such_burst /")
+
 -- the verdict on a report: every line fits, or this is the first that does not
 abbrev pub verdict_text : Option ℕ → List ℕ
 verdict_text None = line (codes "audit yes")
@@ -55,4 +60,4 @@ verdict_text (Some number) = line (codes "audit no line " ++ decimal number)
 
 -- what `--version` writes: the program's name and version, and the kit that it is proved with
 abbrev pub version_text : List ℕ
-version_text = line (codes "nooks 0.10.0, proved with rattle-kit-13f logic dac8208d650f15bf")
+version_text = line (codes "nooks 0.11.0, proved with rattle-kit-13f logic dac8208d650f15bf")

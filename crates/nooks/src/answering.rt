@@ -7,7 +7,7 @@ ghost use Rattle.nook_defs.specs.Faults.{fault_line as line_of};
 ghost use Rattle.nook_defs.specs.ImageReading.{image_from_asm};
 ghost use Rattle.nook_defs.specs.ImageText.{image_text};
 ghost use Rattle.nook_defs.specs.Listening.{Listening};
-ghost use Rattle.nook_defs.specs.declared.data.MemberRow.{MemberRow};
+ghost use Rattle.nook_defs.specs.declared.campaign.MemberRow.{MemberRow};
 ghost use Rattle.nook_defs.specs.Valid.{IsValidScenario};
 ghost use Rattle.nooks.specs.Answers.{AnswersInput, IsReported, Says};
 ghost use Rattle.nooks.specs.Endings.{Ends, StopWrites, Writes};
@@ -23,14 +23,16 @@ use crate::listing::run_list;
 use crate::mirroring::serve_bytes;
 use crate::program::{AUDIT_LIMIT, LIMIT, Status, finish};
 use crate::simulated::{run_threads_and_report, simulate_and_report};
+use crate::tracing::trace_bytes;
 use crate::words::Form;
 use driver_asm::{AsmError, assemble, disassemble, write_image};
 use fault_campaign::write_campaign;
 use nook_defs::assembler::AsmFault;
-use nook_defs::data::{Campaign, Image, Scenario};
+use nook_defs::campaign::Campaign;
 use nook_defs::input::{InputFault, Path, Refusal};
 use nook_defs::memory::NoMemory;
 use nook_defs::outside::{Gate, Listener, Sink, Source};
+use nook_defs::scenario::{Image, Scenario};
 use nook_defs::whole::{ReadStop, read_all};
 use report_text::write::WriteStop;
 use request_taps::Bus;
@@ -104,6 +106,7 @@ where
         Form::Campaign => run_campaign(rt, alloc, bytes, sink),
         Form::Mirror => serve_bytes(rt, alloc, bytes, sink, listeners),
         Form::List => run_list(alloc, bytes, sink),
+        Form::Trace { part, burst } => trace_bytes(alloc, bytes, part, burst, sink),
         Form::Gen { .. } | Form::GenScenario { .. } | Form::Help | Form::Version => unreachable!(),
     }
 }

@@ -3,6 +3,7 @@
 
 use crate::program::{Status, run};
 use crate::running::{Outcome, bytes_of, texts_of, words_of};
+use crate::tests::TRACE;
 use crate::worked_runs::{MIRROR_RUNS, WRITE_AND_READ, WorkedRun};
 use crate::worked_tests::own_lines;
 use nook_defs::listeners::FreeGate;
@@ -123,6 +124,7 @@ fn readings(alloc: Global) -> Result<Vec<Reading>, Fail> {
     made.push(reading_of(alloc, &["audit"], audit.as_str(), "audit yes\n")?)?;
     made.push(reading_of(alloc, &["mirror"], disks.as_str(), kept.as_str())?)?;
     made.push(reading_of(alloc, &["list"], TEXT, LISTING)?)?;
+    made.push(reading_of(alloc, &["trace", "0", "1"], example, TRACE)?)?;
     Ok(made)
 }
 
@@ -270,12 +272,13 @@ fn check_fronts<R: Threads + Wait + Sync + Abort>(
 /// The forms that read JSON refuse each front, the empty one too; the assembler refuses the first run of bytes.
 #[test]
 fn fronts_of_an_input_are_refused(rt: HostRuntime) -> Result<(), Fail> {
-    let forms: [(&[&str], usize, &str); 7] = [
+    let forms: [(&[&str], usize, &str); 8] = [
         (&["run"], 0, "fault 1 not_json /\n"),
         (&["run", "threads"], 0, "fault 1 not_json /\n"),
         (&["dis"], 0, "fault 1 not_json /\n"),
         (&["campaign"], 0, "fault 1 not_json /\n"),
         (&["mirror"], 0, "fault 1 not_json /\n"),
+        (&["trace", "0", "1"], 0, "fault 1 not_json /\n"),
         (&["audit"], 0, "fault 12 bad_header /\n"),
         (&["asm"], 1, "fault 8 bad_asm 1 line 1 /\n"),
     ];

@@ -21,6 +21,7 @@ mod tests;
 mod texts;
 #[cfg(test)]
 mod thread_tests;
+mod tracing;
 mod words;
 #[cfg(test)]
 mod worked_runs;

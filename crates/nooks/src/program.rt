@@ -163,7 +163,8 @@ where
         | Form::Audit
         | Form::Campaign
         | Form::Mirror
-        | Form::List => read_and_answer(rt, alloc, asked, source, sink, listeners, gate),
+        | Form::List
+        | Form::Trace { .. } => read_and_answer(rt, alloc, asked, source, sink, listeners, gate),
     }
 }
 

@@ -1,9 +1,9 @@
 //! Whole runs: a scenario is simulated, judged, and told of.
 
 ghost use Rattle.std.specs.Prelude.{◌≡◌, ◌^◌, ◌<◌, ◌≤◌, List, [], IfOk, length, map};
-ghost use Rattle.nook_defs.specs.Generated.{gen_line, generated};
+ghost use Rattle.nook_defs.specs.Generated.{generated};
 ghost use Rattle.nook_defs.specs.Listening.{Listening};
-ghost use Rattle.nook_defs.specs.ReportText.{events_count, summary_line};
+ghost use Rattle.nook_defs.specs.ReportText.{events_count, gen_line, summary_line};
 ghost use Rattle.nook_defs.specs.Valid.{IsValidScenario};
 ghost use Rattle.nooks.specs.Answers.{IsReported, IsSummary};
 ghost use Rattle.nooks.specs.Endings.{Writes};
@@ -14,11 +14,11 @@ ghost use Rattle.run_ends.specs.Journals.{events_in};
 
 use crate::program::Status;
 use crate::words::Form;
-use nook_defs::data::Scenario;
 use nook_defs::journal::Journal;
 use nook_defs::listeners::CountListener;
 use nook_defs::memory::NoMemory;
 use nook_defs::outside::{Gate, Listener, Sink};
+use nook_defs::scenario::Scenario;
 use report_text::whole_report::{PartReport, Report, report_of};
 use report_text::whole_text::write_report;
 use report_text::write::WriteStop;

@@ -47,12 +47,18 @@ fn outcome_of<R: Threads + Wait + Sync>(
 /// Other words give the usage line and leave the source alone: its first read would fail.
 #[test]
 fn other_words_are_usage(rt: HostRuntime) -> Result<(), Fail> {
-    let cases: [&[&str]; 12] = [
+    let cases: [&[&str]; 18] = [
         &["walk"],
         &["list", "me"],
         &["gen", "257", "scenario"],
         &["gen", "1", "report"],
         &["gen", "257"],
+        &["trace", "0"],
+        &["trace", "8", "1"],
+        &["trace", "00", "1"],
+        &["trace", "0", "0"],
+        &["trace", "0", "4294967296"],
+        &["trace", "0", "1", "1"],
         &["gen", "+1"],
         &[],
         &["gen", "0"],
@@ -186,11 +192,22 @@ entry get 4
 entry set 4
 ";
 
+/// The trace of the first burst of the example's disk, which makes its driver known.
+pub const TRACE: &str = "\
+trace 0 d0 burst 1 context 16 call 0
+start 0 r14 5184
+1 0 LI r1 0 | r1 0
+2 1 KCALL 3
+n2 service 3 0 0 = 0
+";
+
+const NO_SUCH_BURST: &str = "fault 14 no_such_burst /\n";
+
 /// Texts are assembled and listed and images taken apart, or told by the line of their first fault; a generated scenario
-/// is summed up.
+/// is summed up; a burst is traced.
 #[test]
 fn other_forms_write_their_texts(rt: HostRuntime) -> Result<(), Fail> {
-    let cases: [(&[&str], &str, Status, &str); 10] = [
+    let cases: [(&[&str], &str, Status, &str); 14] = [
         (&["list"], LABELLED, Status::Done, LISTING),
         (
             &["list"],
@@ -221,6 +238,30 @@ fn other_forms_write_their_texts(rt: HostRuntime) -> Result<(), Fail> {
             "gen 12 events 251 failures 7 status 0\n",
         ),
         (&["gen", "012"], "", Status::Usage, USAGE),
+        (
+            &["trace", "0", "1"],
+            WRITE_AND_READ.scenario,
+            Status::Done,
+            TRACE,
+        ),
+        (
+            &["trace", "0", "5"],
+            WRITE_AND_READ.scenario,
+            Status::BadInput,
+            NO_SUCH_BURST,
+        ),
+        (
+            &["trace", "7", "4294967295"],
+            WRITE_AND_READ.scenario,
+            Status::BadInput,
+            NO_SUCH_BURST,
+        ),
+        (
+            &["trace", "0", "1"],
+            "[]",
+            Status::BadInput,
+            "fault 4 wrong_kind /\n",
+        ),
     ];
     for (words, input, want, text) in cases {
         let case = Case {

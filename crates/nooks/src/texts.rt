@@ -16,6 +16,7 @@ nooks gen N scenario  write generated scenario N as JSON\n\
 nooks audit           read a scenario and a printed report, check the report line by line\n\
 nooks campaign        read a scenario and a list of faults, simulate it once for each, write the table\n\
 nooks mirror          read a scenario of two disks, keep one disk on both, write the report\n\
+nooks trace P B       read a scenario, write what burst B of part P did, turn by turn (P from 0)\n\
 nooks --help          write this\n\
 nooks --version       write the program's version, and the kit that it is proved with\n\
 status 0              done; no part was given up\n\
@@ -34,8 +35,11 @@ pub const BAD_HEADER: &[u8] = b"fault 12 bad_header /\n";
 /// What is said of a scenario that a mirror does not serve.
 pub const NOT_MIRROR: &[u8] = b"fault 13 not_mirror /\n";
 
+/// What is said of a scenario whose run has no such part or burst.
+pub const NO_SUCH_BURST: &[u8] = b"fault 14 no_such_burst /\n";
+
 /// What is said of a report of which every line fits.
 pub const AUDIT_YES: &[u8] = b"audit yes\n";
 
 /// What `--version` writes: the program's name and version, and the kit that it is proved with.
-pub const VERSION: &[u8] = b"nooks 0.10.0, proved with rattle-kit-13f logic dac8208d650f15bf\n";
+pub const VERSION: &[u8] = b"nooks 0.11.0, proved with rattle-kit-13f logic dac8208d650f15bf\n";

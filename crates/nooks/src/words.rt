@@ -26,6 +26,8 @@ pub enum Form {
     Mirror,
     /// `list`: read an assembler text, write its words, labels and entries with their addresses and lines.
     List,
+    /// `trace` P B: read a scenario, simulate it up to burst B of part P, write what that burst did, turn by turn.
+    Trace { part: u32, burst: u32 },
     /// `--help`: write a line for each form and for each status.
     Help,
     /// `--version`: write the program's version.
@@ -34,6 +36,9 @@ pub enum Form {
 
 /// The greatest number of a generated scenario.
 const MOST_GENERATED: u32 = 256;
+
+/// The greatest number of a part, counted from 0.
+const LAST_PART: u32 = 7;
 
 /// The form of the words; `None` exactly where they are of no form.
 pub fn form_of(words: &[String]) -> Option<Form>
@@ -109,8 +114,32 @@ fn form_of_three(word: &str, second: &str, third: &str) -> Option<Form>
 {
     if word == "gen" && third == "scenario" {
         scenario_form(second)
+    } else if word == "trace" {
+        trace_form(second, third)
     } else {
         None
+    }
+}
+
+/// The form of `trace`, a part and a burst.
+fn trace_form(part: &str, burst: &str) -> Option<Form>
+    ensures found { IfSome result (IsForm (codes "trace" ∷ part.now ∷ burst.now ∷ [])) }
+    ensures none { IfNone result (IsNoForm (codes "trace" ∷ part.now ∷ burst.now ∷ [])) }
+{
+    let part = part_of(part)?;
+    let burst = number_up_to(u32::MAX, burst)?;
+    Some(Form::Trace { part, burst })
+}
+
+/// The number of a part, from 0 to 7 in decimal, with no sign and no leading zero.
+fn part_of(text: &str) -> Option<u32>
+    ensures found { IfSome result (λ n. (text.now ≡ decimal n) × (n ≤ 7)) }
+    ensures none { IfNone result ((n : ℕ) → text.now ≡ decimal n → n ≤ 7 → ⊥) }
+{
+    if text == "0" {
+        Some(0)
+    } else {
+        number_up_to(LAST_PART, text)
     }
 }
 

@@ -3,9 +3,9 @@
 use crate::program::OWN_LISTENERS;
 use crate::running::{Audience, Outcome, plain_outcome};
 use crate::worked_runs::{MIRROR_RUNS, WorkedRun, worked_run, worked_runs};
-use nook_defs::data::Event;
 use nook_defs::listeners::{CountListener, FreeGate};
 use nook_defs::outside::Listener;
+use nook_defs::steps::Event;
 use std::alloc::Global;
 use std::sync::atomic::{AtomicU64, Ordering};
 use std::sync::{Arc, Wait};

@@ -4,23 +4,16 @@ ghost use Rattle.std.specs.Prelude.{◌≡◌, ◌+◌, ◌-◌, ◌<◌, ◌≤
 ghost use Rattle.nook_defs.specs.Entries.{is_heap_use, covers_some, overlap, is_free_run, lowest_run, free_start};
 
 use crate::ordered::Ordered;
-use nook_defs::data::Entry;
+use nook_defs::entries::Entry;
+use nook_defs::limits::MOST_HEAP_ENTRIES;
 use nook_defs::lists::Word;
-
-/// The end of the heap.
-const HEAP_END: u32 = 4096;
-
-/// The most heap and borrow entries that stand together.
-const MOST_HEAP_ENTRIES: usize = 64;
-
-/// The words of a kernel object, and so of its copy.
-const OBJECT_WORDS: u32 = 64;
+use nook_defs::memory_map::{DATA_END, DATA_WORDS, OBJECT_WORDS};
 
 /// The lowest start of `n` free heap words: `None` where no run of free words is long enough, or 64 heap and borrow
 /// entries stand.
 pub fn free_start(entries: &Ordered, heap_start: u32, n: u32) -> Option<Word>
-    requires start { heap_start ≤ 4096 }
-    requires n { n ≤ 2048 }
+    requires start { heap_start ≤ DATA_END }
+    requires n { n ≤ DATA_WORDS }
     ensures { result ≡ free_start heap_start n entries.now }
 {
     if heap_count(entries) < MOST_HEAP_ENTRIES {
@@ -56,10 +49,10 @@ fn is_heap_use(entry: Entry) -> bool
 
 /// The lowest start of `n` free heap words.
 fn lowest_run(entries: &Ordered, heap_start: u32, n: u32) -> Option<Word>
-    requires n { n ≤ 2048 }
-    ensures { result ≡ lowest_run (4097 - (heap_start + n)) entries.now heap_start n }
+    requires n { n ≤ DATA_WORDS }
+    ensures { result ≡ lowest_run (DATA_END + 1 - (heap_start + n)) entries.now heap_start n }
 {
-    for start in heap_start..HEAP_END + 1 - n {
+    for start in heap_start..DATA_END + 1 - n {
         if is_free_run(entries, start, n) {
             return Some(start);
         }

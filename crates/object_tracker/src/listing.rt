@@ -7,7 +7,7 @@ ghost use Rattle.object_tracker.specs.Tracked.{fits};
 
 use crate::ordered::Ordered;
 use crate::wanted::{Wanted, fits, is_registration};
-use nook_defs::data::{Entry, Released};
+use nook_defs::entries::{Entry, Released};
 use nook_defs::lists::{Items, Word};
 use nook_defs::memory::NoMemory;
 use std::alloc::Global;

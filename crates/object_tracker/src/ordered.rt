@@ -2,7 +2,7 @@
 
 ghost use Rattle.std.specs.Prelude.{◌≡◌, ◌<◌, ◌≤◌, [], length, slice_index_or, insert, remove, IfOk};
 
-use nook_defs::data::Entry;
+use nook_defs::entries::Entry;
 use nook_defs::memory::NoMemory;
 use slab::Slab;
 use std::alloc::Global;
@@ -20,7 +20,7 @@ pub struct Ordered {
 
 impl Model for Ordered {
     ghost use Rattle.std.specs.Prelude.{List, map, vec_capacity};
-    ghost use Rattle.nook_defs.specs.declared.data.Entry.{Entry};
+    ghost use Rattle.nook_defs.specs.declared.entries.Entry.{Entry};
 
     ghost Value = { List Entry };
 
@@ -39,6 +39,18 @@ impl Ordered {
         let slab = Slab::with_capacity(alloc, MOST_ENTRIES)?;
         let keys = Vec::with_capacity(alloc, MOST_ENTRIES)?;
         Ok(Ordered { slab, keys })
+    }
+
+    /// An equal list of its own. It takes room for 82 entries.
+    pub fn copied(&self, alloc: Global) -> Result<Ordered, NoMemory>
+        requires { length self.now ≤ 82 }
+        ensures { IfOk result (λ made. made ≡ self.now) }
+    {
+        let mut made = Ordered::new(alloc)?;
+        for place in 0..self.len() {
+            made.insert(place, self.get(place));
+        }
+        Ok(made)
     }
 
     /// The number of entries.

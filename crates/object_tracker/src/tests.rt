@@ -3,7 +3,7 @@
 ghost use Rattle.std.specs.Prelude.{◌≤◌};
 
 use crate::Tracker;
-use nook_defs::data::Entry;
+use nook_defs::entries::Entry;
 use nook_defs::lists::Word;
 use std::alloc::Global;
 use std::test::Fail;

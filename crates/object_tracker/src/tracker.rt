@@ -8,14 +8,13 @@ use crate::heap::free_start;
 use crate::listing::{add, borrow_start, end_all, has, held, holds, set_live};
 use crate::ordered::Ordered;
 use crate::wanted::Wanted;
-use nook_defs::data::{Entry, Released};
-use nook_defs::lists::Word;
+use nook_defs::entries::{Entry, Released};
+use nook_defs::limits::CONTEXTS;
+use nook_defs::lists::{TryCopy, Word};
 use nook_defs::memory::NoMemory;
+use nook_defs::memory_map::{DATA_END, DATA_WORDS, LAST_OBJECT, OBJECT_WORDS};
 use std::alloc::Global;
 use std::marker::Model;
-
-/// The words of a kernel object, and so of its copy.
-const OBJECT_WORDS: u32 = 64;
 
 /// What a driver holds. Contracts see where the heap begins, and the entries in Collect's order: heap by start,
 /// copies by object, buffers by context, the registration last.
@@ -41,7 +40,7 @@ impl Tracker {
     /// The tracker of a domain as it begins, with a registration that is not live. The heap is what lies from
     /// `heap_start` (2,048 to 4,096) to 4,095. It takes room for all entries that can stand.
     pub fn new(alloc: Global, heap_start: u32) -> Result<Tracker, NoMemory>
-        requires { heap_start ≤ 4096 }
+        requires { heap_start ≤ DATA_END }
         ensures { IfOk result (λ made. made ≡ record { heap_start = heap_start; entries = opening_entries }) }
     {
         let mut entries = Ordered::new(alloc)?;
@@ -56,7 +55,7 @@ impl Tracker {
     /// Gives 1 to 2,048 heap words to the driver: their start, the lowest there is. `None`, with nothing changed,
     /// where no run of free words is long enough, or 64 heap and borrow entries stand.
     pub fn alloc(&mut self, n: u32) -> Option<Word>
-        requires { n ≤ 2048 }
+        requires { n ≤ DATA_WORDS }
         ensures start { result ≡ free_start self.old.heap_start n self.old.entries }
         ensures none { IfNone result (self.new ≡ self.old) }
         ensures some { IfSome result (λ start. self.new ≡ record self.old { entries = with_entry (Entry.Heap start n) self.old.entries }) }
@@ -86,9 +85,9 @@ impl Tracker {
 
     /// Gives 64 heap words to the copy of a kernel object up to 12, as `alloc` does.
     pub fn borrow(&mut self, object: u32) -> Option<Word>
-        requires { object ≤ 12 }
-        ensures within { IfSome result (λ start. start + 64 ≤ 4096) }
-        ensures start { result ≡ free_start self.old.heap_start 64 self.old.entries }
+        requires { object ≤ LAST_OBJECT }
+        ensures within { IfSome result (λ start. start + OBJECT_WORDS ≤ DATA_END) }
+        ensures start { result ≡ free_start self.old.heap_start OBJECT_WORDS self.old.entries }
         ensures none { IfNone result (self.new ≡ self.old) }
         ensures some { IfSome result (λ start. self.new ≡ record self.old { entries = with_entry (Entry.Borrow object start) self.old.entries }) }
     {
@@ -101,7 +100,7 @@ impl Tracker {
     /// object is not borrowed.
     pub fn give_back(&mut self, object: u32) -> Option<Word>
         ensures start { result ≡ borrow_start object self.old.entries }
-        ensures within { IfSome result (λ start. start + 64 ≤ 4096) }
+        ensures within { IfSome result (λ start. start + OBJECT_WORDS ≤ DATA_END) }
         ensures none { IfNone result (self.new ≡ self.old) }
         ensures some { IfSome result (λ _. self.new ≡ record self.old { entries = without_borrow object self.old.entries }) }
     {
@@ -113,14 +112,14 @@ impl Tracker {
     /// Whether the object is borrowed.
     pub fn is_borrowed(&self, object: u32) -> bool
         ensures borrowed { result ≡ list_any (is_borrow_of object) self.now.entries }
-        ensures known { IsTrue result → object ≤ 12 }
+        ensures known { IsTrue result → object ≤ LAST_OBJECT }
     {
         has(&self.entries, Wanted::Borrow { object })
     }
 
     /// The context's buffer is lent, for writing or for reading. The context is at most 16 and has none.
     pub fn begin_buffer(&mut self, context: u8, writable: bool)
-        requires context { context < 17 }
+        requires context { context < CONTEXTS }
         requires none { list_any (is_buffer_of context) self.old.entries ≡ false }
         ensures { self.new ≡ record self.old { entries = with_entry (Entry.Buffer context writable) self.old.entries } }
     {
@@ -181,5 +180,16 @@ impl Tracker {
         let ended = held(self.alloc, &self.entries)?;
         end_all(&mut self.entries, Wanted::Held);
         Ok(ended)
+    }
+}
+
+impl TryCopy for Tracker {
+    fn copy(&self, alloc: Global) -> Result<Tracker, NoMemory> {
+        let entries = self.entries.copied(alloc)?;
+        Ok(Tracker {
+            alloc,
+            heap_start: self.heap_start,
+            entries,
+        })
     }
 }

@@ -4,7 +4,7 @@ ghost use Rattle.std.specs.Prelude.{◌≡◌, true, false};
 ghost use Rattle.nook_defs.specs.Entries.{is_registration, is_live};
 ghost use Rattle.object_tracker.specs.Tracked.{fits};
 
-use nook_defs::data::Entry;
+use nook_defs::entries::Entry;
 
 /// Which entries are looked for, or end.
 #[derive(Clone, Copy)]

@@ -1,6 +1,8 @@
 use Rattle.std.specs.Prelude.{ℕ, ◌+◌, ◌&&◌, nat_le, if◌then◌else◌, Bool, true, Option, Some, None, List, slice_set}
 use Rattle.nook_defs.specs.declared.machine.Service.{Service}
 use Rattle.nook_defs.specs.declared.machine.Service.TheVariants as service
+use Rattle.nook_defs.specs.declared.limits.TheConstants.{MOST_FRAME_WORDS}
+use Rattle.nook_defs.specs.declared.memory_map.TheConstants.{BUFFER_WORDS, DATA_WORDS, LAST_OBJECT, MEMORY_WORDS}
 use Rattle.nook_defs.specs.Domain.{Arguments, Lent}
 use Rattle.domain_pages.specs.Frames.{with_own}
 use Rattle.nook_defs.specs.Pages.{buffer_start}
@@ -18,15 +20,15 @@ with_loan context (Some l) loans = if l.writable then slice_set loans context tr
 -- the pages with a copy of their own, after a buffer is lent: its two pages among them
 abbrev pub lent_own : ℕ → Option Lent → List Bool → List Bool
 lent_own context None own = own
-lent_own context (Some l) own = with_own (buffer_start context) 128 own
+lent_own context (Some l) own = with_own (buffer_start context) BUFFER_WORDS own
 
 -- the numbers of a service are such that it can be done
 abbrev pub can_serve : Service → Bool
-can_serve (service.Alloc n) = nat_le n 2048
+can_serve (service.Alloc n) = nat_le n DATA_WORDS
 can_serve (service.Free address) = true
 can_serve service.Register = true
-can_serve (service.Borrow object) = nat_le object 12
-can_serve (service.GiveBack object) = nat_le object 12
-can_serve (service.NetRx start len) = nat_le len 64 && nat_le (start + len) 8192
+can_serve (service.Borrow object) = nat_le object LAST_OBJECT
+can_serve (service.GiveBack object) = nat_le object LAST_OBJECT
+can_serve (service.NetRx start len) = nat_le len MOST_FRAME_WORDS && nat_le (start + len) MEMORY_WORDS
 can_serve service.Log = true
 can_serve service.Yield = true

@@ -5,23 +5,11 @@ ghost use Rattle.nook_defs.specs.Classes.{class_code};
 ghost use Rattle.nook_defs.specs.Services.{needs, is_frame_length, tested_length, checked_frame, checked};
 ghost use Rattle.param_wrappers.specs.Crossing.{can_serve};
 
-use nook_defs::data::Class;
+use nook_defs::classes::Class;
+use nook_defs::limits::MOST_FRAME_WORDS;
 use nook_defs::machine::{BadParam, Service};
+use nook_defs::memory_map::{BUFFERS_END, DATA_START, DATA_WORDS, LAST_OBJECT};
 use object_tracker::Tracker;
-
-/// The most words that the heap can hold.
-const MOST_HEAP_WORDS: u32 = 2048;
-
-/// The kernel objects that can be borrowed are 1 to this one.
-const LAST_OBJECT: u32 = 12;
-
-/// The most words of a frame.
-const MOST_FRAME_WORDS: u32 = 64;
-
-/// The first address of the driver's data, and the end of its buffers.
-const DATA_START: u32 = 2048;
-
-const BUFFERS_END: u64 = 7360;
 
 /// The service of a kernel call by its number and its two arguments, for a driver of a class. The error names the
 /// smallest argument that fails; 0 is the service itself.
@@ -37,7 +25,7 @@ pub fn check_service(
 {
     match number {
         1 => needs(
-            1 <= first && first <= MOST_HEAP_WORDS,
+            1 <= first && first <= DATA_WORDS,
             1,
             1,
             Service::Alloc { n: first },
@@ -124,9 +112,9 @@ fn check_frame(start: u32, len: u32, class: Class) -> Result<Service, BadParam>
             argument: 0,
         });
     }
-    let fits = 1 <= len && len <= MOST_FRAME_WORDS;
+    let fits = 1 <= len && len <= MOST_FRAME_WORDS as u32;
     let end = u64::from(start) + if fits { u64::from(len) } else { 1 };
-    if start < DATA_START || BUFFERS_END < end {
+    if start < DATA_START || u64::from(BUFFERS_END) < end {
         return Err(BadParam {
             service: 6,
             argument: 1,

@@ -8,13 +8,12 @@ ghost use Rattle.nook_defs.specs.Pages.{buffer_start};
 ghost use Rattle.param_wrappers.specs.Crossing.{arguments, lent_own, with_loan};
 
 use domain_pages::PageMap;
-use nook_defs::data::Op;
+use nook_defs::calls::Op;
+use nook_defs::limits::{BLOCK_WORDS, CONTEXTS};
 use nook_defs::lists::{Word, Words};
 use nook_defs::memory::Room;
+use nook_defs::memory_map::{BUFFER_WORDS, buffer_start};
 use object_tracker::Tracker;
-
-/// The words of a context's two buffer pages.
-const BUFFER_WORDS: u32 = 128;
 
 /// The values of registers r1 to r3 at an entry.
 #[derive(Clone, Copy)]
@@ -28,9 +27,9 @@ pub struct Args {
 /// answer words, and gives the entry's arguments. For an entry without a buffer it only gives the arguments. The
 /// context is at most 16 and has no buffer, and the operation has at most 128 words. It takes no memory.
 pub fn copy_in(pages: &mut PageMap, tracker: &mut Tracker, context: u8, op: &Op) -> Args
-    requires context { context < 17 }
+    requires context { context < CONTEXTS }
     requires free { list_any (is_buffer_of context) tracker.old.entries ≡ false }
-    requires few { IfSome (buffer_of op.now) (λ l. length l.words ≤ 128) }
+    requires few { IfSome (buffer_of op.now) (λ l. length l.words ≤ BUFFER_WORDS) }
     ensures arguments { arguments result ≡ arguments_of context op.now }
     ensures words { pages.new.words ≡ lent_memory context (buffer_of op.now) pages.old.words }
     ensures loans { pages.new.lent ≡ with_loan context (buffer_of op.now) pages.old.lent }
@@ -51,7 +50,7 @@ pub fn copy_in(pages: &mut PageMap, tracker: &mut Tracker, context: u8, op: &Op)
             lend(pages, tracker, context, words.as_slice(), false);
             Args {
                 r1: *first,
-                r2: words.len() as u32 / 16,
+                r2: (words.len() / BLOCK_WORDS) as u32,
                 r3,
             }
         }
@@ -94,9 +93,9 @@ pub fn copy_in(pages: &mut PageMap, tracker: &mut Tracker, context: u8, op: &Op)
 
 /// Puts words and then zeros into a context's buffer, and lends it.
 fn lend(pages: &mut PageMap, tracker: &mut Tracker, context: u8, words: &[Word], writable: bool)
-    requires context { context < 17 }
+    requires context { context < CONTEXTS }
     requires free { list_any (is_buffer_of context) tracker.old.entries ≡ false }
-    requires few { length words.now ≤ 128 }
+    requires few { length words.now ≤ BUFFER_WORDS }
     ensures words { pages.new.words ≡ lent_memory context (lent writable words.now) pages.old.words }
     ensures loans { pages.new.lent ≡ with_loan context (lent writable words.now) pages.old.lent }
     ensures own { pages.new.own ≡ lent_own context (lent writable words.now) pages.old.own }
@@ -109,14 +108,6 @@ fn lend(pages: &mut PageMap, tracker: &mut Tracker, context: u8, words: &[Word],
     }
 }
 
-/// Where a context's buffer begins.
-fn buffer_start(context: u8) -> u32
-    requires { context < 17 }
-    ensures { result ≡ buffer_start context }
-{
-    (81 + 2 * u32::from(context)) * 64
-}
-
 /// The first `count` words of a context's buffer, at most 128, in the memory of `room`, which has room for them; the
 /// loan ends. The context is at most 16. It takes no memory.
 pub fn copy_out(
@@ -126,8 +117,8 @@ pub fn copy_out(
     count: u32,
     room: Room<Word>,
 ) -> Words
-    requires context { context < 17 }
-    requires few { count ≤ 128 }
+    requires context { context < CONTEXTS }
+    requires few { count ≤ BUFFER_WORDS }
     requires room { count ≤ room }
     ensures words { result ≡ slice_range pages.old.words (buffer_start context) (buffer_start context + count) }
     ensures pages { pages.new ≡ record pages.old { lent = slice_set pages.old.lent context false } }

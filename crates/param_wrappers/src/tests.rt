@@ -5,7 +5,8 @@ ghost use Rattle.nook_defs.specs.Domain.{buffer_of};
 
 use crate::{check_service, copy_in, copy_out};
 use domain_pages::PageMap;
-use nook_defs::data::{Class, Op};
+use nook_defs::calls::Op;
+use nook_defs::classes::Class;
 use nook_defs::lists::{Items, Word};
 use nook_defs::machine::{BadParam, Service};
 use nook_defs::memory::Room;

@@ -5,14 +5,14 @@ use Rattle.std.specs.Option.{IfSome, is_some, option_map}
 use Rattle.std.proofs.lemmas.Bool.{cases_Bool, cases_lt, eq-eqb, ne_eqb}
 use Rattle.claim_index.specs.declared.claim.Claim.{Claim}
 use Rattle.claim_index.specs.Claims.{AreBelow, blocker_of, claim_of, claimed_by, claims_of, without_call}
-use Rattle.nook_defs.specs.declared.data.Answer.{Answer}
-use Rattle.nook_defs.specs.declared.data.Answer.TheVariants as answer
-use Rattle.nook_defs.specs.declared.data.CallEntry.{CallEntry}
-use Rattle.nook_defs.specs.declared.data.Class.{Class}
-use Rattle.nook_defs.specs.declared.data.Op.{Op}
-use Rattle.nook_defs.specs.declared.data.Op.TheVariants as op
-use Rattle.nook_defs.specs.declared.data.Stage.TheVariants as stage
-use Rattle.nook_defs.specs.Log.{IsNumbered, acknowledged, acknowledged_by, acknowledged_call, answered, blocked_by, blocks_call, change_call, entered, entered_call, gone_answers, held_by_shadow, is_blocked, is_call, is_kept, new_call, no_call_open, numbered, open_call, opening_log, queue_after, shadow_answer, stop_answers, stop_calls, with_answer, with_call}
+use Rattle.nook_defs.specs.declared.calls.Answer.{Answer}
+use Rattle.nook_defs.specs.declared.calls.Answer.TheVariants as answer
+use Rattle.nook_defs.specs.declared.calls.CallEntry.{CallEntry}
+use Rattle.nook_defs.specs.declared.classes.Class.{Class}
+use Rattle.nook_defs.specs.declared.calls.Op.{Op}
+use Rattle.nook_defs.specs.declared.calls.Op.TheVariants as op
+use Rattle.nook_defs.specs.declared.steps.Stage.TheVariants as stage
+use Rattle.nook_defs.specs.Log.{IsNumbered, after_acknowledging, acknowledged_call, after_answering, blocked_by, blocks_call, change_entry, after_entering, entered_call, gone_answers, held_by_shadow, is_blocked, is_call, is_held, new_entry, no_call_open, with_answered_call, open_call, opening_log, queue_after, shadow_answer, stop_answers, stop_calls, with_answer, with_call}
 use Rattle.nook_defs.specs.State.{CallLog}
 use Rattle.shadow_log.proofs.Numbers.{numbered_filter, numbered_map, numbered_more, numbered_push}
 use Rattle.shadow_log.proofs.Changes.{numbered_stop}
@@ -42,9 +42,9 @@ pub claimed_invoked : (claims more : List Claim) (log : CallLog) (thread : ℕ) 
 unfolding with_call
 claimed_invoked claims more log thread o k a c e m = record {
   claims_are =
-      let same : k ≡ claim_of (new_call (log.count + 1) thread o) = rw (c, e) refl in
-      m ∙ ap (λ z. z ++ k ∷ []) a.claims_are ∙ ap (λ z. claims_of log.pending ++ z ∷ []) same ∙ sym (claims_push log.pending (new_call (log.count + 1) thread o));
-  numbered = numbered_push 0 log.count log.pending (new_call (log.count + 1) thread o) a.numbered refl;
+      let same : k ≡ claim_of (new_entry (log.count + 1) thread o) = rw (c, e) refl in
+      m ∙ ap (λ z. z ++ k ∷ []) a.claims_are ∙ ap (λ z. claims_of log.pending ++ z ∷ []) same ∙ sym (claims_push log.pending (new_entry (log.count + 1) thread o));
+  numbered = numbered_push 0 log.count log.pending (new_entry (log.count + 1) thread o) a.numbered refl;
 }
 
 without_last : (call : ℕ) (xs : List Claim) (k : Claim) → AreBelow call xs → k.call ≡ call → without_call call (xs ++ k ∷ []) ≡ xs
@@ -59,8 +59,8 @@ claimed_again claims more less log call k a c e m l =
     let same : less ≡ claims = l ∙ ap (λ z. without_call call z) m ∙ without_last call claims k below e in
     record { claims_are = same ∙ a.claims_are; numbered = a.numbered }
 
-pub claimed_numbered : (claims : List Claim) (log : CallLog) → AreClaimed claims log → AreClaimed claims (numbered log)
-unfolding numbered
+pub claimed_numbered : (claims : List Claim) (log : CallLog) → AreClaimed claims log → AreClaimed claims (with_answered_call log)
+unfolding with_answered_call
 claimed_numbered claims log a = record { claims_are = a.claims_are; numbered = numbered_more 0 log.count log.pending a.numbered }
 
 -- a call goes on
@@ -73,20 +73,20 @@ changed_call : (call : ℕ) (c : CallEntry) (t : Bool) → (if t then entered_ca
 changed_call call c true = refl
 changed_call call c false = refl
 
-claims_entered : (call : ℕ) (xs : List CallEntry) → claims_of (map (change_call call entered_call) xs) ≡ claims_of xs
+claims_entered : (call : ℕ) (xs : List CallEntry) → claims_of (map (change_entry call entered_call) xs) ≡ claims_of xs
 claims_entered call [] = refl
 claims_entered call (x ∷ xs) = rw (changed_claim call x (is_call call x), claims_entered call xs) refl
 
-pub claimed_entered : (claims : List Claim) (log : CallLog) (call : ℕ) → AreClaimed claims log → AreClaimed claims (entered call log)
-unfolding entered
+pub claimed_entered : (claims : List Claim) (log : CallLog) (call : ℕ) → AreClaimed claims log → AreClaimed claims (after_entering call log)
+unfolding after_entering
 claimed_entered claims log call a = record {
   claims_are = a.claims_are ∙ sym (claims_entered call log.pending);
-  numbered = numbered_map 0 log.count (change_call call entered_call) log.pending (λ c. changed_call call c (is_call call c)) a.numbered;
+  numbered = numbered_map 0 log.count (change_entry call entered_call) log.pending (λ c. changed_call call c (is_call call c)) a.numbered;
 }
 
 claimed_acknowledged_by : (claims : List Claim) (log : CallLog) (found : Option CallEntry) → AreClaimed claims log
-    → AreClaimed claims (acknowledged_by found log)
-unfolding acknowledged
+    → AreClaimed claims (elim found as (λ o. CallLog) [ None ↦ log | Some c ↦ after_acknowledging c.thread c.op log ])
+unfolding after_acknowledging
 claimed_acknowledged_by claims log None a = a
 claimed_acknowledged_by claims log (Some c) a = record { claims_are = a.claims_are; numbered = a.numbered }
 
@@ -104,8 +104,8 @@ claims_without call (x ∷ xs) = elim (cases_Bool (is_call call x)) [
 ]
 
 pub claimed_answered : (claims less : List Claim) (log : CallLog) (call : ℕ) → AreClaimed claims log → less ≡ without_call call claims
-    → AreClaimed less (answered call log)
-unfolding answered
+    → AreClaimed less (after_answering call log)
+unfolding after_answering
 claimed_answered claims less log call a l = record {
   claims_are = l ∙ ap (λ z. without_call call z) a.claims_are ∙ claims_without call log.pending;
   numbered = numbered_filter 0 log.count (λ c. not (is_call call c)) log.pending a.numbered;
@@ -152,8 +152,8 @@ first_goes answers a x count xs n =
 
 -- what the shadow answers of a call, and whether it keeps the call
 stopped_of : (thread : ℕ) (o : Op) (config : List ℕ) (holder : Option ℕ) (queue : List (List ℕ))
-    → ((shadow_answer o thread config holder stage.Stop queue ≡ None) × (is_kept o ≡ true))
-    ⊎ ((a : Answer) × (shadow_answer o thread config holder stage.Stop queue ≡ Some a) × (is_kept o ≡ false))
+    → ((shadow_answer o thread config holder stage.Stop queue ≡ None) × (is_held o ≡ true))
+    ⊎ ((a : Answer) × (shadow_answer o thread config holder stage.Stop queue ≡ Some a) × (is_held o ≡ false))
 unfolding shadow_answer
 stopped_of thread (op.Read first count) config holder queue = inl (refl, refl)
 stopped_of thread (op.Write first words) config holder queue = inl (refl, refl)
@@ -184,15 +184,13 @@ claims_gone low count failures (x ∷ xs) n =
 
 pub claimed_stopped : (claims less : List Claim) (log : CallLog) (answers : List (ℕ × Answer)) (queue : List (List ℕ)) → AreClaimed claims log
     → answers ≡ stop_answers log.pending log.config log.holder queue → less ≡ without_answered answers claims → AreClaimed less (held_by_shadow log)
-unfolding held_by_shadow
 claimed_stopped claims less log answers queue a e l = record {
   claims_are = l ∙ rw (e, a.claims_are) (claims_stopped 0 log.count log.pending log.config log.holder queue a.numbered);
-  numbered = numbered_stop log.count log.pending (stop_calls log.pending) refl a.numbered;
+  numbered = numbered_stop log.count (λ c. is_held c.op) log.pending (stop_calls log.pending) refl a.numbered;
 }
 
 pub claimed_given_up : (claims less : List Claim) (log : CallLog) (answers : List (ℕ × Answer)) (failures : ℕ) → AreClaimed claims log
     → answers ≡ gone_answers failures log.pending → less ≡ without_answered answers claims → AreClaimed less (no_call_open log)
-unfolding no_call_open
 claimed_given_up claims less log answers failures a e l = record {
   claims_are = l ∙ rw (e, a.claims_are) (claims_gone 0 log.count failures log.pending a.numbered);
   numbered = omega arith;

@@ -1,17 +1,17 @@
 -- What the laws of runs say of a part, at first and after each step.
 use Rattle.std.proofs.Common.{◌≡◌, ◌+◌, ◌≤◌, ◌<◌, true, List, [], ◌∷◌, ◌++◌, refl, sym, ap, ◌∙◌, ℕ, arith, Option, Some, None, IfNone, IfSome, is_some}
-use Rattle.loan_laws.proofs.StepLoans.{run_loans}
-use Rattle.nook_defs.specs.declared.data.Class.{Class}
-use Rattle.nook_defs.specs.declared.data.Class.TheVariants as class
-use Rattle.nook_defs.specs.declared.data.Event.{Event}
-use Rattle.nook_defs.specs.declared.data.Fault.{Fault}
-use Rattle.nook_defs.specs.declared.data.PartSpec.{PartSpec}
-use Rattle.nook_defs.specs.declared.data.Step.{Step}
+use Rattle.part_laws.proofs.StepLoans.{run_loans}
+use Rattle.nook_defs.specs.declared.classes.Class.{Class}
+use Rattle.nook_defs.specs.declared.classes.Class.TheVariants as class
+use Rattle.nook_defs.specs.declared.steps.Event.{Event}
+use Rattle.nook_defs.specs.declared.scenario.Fault.{Fault}
+use Rattle.nook_defs.specs.declared.scenario.PartSpec.{PartSpec}
+use Rattle.nook_defs.specs.declared.steps.Step.{Step}
 use Rattle.nook_defs.specs.Runs.{PartRun, IsRun, IsRunFrom, answered_at, event_of, next_any, opening_run, run_after, state_after, state_from, state_of}
 use Rattle.nook_defs.specs.State.{PartState}
-use Rattle.nook_defs.specs.Steps.{enabled, opening, turned}
+use Rattle.nook_defs.specs.Steps.{enabled, opening, stepped}
 use Rattle.nook_defs.specs.Valid.{FitsClass, IsValidPart}
-use Rattle.device_laws.proofs.DeviceStays.{opening_spec, run_spec, spec_after}
+use Rattle.part_laws.proofs.DeviceStays.{opening_spec, run_spec, spec_after}
 use Rattle.part_laws.proofs.Answered.{run_answered}
 use Rattle.part_laws.proofs.RunBound.{run_tied}
 use Rattle.part_laws.proofs.RunProgress.{progress}
@@ -22,7 +22,7 @@ use Rattle.part_laws.proofs.RunsDetermined.{run_more, state_more}
 use Rattle.part_laws.proofs.StepsFit.{run_fit}
 use Rattle.part_laws.proofs.ValidFits.{valid_fits}
 use Rattle.part_core.specs.Kept.{AreSameFaults, IsKept, IsSound}
-use Rattle.part_core.specs.Turning.{turned_to}
+use Rattle.part_core.specs.Turning.{stepped_to}
 
 -- a part that a run leads to
 
@@ -82,7 +82,7 @@ same_faults_at_first script spec same = rw (opening_spec spec) same
 -- the step as code takes it
 
 pub kept_on : (p q : PartState) (journal more : List Event) (s : Step) (e : Event) (script : List Fault)
-    → IsKept (record { state = p; journal = journal }) → enabled p s ≡ true → turned p s ≡ turned_to q e → more ≡ journal ++ e ∷ []
+    → IsKept (record { state = p; journal = journal }) → enabled p s ≡ true → stepped p s ≡ stepped_to q e → more ≡ journal ++ e ∷ []
     → AreSameFaults script p.spec.faults → IsKept (record { state = q; journal = more }) × AreSameFaults script q.spec.faults
 kept_on p q journal more s e script k n t m same =
     let state : q ≡ state_after p s = ap (λ x. x.state) (sym t) in

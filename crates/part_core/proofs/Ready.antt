@@ -2,16 +2,16 @@
 use Rattle.std.proofs.Common.{◌≡◌, ℕ, ◌+◌, ◌≤◌, ◌<◌, ◌^◌, true, false, Bool, Option, Some, None, List, IfSome, IsSome, refl, sym, ap, ◌∙◌, arith, true≢false, length}
 use Rattle.std.specs.List.{list_any}
 use Rattle.std.proofs.lemmas.Bool.{and_parts}
-use Rattle.device_laws.proofs.PartFacts.{burst_context_low, burst_context_goes_on, GoesOnWith, checked_read_count, checked_set_key, open_call_attempts, open_call_checked, open_call_fits_buffer, open_call_of_class, open_call_on_disk, open_call_thread, open_call_thread_low}
-use Rattle.loan_laws.proofs.StepLoans.{enter_free, due_free}
-use Rattle.loan_laws.specs.Loans.{is_unsettled}
-use Rattle.nook_defs.specs.declared.data.CallEntry.{CallEntry}
-use Rattle.nook_defs.specs.declared.data.Class.{Class}
-use Rattle.nook_defs.specs.declared.data.Op.{Op}
-use Rattle.nook_defs.specs.declared.data.Op.TheVariants as op
-use Rattle.nook_defs.specs.declared.data.Stage.{Stage}
-use Rattle.nook_defs.specs.declared.data.Stage.TheVariants as stage
-use Rattle.nook_defs.specs.declared.data.Step.TheVariants as step
+use Rattle.part_laws.proofs.PartFacts.{burst_context_low, burst_context_goes_on, GoesOnWith, checked_read_count, checked_set_key, open_call_attempts, open_call_checked, open_call_fits_buffer, open_call_of_class, open_call_on_disk, open_call_thread, open_call_thread_low}
+use Rattle.part_laws.proofs.StepLoans.{enter_free, due_free}
+use Rattle.part_laws.specs.Loans.{is_unsettled}
+use Rattle.nook_defs.specs.declared.calls.CallEntry.{CallEntry}
+use Rattle.nook_defs.specs.declared.classes.Class.{Class}
+use Rattle.nook_defs.specs.declared.calls.Op.{Op}
+use Rattle.nook_defs.specs.declared.calls.Op.TheVariants as op
+use Rattle.nook_defs.specs.declared.steps.Stage.{Stage}
+use Rattle.nook_defs.specs.declared.steps.Stage.TheVariants as stage
+use Rattle.nook_defs.specs.declared.steps.Step.TheVariants as step
 use Rattle.nook_defs.specs.declared.machine.Context.{Context}
 use Rattle.nook_defs.specs.Classes.{static_check}
 use Rattle.nook_defs.specs.Domain.{attempt_bursts, bursts_of, context_of}

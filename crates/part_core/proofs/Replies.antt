@@ -2,14 +2,14 @@
 use Rattle.std.proofs.Common.{◌≡◌, ℕ, ◌+◌, ◌-◌, ◌==◌, ◌&&◌, nat_le, nat_lt, Bool, true, false, Option, Some, None, List, IfSome, refl, sym, ap, ◌∙◌, arith}
 use Rattle.nook_defs.specs.declared.classes.Accept.{Accept}
 use Rattle.nook_defs.specs.declared.classes.Accept.TheVariants as accepts
-use Rattle.nook_defs.specs.declared.data.Answer.{Answer}
-use Rattle.nook_defs.specs.declared.data.Answer.TheVariants as answer
-use Rattle.nook_defs.specs.declared.data.CallEntry.{CallEntry}
-use Rattle.nook_defs.specs.declared.data.End.TheVariants as end
-use Rattle.nook_defs.specs.declared.data.Op.{Op}
-use Rattle.nook_defs.specs.declared.data.Op.TheVariants as op
+use Rattle.nook_defs.specs.declared.calls.Answer.{Answer}
+use Rattle.nook_defs.specs.declared.calls.Answer.TheVariants as answer
+use Rattle.nook_defs.specs.declared.calls.CallEntry.{CallEntry}
+use Rattle.nook_defs.specs.declared.steps.End.TheVariants as end
+use Rattle.nook_defs.specs.declared.calls.Op.{Op}
+use Rattle.nook_defs.specs.declared.calls.Op.TheVariants as op
 use Rattle.nook_defs.specs.Classes.{accept}
-use Rattle.nook_defs.specs.Crossing.{Crossed, call_replied, closes, reply_answer}
+use Rattle.nook_defs.specs.Crossing.{Crossed, call_replied, closes_call, reply_answer}
 use Rattle.nook_defs.specs.Log.{call_of_thread, queue_after}
 use Rattle.nook_defs.specs.State.{PartState}
 use Rattle.part_core.specs.Crossings.{crossed_to}
@@ -28,16 +28,16 @@ pub taken_reply : (p q r : PartState) (context status : ℕ) (c : CallEntry) (a 
     → call_of_thread context p.log.pending ≡ Some c → accept c.op status ≡ accepts.Take
     → IfSome (call_of_thread context p.log.pending) (λ c. a ≡ reply_answer c.op c.thread p)
     → IfSome (call_of_thread context p.log.pending) (λ c. q ≡ record p { queue = queue_after c.op p.queue })
-    → IfSome (call_of_thread context q.log.pending) (λ c. r ≡ record (closes c q) { queue = q.queue })
+    → IfSome (call_of_thread context q.log.pending) (λ c. r ≡ record (closes_call c q) { queue = q.queue })
     → o.end ≡ end.Reply status → o.answer ≡ Some a → o.failure ≡ None
     → call_replied status p (call_of_thread context p.log.pending) ≡ crossed_to r o
-unfolding closes
+unfolding closes_call
 taken_reply p q r context status c a o found acc told moved closed e b f =
     let same : a ≡ reply_answer c.op c.thread p = rw found at told in
     let behind : q ≡ record p { queue = queue_after c.op p.queue } = rw found at moved in
     let again : call_of_thread context q.log.pending ≡ Some c = ap (λ z. call_of_thread context z.log.pending) behind ∙ found in
-    let second : r ≡ record (closes c q) { queue = q.queue } = rw again at closed in
-    let last : closes c p ≡ r = sym (second ∙ ap (λ z. record (closes c z) { queue = z.queue }) behind) in
+    let second : r ≡ record (closes_call c q) { queue = q.queue } = rw again at closed in
+    let last : closes_call c p ≡ r = sym (second ∙ ap (λ z. record (closes_call c z) { queue = z.queue }) behind) in
     rw (found, acc, ← same) (ap (crossed_with status a) last ∙ outcome_of r o status a e b f)
 
 io_leaves_queue : (o : Op) (status block : ℕ) (queue : List (List ℕ)) → accept o status ≡ accepts.IoError block → queue_after o queue ≡ queue
@@ -55,12 +55,12 @@ io_leaves_queue (op.Set key value) status block queue h = refl
 
 pub failed_blocks : (p r : PartState) (context status block : ℕ) (c : CallEntry) (o : Outcome)
     → call_of_thread context p.log.pending ≡ Some c → accept c.op status ≡ accepts.IoError block
-    → IfSome (call_of_thread context p.log.pending) (λ c. r ≡ record (closes c p) { queue = p.queue })
+    → IfSome (call_of_thread context p.log.pending) (λ c. r ≡ record (closes_call c p) { queue = p.queue })
     → o.end ≡ end.Reply status → o.answer ≡ Some (answer.IoError block) → o.failure ≡ None
     → call_replied status p (call_of_thread context p.log.pending) ≡ crossed_to r o
-unfolding closes
+unfolding closes_call
 failed_blocks p r context status block c o found acc closed e b f =
-    let second : r ≡ record (closes c p) { queue = p.queue } = rw found at closed in
+    let second : r ≡ record (closes_call c p) { queue = p.queue } = rw found at closed in
     let same : queue_after c.op p.queue ≡ p.queue = io_leaves_queue c.op status block p.queue acc in
-    let last : closes c p ≡ r = ap (λ z. record (closes c p) { queue = z }) same ∙ sym second in
+    let last : closes_call c p ≡ r = ap (λ z. record (closes_call c p) { queue = z }) same ∙ sym second in
     rw (found, acc) (ap (crossed_with status (answer.IoError block)) last ∙ outcome_of r o status (answer.IoError block) e b f)

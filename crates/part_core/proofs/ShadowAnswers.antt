@@ -1,8 +1,8 @@
 -- What the shadow holds leaves the queue as it is.
 use Rattle.std.proofs.Common.{◌≡◌, ℕ, Option, Some, None, List, refl}
-use Rattle.nook_defs.specs.declared.data.Op.{Op}
-use Rattle.nook_defs.specs.declared.data.Op.TheVariants as op
-use Rattle.nook_defs.specs.declared.data.Stage.{Stage}
+use Rattle.nook_defs.specs.declared.calls.Op.{Op}
+use Rattle.nook_defs.specs.declared.calls.Op.TheVariants as op
+use Rattle.nook_defs.specs.declared.steps.Stage.{Stage}
 use Rattle.nook_defs.specs.Log.{queue_after, shadow_answer}
 
 pub held_leaves_queue : (o : Op) (thread : ℕ) (config : List ℕ) (holder : Option ℕ) (s : Stage) (queue : List (List ℕ))

@@ -1,7 +1,7 @@
 use Rattle.std.specs.Prelude.{ℕ, Option, Some, None, List}
-use Rattle.nook_defs.specs.declared.data.Answer.{Answer}
-use Rattle.nook_defs.specs.declared.data.CallEntry.{CallEntry}
-use Rattle.nook_defs.specs.declared.data.Op.{Op}
+use Rattle.nook_defs.specs.declared.calls.Answer.{Answer}
+use Rattle.nook_defs.specs.declared.calls.CallEntry.{CallEntry}
+use Rattle.nook_defs.specs.declared.calls.Op.{Op}
 use Rattle.nook_defs.specs.Calls.{answer_in, queue_in}
 use Rattle.nook_defs.specs.Classes.{static_check}
 use Rattle.nook_defs.specs.State.{PartState}

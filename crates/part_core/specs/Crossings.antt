@@ -1,8 +1,9 @@
 use Rattle.std.specs.Prelude.{◌≡◌, ℕ, ◌+◌, ◌^◌, ◌<◌, ◌≤◌, true, IfSome}
-use Rattle.nook_defs.specs.declared.data.CallEntry.{CallEntry}
-use Rattle.nook_defs.specs.declared.data.Class.{Class}
-use Rattle.nook_defs.specs.declared.data.Op.{Op}
-use Rattle.nook_defs.specs.declared.data.Op.TheVariants as op
+use Rattle.nook_defs.specs.declared.calls.CallEntry.{CallEntry}
+use Rattle.nook_defs.specs.declared.classes.Class.{Class}
+use Rattle.nook_defs.specs.declared.calls.Op.{Op}
+use Rattle.nook_defs.specs.declared.calls.Op.TheVariants as op
+use Rattle.nook_defs.specs.declared.limits.TheConstants.{CONTEXTS, MOST_ANSWER_WORDS, MOST_FRAME_WORDS}
 use Rattle.nook_defs.specs.Classes.{blocks_of_op, first_of_op, is_of_class}
 use Rattle.nook_defs.specs.Crossing.{Crossed}
 use Rattle.nook_defs.specs.Log.{call_of_thread}
@@ -23,19 +24,19 @@ IsWithin _ = Unit {0}
 
 -- a call of one of 16 threads, its operation the class's, with blocks and numbers in their ranges
 pub record IsAnswerable (class : Class) (c : CallEntry) : Type 0 where
-  pub low : c.thread < 17
+  pub low : c.thread < CONTEXTS
   pub of_class : is_of_class class c.op ≡ true
   pub range : first_of_op c.op + blocks_of_op c.op ≤ 2 ^ 32
   pub within : IsWithin c.op
 
 -- what a crossing of a context may rest on
 pub record IsCrossable (context : ℕ) (p : PartState) : Type 0 where
-  pub low : context < 17
+  pub low : context < CONTEXTS
   pub failures : p.failures < 2 ^ 31
   pub call : IfSome (call_of_thread context p.log.pending) (IsAnswerable p.spec.class)
 
 -- an answer's words have room for 128, those that a kernel call moves and a frame for 64 each
 pub record HasRooms (rooms : Rooms) : Type 0 where
-  pub answer : 128 ≤ rooms.answer
-  pub moved : 64 ≤ rooms.moved
-  pub frame : 64 ≤ rooms.frame
+  pub answer : MOST_ANSWER_WORDS ≤ rooms.answer
+  pub moved : MOST_FRAME_WORDS ≤ rooms.moved
+  pub frame : MOST_FRAME_WORDS ≤ rooms.frame

@@ -1,6 +1,8 @@
 use Rattle.std.specs.Prelude.{◌≡◌, ◌≤◌, ◌<◌, ◌^◌, ℕ, true, false, IfSome, IsSome, length}
 use Rattle.std.specs.List.{list_any}
-use Rattle.nook_defs.specs.declared.data.CallEntry.{CallEntry}
+use Rattle.nook_defs.specs.declared.calls.CallEntry.{CallEntry}
+use Rattle.nook_defs.specs.declared.limits.TheConstants.{CONTEXTS}
+use Rattle.nook_defs.specs.declared.memory_map.TheConstants.{BUFFER_WORDS}
 use Rattle.nook_defs.specs.Classes.{is_of_class}
 use Rattle.nook_defs.specs.Domain.{buffer_of}
 use Rattle.nook_defs.specs.Entries.{is_buffer_of}
@@ -10,9 +12,9 @@ use Rattle.nook_defs.specs.State.{PartState}
 -- a call of one of 16 threads whose operation is its class's and fits a buffer, with attempts left to be counted, and
 -- whose buffer is not lent
 pub record IsEnterableCall (p : PartState) (c : CallEntry) : Type 0 where
-  pub low : c.thread < 17
+  pub low : c.thread < CONTEXTS
   pub of_class : is_of_class p.spec.class c.op ≡ true
-  pub few : IfSome (buffer_of c.op) (λ l. length l.words ≤ 128)
+  pub few : IfSome (buffer_of c.op) (λ l. length l.words ≤ BUFFER_WORDS)
   pub attempts : c.attempts < 2 ^ 31
   pub free : list_any (is_buffer_of c.thread) p.domain.entries ≡ false
 

@@ -1,6 +1,6 @@
 use Rattle.std.specs.Prelude.{◌≡◌, ◌≤◌, ◌<◌, ◌^◌, ℕ, List}
-use Rattle.loan_laws.specs.Loans.{HasLoans}
-use Rattle.nook_defs.specs.declared.data.Fault.{Fault}
+use Rattle.part_laws.specs.Loans.{HasLoans}
+use Rattle.nook_defs.specs.declared.scenario.Fault.{Fault}
 use Rattle.nook_defs.specs.Runs.{PartRun, IsRun, state_of}
 use Rattle.nook_defs.specs.State.{PartState}
 use Rattle.nook_defs.specs.Steps.{faults_of_burst}

@@ -1,15 +1,17 @@
 use Rattle.std.specs.Prelude.{◌≡◌, ◌≤◌, true, false, length}
 use Rattle.std.specs.List.{list_any}
-use Rattle.nook_defs.specs.declared.data.Stage.{Stage}
+use Rattle.nook_defs.specs.declared.steps.Stage.{Stage}
 use Rattle.nook_defs.specs.Classes.{defaults_of}
 use Rattle.nook_defs.specs.Entries.{is_buffer_of}
 use Rattle.nook_defs.specs.State.{PartState}
+use Rattle.nook_defs.specs.declared.limits.TheConstants.{SHADOW}
+use Rattle.nook_defs.specs.declared.memory_map.TheConstants.{DATA_WORDS, TEXT_WORDS}
 use Rattle.part_laws.specs.Tied.{is_driving_stage}
 
 -- what a stage may rest on: the log has the class's defaults, the image fits, and the shadow's buffer is not lent where
 -- the shadow's context is to enter
 pub record IsReady (s : Stage) (p : PartState) : Type 0 where
   pub defaults : p.log.defaults ≡ defaults_of p.spec.class
-  pub text : length p.spec.image.text ≤ 2048
-  pub initial : length p.spec.image.initial ≤ 2048
-  pub free : is_driving_stage s ≡ true → list_any (is_buffer_of 16) p.domain.entries ≡ false
+  pub text : length p.spec.image.text ≤ TEXT_WORDS
+  pub initial : length p.spec.image.initial ≤ DATA_WORDS
+  pub free : is_driving_stage s ≡ true → list_any (is_buffer_of SHADOW) p.domain.entries ≡ false

@@ -1,8 +1,8 @@
 use Rattle.std.specs.Prelude.{◌≡◌, ◌+◌, true, false, Result, Ok, Err, List, length}
-use Rattle.nook_defs.specs.declared.data.Event.{Event}
-use Rattle.nook_defs.specs.declared.data.Step.{Step}
+use Rattle.nook_defs.specs.declared.steps.Event.{Event}
+use Rattle.nook_defs.specs.declared.steps.Step.{Step}
 use Rattle.nook_defs.specs.declared.memory.NoMemory.{NoMemory}
-use Rattle.nook_defs.specs.Calls.{Turned}
+use Rattle.nook_defs.specs.Calls.{Stepped}
 use Rattle.nook_defs.specs.Runs.{PartRun, run_after}
 use Rattle.nook_defs.specs.State.{PartState}
 use Rattle.nook_defs.specs.Steps.{enabled}
@@ -13,13 +13,13 @@ use Rattle.part_core.specs.declared.part.StepRefused.TheVariants as refused
 -- How a method's result stands to the definition of its step.
 
 -- a part and an event as one value
-abbrev pub turned_to : PartState → Event → Turned
-turned_to p e = record { state = p; event = e }
+abbrev pub stepped_to : PartState → Event → Stepped
+stepped_to p e = record { state = p; event = e }
 
 -- the step was made as defined, or nothing was changed
-abbrev pub IsTurned : Turned → PartState → Result Event NoMemory → PartState → Type 0
-IsTurned t p (Ok e) q = t ≡ turned_to q e
-IsTurned t p (Err x) q = q ≡ p
+abbrev pub IsStepOf : Stepped → PartState → Result Event NoMemory → PartState → Type 0
+IsStepOf t p (Ok e) q = t ≡ stepped_to q e
+IsStepOf t p (Err x) q = q ≡ p
 
 -- a step of a part: it is refused exactly where it may not be taken; else the part is as the definition says, and the
 -- journal has one event more, whose number is told; want of memory changes nothing

@@ -2,25 +2,28 @@
 
 ghost use Rattle.std.specs.Prelude.{◌≡◌, ◌+◌, ◌^◌, ◌<◌};
 ghost use Rattle.nook_defs.specs.Domain.{attempt_bursts};
-ghost use Rattle.nook_defs.specs.Steps.{burst_turned, faults_of_burst, served_number};
+ghost use Rattle.nook_defs.specs.Steps.{burst_stepped, faults_of_burst, served_number};
 ghost use Rattle.part_core.specs.Crossings.{IsCrossable};
-ghost use Rattle.part_core.specs.Turning.{IsTurned};
+ghost use Rattle.part_core.specs.Turning.{IsStepOf};
 
 use crate::crossing::{Outcome, Rooms};
-use crate::state::{SHADOW, State};
+use crate::state::State;
 use domain_call::BurstDone;
-use nook_defs::data::{Acts, Event, Fault};
+use nook_defs::limits::{MOST_BURSTS, SHADOW};
+use nook_defs::machine::Acts;
 use nook_defs::memory::NoMemory;
+use nook_defs::scenario::Fault;
+use nook_defs::steps::Event;
 
 impl State {
     /// One burst of a context, with the faults of its number. It takes its memory first.
-    #[tactic(auto, unfolding(nook_defs::specs::Steps::burst_turned))]
+    #[tactic(auto, unfolding(nook_defs::specs::Steps::burst_stepped))]
     pub fn burst(&mut self, context: u8, faults: &[Fault]) -> Result<Event, NoMemory>
         requires crossable { IsCrossable context self.old }
-        requires attempt { attempt_bursts context self.old.domain < 32 }
+        requires attempt { attempt_bursts context self.old.domain < MOST_BURSTS }
         requires few { self.old.bursts < 2 ^ 31 }
         requires faults { faults.now ≡ faults_of_burst (self.old.bursts + 1) self.old.spec.faults }
-        ensures { IsTurned (burst_turned context self.old) self.old result self.new }
+        ensures { IsStepOf (burst_stepped context self.old) self.old result self.new }
     {
         let rooms = Rooms::new(self.alloc)?;
         let mut acts = self.spare.open_log()?;

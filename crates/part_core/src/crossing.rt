@@ -1,18 +1,17 @@
 //! What the crossing at the end of a burst asks is done in the same step.
 
 ghost use Rattle.std.specs.Prelude.{◌≡◌, ◌<◌, ◌^◌, None, IfOk};
-ghost use Rattle.nook_defs.specs.Crossing.{crossed, failed, is_last};
+ghost use Rattle.nook_defs.specs.Crossing.{after_crossing, failed_crossing, is_last};
 ghost use Rattle.part_core.specs.Crossings.{crossed_to, HasRooms, IsCrossable};
 
 use crate::state::State;
-use nook_defs::data::{Answer, End, FailCause, Mode, Stage};
+use nook_defs::calls::Answer;
+use nook_defs::limits::{CONTEXTS, MOST_ANSWER_WORDS, MOST_BURSTS, MOST_FRAME_WORDS};
 use nook_defs::lists::Word;
 use nook_defs::machine::BurstEnd;
 use nook_defs::memory::{NoMemory, Room};
+use nook_defs::steps::{End, FailCause, Mode, Stage};
 use std::alloc::Global;
-
-/// The burst of an attempt that has to be a reply.
-const LAST_BURST: u32 = 32;
 
 /// What became of a crossing, as the burst's event shows it.
 #[derive(Drop)]
@@ -35,9 +34,9 @@ impl Rooms {
     pub fn new(alloc: Global) -> Result<Rooms, NoMemory>
         ensures { IfOk result (λ rooms. HasRooms rooms) }
     {
-        let answer = Room::new(alloc, 128)?;
-        let moved = Room::new(alloc, 64)?;
-        let frame = Room::new(alloc, 64)?;
+        let answer = Room::new(alloc, MOST_ANSWER_WORDS)?;
+        let moved = Room::new(alloc, MOST_FRAME_WORDS)?;
+        let frame = Room::new(alloc, MOST_FRAME_WORDS)?;
         Ok(Rooms {
             answer,
             moved,
@@ -48,11 +47,11 @@ impl Rooms {
 
 impl State {
     /// A trap; a 32nd burst that is no reply; a kernel call; a pause; or a reply. It takes no memory.
-    #[tactic(auto, unfolding(nook_defs::specs::Crossing::crossed))]
+    #[tactic(auto, unfolding(nook_defs::specs::Crossing::after_crossing))]
     pub fn cross(&mut self, context: u8, end: BurstEnd, rooms: Rooms) -> Outcome
         requires crossable { IsCrossable context self.old }
         requires rooms { HasRooms rooms }
-        ensures { crossed context end self.old ≡ crossed_to self.new result }
+        ensures { after_crossing context end self.old ≡ crossed_to self.new result }
     {
         match end {
             BurstEnd::Trap(cause) => self.fail(End::Trap, FailCause::Trap(cause)),
@@ -62,10 +61,10 @@ impl State {
         }
     }
 
-    #[tactic(auto, unfolding(nook_defs::specs::Crossing::crossed))]
+    #[tactic(auto, unfolding(nook_defs::specs::Crossing::after_crossing))]
     fn pause(&mut self, context: u8) -> Outcome
         requires crossable { IsCrossable context self.old }
-        ensures { crossed context BurstEnd.Pause self.old ≡ crossed_to self.new result }
+        ensures { after_crossing context BurstEnd.Pause self.old ≡ crossed_to self.new result }
     {
         if self.is_last(context) {
             self.fail(End::Pause, FailCause::TooManyCrossings)
@@ -76,17 +75,17 @@ impl State {
 
     /// Whether the burst was the 32nd of its attempt.
     pub fn is_last(&self, context: u8) -> bool
-        requires { context < 17 }
+        requires { context < CONTEXTS }
         ensures { result ≡ is_last context self.now }
     {
-        self.domain.bursts(context) == LAST_BURST
+        self.domain.bursts(context) == MOST_BURSTS
     }
 
     /// The driver failed: it is counted, also in object 0, the shadow's call ends, and the part recovers from Stop on.
     #[tactic(auto, unfolding(nook_defs::specs::Crossing::fails))]
     pub fn fail(&mut self, end: End, cause: FailCause) -> Outcome
         requires { self.old.failures < 2 ^ 31 }
-        ensures { failed self.old end cause ≡ crossed_to self.new result }
+        ensures { failed_crossing self.old end cause ≡ crossed_to self.new result }
     {
         self.failures += 1;
         self.mode = Mode::Recovering { stage: Stage::Stop };

@@ -5,15 +5,12 @@ ghost use Rattle.nook_defs.specs.Log.{blocked_by, call_of_thread, is_blocked, op
 ghost use Rattle.part_core.specs.Answering.{call_number};
 ghost use Rattle.nook_defs.specs.Steps.{can_arrive, can_burst, can_enter, can_invoke, can_stage, enabled, is_driven, is_inside, is_ready};
 
-use crate::state::{SHADOW, State};
-use nook_defs::data::{CallEntry, Class, Mode, Step};
+use crate::state::State;
+use nook_defs::calls::CallEntry;
+use nook_defs::classes::Class;
+use nook_defs::limits::{MOST_CALLS, MOST_FRAME_WORDS, SHADOW};
 use nook_defs::lists::Words;
-
-/// The calls, and the arrivals, that a part takes.
-const MOST_CALLS: u32 = 100_000;
-
-/// The words of a frame at most.
-const MOST_FRAME_WORDS: usize = 64;
+use nook_defs::steps::{Mode, Step};
 
 impl State {
     /// Whether the step may be taken now.

@@ -1,25 +1,26 @@
 //! The step Enter: a Held call is answered by its class, or goes Inside.
 
 ghost use Rattle.std.specs.Prelude.{◌≡◌, true};
-ghost use Rattle.nook_defs.specs.Calls.{entered_part};
+ghost use Rattle.nook_defs.specs.Calls.{after_enter};
 ghost use Rattle.nook_defs.specs.Classes.{admit, is_of_class};
 ghost use Rattle.nook_defs.specs.Devices.{head_of, tail_of};
 ghost use Rattle.part_core.specs.Entering.{IsEnterable};
-ghost use Rattle.part_core.specs.Turning.{turned_to};
+ghost use Rattle.part_core.specs.Turning.{stepped_to};
 
 use crate::state::State;
-use nook_defs::classes::{Admit, ClassState};
-use nook_defs::data::{Answer, Class, Event, Op};
+use nook_defs::calls::{Answer, Op};
+use nook_defs::classes::{Admit, Class, ClassState};
 use nook_defs::lists::Words;
 use nook_defs::outside::RxFront;
+use nook_defs::steps::Event;
 
 impl State {
     /// A thread's Held call is answered by its class, or goes Inside with its parameters copied from the log. It takes
     /// no memory.
-    #[tactic(auto, unfolding(nook_defs::specs::Calls::entered_part))]
+    #[tactic(auto, unfolding(nook_defs::specs::Calls::after_enter))]
     pub fn enter(&mut self, thread: u8) -> Event
         requires { IsEnterable thread self.old }
-        ensures { entered_part thread self.old ≡ turned_to self.new result }
+        ensures { after_enter thread self.old ≡ stepped_to self.new result }
     {
         let Some(entry) = self.log.call_of_thread(thread) else {
             unreachable!()

@@ -1,29 +1,27 @@
 //! The step Invoke: a thread asks for an operation, which is answered at once or stays open.
 
 ghost use Rattle.std.specs.Prelude.{◌≡◌, true, IfNone};
-ghost use Rattle.nook_defs.specs.Calls.{answer_in, invoked, queue_in};
+ghost use Rattle.nook_defs.specs.Calls.{answer_in, after_invoke, queue_in};
 ghost use Rattle.nook_defs.specs.Log.{queue_after, shadow_answer};
 ghost use Rattle.nook_defs.specs.Steps.{enabled};
 ghost use Rattle.part_core.specs.Answering.{answer_at_once, queue_at_once};
-ghost use Rattle.recovery_manager.specs.Front.{front_for};
-ghost use Rattle.part_core.specs.Turning.{IsTurned};
+ghost use Rattle.part_core.specs.Turning.{IsStepOf};
 
 use crate::state::State;
 use class_table::static_check;
-use kernel_services::RxQueue;
-use nook_defs::data::{Answer, Event, Mode, Op, Stage, Step};
-use nook_defs::lists::{TryCopy, Words};
+use nook_defs::calls::{Answer, Op};
+use nook_defs::lists::TryCopy;
 use nook_defs::memory::NoMemory;
-use nook_defs::outside::RxFront;
-use shadow_proxy::{Proxy, proxy};
+use nook_defs::steps::{Event, Mode, Stage, Step};
+use shadow_proxy::{Proxy, front_for, proxy};
 
 impl State {
     /// The static check answers the operation, or the mode answers or holds it. A call that is held keeps a copy of
     /// the operation in the log.
-    #[tactic(auto, unfolding(nook_defs::specs::Calls::invoked, nook_defs::specs::Steps::enabled))]
+    #[tactic(auto, unfolding(nook_defs::specs::Calls::after_invoke, nook_defs::specs::Steps::enabled))]
     pub fn invoke(&mut self, thread: u8, op: Op) -> Result<Event, NoMemory>
         requires { enabled self.old (Step.Invoke thread op) ≡ true }
-        ensures { IsTurned (invoked thread op self.old) self.old result self.new }
+        ensures { IsStepOf (after_invoke thread op self.old) self.old result self.new }
     {
         match self.answer_at_once(thread, &op) {
             Some(answer) => {
@@ -85,16 +83,5 @@ impl State {
             Proxy::Answer(answer) => Some(answer),
             Proxy::Hold => None,
         }
-    }
-}
-
-/// The frame that the shadow may answer the operation with: the queue's front for a Recv, none for any other.
-fn front_for(op: &Op, queue: &mut RxQueue) -> Option<Words>
-    ensures front { result ≡ front_for op.now queue.old }
-    ensures left { queue.new ≡ queue_after op.now queue.old }
-{
-    match op {
-        Op::Recv => queue.take_front(),
-        _ => None,
     }
 }

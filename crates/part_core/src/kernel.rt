@@ -1,7 +1,7 @@
 //! A kernel call at the end of a burst.
 
 ghost use Rattle.std.specs.Prelude.{◌≡◌, ◌<◌, true, IfOk};
-ghost use Rattle.nook_defs.specs.Crossing.{crossed, heap_start, kernel_call, refused_service, served_call};
+ghost use Rattle.nook_defs.specs.Crossing.{after_crossing, heap_start, kernel_call, refused_service, served_call};
 ghost use Rattle.nook_defs.specs.Domain.{first_argument, second_argument};
 ghost use Rattle.nook_defs.specs.Services.{checked, served};
 ghost use Rattle.nook_defs.specs.declared.machine.BurstEnd.{BurstEnd};
@@ -10,17 +10,18 @@ ghost use Rattle.part_core.specs.Crossings.{crossed_to, HasRooms, IsCrossable};
 
 use crate::crossing::{Outcome, Rooms, goes_on};
 use crate::state::State;
-use nook_defs::data::{End, FailCause};
+use nook_defs::limits::CONTEXTS;
 use nook_defs::lists::Words;
 use nook_defs::machine::{BadParam, Service};
+use nook_defs::steps::{End, FailCause};
 
 impl State {
     /// A kernel call in the last burst of an attempt is a failure; any other is served where its check passes.
-    #[tactic(auto, unfolding(nook_defs::specs::Crossing::crossed))]
+    #[tactic(auto, unfolding(nook_defs::specs::Crossing::after_crossing))]
     pub fn call_kernel(&mut self, context: u8, service: u32, rooms: Rooms) -> Outcome
         requires crossable { IsCrossable context self.old }
         requires rooms { HasRooms rooms }
-        ensures { crossed context (BurstEnd.Kcall service) self.old ≡ crossed_to self.new result }
+        ensures { after_crossing context (BurstEnd.Kcall service) self.old ≡ crossed_to self.new result }
     {
         if self.is_last(context) {
             let refused = self.refused(context, service);
@@ -53,7 +54,7 @@ impl State {
 
     /// The service that a context asks for, or its failing argument.
     fn checked(&self, context: u8, number: u32) -> Result<Service, BadParam>
-        requires { context < 17 }
+        requires { context < CONTEXTS }
         ensures checked { result ≡ checked number (first_argument context self.now.domain) (second_argument context self.now.domain) self.now.spec.class self.now.domain.entries }
         ensures can { IfOk result (λ service. can_serve service ≡ true) }
     {
@@ -62,7 +63,7 @@ impl State {
 
     /// The end of a burst whose kernel call is not served.
     fn refused(&self, context: u8, service: u32) -> End
-        requires { context < 17 }
+        requires { context < CONTEXTS }
         ensures { result ≡ refused_service service context self.now }
     {
         let (first, second) = self.domain.arguments(context);

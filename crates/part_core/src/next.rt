@@ -3,8 +3,9 @@
 ghost use Rattle.std.specs.Prelude.{◌≡◌};
 ghost use Rattle.nook_defs.specs.Runs.{next_any, next_for, next_of_calls, next_recovery};
 
-use crate::state::{SHADOW, State};
-use nook_defs::data::Step;
+use crate::state::State;
+use nook_defs::limits::SHADOW;
+use nook_defs::steps::Step;
 
 impl State {
     /// The Enter or the Burst of a thread's open call, where it may be taken. A thread without an open call has none.

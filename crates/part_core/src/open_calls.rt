@@ -2,11 +2,12 @@
 
 ghost use Rattle.std.specs.Prelude.{◌≡◌, ◌+◌, ◌<◌, ◌≤◌, Some, option_map, IfSome, IfOk, OnOk, OnErr};
 ghost use Rattle.claim_index.specs.Claims.{HasBlocks, blocker_of, claimed_by};
-ghost use Rattle.nook_defs.specs.Log.{acknowledged_call, answered, call_of_thread, entered, gone_answers, held_by_shadow, no_call_open, numbered, open_call, opening_log, replay_after, stop_answers, stop_queue, with_call};
+ghost use Rattle.nook_defs.specs.Log.{acknowledged_call, after_answering, call_of_thread, after_entering, gone_answers, held_by_shadow, no_call_open, with_answered_call, open_call, opening_log, stop_answers, stop_queue, with_call};
 ghost use Rattle.part_core.specs.Claimed.{without_answered};
 
 use claim_index::{Claim, ClaimIndex};
-use nook_defs::data::{Answer, CallAnswers, CallEntry, Class, Op, Stage};
+use nook_defs::calls::{Answer, CallAnswers, CallEntry, Op};
+use nook_defs::classes::Class;
 use nook_defs::lists::Word;
 use nook_defs::memory::NoMemory;
 use nook_defs::outside::RxFront;
@@ -66,7 +67,7 @@ impl OpenCalls {
     /// A call that is answered at once: only its number is given.
     pub fn number(&mut self) -> u32
         requires { self.old.count < 100000 }
-        ensures log { self.new ≡ numbered self.old }
+        ensures log { self.new ≡ with_answered_call self.old }
         ensures number { result ≡ self.old.count + 1 }
     {
         self.log.number()
@@ -75,7 +76,7 @@ impl OpenCalls {
     /// The call goes Inside, as one attempt more. It claims what it did.
     pub fn entered(&mut self, call: u32)
         requires { IfSome (open_call call self.old.pending) (λ c. c.attempts < 4294967295) }
-        ensures { self.new ≡ entered call self.old }
+        ensures { self.new ≡ after_entering call self.old }
     {
         self.log.entered(call);
     }
@@ -89,7 +90,7 @@ impl OpenCalls {
 
     /// The call is open no more, and claims nothing.
     pub fn answered(&mut self, call: u32)
-        ensures { self.new ≡ answered call self.old }
+        ensures { self.new ≡ after_answering call self.old }
     {
         self.log.answered(call);
         self.claims.remove(call);
@@ -168,13 +169,6 @@ impl OpenCalls {
         ensures number { IfSome result (λ c. open_call c.now.call self.now.pending ≡ Some c.now) }
     {
         self.log.call_of_thread(thread)
-    }
-
-    /// The replay, or Resume, that follows Init or a replay.
-    pub fn replay_next(&self, after: &Stage) -> Stage
-        ensures { result ≡ replay_after after.now self.now }
-    {
-        self.log.replay_next(after)
     }
 }
 

@@ -1,10 +1,10 @@
 //! A part with its journal: one atomic step adds one event.
 
-ghost use Rattle.std.specs.Prelude.{◌≡◌, ◌≤◌, is_some, true, [], IsSome, IfNone, IfSome, IfOk};
+ghost use Rattle.std.specs.Prelude.{◌≡◌, ◌<◌, ◌≤◌, ◌^◌, is_some, true, [], IsSome, IfNone, IfSome, IfOk};
 ghost use Rattle.nook_defs.specs.Devices.{medium_of};
 ghost use Rattle.nook_defs.specs.Pages.{object_words};
 ghost use Rattle.nook_defs.specs.Log.{blocked_by, call_of_thread, open_call};
-ghost use Rattle.nook_defs.specs.Runs.{IsRun, answer_among, answer_at, answered_at, next_any, next_for, next_recovery, opening_run, state_of};
+ghost use Rattle.nook_defs.specs.Runs.{IsRun, answered_at, next_any, next_for, next_recovery, opening_run, state_of};
 ghost use Rattle.nook_defs.specs.Steps.{can_arrive, can_invoke, enabled};
 ghost use Rattle.nook_defs.specs.Valid.{IsValidPart};
 ghost use Rattle.part_core.specs.Answering.{call_number};
@@ -15,18 +15,15 @@ ghost use Rattle.part_laws.specs.Recovery.{HasFacts, IsKeptRun};
 use crate::state::State;
 use domain_call::Domain;
 use fault_script::FaultScript;
-use nook_defs::data::{Answer, Event, Mode, PartSpec, Step};
 use nook_defs::journal::Journal;
+use nook_defs::limits::BLOCK_WORDS;
 use nook_defs::lists::{TryCopy, Word, Words};
 use nook_defs::memory::{NoMemory, Room};
+use nook_defs::memory_map::{LAST_OBJECT, OBJECT_WORDS, object_start};
+use nook_defs::scenario::PartSpec;
+use nook_defs::steps::{Event, Mode, Step};
 use std::alloc::Global;
 use std::marker::Model;
-
-/// The page of kernel object 0; the others follow, a page each.
-const FIRST_OBJECT_PAGE: u32 = 115;
-
-/// The words of a kernel object.
-const OBJECT_WORDS: u32 = 64;
 
 /// The number of the event that a step made, from 1.
 #[derive(Clone, Copy, Debug, PartialEq, Eq)]
@@ -110,7 +107,7 @@ impl Part {
         if self.journal.reserve().is_err() {
             return Err(StepRefused::NoMemory);
         }
-        match self.state.turn(step, &self.script) {
+        match self.state.step(step, &self.script) {
             Ok(event) => {
                 self.journal.push_reserved(event);
                 Ok(StepDone {
@@ -155,11 +152,19 @@ impl Part {
         self.journal
     }
 
-    /// The domain of the part as it is now. The rest of the part is dropped. It takes no memory.
-    pub fn into_domain(self) -> Domain
-        ensures { result.state ≡ self.state.domain }
+    /// The driver's domain as it is now.
+    pub fn domain(&self) -> &Domain
+        ensures { result.now.state ≡ self.now.state.domain }
     {
-        self.state.domain
+        &self.state.domain
+    }
+
+    /// The bursts so far. Fewer than 2^23, as in every run.
+    pub fn bursts(&self) -> u32
+        ensures count { result ≡ self.now.state.bursts }
+        ensures few { result < 2 ^ 23 }
+    {
+        self.state.bursts
     }
 
     /// The events so far. They are a run of the part, which is as they leave it.
@@ -188,16 +193,16 @@ impl Part {
 
     /// The words of kernel object 0 to 12.
     pub fn object(&self, alloc: Global, object: u32) -> Result<Words, NoMemory>
-        requires { object ≤ 12 }
+        requires { object ≤ LAST_OBJECT }
         ensures { IfOk result (λ words. words ≡ object_words object self.now.state.domain.memory) }
     {
         let room = Room::new(alloc, OBJECT_WORDS as usize)?;
-        let start = (FIRST_OBJECT_PAGE + object) * OBJECT_WORDS;
+        let start = object_start(object);
         Ok(self.state.domain.pages().words(start, OBJECT_WORDS, room))
     }
 
     /// The blocks of the disk; none where the part has another device.
-    pub fn medium(&self) -> &[[Word; 16]]
+    pub fn medium(&self) -> &[[Word; BLOCK_WORDS]]
         ensures { result.now ≡ medium_of self.now.state.domain.device }
     {
         self.state.domain.device().medium()
@@ -260,46 +265,9 @@ fn place_of_answer(events: &[Event], call: u32) -> Option<u64>
     ensures { result ≡ answered_at events.now call }
 {
     for place in 0..events.len() {
-        if answers(&events[place], call) {
+        if events[place].answer_to(call).is_some() {
             return Some(place as u64 + 1);
         }
     }
     None
-}
-
-/// Whether the event answers the call.
-fn answers(event: &Event, call: u32) -> bool
-    ensures { result ≡ is_some (answer_at call event.now) }
-{
-    match event {
-        Event::Invoke {
-            call: this,
-            answer,
-            ..
-        }
-        | Event::Enter {
-            call: this,
-            answer,
-            ..
-        }
-        | Event::Burst {
-            call: this,
-            answer,
-            ..
-        } => *this == call && answer.is_some(),
-        Event::Stage { answers, .. } => is_among(call, answers.as_slice()),
-        Event::Arrive { .. } => false,
-    }
-}
-
-/// Whether a call is answered among others.
-fn is_among(call: u32, answers: &[(u32, Answer)]) -> bool
-    ensures { result ≡ is_some (answer_among call answers.now) }
-{
-    for pair in answers {
-        if pair.0 == call {
-            return true;
-        }
-    }
-    false
 }

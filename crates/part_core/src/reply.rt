@@ -2,31 +2,30 @@
 
 ghost use Rattle.std.specs.Prelude.{◌≡◌, ◌+◌, ◌^◌, ◌<◌, ◌≤◌, None, Some, true, IfSome};
 ghost use Rattle.nook_defs.specs.Classes.{accept, blocks_of_op, first_of_op, is_of_class};
-ghost use Rattle.nook_defs.specs.Crossing.{call_replied, closes, is_accepted, next_stage, noted_set, replied, reply_answer, shadow_fault, shadow_replied, stage_in};
+ghost use Rattle.nook_defs.specs.Crossing.{call_replied, closes_call, is_accepted, next_stage, noted_set, after_reply, reply_answer, shadow_fault, shadow_replied, stage_in};
 ghost use Rattle.nook_defs.specs.Log.{call_of_thread, frame_or_empty, queue_after};
 ghost use Rattle.part_core.specs.Crossings.{crossed_to, IsCrossable, IsWithin};
 ghost use Rattle.nook_defs.specs.State.{PartState};
 ghost use Rattle.shadow_proxy.specs.Table.{queue_of};
 
 use crate::crossing::{Outcome, goes_on};
-use crate::state::{SHADOW, State};
+use crate::state::State;
 use domain_call::Domain;
 use kernel_services::RxQueue;
-use nook_defs::classes::Accept;
-use nook_defs::data::{Answer, CallEntry, Class, End, FailCause, Mode, Op, Stage};
+use nook_defs::calls::{Answer, CallEntry, Op};
+use nook_defs::classes::{Accept, Class};
+use nook_defs::limits::{BLOCK_WORDS, CONTEXTS, MOST_ANSWER_WORDS, SHADOW};
 use nook_defs::lists::{Word, Words};
 use nook_defs::memory::Room;
 use nook_defs::outside::RxFront;
-
-/// The words of a block.
-const BLOCK_WORDS: u32 = 16;
+use nook_defs::steps::{End, FailCause, Mode, Stage};
 
 impl State {
     /// A reply to the shadow, or to an application's call.
     pub fn reply(&mut self, context: u8, status: u32, room: Room<Word>) -> Outcome
         requires crossable { IsCrossable context self.old }
-        requires room { 128 ≤ room }
-        ensures { replied status context self.old ≡ crossed_to self.new result }
+        requires room { MOST_ANSWER_WORDS ≤ room }
+        ensures { after_reply status context self.old ≡ crossed_to self.new result }
     {
         if context == SHADOW {
             self.reply_to_shadow(status)
@@ -78,9 +77,7 @@ impl State {
             Mode::Boot { .. } => Mode::Boot {
                 stage: Stage::Resume,
             },
-            Mode::Recovering { stage } => Mode::Recovering {
-                stage: self.log.replay_next(&stage),
-            },
+            Mode::Recovering { stage } => self.mode_after(&stage, self.mode),
             other => other,
         };
         self.domain.leave(SHADOW);
@@ -89,7 +86,7 @@ impl State {
     /// The class takes the reply, which answers the call, or it is a failure.
     fn reply_to_call(&mut self, context: u8, status: u32, room: Room<Word>) -> Outcome
         requires crossable { IsCrossable context self.old }
-        requires room { 128 ≤ room }
+        requires room { MOST_ANSWER_WORDS ≤ room }
         ensures { call_replied status self.old (call_of_thread context self.old.log.pending) ≡ crossed_to self.new result }
     {
         let end = End::Reply { status };
@@ -115,7 +112,7 @@ impl State {
     /// The answer to a call whose reply has status 0. A Recv takes the queue's front.
     fn take_answer(&mut self, context: u8, room: Room<Word>) -> Answer
         requires crossable { IsCrossable context self.old }
-        requires room { 128 ≤ room }
+        requires room { MOST_ANSWER_WORDS ≤ room }
         ensures answer { IfSome (call_of_thread context self.old.log.pending) (λ c. result ≡ reply_answer c.op c.thread self.old) }
         ensures state { IfSome (call_of_thread context self.old.log.pending) (λ c.
             self.new ≡ record self.old { queue = queue_after c.op self.old.queue }) }
@@ -127,11 +124,11 @@ impl State {
     }
 
     /// The call is answered: its loan ends, and the record and the holder follow. The queue stays.
-    #[tactic(auto, unfolding(nook_defs::specs::Crossing::closes, nook_defs::specs::Log::acknowledged_call))]
+    #[tactic(auto, unfolding(nook_defs::specs::Crossing::closes_call, nook_defs::specs::Log::acknowledged_call))]
     fn close(&mut self, context: u8)
         requires crossable { IsCrossable context self.old }
         ensures { IfSome (call_of_thread context self.old.log.pending) (λ c.
-            self.new ≡ record (closes c self.old) { queue = self.old.queue }) }
+            self.new ≡ record (closes_call c self.old) { queue = self.old.queue }) }
     {
         if let Some(entry) = self.log.call_of_thread(context) {
             let call = entry.call;
@@ -145,16 +142,16 @@ impl State {
 
 /// The answer to a call by its operation. A Recv takes the queue's front.
 fn reply_answer(entry: &CallEntry, domain: &Domain, queue: &mut RxQueue, room: Room<Word>) -> Answer
-    requires low { entry.now.thread < 17 }
+    requires low { entry.now.thread < CONTEXTS }
     requires within { IsWithin entry.now.op }
-    requires room { 128 ≤ room }
+    requires room { MOST_ANSWER_WORDS ≤ room }
     ensures answer { (p : PartState) → p.domain ≡ domain.now.state → p.queue ≡ queue.old
         → result ≡ reply_answer entry.now.op entry.now.thread p }
     ensures queue { queue.new ≡ queue_after entry.now.op queue.old }
 {
     match entry.op {
         Op::Read { count, .. } => {
-            let words = domain.buffer_words(entry.thread, count * BLOCK_WORDS, room);
+            let words = domain.buffer_words(entry.thread, count * BLOCK_WORDS as u32, room);
             Answer::Blocks(words.fitted())
         }
         Op::Get { .. } => Answer::Value(domain.first_word(entry.thread)),

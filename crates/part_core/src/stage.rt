@@ -4,15 +4,19 @@ ghost use Rattle.std.specs.Prelude.{◌≡◌, ◌≤◌, false, [], length, IfS
 ghost use Rattle.std.specs.List.{list_any};
 ghost use Rattle.nook_defs.specs.Classes.{defaults_of};
 ghost use Rattle.nook_defs.specs.Entries.{is_buffer_of};
-ghost use Rattle.nook_defs.specs.Stages.{after_collect, collects, inits, loads_image, replays_open, replays_set, resets, resumes, stage_done, stage_due, stage_turned, with_stage};
-ghost use Rattle.part_core.specs.Turning.{IsTurned, turned_to};
+ghost use Rattle.nook_defs.specs.Stages.{collects, inits, loads_image, mode_after, replays_open, replays_set, resets, resumes, stage_done, stage_due, stage_stepped, with_stage};
+ghost use Rattle.part_core.specs.Turning.{IsStepOf, stepped_to};
 ghost use Rattle.part_core.specs.Staging.{IsReady};
 
-use crate::state::{SHADOW, State};
+use crate::state::State;
 use class_table::{init_place, open_place, set_place};
-use nook_defs::data::{Event, Mode, Op, Stage};
+use nook_defs::calls::Op;
+use nook_defs::limits::SHADOW;
 use nook_defs::lists::Items;
 use nook_defs::memory::NoMemory;
+use nook_defs::memory_map::{DATA_WORDS, TEXT_WORDS};
+use nook_defs::steps::{Event, Mode, Stage};
+use recovery_manager::following;
 
 impl State {
     /// The stage to be done next, if there is one.
@@ -27,10 +31,10 @@ impl State {
     }
 
     /// The stage that is due is done.
-    #[tactic(auto, unfolding(nook_defs::specs::Stages::stage_turned))]
+    #[tactic(auto, unfolding(nook_defs::specs::Stages::stage_stepped))]
     pub fn stage(&mut self) -> Result<Event, NoMemory>
         requires { IfSome (stage_due self.old.mode) (λ stage. IsReady stage self.old) }
-        ensures { IsTurned (stage_turned self.old) self.old result self.new }
+        ensures { IsStepOf (stage_stepped self.old) self.old result self.new }
     {
         match self.stage_due() {
             Some(stage) => self.do_stage(stage),
@@ -40,7 +44,7 @@ impl State {
 
     fn do_stage(&mut self, stage: Stage) -> Result<Event, NoMemory>
         requires { IsReady stage self.old }
-        ensures { IsTurned (stage_done stage self.old) self.old result self.new }
+        ensures { IsStepOf (stage_done stage self.old) self.old result self.new }
     {
         match stage {
             Stage::Stop => self.stop(),
@@ -56,9 +60,9 @@ impl State {
 
     /// Every context ends. Within the limit each open call is answered by the shadow or held; past it each is answered
     /// Gone, and the part is dead.
-    #[tactic(auto, unfolding(nook_defs::specs::Stages::stopped, nook_defs::specs::Stages::given_up, nook_defs::specs::Log::held_by_shadow, nook_defs::specs::Log::no_call_open))]
+    #[tactic(auto, unfolding(nook_defs::specs::Stages::stops, nook_defs::specs::Stages::gives_up_part))]
     fn stop(&mut self) -> Result<Event, NoMemory>
-        ensures { IsTurned (stage_done Stage.Stop self.old) self.old result self.new }
+        ensures { IsStepOf (stage_done Stage.Stop self.old) self.old result self.new }
     {
         let limit = self.spec.limit;
         let answers = self
@@ -68,9 +72,7 @@ impl State {
         self.mode = if self.failures > limit {
             Mode::Dead { collected: false }
         } else {
-            Mode::Recovering {
-                stage: Stage::Collect,
-            }
+            self.mode_after(&Stage::Stop, Mode::Recovering { stage: Stage::Stop })
         };
         Ok(Event::Stage {
             stage: Stage::Stop,
@@ -82,10 +84,10 @@ impl State {
     /// All that the driver held is released, and its loans end.
     #[tactic(auto, unfolding(nook_defs::specs::Stages::collects))]
     fn collect(&mut self) -> Result<Event, NoMemory>
-        ensures { IsTurned (collects self.old) self.old result self.new }
+        ensures { IsStepOf (collects self.old) self.old result self.new }
     {
         let released = self.domain.collect()?;
-        self.mode = after_collect(self.mode);
+        self.mode = self.mode_after(&Stage::Collect, self.mode);
         Ok(Event::Stage {
             stage: Stage::Collect,
             answers: Items::new(self.alloc),
@@ -97,28 +99,28 @@ impl State {
     #[tactic(auto, unfolding(nook_defs::specs::Stages::resets))]
     fn reset(&mut self) -> Event
         requires { self.old.log.defaults ≡ defaults_of self.old.spec.class }
-        ensures { resets self.old ≡ turned_to self.new result }
+        ensures { resets self.old ≡ stepped_to self.new result }
     {
         self.domain.reset();
-        self.mode = with_stage(Stage::Load, self.mode);
+        self.mode = self.mode_after(&Stage::Reset, self.mode);
         self.staged(Stage::Reset)
     }
 
     #[tactic(auto, unfolding(nook_defs::specs::Stages::loads_image))]
     fn load(&mut self) -> Result<Event, NoMemory>
-        requires text { length self.old.spec.image.text ≤ 2048 }
-        requires initial { length self.old.spec.image.initial ≤ 2048 }
-        ensures { IsTurned (loads_image self.old) self.old result self.new }
+        requires text { length self.old.spec.image.text ≤ TEXT_WORDS }
+        requires initial { length self.old.spec.image.initial ≤ DATA_WORDS }
+        ensures { IsStepOf (loads_image self.old) self.old result self.new }
     {
         self.domain.load(&self.spec.image)?;
-        self.mode = with_stage(Stage::Init, self.mode);
+        self.mode = self.mode_after(&Stage::Load, self.mode);
         Ok(self.staged(Stage::Load))
     }
 
     /// The shadow's context enters init.
     #[tactic(auto, unfolding(nook_defs::specs::Stages::inits))]
     fn init(&mut self) -> Event
-        ensures { inits self.old ≡ turned_to self.new result }
+        ensures { inits self.old ≡ stepped_to self.new result }
     {
         self.domain.enter_plain(SHADOW, init_place());
         self.staged(Stage::Init)
@@ -127,8 +129,8 @@ impl State {
     /// The shadow's context enters set, with a word of the record.
     #[tactic(auto, unfolding(nook_defs::specs::Stages::replays_set))]
     fn replay_set(&mut self, key: u32, value: u32) -> Event
-        requires { list_any (is_buffer_of 16) self.old.domain.entries ≡ false }
-        ensures { replays_set key value self.old ≡ turned_to self.new result }
+        requires { list_any (is_buffer_of SHADOW) self.old.domain.entries ≡ false }
+        ensures { replays_set key value self.old ≡ stepped_to self.new result }
     {
         let place = set_place(self.spec.class);
         self.domain.enter(SHADOW, place, &Op::Set { key, value });
@@ -138,7 +140,7 @@ impl State {
     /// The shadow's context enters open.
     #[tactic(auto, unfolding(nook_defs::specs::Stages::replays_open))]
     fn replay_open(&mut self) -> Event
-        ensures { replays_open self.old ≡ turned_to self.new result }
+        ensures { replays_open self.old ≡ stepped_to self.new result }
     {
         self.domain.enter_plain(SHADOW, open_place());
         self.staged(Stage::ReplayOpen)
@@ -146,10 +148,20 @@ impl State {
 
     #[tactic(auto, unfolding(nook_defs::specs::Stages::resumes))]
     fn resume(&mut self) -> Event
-        ensures { resumes self.old ≡ turned_to self.new result }
+        ensures { resumes self.old ≡ stepped_to self.new result }
     {
-        self.mode = Mode::Running;
+        self.mode = self.mode_after(&Stage::Resume, self.mode);
         self.staged(Stage::Resume)
+    }
+
+    /// The mode behind a stage of this mode: the stage that follows is due, and behind the last one applications are served.
+    pub fn mode_after(&self, stage: &Stage, mode: Mode) -> Mode
+        ensures { result ≡ mode_after stage.now self.now.log mode }
+    {
+        match following(stage, self.log.shadow()) {
+            Some(next) => with_stage(next, mode),
+            None => Mode::Running,
+        }
     }
 
     /// The event of a stage that answers no call and releases nothing.
@@ -164,23 +176,14 @@ impl State {
     }
 }
 
-/// The same way with another stage due.
+/// The same way with another stage due. A part that was given up has none left.
 fn with_stage(stage: Stage, mode: Mode) -> Mode
     ensures { result ≡ with_stage stage mode }
 {
     match mode {
         Mode::Boot { .. } => Mode::Boot { stage },
         Mode::Recovering { .. } => Mode::Recovering { stage },
-        other => other,
-    }
-}
-
-/// Behind Collect a recovery goes on with Reset, and a part that was given up is done.
-fn after_collect(mode: Mode) -> Mode
-    ensures { result ≡ after_collect mode }
-{
-    match mode {
         Mode::Dead { .. } => Mode::Dead { collected: true },
-        other => with_stage(Stage::Reset, other),
+        Mode::Running => Mode::Running,
     }
 }

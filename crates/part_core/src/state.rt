@@ -1,24 +1,22 @@
 //! What a part is beside its journal.
 
 ghost use Rattle.std.specs.Prelude.{◌≡◌, true, IfOk};
-ghost use Rattle.nook_defs.specs.Steps.{enabled, opening, turned};
+ghost use Rattle.nook_defs.specs.Steps.{enabled, opening, stepped};
 ghost use Rattle.nook_defs.specs.Valid.{IsValidPart};
 ghost use Rattle.part_core.specs.Kept.{AreSameFaults, IsSound};
-ghost use Rattle.part_core.specs.Turning.{IsTurned};
+ghost use Rattle.part_core.specs.Turning.{IsStepOf};
 
 use crate::open_calls::OpenCalls;
 use class_table::defaults_of;
 use domain_call::Domain;
 use fault_script::FaultScript;
 use kernel_services::RxQueue;
-use nook_defs::data::{Event, Mode, PartSpec, Stage, Step};
 use nook_defs::journal::SpareRooms;
 use nook_defs::memory::NoMemory;
+use nook_defs::scenario::PartSpec;
+use nook_defs::steps::{Event, Mode, Stage, Step};
 use std::alloc::Global;
 use std::marker::Model;
-
-/// The context of the shadow.
-pub const SHADOW: u8 = 16;
 
 /// A part without its journal. Contracts see the definition's part.
 #[derive(Drop)]
@@ -38,6 +36,7 @@ pub struct State {
 impl Model for State {
     ghost use Rattle.std.specs.Prelude.{◌≡◌, ◌+◌, length};
     ghost use Rattle.nook_defs.specs.State.{PartState};
+    ghost use Rattle.nook_defs.specs.declared.memory_map.TheConstants.{DATA_START};
 
     ghost Value = { PartState };
 
@@ -52,7 +51,7 @@ impl Model for State {
       arrived = s.arrived;
     } };
 
-    ghost invariant = { λ s. (s.domain.heap_start ≡ 2048 + length s.spec.image.initial) × (s.domain.class ≡ s.spec.class) };
+    ghost invariant = { λ s. (s.domain.heap_start ≡ DATA_START + length s.spec.image.initial) × (s.domain.class ≡ s.spec.class) };
 }
 
 impl State {
@@ -83,12 +82,12 @@ impl State {
 impl State {
     /// The step is taken. It may be taken, and what holds of every part holds. Where memory is wanting, nothing is
     /// changed.
-    #[tactic(auto, unfolding(nook_defs::specs::Steps::turned))]
-    pub fn turn(&mut self, step: Step, script: &FaultScript) -> Result<Event, NoMemory>
+    #[tactic(auto, unfolding(nook_defs::specs::Steps::stepped))]
+    pub fn step(&mut self, step: Step, script: &FaultScript) -> Result<Event, NoMemory>
         requires enabled { enabled self.old step ≡ true }
         requires sound { IsSound self.old }
         requires script { AreSameFaults script.now self.old.spec.faults }
-        ensures { IsTurned (turned self.old step) self.old result self.new }
+        ensures { IsStepOf (stepped self.old step) self.old result self.new }
     {
         match step {
             Step::Invoke { thread, op } => self.invoke(thread, op),

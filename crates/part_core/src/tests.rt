@@ -6,12 +6,13 @@ ghost use Rattle.nook_defs.specs.Valid.{AreWords, IsTextPlace, IsValidFault, IsV
 ghost use Rattle.part_core.specs.Tested.{tested_blocks};
 
 use crate::{Part, StepDone, StepRefused};
-use nook_defs::data::{
-    Act, Answer, BadBlocks, Class, End, Event, Fault, FaultKind, Image, Mode, Op, PartSpec, Stage,
-    Step,
-};
+use nook_defs::calls::{Answer, Op};
+use nook_defs::classes::Class;
 use nook_defs::lists::{Frames, Items, Word, Words};
+use nook_defs::machine::Act;
 use nook_defs::name::Name;
+use nook_defs::scenario::{BadBlocks, Fault, FaultKind, Image, PartSpec};
+use nook_defs::steps::{End, Event, Mode, Stage, Step};
 use std::alloc::Global;
 use std::fmt::Write;
 use std::test::Fail;

@@ -1,10 +1,10 @@
-use Rattle.std.proofs.Common.{◌≡◌, ℕ, None, List, [], ◌∷◌, ◌++◌, refl, ap, subst, ◌∙◌}
-use Rattle.nook_defs.specs.declared.data.Act.{Act}
-use Rattle.nook_defs.specs.declared.data.Act.TheVariants as act
-use Rattle.nook_defs.specs.declared.data.CallEntry.{CallEntry}
+use Rattle.std.proofs.Common.{fold, ◌≡◌, ℕ, None, List, [], ◌∷◌, ◌++◌, refl, ap, subst, ◌∙◌}
+use Rattle.nook_defs.specs.declared.machine.Act.{Act}
+use Rattle.nook_defs.specs.declared.machine.Act.TheVariants as act
+use Rattle.nook_defs.specs.declared.calls.CallEntry.{CallEntry}
 use Rattle.part_laws.specs.Watch.{sees_act, sees_acts}
 use Rattle.nook_defs.specs.Ideal.{ran}
-use Rattle.nook_defs.specs.Trace.{Visible, shown_acts, tracks_after_acts}
+use Rattle.nook_defs.specs.Trace.{Visible, shown_acts, tracks_after_act}
 use Rattle.part_laws.specs.Counts.{Counts, count_act, count_acts}
 use Rattle.part_laws.specs.Balance.{Balanced}
 use Rattle.part_laws.specs.ActsOn.{act_on, acts_on, Fits, ActsFit}
@@ -41,7 +41,7 @@ pub record ActsOk (v : View) (b : Past) (n : ℕ) (e : CallEntry) (acts : List A
   pub facts : Facts (with_dev (acts_on acts v.dev) v) after
   pub serves : Serves n e after
   pub seen : sees_acts n acts (watch_of v b) ≡ watch_of (with_dev (acts_on acts v.dev) v) after
-  pub tracked : tracks_after_acts acts (tracks_of b) ≡ tracks_of after
+  pub tracked : fold tracks_after_act (tracks_of b) acts ≡ tracks_of after
   pub shown : (more : List Visible)
       → ran (ideal_of v b) (shown_acts n acts ++ more) ≡ ran (ideal_of (with_dev (acts_on acts v.dev) v) after) more
   pub counted : (m : Counts) → Balanced v b m → Balanced (with_dev (acts_on acts v.dev) v) after (count_acts n acts m)
@@ -67,7 +67,7 @@ acts_ok (a ∷ acts) v b n e f u s fit h = with_first
           facts = r.facts;
           serves = r.serves;
           seen = ap (sees_acts n acts) o.seen ∙ r.seen;
-          tracked = ap (tracks_after_acts acts) o.tracked ∙ r.tracked;
+          tracked = ap (λ ts. fold tracks_after_act ts acts) o.tracked ∙ r.tracked;
           shown = λ more. ap (ran (ideal_of v b)) (act_and_more n a acts more) ∙ o.shown (shown_acts n acts ++ more) ∙ r.shown more;
           counted = λ m x. r.counted (count_act n a m) (o.counted m x);
         }

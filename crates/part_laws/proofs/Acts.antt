@@ -1,19 +1,20 @@
 use Rattle.std.proofs.Common.{◌≡◌, ◌⊎◌, ℕ, zero, suc, ◌&&◌, ◌||◌, not, eqb, Bool, true, false, Option, Some, None, List, [], ◌∷◌, ◌++◌, map, length, drop, slice_set, slice_index, sym, refl, ap, subst, ◌∙◌, inl, inr, arith, nat_lt, append_assoc, length-append, length-set, option_and_then, bytes_eq}
 use Rattle.std.proofs.lemmas.Bool.{eqb-true, eq-eqb, and_parts, and_from, or_cases, lt-ltb}
-use Rattle.nook_defs.specs.declared.data.Act.{Act}
-use Rattle.nook_defs.specs.declared.data.Act.TheVariants as act
-use Rattle.nook_defs.specs.declared.data.CallEntry.{CallEntry}
-use Rattle.nook_defs.specs.declared.data.Class.TheVariants.{Net, Sound}
-use Rattle.nook_defs.specs.declared.data.Mode.{Mode}
-use Rattle.nook_defs.specs.declared.data.Mode.TheVariants as mode
-use Rattle.nook_defs.specs.declared.data.Op.{Op}
-use Rattle.nook_defs.specs.declared.data.Op.TheVariants.{Read, Write, Send, Recv, Open, Play, Close, Get, Set}
+use Rattle.nook_defs.specs.declared.machine.Act.{Act}
+use Rattle.nook_defs.specs.declared.machine.Act.TheVariants as act
+use Rattle.nook_defs.specs.declared.calls.CallEntry.{CallEntry}
+use Rattle.nook_defs.specs.declared.classes.Class.TheVariants.{Net, Sound}
+use Rattle.nook_defs.specs.declared.steps.Mode.{Mode}
+use Rattle.nook_defs.specs.declared.steps.Mode.TheVariants as mode
+use Rattle.nook_defs.specs.declared.calls.Op.{Op}
+use Rattle.nook_defs.specs.declared.calls.Op.TheVariants.{Read, Write, Send, Recv, Open, Play, Close, Get, Set}
 use Rattle.nook_defs.specs.Blocks.{words_for}
 use Rattle.nook_defs.specs.Classes.{is_set, is_recv, is_holder, is_next, is_play, is_write, covers, same_class, sends}
 use Rattle.part_laws.specs.Watch.{Watched, sees_act, wanted, is_covered, is_agreed, is_own_frame, is_first_frame, is_next_of, is_playing, may_register, is_setting, sent_once, played_one, failed_at}
-use Rattle.nook_defs.specs.Ideal.{Ideal, Opened, ran, shows, when, may_wire, wired_once, played_once, plays_for, play_of, may_sound}
+use Rattle.nook_defs.specs.Ideal.{Ideal, Opened, ran, shows, when, may_wire, plays_for, play_of, may_sound}
+use Rattle.nook_defs.proofs.Changes.{wired_once, played_once, store_track}
 use Rattle.nook_defs.specs.Places.{at_number, change_number, number_where}
-use Rattle.nook_defs.specs.Trace.{Visible, wire, sample, tracks_after_act, store_track}
+use Rattle.nook_defs.specs.Trace.{Visible, wire, sample, tracks_after_act}
 use Rattle.nook_defs.specs.Contract.{is_empty, is_replay_of}
 use Rattle.part_laws.specs.Counts.{Counts, count_act}
 use Rattle.part_laws.specs.Balance.{held_at, Balanced}
@@ -46,7 +47,7 @@ pub record ActOk (v : View) (b : Past) (n : ℕ) (e : CallEntry) (a : Act) : Typ
   pub facts : Facts (with_dev (act_on a v.dev) v) after
   pub serves : Serves n e after
   pub seen : sees_act n a (watch_of v b) ≡ watch_of (with_dev (act_on a v.dev) v) after
-  pub tracked : tracks_after_act a (tracks_of b) ≡ tracks_of after
+  pub tracked : tracks_after_act (tracks_of b) a ≡ tracks_of after
   pub shown : (more : List Visible)
       → ran (ideal_of v b) (act_shown n a more) ≡ ran (ideal_of (with_dev (act_on a v.dev) v) after) more
   pub counted : (m : Counts) → Balanced v b m → Balanced (with_dev (act_on a v.dev) v) after (count_act n a m)

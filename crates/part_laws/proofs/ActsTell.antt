@@ -1,14 +1,14 @@
 use Rattle.std.proofs.Common.{◌≡◌, ℕ, ◌+◌, ◌-◌, ◌%◌, ◌^◌, ◌<◌, ◌≤◌, ◌==◌, ◌&&◌, ◌||◌, nat_le, nat_lt, not, true, false, Option, Some, None, List, [], ◌∷◌, ◌++◌, drop, length, refl, sym, ap, ◌∙◌, append-nil, arith, subst, true≢false, eqb-true}
 use Rattle.std.proofs.lemmas.Bool.{and_parts, ltb-true, leb-true, not-true}
-use Rattle.nook_defs.specs.declared.data.Act.{Act}
-use Rattle.nook_defs.specs.declared.data.Act.TheVariants as act
-use Rattle.nook_defs.specs.declared.data.DeviceKind.{DeviceKind}
-use Rattle.nook_defs.specs.declared.data.DeviceKind.TheVariants as kind
-use Rattle.nook_defs.specs.declared.data.DeviceState.{DeviceState}
-use Rattle.nook_defs.specs.declared.data.Disk.{Disk}
-use Rattle.nook_defs.specs.declared.data.Link.{Link}
-use Rattle.nook_defs.specs.declared.data.Entry.{Entry}
-use Rattle.nook_defs.specs.declared.data.Fault.{Fault}
+use Rattle.nook_defs.specs.declared.machine.Act.{Act}
+use Rattle.nook_defs.specs.declared.machine.Act.TheVariants as act
+use Rattle.nook_defs.specs.declared.devices.DeviceKind.{DeviceKind}
+use Rattle.nook_defs.specs.declared.devices.DeviceKind.TheVariants as kind
+use Rattle.nook_defs.specs.declared.devices.DeviceState.{DeviceState}
+use Rattle.nook_defs.specs.declared.devices.Disk.{Disk}
+use Rattle.nook_defs.specs.declared.devices.Link.{Link}
+use Rattle.nook_defs.specs.declared.entries.Entry.{Entry}
+use Rattle.nook_defs.specs.declared.scenario.Fault.{Fault}
 use Rattle.nook_defs.specs.declared.machine.Instr.{Instr}
 use Rattle.nook_defs.specs.declared.machine.Instr.TheVariants as instr
 use Rattle.nook_defs.specs.Burst.{burst, acts_of}
@@ -50,9 +50,7 @@ command_told registers k word h =
     and_parts (word == 1 || word == 2) (nat_lt k.block (length k.medium)) h in
     let within : k.block < length k.medium = ltb-true k.block (length k.medium) parts.1 in
     split (is_failing k)
-    (λ fails. split (word == 2)
-    (λ two. rw (fails, two) (refl, within))
-    (λ not_two. rw (fails, not_two) (refl, within)))
+    (λ fails. rw fails (refl, within))
     (λ works. split (word == 1)
     (λ one. split (word == 2)
     (λ two. absurd (one_and_two word one two))

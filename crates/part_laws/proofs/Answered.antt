@@ -6,29 +6,30 @@ use Rattle.nook_defs.specs.declared.classes.Accept.{Accept}
 use Rattle.nook_defs.specs.declared.classes.Accept.TheVariants as accepts
 use Rattle.nook_defs.specs.declared.classes.Admit.{Admit}
 use Rattle.nook_defs.specs.declared.classes.Admit.TheVariants as admits
-use Rattle.nook_defs.specs.declared.data.Answer.{Answer}
-use Rattle.nook_defs.specs.declared.data.CallEntry.{CallEntry}
-use Rattle.nook_defs.specs.declared.data.Event.{Event}
-use Rattle.nook_defs.specs.declared.data.Op.{Op}
-use Rattle.nook_defs.specs.declared.data.Op.TheVariants as op
-use Rattle.nook_defs.specs.declared.data.PartSpec.{PartSpec}
-use Rattle.nook_defs.specs.declared.data.Stage.{Stage}
-use Rattle.nook_defs.specs.declared.data.Stage.TheVariants as stage
-use Rattle.nook_defs.specs.declared.data.Step.{Step}
-use Rattle.nook_defs.specs.declared.data.Step.TheVariants as step
+use Rattle.nook_defs.specs.declared.calls.Answer.{Answer}
+use Rattle.nook_defs.specs.declared.calls.CallEntry.{CallEntry}
+use Rattle.nook_defs.specs.declared.steps.Event.{Event}
+use Rattle.nook_defs.specs.declared.calls.Op.{Op}
+use Rattle.nook_defs.specs.declared.calls.Op.TheVariants as op
+use Rattle.nook_defs.specs.declared.scenario.PartSpec.{PartSpec}
+use Rattle.nook_defs.specs.declared.steps.Stage.{Stage}
+use Rattle.nook_defs.specs.declared.steps.Stage.TheVariants as stage
+use Rattle.nook_defs.specs.declared.steps.Step.{Step}
+use Rattle.nook_defs.specs.declared.steps.Step.TheVariants as step
 use Rattle.nook_defs.specs.declared.machine.BadParam.{BadParam}
 use Rattle.nook_defs.specs.declared.machine.BurstEnd.{BurstEnd}
 use Rattle.nook_defs.specs.declared.machine.BurstEnd.TheVariants as ends
 use Rattle.nook_defs.specs.declared.machine.Service.{Service}
-use Rattle.nook_defs.specs.Calls.{Turned, invoked, invoked_by, invoked_with, answer_in, queue_in, entered_part, entered_by, admitted}
+use Rattle.nook_defs.specs.Calls.{Stepped, after_invoke, invoked_by, invoked_with, answer_in, queue_in, after_enter, entered_by, after_admit}
 use Rattle.nook_defs.specs.Classes.{static_check, admit, accept}
-use Rattle.nook_defs.specs.Crossing.{Crossed, fails, is_last, serve_by, is_accepted, next_stage, shadow_replied, closes, reply_by, call_replied, crossed}
+use Rattle.nook_defs.specs.Crossing.{Crossed, fails, is_last, serve_by, is_accepted, next_stage, shadow_replied, closes_call, reply_by, call_replied, after_crossing}
 use Rattle.nook_defs.specs.Domain.{domain_burst}
-use Rattle.nook_defs.specs.Log.{is_call, call_of_thread, open_call, opening_log, new_call, with_call, numbered, entered, answered, acknowledged, change_call, entered_call, held_call, is_kept, shadow_answer, queue_after, with_answer, stop_answers, gone_answers}
-use Rattle.nook_defs.specs.Runs.{IsRun, IsRunFrom, answer_at, answered_at, answered_from, answer_among, if_call, state_after, state_from, state_of, step_of}
-use Rattle.nook_defs.specs.Stages.{stage_due, is_given_up, stopped, given_up, collects, resets, loads_image, inits, replays_set, replays_open, resumes, stage_done, stage_by, stage_turned}
+use Rattle.nook_defs.specs.Log.{is_call, call_of_thread, open_call, opening_log, new_entry, with_call, with_answered_call, after_entering, after_answering, after_acknowledging, change_entry, entered_call, held_call, is_held, shadow_answer, queue_after, with_answer, stop_answers, gone_answers}
+use Rattle.nook_defs.specs.Answers.{one_answer}
+use Rattle.nook_defs.specs.Runs.{IsRun, IsRunFrom, answer_at, answered_at, answered_from, answer_among, state_after, state_from, state_of, step_of}
+use Rattle.nook_defs.specs.Stages.{stage_due, is_given_up, stops, gives_up_part, collects, resets, loads_image, inits, replays_set, replays_open, resumes, stage_done, stage_by, stage_stepped}
 use Rattle.nook_defs.specs.State.{PartState}
-use Rattle.nook_defs.specs.Steps.{turned, opening, burst_turned, with_burst, served_number, faults_of_burst, arrived}
+use Rattle.nook_defs.specs.Steps.{stepped, opening, burst_stepped, with_burst, served_number, faults_of_burst, after_arrival}
 use Rattle.part_laws.proofs.BurstKeeps.{split}
 use Rattle.part_laws.proofs.Counts.{crossed_counted}
 use Rattle.part_laws.proofs.RunBound.{opening_tied}
@@ -60,7 +61,7 @@ served_shows number context p (Ok s) = inl (refl, refl)
 
 reply_shows : (status context : ℕ) (p : PartState) (o : Option CallEntry) → (context == 16) ≡ false → call_of_thread context p.log.pending ≡ o
     → Shows context p (call_replied status p o)
-unfolding fails closes answered acknowledged
+unfolding fails closes_call after_answering after_acknowledging
 reply_shows status context p None e h = inl (refl, refl)
 reply_shows status context p (Some c) e h = by_accept (accept c.op status)
   where
@@ -69,8 +70,8 @@ reply_shows status context p (Some c) e h = by_accept (accept c.op status)
     by_accept (accepts.IoError block) = inr (record { c = c; a = _; other = e; found = h; told = refl; closed = refl })
     by_accept (accepts.Fail cause) = inl (refl, refl)
 
-pub crossed_shows : (context : ℕ) (e : BurstEnd) (p : PartState) → Shows context p (crossed context e p)
-unfolding crossed fails next_stage
+pub crossed_shows : (context : ℕ) (e : BurstEnd) (p : PartState) → Shows context p (after_crossing context e p)
+unfolding after_crossing fails next_stage
 crossed_shows context (ends.Trap cause) p = inl (refl, refl)
 crossed_shows context (ends.Kcall k) p = split (is_last context p)
     (λ e. rw e (inl (refl, refl)))
@@ -93,8 +94,8 @@ crossed_shows context (ends.Reply status) p = by_own (context == 16) refl
 
 -- the shadow keeps an operation, or answers it
 pub shadow_says : (o : Op) (thread : ℕ) (config : List ℕ) (holder : Option ℕ) (queue : List (List ℕ))
-    → ((is_kept o ≡ true) × (shadow_answer o thread config holder stage.Stop queue ≡ None))
-    ⊎ ((is_kept o ≡ false) × ((a : Answer) × (shadow_answer o thread config holder stage.Stop queue ≡ Some a)))
+    → ((is_held o ≡ true) × (shadow_answer o thread config holder stage.Stop queue ≡ None))
+    ⊎ ((is_held o ≡ false) × ((a : Answer) × (shadow_answer o thread config holder stage.Stop queue ≡ Some a)))
 unfolding shadow_answer
 shadow_says (op.Read first count) thread config holder queue = inl (refl, refl)
 shadow_says (op.Write first words) thread config holder queue = inl (refl, refl)
@@ -218,24 +219,24 @@ closing n count calls after told r now was =
 keeping : (n count : ℕ) (calls after : List CallEntry) → opens n after ≡ opens n calls → is_done n count after ≡ (is_done n count calls || false)
 keeping n count calls after same = ap (λ (o : Bool). (nat_le 1 n && nat_le n count) && not o) same ∙ or_false (is_done n count calls)
 
-pub no_call : (call c : ℕ) → if_call call c None ≡ None
-no_call call c = split (c == call) (λ e. rw e refl) (λ e. rw e refl)
+pub no_call : (call c : ℕ) → answer_among call (one_answer c None) ≡ None
+no_call call c = refl
 
 silent : (n c count : ℕ) (calls after : List CallEntry) → opens n after ≡ opens n calls
-    → is_done n count after ≡ (is_done n count calls || is_some (if_call n c None))
+    → is_done n count after ≡ (is_done n count calls || is_some (answer_among n (one_answer c None)))
 silent n c count calls after same =
     keeping n count calls after same ∙ ap (λ (a : Option Answer). is_done n count calls || is_some a) (sym (no_call n c))
 
 -- one open call is answered
-removed : (n k : ℕ) (a : Answer) (calls : List CallEntry) → opens n (filter (λ d. not (is_call k d)) calls) ≡ (opens n calls && not (is_some (if_call n k (Some a))))
+removed : (n k : ℕ) (a : Answer) (calls : List CallEntry) → opens n (filter (λ d. not (is_call k d)) calls) ≡ (opens n calls && not (is_some (answer_among n (one_answer k (Some a)))))
 removed n k a [] = refl
 removed n k a (c ∷ calls) = by_rest (removed n k a calls)
   where
     apart : (c.call == k) ≡ false → (c.call == n) ≡ true → (k == n) ≡ false
     apart differs mine = ne_eqb k n (λ e. true≢false (sym (eq-eqb c.call k (eqb-true c.call n mine ∙ sym e)) ∙ differs))
 
-    by_rest : opens n (filter (λ d. not (is_call k d)) calls) ≡ (opens n calls && not (is_some (if_call n k (Some a))))
-        → opens n (filter (λ d. not (is_call k d)) (c ∷ calls)) ≡ (opens n (c ∷ calls) && not (is_some (if_call n k (Some a))))
+    by_rest : opens n (filter (λ d. not (is_call k d)) calls) ≡ (opens n calls && not (is_some (answer_among n (one_answer k (Some a)))))
+        → opens n (filter (λ d. not (is_call k d)) (c ∷ calls)) ≡ (opens n (c ∷ calls) && not (is_some (answer_among n (one_answer k (Some a)))))
     by_rest more = split (c.call == k)
         (λ it. split (k == n)
         (λ same. rw (it, eq-eqb c.call n (eqb-true c.call k it ∙ eqb-true k n same), same) (rw same at more ∙ and_false (opens n calls)))
@@ -245,9 +246,9 @@ removed n k a (c ∷ calls) = by_rest (removed n k a calls)
         (λ other. rw (no, other) more))
 
 told : (n k count : ℕ) (a : Answer) (calls : List CallEntry) → IsRising 0 count calls → opens k calls ≡ true
-    → is_done n count (filter (λ d. not (is_call k d)) calls) ≡ (is_done n count calls || is_some (if_call n k (Some a)))
+    → is_done n count (filter (λ d. not (is_call k d)) calls) ≡ (is_done n count calls || is_some (answer_among n (one_answer k (Some a))))
 told n k count a calls r waits =
-    closing n count calls (filter (λ d. not (is_call k d)) calls) (is_some (if_call n k (Some a))) r (removed n k a calls) (λ e. split (k == n)
+    closing n count calls (filter (λ d. not (is_call k d)) calls) (is_some (answer_among n (one_answer k (Some a)))) r (removed n k a calls) (λ e. split (k == n)
     (λ same. subst (λ (m : ℕ). opens m calls ≡ true) (eqb-true k n same) waits)
     (λ other. absurd (true≢false (sym (rw other at e)))))
 
@@ -261,17 +262,17 @@ at_once : (n count : ℕ) (o : Bool) → (o ≡ true → n ≤ count)
     → ((nat_le 1 n && nat_le n (count + 1)) && not o) ≡ (((nat_le 1 n && nat_le n count) && not o) || (count + 1 == n))
 at_once n count o h = grind (arith, nat_tests)
 
-some_call : (call c : ℕ) (a : Answer) → is_some (if_call call c (Some a)) ≡ (c == call)
+some_call : (call c : ℕ) (a : Answer) → is_some (answer_among call (one_answer c (Some a))) ≡ (c == call)
 some_call call c a = split (c == call) (λ e. rw e refl) (λ e. rw e refl)
 
-abbrev Says : PartState → ℕ → Turned → Type 0
+abbrev Says : PartState → ℕ → Stepped → Type 0
 Says p n turn = is_done n turn.state.log.count turn.state.log.pending ≡ (is_done n p.log.count p.log.pending || is_some (answer_at n turn.event))
 
 invoked_says : (p : PartState) (n thread : ℕ) (o : Op) (a : Option Answer) (queue : List (List ℕ)) → IsTied p → Says p n (invoked_with p thread o a queue)
-unfolding with_call numbered
+unfolding with_call with_answered_call
 invoked_says p n thread o None queue tied =
     let count = p.log.count in
-    ap (λ (b : Bool). (nat_le 1 n && nat_le n (count + 1)) && not b) (pushed n p.log.pending (new_call (count + 1) thread o))
+    ap (λ (b : Bool). (nat_le 1 n && nat_le n (count + 1)) && not b) (pushed n p.log.pending (new_entry (count + 1) thread o))
     ∙ given n count (opens n p.log.pending) (λ e. (opens_above n 0 count p.log.pending tied.rising e).1)
     ∙ silent n (count + 1) count p.log.pending p.log.pending refl
 invoked_says p n thread o (Some a) queue tied =
@@ -279,8 +280,8 @@ invoked_says p n thread o (Some a) queue tied =
     at_once n count (opens n p.log.pending) (λ e. (opens_above n 0 count p.log.pending tied.rising e).1)
     ∙ ap (λ (b : Bool). is_done n count p.log.pending || b) (sym (some_call n (count + 1) a))
 
-invoke_says : (p : PartState) (n thread : ℕ) (o : Op) → IsTied p → Says p n (invoked thread o p)
-unfolding invoked
+invoke_says : (p : PartState) (n thread : ℕ) (o : Op) → IsTied p → Says p n (after_invoke thread o p)
+unfolding after_invoke
 invoke_says p n thread o tied = by_check (static_check p.spec.class p.spec.blocks o)
   where
     by_check : (a : Option Answer) → Says p n (invoked_by p thread o a)
@@ -289,15 +290,15 @@ invoke_says p n thread o tied = by_check (static_check p.spec.class p.spec.block
 
 -- ---- Enter
 
-enter_says : (p : PartState) (n thread : ℕ) → IsTied p → Says p n (entered_part thread p)
-unfolding entered_part answered entered
+enter_says : (p : PartState) (n thread : ℕ) → IsTied p → Says p n (after_enter thread p)
+unfolding after_enter after_answering after_entering
 enter_says p n thread tied = by_call (call_of_thread thread p.log.pending) refl
   where
-    by_answer : (c : CallEntry) → opens c.call p.log.pending ≡ true → (a : Admit) → Says p n (admitted p c a)
+    by_answer : (c : CallEntry) → opens c.call p.log.pending ≡ true → (a : Admit) → Says p n (after_admit p c a)
     by_answer c waits (admits.Reply a) = told n c.call p.log.count a p.log.pending tied.rising waits
     by_answer c waits admits.TakeFrame = told n c.call p.log.count _ p.log.pending tied.rising waits
-    by_answer c waits (admits.Enter place) = silent n c.call p.log.count p.log.pending (map (change_call c.call entered_call) p.log.pending)
-        (renamed (change_call c.call entered_call) n p.log.pending (λ d. split (is_call c.call d) (λ e. rw e refl) (λ e. rw e refl)))
+    by_answer c waits (admits.Enter place) = silent n c.call p.log.count p.log.pending (map (change_entry c.call entered_call) p.log.pending)
+        (renamed (change_entry c.call entered_call) n p.log.pending (λ d. split (is_call c.call d) (λ e. rw e refl) (λ e. rw e refl)))
 
     by_call : (o : Option CallEntry) → call_of_thread thread p.log.pending ≡ o → Says p n (entered_by p thread o)
     by_call None e = silent n 0 p.log.count p.log.pending p.log.pending refl
@@ -306,11 +307,11 @@ enter_says p n thread tied = by_call (call_of_thread thread p.log.pending) refl
 -- ---- Burst
 
 burst_by : (context : ℕ) (p q : PartState) (n : ℕ) (x : Crossed) → IsTied p → q.log ≡ p.log → x.state.log.count ≡ p.log.count → Shows context q x
-    → is_done n x.state.log.count x.state.log.pending ≡ (is_done n p.log.count p.log.pending || is_some (if_call n (served_number context p) x.answer))
+    → is_done n x.state.log.count x.state.log.pending ≡ (is_done n p.log.count p.log.pending || is_some (answer_among n (one_answer (served_number context p) x.answer)))
 burst_by context p q n x tied same counted (inl h) =
     ap (λ (k : ℕ). is_done n k x.state.log.pending) counted
     ∙ silent n (served_number context p) p.log.count p.log.pending x.state.log.pending (ap (opens n) (h.1 ∙ ap (λ l. l.pending) same))
-    ∙ ap (λ (a : Option Answer). is_done n p.log.count p.log.pending || is_some (if_call n (served_number context p) a)) (sym h.0)
+    ∙ ap (λ (a : Option Answer). is_done n p.log.count p.log.pending || is_some (answer_among n (one_answer (served_number context p) a))) (sym h.0)
 burst_by context p q n x tied same counted (inr h) =
     let found : call_of_thread context p.log.pending ≡ Some h.c = ap (λ l. call_of_thread context l.pending) (sym same) ∙ h.found in
     let served : served_number context p ≡ h.c.call = rw (h.other, found) refl in
@@ -318,15 +319,15 @@ burst_by context p q n x tied same counted (inr h) =
     ap (λ (k : ℕ). is_done n k x.state.log.pending) counted
     ∙ ap (is_done n p.log.count) (h.closed ∙ ap (λ l. filter (λ d. not (is_call h.c.call d)) l.pending) same)
     ∙ told n h.c.call p.log.count h.a p.log.pending tied.rising waits
-    ∙ ap (λ (k : ℕ). is_done n p.log.count p.log.pending || is_some (if_call n k (Some h.a))) (sym served)
-    ∙ ap (λ (a : Option Answer). is_done n p.log.count p.log.pending || is_some (if_call n (served_number context p) a)) (sym h.told)
+    ∙ ap (λ (k : ℕ). is_done n p.log.count p.log.pending || is_some (answer_among n (one_answer k (Some h.a)))) (sym served)
+    ∙ ap (λ (a : Option Answer). is_done n p.log.count p.log.pending || is_some (answer_among n (one_answer (served_number context p) a))) (sym h.told)
 
-burst_says : (p : PartState) (n context : ℕ) → IsTied p → Says p n (burst_turned context p)
-unfolding burst_turned
+burst_says : (p : PartState) (n context : ℕ) → IsTied p → Says p n (burst_stepped context p)
+unfolding burst_stepped
 burst_says p n context tied =
     let b = domain_burst context (faults_of_burst (p.bursts + 1) p.spec.faults) p.domain in
     let q = with_burst b.domain p in
-    burst_by context p q n (crossed context b.ending q) tied refl ((crossed_counted context b.ending q).calls' ∙ add-zero p.log.count)
+    burst_by context p q n (after_crossing context b.ending q) tied refl ((crossed_counted context b.ending q).calls' ∙ add-zero p.log.count)
     (crossed_shows context b.ending q)
 
 -- ---- Stage
@@ -347,7 +348,7 @@ stop_answers_open n (c ∷ calls) config holder queue h = split (c.call == n)
     by_shadow (Some a) other more e = more (rw other at e)
 
 stop_opens : (n low count : ℕ) (calls : List CallEntry) (config : List ℕ) (holder : Option ℕ) (queue : List (List ℕ)) → IsRising low count calls
-    → opens n (filter (λ c. is_kept c.op) calls) ≡ (opens n calls && not (is_some (answer_among n (stop_answers calls config holder queue))))
+    → opens n (filter (λ c. is_held c.op) calls) ≡ (opens n calls && not (is_some (answer_among n (stop_answers calls config holder queue))))
 stop_opens n low count [] config holder queue r = refl
 stop_opens n low count (c ∷ calls) config holder queue r =
     by_shadow (shadow_says c.op c.thread config holder queue) (stop_opens n c.call count calls config holder (queue_after c.op queue) r.2)
@@ -362,10 +363,10 @@ stop_opens n low count (c ∷ calls) config holder queue r =
     shut : (c.call == n) ≡ true → opens n calls ≡ false
     shut it = subst (λ (m : ℕ). opens m calls ≡ false) (eqb-true c.call n it) (closed_below c.call c.call count calls r.2 (omega arith))
 
-    by_shadow : ((is_kept c.op ≡ true) × (shadow_answer c.op c.thread config holder stage.Stop queue ≡ None))
-        ⊎ ((is_kept c.op ≡ false) × ((a : Answer) × (shadow_answer c.op c.thread config holder stage.Stop queue ≡ Some a)))
-        → opens n (filter (λ c. is_kept c.op) calls) ≡ (opens n calls && not (is_some (answer_among n rest)))
-        → opens n (filter (λ c. is_kept c.op) (c ∷ calls)) ≡ (opens n (c ∷ calls) && not (is_some (answer_among n (stop_answers (c ∷ calls) config holder queue))))
+    by_shadow : ((is_held c.op ≡ true) × (shadow_answer c.op c.thread config holder stage.Stop queue ≡ None))
+        ⊎ ((is_held c.op ≡ false) × ((a : Answer) × (shadow_answer c.op c.thread config holder stage.Stop queue ≡ Some a)))
+        → opens n (filter (λ c. is_held c.op) calls) ≡ (opens n calls && not (is_some (answer_among n rest)))
+        → opens n (filter (λ c. is_held c.op) (c ∷ calls)) ≡ (opens n (c ∷ calls) && not (is_some (answer_among n (stop_answers (c ∷ calls) config holder queue))))
     by_shadow (inl h) more = split (c.call == n)
         (λ it. rw (h.0, h.1, it, none it) refl)
         (λ no. rw (h.0, h.1, no) more)
@@ -391,16 +392,16 @@ gone_says failures n count calls r =
 quiet : (p : PartState) (n : ℕ) → is_done n p.log.count p.log.pending ≡ (is_done n p.log.count p.log.pending || false)
 quiet p n = or_false (is_done n p.log.count p.log.pending)
 
-stage_says : (p : PartState) (n : ℕ) → IsTied p → Says p n (stage_turned p)
-unfolding stage_turned stopped given_up collects resets loads_image inits replays_set replays_open resumes
+stage_says : (p : PartState) (n : ℕ) → IsTied p → Says p n (stage_stepped p)
+unfolding stage_stepped stops gives_up_part collects resets loads_image inits replays_set replays_open resumes
 stage_says p n tied = by_due (stage_due p.mode)
   where
     at_stop : (b : Bool) → is_given_up p ≡ b → Says p n (stage_done stage.Stop p)
     at_stop true e = rw e (gone_says p.failures n p.log.count p.log.pending tied.rising)
     at_stop false e = rw e
-        (closing n p.log.count p.log.pending (map held_call (filter (λ c. is_kept c.op) p.log.pending))
+        (closing n p.log.count p.log.pending (map held_call (filter (λ c. is_held c.op) p.log.pending))
         (is_some (answer_among n (stop_answers p.log.pending p.log.config p.log.holder p.queue))) tied.rising
-        (renamed held_call n (filter (λ c. is_kept c.op) p.log.pending) (λ c. refl)
+        (renamed held_call n (filter (λ c. is_held c.op) p.log.pending) (λ c. refl)
         ∙ stop_opens n 0 p.log.count p.log.pending p.log.config p.log.holder p.queue tied.rising)
         (stop_answers_open n p.log.pending p.log.config p.log.holder p.queue))
 
@@ -417,8 +418,8 @@ stage_says p n tied = by_due (stage_due p.mode)
 
 -- ---- any step
 
-step_says : (p : PartState) (s : Step) (n : ℕ) → IsTied p → Says p n (turned p s)
-unfolding turned arrived
+step_says : (p : PartState) (s : Step) (n : ℕ) → IsTied p → Says p n (stepped p s)
+unfolding stepped after_arrival
 step_says p (step.Invoke thread o) n tied = invoke_says p n thread o tied
 step_says p (step.Enter thread) n tied = enter_says p n thread tied
 step_says p (step.Burst context) n tied = burst_says p n context tied

@@ -1,13 +1,13 @@
 use Rattle.std.proofs.Common.{◌≡◌, ℕ, ◌+◌, ◌&&◌, cond, true, option_and_then, List, [], ◌∷◌, ◌++◌, length, sym, refl, ap, subst, ◌∙◌, nat_lt, nat_le, append_assoc, length-append, arith}
 use Rattle.std.proofs.lemmas.Bool.{and_parts, cond-true, cond-false}
-use Rattle.nook_defs.specs.declared.data.Class.TheVariants as class
-use Rattle.nook_defs.specs.declared.data.DeviceKind.{DeviceKind}
-use Rattle.nook_defs.specs.declared.data.DeviceKind.TheVariants as kind
+use Rattle.nook_defs.specs.declared.classes.Class.TheVariants as class
+use Rattle.nook_defs.specs.declared.devices.DeviceKind.{DeviceKind}
+use Rattle.nook_defs.specs.declared.devices.DeviceKind.TheVariants as kind
 use Rattle.nook_defs.specs.Classes.{same_class}
 use Rattle.nook_defs.specs.Devices.{has_room, with_arrival}
 use Rattle.nook_defs.specs.Ideal.{ran}
 use Rattle.nook_defs.specs.State.{PartState}
-use Rattle.nook_defs.specs.Steps.{can_arrive, arrived}
+use Rattle.nook_defs.specs.Steps.{can_arrive, after_arrival}
 use Rattle.nook_defs.specs.Losses.{one_if}
 use Rattle.part_laws.specs.Counts.{count_event}
 use Rattle.part_laws.specs.Balance.{held_at, Balanced}
@@ -73,10 +73,10 @@ arrival_facts v b frame f = record {
 }
 
 pub arrive_ok : (p : PartState) (b : Past) (frame : List ℕ) → Facts (view_of p) b → length p.domain.contexts ≡ 17 → can_arrive p frame ≡ true
-    → StepKeeps p b (arrived frame p)
-unfolding arrived ran
+    → StepKeeps p b (after_arrival frame p)
+unfolding after_arrival ran
 arrive_ok p b frame f l h = record {
-  counted = λ n x. subst (λ v. Balanced v past (count_event n (arrived frame p).event)) seen
+  counted = λ n x. subst (λ v. Balanced v past (count_event n (after_arrival frame p).event)) seen
       (arrived_balance (length (view_of p).dev.ring) (length (ring_with frame (view_of p).dev.ring)) (length p.queue) (held_at (stage_of p.mode) b.rest)
       (has_room p.domain.device) n (ring_length frame (view_of p).dev.ring) (one_of (has_room p.domain.device)) x);
   after = past;
@@ -97,5 +97,5 @@ arrive_ok p b frame f l h = record {
     net = (and_parts (same_class p.spec.class class.Net) (nat_le 1 (length frame) && nat_le (length frame) 64)
         (and_parts (same_class p.spec.class class.Net && (nat_le 1 (length frame) && nat_le (length frame) 64)) (nat_lt p.arrived 100000) h).0).0
 
-    seen : arrival_view frame (view_of p) ≡ view_of (arrived frame p).state
+    seen : arrival_view frame (view_of p) ≡ view_of (after_arrival frame p).state
     seen = ap (λ d. record (view_of p) { dev = d }) (arrival_seen frame p.domain.device.registers p.domain.device.kind (f.linked ∙ net))

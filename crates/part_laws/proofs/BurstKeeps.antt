@@ -1,9 +1,9 @@
 use Rattle.std.proofs.Common.{◌≡◌, ℕ, zero, suc, ◌-◌, ◌==◌, Bool, true, false, Option, Some, None, List, [], ◌∷◌, ◌++◌, refl}
 use Rattle.std.specs.List.{AllByRecursion}
-use Rattle.nook_defs.specs.declared.data.Act.{Act}
-use Rattle.nook_defs.specs.declared.data.Entry.{Entry}
-use Rattle.nook_defs.specs.declared.data.Fault.{Fault}
-use Rattle.nook_defs.specs.declared.data.TrapCause.{TrapCause}
+use Rattle.nook_defs.specs.declared.machine.Act.{Act}
+use Rattle.nook_defs.specs.declared.entries.Entry.{Entry}
+use Rattle.nook_defs.specs.declared.scenario.Fault.{Fault}
+use Rattle.nook_defs.specs.declared.machine.TrapCause.{TrapCause}
 use Rattle.nook_defs.specs.Burst.{Burst, Struck, struck_machine, past_trap, strikes_at, acts_of, burst_from, burst, trap_of}
 use Rattle.nook_defs.specs.Turn.{Machine, Turn, turn}
 use Rattle.nook_defs.proofs.BurstTurns.{turn_cases}

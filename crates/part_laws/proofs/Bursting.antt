@@ -1,24 +1,24 @@
 use Rattle.std.proofs.Common.{◌≡◌, ℕ, suc, ◌+◌, ◌&&◌, eqb, Bool, true, false, Option, Some, None, is_some, List, ◌++◌, length, sym, refl, ap, ap₂, subst, ◌∙◌, inl, inr, arith, append_assoc, length-set}
 use Rattle.std.specs.List.{find}
 use Rattle.std.proofs.lemmas.Bool.{and_parts, eqb-true, cond-true, cond-false}
-use Rattle.nook_defs.specs.declared.data.Answer.{Answer}
-use Rattle.nook_defs.specs.declared.data.Answer.TheVariants as answered
-use Rattle.nook_defs.specs.declared.data.CallEntry.{CallEntry}
-use Rattle.nook_defs.specs.declared.data.End.{End}
-use Rattle.nook_defs.specs.declared.data.End.TheVariants as ends
-use Rattle.nook_defs.specs.declared.data.FailCause.{FailCause}
-use Rattle.nook_defs.specs.declared.data.Fault.{Fault}
-use Rattle.nook_defs.specs.declared.data.Op.{Op}
-use Rattle.nook_defs.specs.declared.data.Op.TheVariants.{Read, Write, Send, Recv, Play, Get, Set}
+use Rattle.nook_defs.specs.declared.calls.Answer.{Answer}
+use Rattle.nook_defs.specs.declared.calls.Answer.TheVariants as answered
+use Rattle.nook_defs.specs.declared.calls.CallEntry.{CallEntry}
+use Rattle.nook_defs.specs.declared.steps.End.{End}
+use Rattle.nook_defs.specs.declared.steps.End.TheVariants as ends
+use Rattle.nook_defs.specs.declared.steps.FailCause.{FailCause}
+use Rattle.nook_defs.specs.declared.scenario.Fault.{Fault}
+use Rattle.nook_defs.specs.declared.calls.Op.{Op}
+use Rattle.nook_defs.specs.declared.calls.Op.TheVariants.{Read, Write, Send, Recv, Play, Get, Set}
 use Rattle.nook_defs.specs.declared.machine.Context.{Context}
 use Rattle.part_laws.specs.Watch.{Watch, Watched, sees, sees_acts, sees_crossing, owes, owes_found}
-use Rattle.nook_defs.specs.Crossing.{Crossed, crossed}
+use Rattle.nook_defs.specs.Crossing.{Crossed, after_crossing}
 use Rattle.nook_defs.specs.Domain.{DomainBurst, context_of, domain_burst, burst_by, machine_of}
 use Rattle.nook_defs.specs.Ideal.{ran}
 use Rattle.nook_defs.specs.Log.{is_of_thread, call_of_thread}
 use Rattle.nook_defs.specs.Places.{at_number}
 use Rattle.nook_defs.specs.State.{DomainState, PartState}
-use Rattle.nook_defs.specs.Steps.{can_burst, is_driven, is_inside, is_running, number_of, served_number, faults_of_burst, with_burst, past_burst, burst_turned}
+use Rattle.nook_defs.specs.Steps.{can_burst, is_driven, is_inside, is_running, number_of_call, served_number, faults_of_burst, with_burst, burst_step, burst_stepped}
 use Rattle.nook_defs.specs.Trace.{shown_acts, shown_option}
 use Rattle.part_laws.specs.Counts.{count_acts}
 use Rattle.part_laws.specs.Balance.{held_at, Balanced}
@@ -110,7 +110,7 @@ begins p b context f h = split (eqb context 16)
     others = is_running p.mode && is_inside (call_of_thread context p.log.pending)
 
     number : ℕ
-    number = number_of (call_of_thread context p.log.pending)
+    number = number_of_call (call_of_thread context p.log.pending)
 
     own : eqb context 16 ≡ true → is_driven p ≡ true → Begins p b context
     own t d = record {
@@ -137,7 +137,7 @@ begins p b context f h = split (eqb context 16)
             entry = g.entry ∙ ap₂ (λ n x. entry_of n x) (omega arith) s
 
             count : served_number context p ≡ suc g.place
-            count = cond-false (eqb context 16) 0 number t ∙ ap number_of q ∙ ap (λ x. x.call) entry
+            count = cond-false (eqb context 16) 0 number t ∙ ap number_of_call q ∙ ap (λ x. x.call) entry
 
             by_serves : (p' : PartState) (after : Past) → p'.log.pending ≡ p.log.pending → p'.mode ≡ p.mode → length p'.log.defaults ≡ 4
                 → ((rest : List (List ℕ)) → held_at (stage_of p'.mode) rest ≡ length rest)
@@ -171,7 +171,7 @@ begins p b context f h = split (eqb context 16)
             with_found g = with_call e q j g (from_map core_of b.calls g.place g.core g.at)
 
 past_burst_ok : (p : PartState) (b : Past) (context : ℕ) (x : DomainBurst) → Facts (view_of p) b → BurstTells p.domain x → Begins p b context
-    → (sees (watch_of (view_of p) b) (past_burst context p x).event).clause ≡ None → StepKeeps p b (past_burst context p x)
+    → (sees (watch_of (view_of p) b) (burst_step context p x).event).clause ≡ None → StepKeeps p b (burst_step context p x)
 past_burst_ok p b context x f t u h = with_acts (acts_ok x.acts (view_of p) b n u.call f u.active u.serves t.tells.fit
     (crossing_clause n c.end c.answer c.failure (sees_acts n x.acts (watch_of (view_of p) b)) h))
   where
@@ -182,12 +182,12 @@ past_burst_ok p b context x f t u h = with_acts (acts_ok x.acts (view_of p) b n 
     q = with_burst x.domain p
 
     c : Crossed
-    c = crossed context x.ending (with_burst x.domain p)
+    c = after_crossing context x.ending (with_burst x.domain p)
 
     seen : with_dev (acts_on x.acts (view_of p).dev) (view_of p) ≡ view_of (with_burst x.domain p)
     seen = ap₂ (λ d t. record (view_of p) { dev = d; driven = t }) (sym t.tells.made) (sym t.driven)
 
-    with_acts : ActsOk (view_of p) b n u.call x.acts → StepKeeps p b (past_burst context p x)
+    with_acts : ActsOk (view_of p) b n u.call x.acts → StepKeeps p b (burst_step context p x)
     with_acts a = joined (crossing_ok q a.after context n x.ending
         (u.whose q a.after refl refl t.driven (ap length f.defaults) (held_active p.mode (is_driven p) f.driving u.active) facts t.contexts a.serves)
         (sym (ap (λ w. (sees_crossing n c.end c.answer c.failure w).clause) watched) ∙ h))
@@ -199,7 +199,7 @@ past_burst_ok p b context x f t u h = with_acts (acts_ok x.acts (view_of p) b n 
         watched = a.seen ∙ ap (λ v. watch_of v a.after) seen
 
         joined : CrossOk (view_of q) a.after n c.end c.answer c.failure (view_of c.state) × (length c.state.domain.contexts ≡ 17)
-            → StepKeeps p b (past_burst context p x)
+            → StepKeeps p b (burst_step context p x)
         joined (g, l) = record {
           after = g.after;
           facts = g.facts;
@@ -217,7 +217,7 @@ past_burst_ok p b context x f t u h = with_acts (acts_ok x.acts (view_of p) b n 
         }
 
 pub burst_ok : (p : PartState) (b : Past) (context : ℕ) → Facts (view_of p) b → length p.domain.contexts ≡ 17 → can_burst p context ≡ true
-    → (sees (watch_of (view_of p) b) (burst_turned context p).event).clause ≡ None → StepKeeps p b (burst_turned context p)
-unfolding burst_turned
+    → (sees (watch_of (view_of p) b) (burst_stepped context p).event).clause ≡ None → StepKeeps p b (burst_stepped context p)
+unfolding burst_stepped
 burst_ok p b context f l c h = past_burst_ok p b context (domain_burst context (faults_of_burst (p.bursts + 1) p.spec.faults) p.domain) f
     (burst_tells context (faults_of_burst (p.bursts + 1) p.spec.faults) p.domain l) (begins p b context f c) h

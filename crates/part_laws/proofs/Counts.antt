@@ -3,49 +3,49 @@ use Rattle.std.specs.List.{AllByRecursion}
 use Rattle.std.proofs.lemmas.Bool.{and_parts, not-true}
 use Rattle.nook_defs.specs.declared.classes.Admit.{Admit}
 use Rattle.nook_defs.specs.declared.classes.Admit.TheVariants as admits
-use Rattle.nook_defs.specs.declared.data.Answer.{Answer}
-use Rattle.nook_defs.specs.declared.data.CallEntry.{CallEntry}
-use Rattle.nook_defs.specs.declared.data.Event.{Event}
-use Rattle.nook_defs.specs.declared.data.Event.TheVariants as event
-use Rattle.nook_defs.specs.declared.data.Mode.{Mode}
-use Rattle.nook_defs.specs.declared.data.Mode.TheVariants as mode
-use Rattle.nook_defs.specs.declared.data.Op.{Op}
-use Rattle.nook_defs.specs.declared.data.Stage.{Stage}
-use Rattle.nook_defs.specs.declared.data.Stage.TheVariants as stage
-use Rattle.nook_defs.specs.declared.data.Step.{Step}
-use Rattle.nook_defs.specs.declared.data.Step.TheVariants as step
+use Rattle.nook_defs.specs.declared.calls.Answer.{Answer}
+use Rattle.nook_defs.specs.declared.calls.CallEntry.{CallEntry}
+use Rattle.nook_defs.specs.declared.steps.Event.{Event}
+use Rattle.nook_defs.specs.declared.steps.Event.TheVariants as event
+use Rattle.nook_defs.specs.declared.steps.Mode.{Mode}
+use Rattle.nook_defs.specs.declared.steps.Mode.TheVariants as mode
+use Rattle.nook_defs.specs.declared.calls.Op.{Op}
+use Rattle.nook_defs.specs.declared.steps.Stage.{Stage}
+use Rattle.nook_defs.specs.declared.steps.Stage.TheVariants as stage
+use Rattle.nook_defs.specs.declared.steps.Step.{Step}
+use Rattle.nook_defs.specs.declared.steps.Step.TheVariants as step
 use Rattle.nook_defs.specs.declared.machine.Context.{Context}
 use Rattle.nook_defs.specs.Burst.{burst}
-use Rattle.nook_defs.specs.Calls.{Turned, invoked, invoked_by, invoked_with, answer_in, queue_in, entered_part, entered_by, admitted}
+use Rattle.nook_defs.specs.Calls.{Stepped, after_invoke, invoked_by, invoked_with, answer_in, queue_in, after_enter, entered_by, after_admit}
 use Rattle.nook_defs.specs.Classes.{static_check, admit}
 use Rattle.nook_defs.specs.declared.classes.Accept.{Accept}
 use Rattle.nook_defs.specs.declared.classes.Accept.TheVariants as accepts
-use Rattle.nook_defs.specs.declared.data.End.{End}
-use Rattle.nook_defs.specs.declared.data.FailCause.{FailCause}
-use Rattle.nook_defs.specs.declared.data.PartSpec.{PartSpec}
+use Rattle.nook_defs.specs.declared.steps.End.{End}
+use Rattle.nook_defs.specs.declared.steps.FailCause.{FailCause}
+use Rattle.nook_defs.specs.declared.scenario.PartSpec.{PartSpec}
 use Rattle.nook_defs.specs.declared.machine.BadParam.{BadParam}
 use Rattle.nook_defs.specs.declared.machine.BurstEnd.{BurstEnd}
 use Rattle.nook_defs.specs.declared.machine.BurstEnd.TheVariants as ends
 use Rattle.nook_defs.specs.declared.machine.Service.{Service}
 use Rattle.nook_defs.specs.Classes.{accept}
-use Rattle.nook_defs.specs.Crossing.{Crossed, fails, failed, is_last, serve_by, next_stage, is_accepted, shadow_replied, closes, reply_by, call_replied, crossed}
+use Rattle.nook_defs.specs.Crossing.{Crossed, fails, failed_crossing, is_last, serve_by, next_stage, is_accepted, shadow_replied, closes_call, reply_by, call_replied, after_crossing}
 use Rattle.nook_defs.specs.Domain.{first_argument, second_argument, attempt_bursts, bursts_of}
-use Rattle.nook_defs.specs.Log.{acknowledged, opening_log}
+use Rattle.nook_defs.specs.Log.{after_acknowledging, opening_log}
 use Rattle.nook_defs.specs.Runs.{step_of, event_of, state_after, state_from, IsRunFrom, IsRun}
 use Rattle.nook_defs.specs.Services.{checked}
 use Rattle.nook_defs.specs.Steps.{opening}
 use Rattle.std.proofs.Common.{add-zero, cond, Result, Ok, Err, nat_le}
-use Rattle.nook_defs.specs.declared.data.Class.TheVariants as class
-use Rattle.nook_defs.specs.declared.data.End.TheVariants as end
-use Rattle.nook_defs.specs.declared.data.FailCause.TheVariants as fail
+use Rattle.nook_defs.specs.declared.classes.Class.TheVariants as class
+use Rattle.nook_defs.specs.declared.steps.End.TheVariants as end
+use Rattle.nook_defs.specs.declared.steps.FailCause.TheVariants as fail
 use Rattle.nook_defs.specs.Classes.{same_class}
 use Rattle.nook_defs.specs.Crossing.{shadow_fault, stage_in}
 use Rattle.std.proofs.lemmas.Bool.{ltb-true}
 use Rattle.nook_defs.specs.Domain.{context_of, DomainBurst, domain_burst}
-use Rattle.nook_defs.specs.Log.{with_call, numbered, entered, answered, call_of_thread, is_blocked}
-use Rattle.nook_defs.specs.Stages.{stage_due, is_given_up, stopped, given_up, collects, resets, loads_image, inits, replays_set, replays_open, resumes, stage_done, stage_by, stage_turned}
+use Rattle.nook_defs.specs.Log.{with_call, with_answered_call, after_entering, after_answering, call_of_thread, is_blocked}
+use Rattle.nook_defs.specs.Stages.{stage_due, is_given_up, stops, gives_up_part, collects, resets, loads_image, inits, replays_set, replays_open, resumes, stage_done, stage_by, stage_stepped}
 use Rattle.nook_defs.specs.State.{PartState}
-use Rattle.nook_defs.specs.Steps.{enabled, is_running, is_ready, is_inside, faults_of_burst, with_burst, past_burst, burst_turned, arrived, turned}
+use Rattle.nook_defs.specs.Steps.{enabled, is_running, is_ready, is_inside, faults_of_burst, with_burst, burst_step, burst_stepped, after_arrival, stepped}
 use Rattle.part_laws.proofs.BurstKeeps.{split}
 use Rattle.part_laws.proofs.CrossingFit.{found_fits}
 use Rattle.part_laws.proofs.RunBound.{opening_tied, run_tied, count_more}
@@ -82,7 +82,7 @@ nothing_counted p q a b c d e = record {
 abbrev pub CrossCounted : PartState → Crossed → Type 0
 CrossCounted p c = IsCounted p c.state (cond (is_some c.failure) 1 0) 0 0 0
 
-failed_counted : (p : PartState) (e : End) (cause : FailCause) → CrossCounted p (failed p e cause)
+failed_counted : (p : PartState) (e : End) (cause : FailCause) → CrossCounted p (failed_crossing p e cause)
 unfolding fails
 failed_counted p e cause = record {
   spec = refl;
@@ -96,8 +96,8 @@ serve_counted : (number context : ℕ) (p : PartState) (r : Result Service BadPa
 serve_counted number context p (Err bad) = failed_counted p end.Pause fail.TooManyCrossings
 serve_counted number context p (Ok s) = nothing_counted p _ refl refl refl refl refl
 
-closes_counted : (c : CallEntry) (p : PartState) → IsCounted p (closes c p) 0 0 0 0
-unfolding closes answered acknowledged
+closes_counted : (c : CallEntry) (p : PartState) → IsCounted p (closes_call c p) 0 0 0 0
+unfolding closes_call after_answering after_acknowledging
 closes_counted c p = nothing_counted p _ refl refl refl refl refl
 
 reply_counted : (c : CallEntry) (status : ℕ) (p : PartState) (r : Accept) → CrossCounted p (reply_by c status p r)
@@ -118,8 +118,8 @@ shadow_reply_counted status p = split (is_accepted status p)
     (λ e. rw e (next_stage_counted p))
     (λ e. rw e (failed_counted p (end.Reply status) (shadow_fault status (stage_in p.mode))))
 
-pub crossed_counted : (context : ℕ) (e : BurstEnd) (p : PartState) → CrossCounted p (crossed context e p)
-unfolding crossed
+pub crossed_counted : (context : ℕ) (e : BurstEnd) (p : PartState) → CrossCounted p (after_crossing context e p)
+unfolding after_crossing
 crossed_counted context (ends.Trap cause) p = failed_counted p end.Pause fail.TooManyCrossings
 crossed_counted context (ends.Kcall number) p = split (is_last context p)
     (λ last. rw last (failed_counted p end.Pause fail.TooManyCrossings))
@@ -134,12 +134,12 @@ crossed_counted context (ends.Reply status) p = split (context == 16)
 
 -- steps
 
-abbrev StepCounted : PartState → Turned → Type 0
+abbrev StepCounted : PartState → Stepped → Type 0
 StepCounted p t = IsCounted p t.state (cond (carries_failure t.event) 1 0) (cond (is_invoke t.event) 1 0) (cond (is_arrival t.event) 1 0)
     (cond (is_burst t.event) 1 0)
 
 invoke_counted_by : (p : PartState) (thread : ℕ) (o : Op) (a : Option Answer) (queue : List (List ℕ)) → StepCounted p (invoked_with p thread o a queue)
-unfolding with_call numbered
+unfolding with_call with_answered_call
 invoke_counted_by p thread o None queue = record {
   spec = refl;
   failures' = sym (add-zero p.failures);
@@ -159,8 +159,8 @@ invoke_counted : (p : PartState) (thread : ℕ) (o : Op) (r : Option Answer) →
 invoke_counted p thread o None = invoke_counted_by p thread o (answer_in p.mode thread o p) (queue_in p.mode o p.queue)
 invoke_counted p thread o (Some a) = invoke_counted_by p thread o (Some a) p.queue
 
-admitted_counted : (p : PartState) (c : CallEntry) (a : Admit) → StepCounted p (admitted p c a)
-unfolding answered entered
+admitted_counted : (p : PartState) (c : CallEntry) (a : Admit) → StepCounted p (after_admit p c a)
+unfolding after_answering after_entering
 admitted_counted p c (admits.Reply a) = nothing_counted p _ refl refl refl refl refl
 admitted_counted p c admits.TakeFrame = nothing_counted p _ refl refl refl refl refl
 admitted_counted p c (admits.Enter place) = nothing_counted p _ refl refl refl refl refl
@@ -169,9 +169,9 @@ enter_counted : (p : PartState) (thread : ℕ) (o : Option CallEntry) → StepCo
 enter_counted p thread None = nothing_counted p p refl refl refl refl refl
 enter_counted p thread (Some c) = admitted_counted p c (admit p.spec.class thread c.op p.log.holder (length p.queue))
 
-burst_counted : (context : ℕ) (p : PartState) (b : DomainBurst) → StepCounted p (past_burst context p b)
+burst_counted : (context : ℕ) (p : PartState) (b : DomainBurst) → StepCounted p (burst_step context p b)
 burst_counted context p b =
-    let k : CrossCounted (with_burst b.domain p) (crossed context b.ending (with_burst b.domain p)) =
+    let k : CrossCounted (with_burst b.domain p) (after_crossing context b.ending (with_burst b.domain p)) =
     crossed_counted context b.ending (with_burst b.domain p) in
     record {
       spec = k.spec;
@@ -182,7 +182,7 @@ burst_counted context p b =
     }
 
 stage_counted : (p : PartState) (s : Stage) → StepCounted p (stage_done s p)
-unfolding stopped given_up collects resets loads_image inits replays_set replays_open resumes
+unfolding stops gives_up_part collects resets loads_image inits replays_set replays_open resumes
 stage_counted p stage.Stop = split (is_given_up p)
     (λ e. rw e (nothing_counted p _ refl refl refl refl refl))
     (λ e. rw e (nothing_counted p _ refl refl refl refl refl))
@@ -198,8 +198,8 @@ stage_counted_by : (p : PartState) (o : Option Stage) → StepCounted p (stage_b
 stage_counted_by p None = nothing_counted p p refl refl refl refl refl
 stage_counted_by p (Some s) = stage_counted p s
 
-pub step_counted : (p : PartState) (s : Step) → StepCounted p (turned p s)
-unfolding turned invoked entered_part burst_turned stage_turned arrived
+pub step_counted : (p : PartState) (s : Step) → StepCounted p (stepped p s)
+unfolding stepped after_invoke after_enter burst_stepped stage_stepped after_arrival
 step_counted p (step.Invoke thread o) = invoke_counted p thread o (static_check p.spec.class p.spec.blocks o)
 step_counted p (step.Enter thread) = enter_counted p thread (call_of_thread thread p.log.pending)
 step_counted p (step.Burst context) =
@@ -239,7 +239,7 @@ counted_from p (e ∷ events) r =
 
 -- attempts
 
-admitted_attempt : (p : PartState) (c : CallEntry) (a : Admit) → attempt_of (admitted p c a).event ≡ c.attempts + 1
+admitted_attempt : (p : PartState) (c : CallEntry) (a : Admit) → attempt_of (after_admit p c a).event ≡ c.attempts + 1
 admitted_attempt p c (admits.Reply a) = refl
 admitted_attempt p c admits.TakeFrame = refl
 admitted_attempt p c (admits.Enter place) = refl
@@ -262,7 +262,7 @@ invoke_attempt p thread o None = refl
 invoke_attempt p thread o (Some a) = refl
 
 stage_attempt : (p : PartState) (s : Stage) → attempt_of (stage_done s p).event ≡ 0
-unfolding stopped given_up collects resets loads_image inits replays_set replays_open resumes
+unfolding stops gives_up_part collects resets loads_image inits replays_set replays_open resumes
 stage_attempt p stage.Stop = split (is_given_up p) (λ e. rw e) (λ e. rw e)
 stage_attempt p stage.Collect = refl
 stage_attempt p stage.Reset = refl
@@ -277,7 +277,7 @@ stage_attempt_by p None = refl
 stage_attempt_by p (Some s) = stage_attempt p s
 
 pub step_attempt : (p : PartState) (s : Step) → IsTied p → enabled p s ≡ true → attempt_of (event_of p s) ≤ p.failures + 1
-unfolding enabled turned invoked entered_part burst_turned stage_turned arrived
+unfolding enabled stepped after_invoke after_enter burst_stepped stage_stepped after_arrival
 step_attempt p (step.Invoke thread o) t e =
     let z : attempt_of (invoked_by p thread o (static_check p.spec.class p.spec.blocks o)).event ≡ 0 =
     invoke_attempt p thread o (static_check p.spec.class p.spec.blocks o) in omega arith
@@ -338,16 +338,16 @@ room_for p (step.Arrive frame) w e =
     (and_parts (same_class p.spec.class class.Net && (nat_le 1 (length frame) && nat_le (length frame) 64)) (nat_lt p.arrived 100000) e).1 in
     let c = w.calls in (omega arith, omega arith)
 
-step_within : (p : PartState) (s : Step) → IsWithin p → enabled p s ≡ true → IsWithin (turned p s).state
+step_within : (p : PartState) (s : Step) → IsWithin p → enabled p s ≡ true → IsWithin (stepped p s).state
 step_within p s w e =
-    let k : StepCounted p (turned p s) = step_counted p s in
+    let k : StepCounted p (stepped p s) = step_counted p s in
     let named : step_of (event_of p s) ≡ s = step_named p s in
     let invoke : is_invoke (event_of p s) ≡ is_invoke_step s = (flags (event_of p s)).0 ∙ ap is_invoke_step named in
     let arrive : is_arrival (event_of p s) ≡ is_arrive_step s = (flags (event_of p s)).1 ∙ ap is_arrive_step named in
     let room = room_for p s w e in
-    let calls : (turned p s).state.log.count ≡ p.log.count + cond (is_invoke_step s) 1 0 =
+    let calls : (stepped p s).state.log.count ≡ p.log.count + cond (is_invoke_step s) 1 0 =
     k.calls' ∙ ap (λ (b : Bool). p.log.count + cond b 1 0) invoke in
-    let arrivals : (turned p s).state.arrived ≡ p.arrived + cond (is_arrive_step s) 1 0 =
+    let arrivals : (stepped p s).state.arrived ≡ p.arrived + cond (is_arrive_step s) 1 0 =
     k.arrivals' ∙ ap (λ (b : Bool). p.arrived + cond b 1 0) arrive in
     record { calls = rw calls room.0; arrivals = rw arrivals room.1 }
 

@@ -2,25 +2,25 @@ use Rattle.std.proofs.Common.{◌≡◌, ◌⊎◌, ℕ, suc, ◌+◌, ◌-◌, 
 use Rattle.std.proofs.lemmas.Bool.{cond-true, cond-false, and_parts, and_from, ltb-true, le-leb, lt-ltb}
 use Rattle.nook_defs.specs.declared.classes.Accept.{Accept}
 use Rattle.nook_defs.specs.declared.classes.Accept.TheVariants as accepts
-use Rattle.nook_defs.specs.declared.data.Answer.{Answer}
-use Rattle.nook_defs.specs.declared.data.Answer.TheVariants as answered
-use Rattle.nook_defs.specs.declared.data.End.{End}
-use Rattle.nook_defs.specs.declared.data.End.TheVariants as ends
-use Rattle.nook_defs.specs.declared.data.FailCause.{FailCause}
-use Rattle.nook_defs.specs.declared.data.FailCause.TheVariants as fail
-use Rattle.nook_defs.specs.declared.data.Mode.TheVariants as mode
-use Rattle.nook_defs.specs.declared.data.Op.{Op}
-use Rattle.nook_defs.specs.declared.data.Op.TheVariants.{Read, Write, Send, Recv, Open, Play, Close, Get, Set}
-use Rattle.nook_defs.specs.declared.data.Stage.TheVariants as stage
+use Rattle.nook_defs.specs.declared.calls.Answer.{Answer}
+use Rattle.nook_defs.specs.declared.calls.Answer.TheVariants as answered
+use Rattle.nook_defs.specs.declared.steps.End.{End}
+use Rattle.nook_defs.specs.declared.steps.End.TheVariants as ends
+use Rattle.nook_defs.specs.declared.steps.FailCause.{FailCause}
+use Rattle.nook_defs.specs.declared.steps.FailCause.TheVariants as fail
+use Rattle.nook_defs.specs.declared.steps.Mode.TheVariants as mode
+use Rattle.nook_defs.specs.declared.calls.Op.{Op}
+use Rattle.nook_defs.specs.declared.calls.Op.TheVariants.{Read, Write, Send, Recv, Open, Play, Close, Get, Set}
+use Rattle.nook_defs.specs.declared.steps.Stage.TheVariants as stage
 use Rattle.nook_defs.specs.declared.machine.BadParam.{BadParam}
 use Rattle.nook_defs.specs.declared.machine.BurstEnd.{BurstEnd}
 use Rattle.nook_defs.specs.declared.machine.BurstEnd.TheVariants as bursts
 use Rattle.nook_defs.specs.declared.machine.Service.{Service}
 use Rattle.nook_defs.specs.Classes.{accept, first_of_op, is_io_status, blocks_of_op, covers}
 use Rattle.part_laws.specs.Watch.{sees_crossing, owes, owes_found}
-use Rattle.nook_defs.specs.Crossing.{Crossed, fails, failed, goes_on, is_last, refused_service, heap_start, served_call, serve_by, kernel_call, next_mode, is_accepted, shadow_fault, stage_in, next_stage, shadow_replied, reply_answer, noted_set, closes, accepted, reply_by, call_replied, replied, crossed}
+use Rattle.nook_defs.specs.Crossing.{Crossed, fails, failed_crossing, goes_on, is_last, refused_service, heap_start, served_call, serve_by, kernel_call, next_mode, is_accepted, shadow_fault, stage_in, next_stage, shadow_replied, reply_answer, noted_set, closes_call, accepted_crossing, reply_by, call_replied, after_reply, after_crossing}
 use Rattle.nook_defs.specs.Domain.{no_context, context_of, with_result, result_set, left_domain, noted, first_argument, second_argument}
-use Rattle.nook_defs.specs.Log.{call_of_thread, answered as answered_log, acknowledged, config_after, holder_after, queue_after}
+use Rattle.nook_defs.specs.Log.{call_of_thread, after_answering as answered_log, after_acknowledging, config_after, holder_after, queue_after}
 use Rattle.nook_defs.specs.Services.{Served, checked, served}
 use Rattle.nook_defs.specs.State.{DomainState, PartState}
 use Rattle.nook_defs.specs.Losses.{handed_result}
@@ -48,7 +48,7 @@ Crosses q b n c = (sees_crossing n c.end c.answer c.failure (watch_of (view_of q
 
 pub failed_crosses : (q : PartState) (b : Past) (n : ℕ) (e : End) (cause : FailCause) → Facts (view_of q) b → handed_result e ≡ None
     → ((rest : List (List ℕ)) → held_at (stage_of q.mode) rest ≡ length rest) → length q.domain.contexts ≡ 17
-    → Crosses q b n (failed q e cause)
+    → Crosses q b n (failed_crossing q e cause)
 unfolding fails noted
 failed_crosses q b n e cause f r held l h = (
   subst (λ t. CrossOk (view_of q) b n e None (Some cause) (record (view_of q) { mode = mode.Recovering stage.Stop; driven = t }))
@@ -138,7 +138,7 @@ shadow_crosses q b n status f held l d ld = split (is_accepted status q)
     taken = goes_on (next_stage q) (ends.Reply status)
 
     refused : Crossed
-    refused = failed q (ends.Reply status) (shadow_fault status (stage_in q.mode))
+    refused = failed_crossing q (ends.Reply status) (shadow_fault status (stage_in q.mode))
 
     accepted_one : Crosses q b n (goes_on (next_stage q) (ends.Reply status))
     accepted_one h = (
@@ -222,8 +222,8 @@ noted_contexts (Get key) d = refl
 -- the part behind an answer, as it is seen
 closed_seen : (q : PartState) (n : ℕ) (c : Core) → (16 ≡ c.thread → ⊥)
     → closed_view n (config_after c.op q.log.config) (holder_after c.thread c.op q.log.holder) (queue_after c.op q.queue) (view_of q)
-    ≡ view_of (closes (entry_of n c) q)
-unfolding closes left_domain answered_log acknowledged
+    ≡ view_of (closes_call (entry_of n c) q)
+unfolding closes_call left_domain answered_log after_acknowledging
 closed_seen q n c ne =
     ap (λ t. record new { driven = t }) (sym (other_set q.domain.contexts c.thread no_context ne)
     ∙ ap (λ cs. is_some (context_of 16 cs)) (sym (noted_contexts c.op (left_domain c.thread q.domain))))
@@ -233,14 +233,14 @@ closed_seen q n c ne =
     new : View
     new = closed_view n (config_after c.op q.log.config) (holder_after c.thread c.op q.log.holder) (queue_after c.op q.queue) (view_of q)
 
-closed_room : (q : PartState) (n : ℕ) (c : Core) → length q.domain.contexts ≡ 17 → length (closes (entry_of n c) q).domain.contexts ≡ 17
-unfolding closes left_domain
+closed_room : (q : PartState) (n : ℕ) (c : Core) → length q.domain.contexts ≡ 17 → length (closes_call (entry_of n c) q).domain.contexts ≡ 17
+unfolding closes_call left_domain
 closed_room q n c l = ap length (noted_contexts c.op (left_domain c.thread q.domain)) ∙ length-set q.domain.contexts c.thread no_context ∙ l
 
 -- an answer is accepted
 answer_crosses : (q : PartState) (b : Past) (k status : ℕ) (c : Call) (a : Answer) → Replies (view_of q) b k c → length q.domain.contexts ≡ 17
     → (owes (as_watched c) c.core.op a (watch_of (view_of q) b) ≡ None → Accepted (view_of q) b k c a)
-    → Crosses q b (suc k) (accepted (entry_of (suc k) c.core) status a q)
+    → Crosses q b (suc k) (accepted_crossing (entry_of (suc k) c.core) status a q)
 answer_crosses q b k status c a r l g h = (
   subst (λ v. CrossOk (view_of q) b (suc k) (ends.Reply status) (Some a) None v) (closed_seen q (suc k) c.core small)
       (accepted_cross (view_of q) b k status c a r h
@@ -285,30 +285,30 @@ pub record Bursts (q : PartState) (b : Past) (context n : ℕ) : Type 0 where
       ⊎ ((eqb context 16 ≡ false) × ((k : ℕ) × (n ≡ suc k) × ((c : Call) × Replies (view_of q) b k c
       × (call_of_thread context q.log.pending ≡ Some (entry_of (suc k) c.core)))))
 
-reply_crosses : (q : PartState) (b : Past) (context n status : ℕ) → Bursts q b context n → Crosses q b n (replied status context q)
+reply_crosses : (q : PartState) (b : Past) (context n status : ℕ) → Bursts q b context n → Crosses q b n (after_reply status context q)
 reply_crosses q b context n status u = by_whose u.whose
   where
     by_whose : ((context ≡ 16) × ((view_of q).driven ≡ true))
         ⊎ ((eqb context 16 ≡ false) × ((k : ℕ) × (n ≡ suc k) × ((c : Call) × Replies (view_of q) b k c
         × (call_of_thread context q.log.pending ≡ Some (entry_of (suc k) c.core)))))
-        → Crosses q b n (replied status context q)
-    by_whose (inl (e, d)) = subst (λ x. Crosses q b n (replied status x q)) (sym e) (shadow_crosses q b n status u.facts u.held u.contexts d u.defaults)
+        → Crosses q b n (after_reply status context q)
+    by_whose (inl (e, d)) = subst (λ x. Crosses q b n (after_reply status x q)) (sym e) (shadow_crosses q b n status u.facts u.held u.contexts d u.defaults)
     by_whose (inr (ne, (k, e, (c, r, o)))) =
         subst (Crosses q b n) (sym (cond-false (eqb context 16) (shadow_replied status q) (call_replied status q (call_of_thread context q.log.pending)) ne))
         (subst (λ x. Crosses q b n (call_replied status q x)) (sym o)
         (subst (λ m. Crosses q b m (call_replied status q (Some (entry_of (suc k) c.core)))) (sym e) (call_crosses q b k status c r u.held u.contexts)))
 
-pub crossing_ok : (q : PartState) (b : Past) (context n : ℕ) (ending : BurstEnd) → Bursts q b context n → Crosses q b n (crossed context ending q)
-unfolding crossed
+pub crossing_ok : (q : PartState) (b : Past) (context n : ℕ) (ending : BurstEnd) → Bursts q b context n → Crosses q b n (after_crossing context ending q)
+unfolding after_crossing
 crossing_ok q b context n (bursts.Trap cause) u = failed_crosses q b n ends.Trap (fail.Trap cause) u.facts refl u.held u.contexts
 crossing_ok q b context n (bursts.Kcall number) u = split (is_last context q)
-    (λ t. subst (Crosses q b n) (sym (cond-true (is_last context q) (failed q (refused_service number context q) fail.TooManyCrossings) (kernel_call number context q) t))
+    (λ t. subst (Crosses q b n) (sym (cond-true (is_last context q) (failed_crossing q (refused_service number context q) fail.TooManyCrossings) (kernel_call number context q) t))
     (failed_crosses q b n (refused_service number context q) fail.TooManyCrossings u.facts (no_result number) u.held u.contexts))
-    (λ t. subst (Crosses q b n) (sym (cond-false (is_last context q) (failed q (refused_service number context q) fail.TooManyCrossings) (kernel_call number context q) t))
+    (λ t. subst (Crosses q b n) (sym (cond-false (is_last context q) (failed_crossing q (refused_service number context q) fail.TooManyCrossings) (kernel_call number context q) t))
     (kernel_crosses q b n number context u.facts u.held u.contexts))
 crossing_ok q b context n bursts.Pause u = split (is_last context q)
-    (λ t. subst (Crosses q b n) (sym (cond-true (is_last context q) (failed q ends.Pause fail.TooManyCrossings) (goes_on q ends.Pause) t))
+    (λ t. subst (Crosses q b n) (sym (cond-true (is_last context q) (failed_crossing q ends.Pause fail.TooManyCrossings) (goes_on q ends.Pause) t))
     (failed_crosses q b n ends.Pause fail.TooManyCrossings u.facts refl u.held u.contexts))
-    (λ t. subst (Crosses q b n) (sym (cond-false (is_last context q) (failed q ends.Pause fail.TooManyCrossings) (goes_on q ends.Pause) t))
+    (λ t. subst (Crosses q b n) (sym (cond-false (is_last context q) (failed_crossing q ends.Pause fail.TooManyCrossings) (goes_on q ends.Pause) t))
     (λ h. (pause_cross (view_of q) b n u.facts, u.contexts)))
 crossing_ok q b context n (bursts.Reply status) u = reply_crosses q b context n status u

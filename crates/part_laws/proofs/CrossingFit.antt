@@ -4,22 +4,22 @@ use Rattle.std.proofs.lemmas.Bool.{and_parts, ltb-true}
 use Rattle.std.proofs.lemmas.List.{length-set}
 use Rattle.nook_defs.specs.declared.classes.Accept.{Accept}
 use Rattle.nook_defs.specs.declared.classes.Accept.TheVariants as accepts
-use Rattle.nook_defs.specs.declared.data.CallEntry.{CallEntry}
-use Rattle.nook_defs.specs.declared.data.End.{End}
-use Rattle.nook_defs.specs.declared.data.FailCause.{FailCause}
-use Rattle.nook_defs.specs.declared.data.Mode.{Mode}
-use Rattle.nook_defs.specs.declared.data.Op.{Op}
-use Rattle.nook_defs.specs.declared.data.Op.TheVariants as op
+use Rattle.nook_defs.specs.declared.calls.CallEntry.{CallEntry}
+use Rattle.nook_defs.specs.declared.steps.End.{End}
+use Rattle.nook_defs.specs.declared.steps.FailCause.{FailCause}
+use Rattle.nook_defs.specs.declared.steps.Mode.{Mode}
+use Rattle.nook_defs.specs.declared.calls.Op.{Op}
+use Rattle.nook_defs.specs.declared.calls.Op.TheVariants as op
 use Rattle.nook_defs.specs.declared.machine.BadParam.{BadParam}
 use Rattle.nook_defs.specs.declared.machine.BurstEnd.{BurstEnd}
 use Rattle.nook_defs.specs.declared.machine.BurstEnd.TheVariants as ends
 use Rattle.nook_defs.specs.declared.machine.Service.{Service}
 use Rattle.nook_defs.specs.Classes.{accept, is_set, is_io_status}
-use Rattle.nook_defs.specs.Crossing.{Crossed, fails, failed, goes_on, is_last, heap_start, serve_by, next_stage, next_mode, is_accepted, shadow_replied, reply_answer, closes, reply_by, call_replied, replied, crossed, without_shadow}
+use Rattle.nook_defs.specs.Crossing.{Crossed, fails, failed_crossing, goes_on, is_last, heap_start, serve_by, next_stage, next_mode, is_accepted, shadow_replied, reply_answer, closes_call, reply_by, call_replied, after_reply, after_crossing, without_shadow}
 use Rattle.nook_defs.specs.Domain.{no_context, first_argument, second_argument, left_domain, result_set}
 use Rattle.nook_defs.specs.Entries.{is_borrow_of}
-use Rattle.nook_defs.specs.Isolation.{object_of, IsGiveBack, is_done, is_set_call}
-use Rattle.nook_defs.specs.Log.{call_of_thread, acknowledged, answered}
+use Rattle.nook_defs.specs.Isolation.{object_of, IsGiveBack, is_done_answer, is_set_call}
+use Rattle.nook_defs.specs.Log.{call_of_thread, after_acknowledging, after_answering}
 use Rattle.nook_defs.specs.Services.{Served, checked, served}
 use Rattle.nook_defs.specs.State.{DomainState, CallLog, PartState}
 use Rattle.part_laws.proofs.BurstKeeps.{split}
@@ -53,7 +53,7 @@ pub record CrossKept (context : ℕ) (p : PartState) (c : Crossed) : Type 0 wher
   pub objects : (object : ℕ) → 1 ≤ object → object ≤ 12 → (object_of object c.state ≡ object_of object p)
       ⊎ ((list_any (is_borrow_of object) p.domain.entries ≡ true) × IsGiveBack object (object_of object c.state) c.end)
   pub kernel : (object_of 0 c.state ≡ object_of 0 p)
-      ⊎ ((is_some c.failure || (is_done c.answer && is_set_call (call_of_thread context p.log.pending))) ≡ true)
+      ⊎ ((is_some c.failure || (is_done_answer c.answer && is_set_call (call_of_thread context p.log.pending))) ≡ true)
 
 quiet_cross : (context : ℕ) (p : PartState) (c : Crossed) → IsFit c.state → SameObjects p.domain.memory c.state.domain.memory
     → CrossKept context p c
@@ -73,7 +73,7 @@ without_shadow_fit heap d f = record {
   ordered = f.ordered;
 }
 
-failed_kept : (context : ℕ) (p : PartState) (e : End) (cause : FailCause) → IsFit p → CrossKept context p (failed p e cause)
+failed_kept : (context : ℕ) (p : PartState) (e : End) (cause : FailCause) → IsFit p → CrossKept context p (failed_crossing p e cause)
 unfolding fails
 failed_kept context p e cause f = record {
   fit = record {
@@ -129,8 +129,8 @@ shadow_reply_kept context status p f = split (is_accepted status p)
     (λ yes'. rw yes' (next_stage_kept context p _ f))
     (λ no'. rw no' (failed_kept context p _ _ f))
 
-closed_fit : (c : CallEntry) (p : PartState) → IsFit p → IsFitCall p.spec.class p.spec.blocks c → IsFit (closes c p)
-unfolding closes answered acknowledged
+closed_fit : (c : CallEntry) (p : PartState) → IsFit p → IsFitCall p.spec.class p.spec.blocks c → IsFit (closes_call c p)
+unfolding closes_call after_answering after_acknowledging
 closed_fit c p f k =
     let l : DomainKept (heap_start p) p.domain (left_domain c.thread p.domain) = left_kept (heap_start p) c.thread p.domain f.domain in
     record {
@@ -147,21 +147,21 @@ closed_fit c p f k =
     }
 
 closed_objects : (c : CallEntry) (p : PartState) (object : ℕ) → IsFit p → IsFitCall p.spec.class p.spec.blocks c → 1 ≤ object
-    → object_of object (closes c p) ≡ object_of object p
-unfolding closes
+    → object_of object (closes_call c p) ≡ object_of object p
+unfolding closes_call
 closed_objects c p object f k one =
     let l : DomainKept (heap_start p) p.domain (left_domain c.thread p.domain) = left_kept (heap_start p) c.thread p.domain f.domain in
     noted_set_elsewhere p.spec.class p.spec.blocks object c.op (left_domain c.thread p.domain) k.checked one
     ∙ object_stays object p.domain.memory (left_domain c.thread p.domain).memory l.objects
 
-closed_kernel : (c : CallEntry) (p : PartState) → IsFit p → is_set c.op ≡ false → object_of 0 (closes c p) ≡ object_of 0 p
-unfolding closes
+closed_kernel : (c : CallEntry) (p : PartState) → IsFit p → is_set c.op ≡ false → object_of 0 (closes_call c p) ≡ object_of 0 p
+unfolding closes_call
 closed_kernel c p f other =
     let l : DomainKept (heap_start p) p.domain (left_domain c.thread p.domain) = left_kept (heap_start p) c.thread p.domain f.domain in
     noted_set_kernel c.op (left_domain c.thread p.domain) other
     ∙ object_stays 0 p.domain.memory (left_domain c.thread p.domain).memory l.objects
 
-set_done : (o : Op) (thread : ℕ) (p : PartState) → is_set o ≡ true → is_done (Some (reply_answer o thread p)) ≡ true
+set_done : (o : Op) (thread : ℕ) (p : PartState) → is_set o ≡ true → is_done_answer (Some (reply_answer o thread p)) ≡ true
 set_done (op.Set key value) thread p h = refl
 set_done (op.Read first count) thread p h = cc
 set_done (op.Write first words) thread p h = cc
@@ -221,15 +221,15 @@ call_reply_kept context status p (Some c) f e =
     reply_kept context status c p (accept c.op status) f
     (found_fits (IsFitCall p.spec.class p.spec.blocks) _ p.log.pending c f.log.calls e) e refl
 
-replied_kept : (status context : ℕ) (p : PartState) → IsFit p → CrossKept context p (replied status context p)
+replied_kept : (status context : ℕ) (p : PartState) → IsFit p → CrossKept context p (after_reply status context p)
 replied_kept status context p f = split (context == 16)
     (λ own. rw own (shadow_reply_kept context status p f))
     (λ other. rw other (call_reply_kept context status p (call_of_thread context p.log.pending) f refl))
 
 -- every crossing
 
-pub crossed_kept : (context : ℕ) (e : BurstEnd) (p : PartState) → IsFit p → CrossKept context p (crossed context e p)
-unfolding crossed
+pub crossed_kept : (context : ℕ) (e : BurstEnd) (p : PartState) → IsFit p → CrossKept context p (after_crossing context e p)
+unfolding after_crossing
 crossed_kept context (ends.Trap cause) p f = failed_kept context p _ _ f
 crossed_kept context (ends.Kcall number) p f = split (is_last context p)
     (λ last. rw last (failed_kept context p _ _ f))

@@ -1,17 +1,18 @@
 use Rattle.std.proofs.Common.{◌≡◌, ◌<◌, ◌≤◌, ◌⊎◌, ℕ, zero, suc, ◌+◌, ◌-◌, cond, eqb, Bool, true, false, Option, Some, None, List, [], ◌∷◌, ◌++◌, map, length, set, slice_index, sym, refl, ap, subst, ◌∙◌, inl, inr, arith, nat_lt, append_assoc, if◌then◌else◌}
 use Rattle.std.proofs.lemmas.Bool.{eqb-true, cond-true, cond-false, ltb-false, cases_lt, cases_eq}
 use Rattle.std.proofs.lemmas.List.{get_or_past}
-use Rattle.nook_defs.specs.declared.data.Answer.{Answer}
-use Rattle.nook_defs.specs.declared.data.End.{End}
-use Rattle.nook_defs.specs.declared.data.End.TheVariants as ends
-use Rattle.nook_defs.specs.declared.data.FailCause.{FailCause}
-use Rattle.nook_defs.specs.declared.data.Mode.{Mode}
-use Rattle.nook_defs.specs.declared.data.Mode.TheVariants as mode
-use Rattle.nook_defs.specs.declared.data.Stage.{Stage}
-use Rattle.nook_defs.specs.declared.data.Stage.TheVariants as stage
+use Rattle.nook_defs.specs.declared.calls.Answer.{Answer}
+use Rattle.nook_defs.specs.declared.steps.End.{End}
+use Rattle.nook_defs.specs.declared.steps.End.TheVariants as ends
+use Rattle.nook_defs.specs.declared.steps.FailCause.{FailCause}
+use Rattle.nook_defs.specs.declared.steps.Mode.{Mode}
+use Rattle.nook_defs.specs.declared.steps.Mode.TheVariants as mode
+use Rattle.nook_defs.specs.declared.steps.Stage.{Stage}
+use Rattle.nook_defs.specs.declared.steps.Stage.TheVariants as stage
 use Rattle.part_laws.specs.Watch.{sees_crossing, sees_service, sees_reply, wanted, hands_up, handed_one, leaves, owes_found}
 use Rattle.nook_defs.specs.Crossing.{next_mode}
-use Rattle.nook_defs.specs.Ideal.{ran, stops_waiting}
+use Rattle.nook_defs.specs.Ideal.{ran}
+use Rattle.nook_defs.proofs.Changes.{stops_waiting}
 use Rattle.part_laws.specs.Allowed.{allows_option}
 use Rattle.nook_defs.specs.Log.{next_replay, replay_stream, replay_after, config_after, holder_after, queue_after}
 use Rattle.nook_defs.specs.Places.{at_number, change_number}

@@ -2,26 +2,27 @@ use Rattle.std.proofs.Common.{◌≡◌, ◌<◌, ◌⊎◌, ℕ, suc, ◌+◌, 
 use Rattle.std.specs.List.{find, list_any}
 use Rattle.std.proofs.lemmas.Bool.{and_parts, eq-eqb, lt-ltb, cases_order, not-true, cond-true, cond-false}
 use Rattle.nook_defs.specs.declared.classes.Admit.TheVariants as admits
-use Rattle.nook_defs.specs.declared.data.Answer.{Answer}
-use Rattle.nook_defs.specs.declared.data.Answer.TheVariants as answered
-use Rattle.nook_defs.specs.declared.data.CallEntry.{CallEntry}
-use Rattle.nook_defs.specs.declared.data.Class.TheVariants.{Net}
-use Rattle.nook_defs.specs.declared.data.Mode.{Mode}
-use Rattle.nook_defs.specs.declared.data.Mode.TheVariants as mode
-use Rattle.nook_defs.specs.declared.data.Op.{Op}
-use Rattle.nook_defs.specs.declared.data.Op.TheVariants.{Read, Write, Send, Recv, Open, Play, Close, Get, Set}
-use Rattle.nook_defs.specs.Calls.{admitted, entered_by, entered_part}
+use Rattle.nook_defs.specs.declared.calls.Answer.{Answer}
+use Rattle.nook_defs.specs.declared.calls.Answer.TheVariants as answered
+use Rattle.nook_defs.specs.declared.calls.CallEntry.{CallEntry}
+use Rattle.nook_defs.specs.declared.classes.Class.TheVariants.{Net}
+use Rattle.nook_defs.specs.declared.steps.Mode.{Mode}
+use Rattle.nook_defs.specs.declared.steps.Mode.TheVariants as mode
+use Rattle.nook_defs.specs.declared.calls.Op.{Op}
+use Rattle.nook_defs.specs.declared.calls.Op.TheVariants.{Read, Write, Send, Recv, Open, Play, Close, Get, Set}
+use Rattle.nook_defs.specs.Calls.{after_admit, entered_by, after_enter}
 use Rattle.nook_defs.specs.Classes.{conflicts, is_holder, is_recv, is_write, admit, admit_open, admit_holder, entry_place}
 use Rattle.part_laws.specs.Watch.{Watch, enters}
 use Rattle.nook_defs.specs.Devices.{head_of, tail_of}
 use Rattle.nook_defs.specs.Domain.{entered_domain, entry_context, arguments_of}
-use Rattle.nook_defs.specs.Ideal.{ran, closes, stops_waiting}
+use Rattle.nook_defs.specs.Ideal.{ran, closes}
+use Rattle.nook_defs.proofs.Changes.{stops_waiting, enter_track}
 use Rattle.part_laws.specs.Allowed.{allows}
-use Rattle.nook_defs.specs.Log.{is_of_thread, change_call, call_of_thread, entered, entered_call, answered as answered_log, is_blocked, blocks_call}
+use Rattle.nook_defs.specs.Log.{is_of_thread, change_entry, call_of_thread, after_entering, entered_call, after_answering as answered_log, is_blocked, blocks_call}
 use Rattle.nook_defs.specs.Places.{at_number, change_number}
 use Rattle.nook_defs.specs.State.{PartState}
 use Rattle.nook_defs.specs.Steps.{can_enter, is_ready, is_running}
-use Rattle.nook_defs.specs.Trace.{Visible, answer, enter_track, kept_blocks}
+use Rattle.nook_defs.specs.Trace.{Visible, answer, kept_blocks}
 use Rattle.nook_defs.specs.Contract.{is_empty}
 use Rattle.part_laws.specs.Balance.{held_at, Balanced}
 use Rattle.part_laws.specs.Facts.{At, CallsFacts, DiskFacts, HolderFits, IsSetting, KeyIn, Sub, may_be_inside, Facts}
@@ -75,7 +76,7 @@ entered_track : (c : Core) → as_track (enter_core true c) ≡ enter_track (as_
 entered_track c = ap (λ t. record (as_track c) { entered = t }) (lt-ltb 0 (c.attempts + 1) (omega arith))
 
 abbrev entered_view : ℕ → View → View
-entered_view k v = record v { pending = map (change_call (suc k) entered_call) v.pending }
+entered_view k v = record v { pending = map (change_entry (suc k) entered_call) v.pending }
 
 enter_facts : (v : View) (b : Past) (k : ℕ) (c : Call) → MayEnter v b k c → HolderFits v.holder c.core.thread c.core.op
     → Facts (entered_view k v) (record b { calls = set b.calls k (enter_call true c) })
@@ -84,8 +85,8 @@ enter_facts v b k c u holder = record {
   width = f.width;
   keys = f.keys;
   defaults = f.defaults;
-  pending = ap (map (change_call (suc k) entered_call)) f.pending
-      ∙ ap (λ n. map (change_call n entered_call) (open_from 1 (cores b))) (omega arith)
+  pending = ap (map (change_entry (suc k) entered_call)) f.pending
+      ∙ ap (λ n. map (change_entry n entered_call) (open_from 1 (cores b))) (omega arith)
       ∙ open_change entered_call (enter_core true) (λ m d. refl) 1 (cores b) k c.core at (sym u.waits)
       ∙ ap (open_from 1) (sym same);
   count = f.count ∙ sym (length-set b.calls k (enter_call true c));
@@ -134,8 +135,8 @@ tracked_entered b k c d h e =
     ∙ sym (ap (map as_track) (map_set core_of b.calls k d) ∙ map_set as_track (cores b) k d.core)
 
 enters_ok : (p : PartState) (b : Past) (k place : ℕ) (c : Call) → MayEnter (view_of p) b k c → length p.domain.contexts ≡ 17
-    → HolderFits p.log.holder c.core.thread c.core.op → StepKeeps p b (admitted p (entry_of (suc k) c.core) (admits.Enter place))
-unfolding entered entered_domain
+    → HolderFits p.log.holder c.core.thread c.core.op → StepKeeps p b (after_admit p (entry_of (suc k) c.core) (admits.Enter place))
+unfolding after_entering entered_domain
 enters_ok p b k place c u l holder = record {
   counted = λ n x. subst (λ v. Balanced v (record b { calls = set b.calls k (enter_call true c) }) n) seen x;
   after = past;
@@ -156,7 +157,7 @@ enters_ok p b k place c u l holder = record {
     past : Past
     past = record b { calls = set b.calls k (enter_call true c) }
 
-    seen : entered_view k (view_of p) ≡ view_of (admitted p (entry_of (suc k) c.core) (admits.Enter place)).state
+    seen : entered_view k (view_of p) ≡ view_of (after_admit p (entry_of (suc k) c.core) (admits.Enter place)).state
     seen = ap (λ t. record (entered_view k (view_of p)) { driven = t })
         (sym (other_set p.domain.contexts c.core.thread (Some (entry_context (slice_index p.domain.starts place) c.core.thread (arguments_of c.core.thread c.core.op)))
         (λ e. omega (arith, e, (u.facts.calls.each k c.core (enter_at (view_of p) b k c u)).thread))))
@@ -213,7 +214,7 @@ replied_seen v b k c queue frames h = ap (λ cs. record (watch_of v b) { calls =
     (change_at (enters false) k (map as_watched b.calls) (as_watched c) (get_map as_watched b.calls k c h) ∙ sym (map_set as_watched b.calls k (enter_call false c)))
 
 reply_ok : (p : PartState) (b : Past) (k : ℕ) (c : Call) (a : Answer) → MayEnter (view_of p) b k c → length p.domain.contexts ≡ 17
-    → Replied (view_of p) b k c a p.queue → StepKeeps p b (admitted p (entry_of (suc k) c.core) (admits.Reply a))
+    → Replied (view_of p) b k c a p.queue → StepKeeps p b (after_admit p (entry_of (suc k) c.core) (admits.Reply a))
 unfolding answered_log
 reply_ok p b k c a u l r = record {
   counted = λ n x. answered_balance (length (view_of p).dev.ring) (held_at (stage_of p.mode) b.rest) (suc k) p.queue p.queue a n r.takes x;
@@ -223,11 +224,11 @@ reply_ok p b k c a u l r = record {
   seen = replied_seen (view_of p) b k c p.queue r.frames u.at;
   tracked = tracked_entered b k c (enter_call false c) u.at (left_track c.core);
   shown = replied_shown (view_of p) b k c a p.queue u r (at_number (suc k) (tracks_of (record b { calls = set b.calls k (enter_call false c); frames = r.frames })));
-  licensed = r.allowed p.queue (watch_of (view_of (admitted p (entry_of (suc k) c.core) (admits.Reply a)).state) (record b { calls = set b.calls k (enter_call false c); frames = r.frames }));
+  licensed = r.allowed p.queue (watch_of (view_of (after_admit p (entry_of (suc k) c.core) (admits.Reply a)).state) (record b { calls = set b.calls k (enter_call false c); frames = r.frames }));
 }
 
 take_ok : (p : PartState) (b : Past) (k : ℕ) (c : Call) → MayEnter (view_of p) b k c → length p.domain.contexts ≡ 17
-    → Replied (view_of p) b k c (answered.Frame (head_of p.queue)) (tail_of p.queue) → StepKeeps p b (admitted p (entry_of (suc k) c.core) admits.TakeFrame)
+    → Replied (view_of p) b k c (answered.Frame (head_of p.queue)) (tail_of p.queue) → StepKeeps p b (after_admit p (entry_of (suc k) c.core) admits.TakeFrame)
 unfolding answered_log
 take_ok p b k c u l r = record {
   counted = λ n x. answered_balance (length (view_of p).dev.ring) (held_at (stage_of p.mode) b.rest) (suc k) p.queue (tail_of p.queue)
@@ -258,7 +259,7 @@ plain_reply v b k c a u n e t w x = record {
 }
 
 open_enters : (p : PartState) (b : Past) (k : ℕ) (c : Call) → MayEnter (view_of p) b k (with_op Open c) → length p.domain.contexts ≡ 17
-    → (holder : Option ℕ) → p.log.holder ≡ holder → StepKeeps p b (admitted p (entry_of (suc k) (with_op Open c).core) (admit_open holder))
+    → (holder : Option ℕ) → p.log.holder ≡ holder → StepKeeps p b (after_admit p (entry_of (suc k) (with_op Open c).core) (admit_open holder))
 open_enters p b k c u l None e = enters_ok p b k _ (with_op Open c) u l e
 open_enters p b k c u l (Some h) e = reply_ok p b k (with_op Open c) (answered.InUse h) u l
     (plain_reply (view_of p) b k (with_op Open c) (answered.InUse h) u refl
@@ -267,7 +268,7 @@ open_enters p b k c u l (Some h) e = reply_ok p b k (with_op Open c) (answered.I
 
 play_enters : (p : PartState) (b : Past) (k place : ℕ) (samples : List ℕ) (c : Call) → MayEnter (view_of p) b k (with_op (Play samples) c) → length p.domain.contexts ≡ 17
     → (t : Bool) → is_holder p.log.holder c.core.thread ≡ t
-    → StepKeeps p b (admitted p (entry_of (suc k) (with_op (Play samples) c).core) (admit_holder t place))
+    → StepKeeps p b (after_admit p (entry_of (suc k) (with_op (Play samples) c).core) (admit_holder t place))
 play_enters p b k place samples c u l true e = enters_ok p b k place (with_op (Play samples) c) u l (is_the_holder p.log.holder c.core.thread e)
 play_enters p b k place samples c u l false e = reply_ok p b k (with_op (Play samples) c) answered.NotOpen u l
     (plain_reply (view_of p) b k (with_op (Play samples) c) answered.NotOpen u refl
@@ -276,7 +277,7 @@ play_enters p b k place samples c u l false e = reply_ok p b k (with_op (Play sa
 
 close_enters : (p : PartState) (b : Past) (k place : ℕ) (c : Call) → MayEnter (view_of p) b k (with_op Close c) → length p.domain.contexts ≡ 17
     → (t : Bool) → is_holder p.log.holder c.core.thread ≡ t
-    → StepKeeps p b (admitted p (entry_of (suc k) (with_op Close c).core) (admit_holder t place))
+    → StepKeeps p b (after_admit p (entry_of (suc k) (with_op Close c).core) (admit_holder t place))
 close_enters p b k place c u l true e = enters_ok p b k place (with_op Close c) u l (is_the_holder p.log.holder c.core.thread e)
 close_enters p b k place c u l false e = reply_ok p b k (with_op Close c) answered.NotOpen u l
     (plain_reply (view_of p) b k (with_op Close c) answered.NotOpen u refl
@@ -320,11 +321,11 @@ recv_takes p b k c u (frame ∷ queue) e n = taken (sub_front frame (queue ++ (b
     }
 
 admits_ok : (p : PartState) (b : Past) (k : ℕ) (o : Op) (c : Call) → MayEnter (view_of p) b k (with_op o c) → length p.domain.contexts ≡ 17
-    → StepKeeps p b (admitted p (entry_of (suc k) (with_op o c).core) (admit p.spec.class c.core.thread o p.log.holder (length p.queue)))
+    → StepKeeps p b (after_admit p (entry_of (suc k) (with_op o c).core) (admit p.spec.class c.core.thread o p.log.holder (length p.queue)))
 admits_ok p b k Recv c u l = split (eqb (length p.queue) 0)
-    (λ t. subst (λ x. StepKeeps p b (admitted p (entry_of (suc k) (with_op Recv c).core) x)) (sym (cond-true (eqb (length p.queue) 0) (admits.Enter (entry_place p.spec.class Recv)) admits.TakeFrame t))
+    (λ t. subst (λ x. StepKeeps p b (after_admit p (entry_of (suc k) (with_op Recv c).core) x)) (sym (cond-true (eqb (length p.queue) 0) (admits.Enter (entry_place p.spec.class Recv)) admits.TakeFrame t))
     (enters_ok p b k (entry_place p.spec.class Recv) (with_op Recv c) u l tt))
-    (λ t. subst (λ x. StepKeeps p b (admitted p (entry_of (suc k) (with_op Recv c).core) x)) (sym (cond-false (eqb (length p.queue) 0) (admits.Enter (entry_place p.spec.class Recv)) admits.TakeFrame t))
+    (λ t. subst (λ x. StepKeeps p b (after_admit p (entry_of (suc k) (with_op Recv c).core) x)) (sym (cond-false (eqb (length p.queue) 0) (admits.Enter (entry_place p.spec.class Recv)) admits.TakeFrame t))
     (take_ok p b k (with_op Recv c) u l (recv_takes p b k c u p.queue refl t)))
 admits_ok p b k Open c u l = open_enters p b k c u l p.log.holder refl
 admits_ok p b k (Play samples) c u l = play_enters p b k (entry_place p.spec.class (Play samples)) samples c u l (is_holder p.log.holder c.core.thread) refl
@@ -344,8 +345,8 @@ running_mode (mode.Recovering s) h = absurd cc
 running_mode (mode.Dead collected) h = absurd cc
 
 pub enter_ok : (p : PartState) (b : Past) (t : ℕ) → Facts (view_of p) b → length p.domain.contexts ≡ 17 → can_enter p t ≡ true
-    → StepKeeps p b (entered_part t p)
-unfolding entered_part
+    → StepKeeps p b (after_enter t p)
+unfolding after_enter
 enter_ok p b t f l h = by_call (call_of_thread t p.log.pending) refl parts.1
   where
     parts : (is_running p.mode ≡ true) × (is_ready p (call_of_thread t p.log.pending) ≡ true)
@@ -354,7 +355,7 @@ enter_ok p b t f l h = by_call (call_of_thread t p.log.pending) refl parts.1
     with_call : (e : CallEntry) → is_ready p (Some e) ≡ true → (g : Found 1 (cores b) t e)
         → (c : Call) × At b.calls g.place c × (g.core ≡ core_of c) → StepKeeps p b (entered_by p t (Some e))
     with_call e r g (c, at, s) = subst (λ x. StepKeeps p b (entered_by p t (Some x))) (sym entry)
-        (subst (λ n. StepKeeps p b (admitted p (entry_of (suc g.place) c.core) (admit p.spec.class n c.core.op p.log.holder (length p.queue)))) thread
+        (subst (λ n. StepKeeps p b (after_admit p (entry_of (suc g.place) c.core) (admit p.spec.class n c.core.op p.log.holder (length p.queue)))) thread
         (admits_ok p b g.place c.core.op c may l))
       where
         entry : e ≡ entry_of (suc g.place) c.core

@@ -1,26 +1,26 @@
 use Rattle.std.proofs.Common.{◌≡◌, ◌<◌, ◌⊎◌, ℕ, suc, ◌+◌, ◌&&◌, cond, eqb, not, Bool, true, false, Option, Some, None, is_none, List, [], ◌∷◌, ◌++◌, map, length, slice_index, sym, refl, ap, ap₂, subst, ◌∙◌, inl, inr, arith, nat_lt, nat_le, append-nil, length-append}
 use Rattle.std.specs.List.{find, list_any}
 use Rattle.std.proofs.lemmas.Bool.{and_parts, and_from, eq-eqb, ltb-true}
-use Rattle.nook_defs.specs.declared.data.Answer.{Answer}
-use Rattle.nook_defs.specs.declared.data.Answer.TheVariants as answered
-use Rattle.nook_defs.specs.declared.data.CallEntry.{CallEntry}
-use Rattle.nook_defs.specs.declared.data.Class.{Class}
-use Rattle.nook_defs.specs.declared.data.Mode.{Mode}
-use Rattle.nook_defs.specs.declared.data.Mode.TheVariants as mode
-use Rattle.nook_defs.specs.declared.data.Op.{Op}
-use Rattle.nook_defs.specs.declared.data.Op.TheVariants.{Read, Write, Send, Recv, Open, Play, Close, Get, Set}
-use Rattle.nook_defs.specs.declared.data.Stage.{Stage}
-use Rattle.nook_defs.specs.Calls.{answer_in, queue_in, invoked_with, invoked_by, invoked}
+use Rattle.nook_defs.specs.declared.calls.Answer.{Answer}
+use Rattle.nook_defs.specs.declared.calls.Answer.TheVariants as answered
+use Rattle.nook_defs.specs.declared.calls.CallEntry.{CallEntry}
+use Rattle.nook_defs.specs.declared.classes.Class.{Class}
+use Rattle.nook_defs.specs.declared.steps.Mode.{Mode}
+use Rattle.nook_defs.specs.declared.steps.Mode.TheVariants as mode
+use Rattle.nook_defs.specs.declared.calls.Op.{Op}
+use Rattle.nook_defs.specs.declared.calls.Op.TheVariants.{Read, Write, Send, Recv, Open, Play, Close, Get, Set}
+use Rattle.nook_defs.specs.declared.steps.Stage.{Stage}
+use Rattle.nook_defs.specs.Calls.{answer_in, queue_in, invoked_with, invoked_by, after_invoke}
 use Rattle.nook_defs.specs.Classes.{is_of_class, is_recv, check_op, check_range, is_block_length, maximum_of, static_check}
 use Rattle.part_laws.specs.Watch.{Watch}
-use Rattle.nook_defs.specs.Ideal.{Ideal, Opened, ran, opens, after_answer, is_due, may_call, waits_for, same_refusal, closes, stops_waiting}
+use Rattle.nook_defs.specs.Ideal.{Ideal, Opened, ran, after_answer, is_due, may_call, same_refusal, closes}
+use Rattle.nook_defs.proofs.Changes.{waits_for, opens, stops_waiting, first_track}
 use Rattle.part_laws.specs.Allowed.{allows}
-use Rattle.nook_defs.specs.Log.{is_of_thread, call_of_thread, with_call, numbered, new_call, shadow_answer, queue_after}
+use Rattle.nook_defs.specs.Log.{is_of_thread, call_of_thread, with_call, with_answered_call, new_entry, shadow_answer, queue_after}
 use Rattle.nook_defs.specs.Places.{at_number, change_number}
 use Rattle.nook_defs.specs.State.{PartState}
 use Rattle.nook_defs.specs.Steps.{can_invoke}
-use Rattle.nook_defs.specs.Trace.{Visible, Track, called, answer, kept_blocks, first_track}
-use Rattle.nook_defs.specs.Licence.{recovery_stage}
+use Rattle.nook_defs.specs.Trace.{Visible, Track, called, answer, kept_blocks}
 use Rattle.nook_defs.specs.Contract.{is_empty}
 use Rattle.part_laws.specs.Counts.{counted}
 use Rattle.part_laws.specs.Balance.{held_at}
@@ -36,6 +36,7 @@ use Rattle.part_laws.proofs.Places.{get_push, get_keep, get_mid, set_mid, map_pu
 use Rattle.part_laws.proofs.Shadow.{ShadowSays, shadow_says}
 use Rattle.part_laws.proofs.Stages.{with_mode}
 use Rattle.part_laws.specs.Recovery.{StepKeeps}
+use Rattle.part_laws.specs.Allowed.{recovery_stage}
 
 -- A thread invokes an operation.
 
@@ -226,7 +227,7 @@ unfolding with_call
 held_ok p b t o u e l = record {
   counted = λ n x. x;
   after = made_past t o true b.frames b;
-  facts = made_facts (view_of p) b t o true (p.log.pending ++ new_call (p.log.count + 1) t o ∷ []) p.queue b.frames u.facts u.small (λ w. e) u.alone refl u.facts.chain (λ m. refl);
+  facts = made_facts (view_of p) b t o true (p.log.pending ++ new_entry (p.log.count + 1) t o ∷ []) p.queue b.frames u.facts u.small (λ w. e) u.alone refl u.facts.chain (λ m. refl);
   contexts = l;
   seen = ap (λ cs. record (watch_of (view_of p) b) { calls = cs }) (sym (map_push as_watched b.calls (made_call t o true)));
   tracked = tracked;
@@ -252,7 +253,7 @@ answered_ok : (p : PartState) (b : Past) (t : ℕ) (o : Op) (a : Answer) (queue 
     ≡ record (made_device p b t o) { pending = frames })
     → ((w : Watch) → allows (recovery_stage p.mode) p.queue w (p.log.count + 1) a ≡ true) → TakesFrame a p.queue queue
     → StepKeeps p b (invoked_with p t o (Some a) queue)
-unfolding numbered
+unfolding with_answered_call
 answered_ok p b t o a queue frames u l chain running due after allowed takes = record {
   counted = λ n x. answered_balance (length (view_of p).dev.ring) (held_at (stage_of p.mode) b.rest) (p.log.count + 1) p.queue queue a
       (record n { calls = n.calls ++ counted o ∷ [] }) takes x;
@@ -305,8 +306,8 @@ checked_step (mode.Recovering s) p b t o u e l d = shadow_step (with_mode (mode.
     t o s p.queue (b.rest ++ (view_of p).dev.ring) u.facts.chain)
 
 pub invoke_ok : (p : PartState) (b : Past) (t : ℕ) (o : Op) → Facts (view_of p) b → length p.domain.contexts ≡ 17 → is_dead p.mode ≡ false
-    → can_invoke p t ≡ true → StepKeeps p b (invoked t o p)
-unfolding invoked
+    → can_invoke p t ≡ true → StepKeeps p b (after_invoke t o p)
+unfolding after_invoke
 invoke_ok p b t o f l d h = by_check (static_check p.spec.class p.spec.blocks o) refl
   where
     u : MayInvoke (view_of p) b t

@@ -1,8 +1,8 @@
 use Rattle.std.proofs.Common.{◌≡◌, ◌&&◌, Bool, true, false, None, List, [], sym, refl, ap, ap₂, ◌∙◌}
-use Rattle.nook_defs.specs.declared.data.Event.{Event}
-use Rattle.nook_defs.specs.declared.data.PartSpec.{PartSpec}
+use Rattle.nook_defs.specs.declared.steps.Event.{Event}
+use Rattle.nook_defs.specs.declared.scenario.PartSpec.{PartSpec}
 use Rattle.nook_defs.specs.Contract.{first_break}
-use Rattle.nook_defs.specs.Licence.{IsLicensed, is_balanced, licensed}
+use Rattle.nook_defs.specs.Licence.{IsLicensed, is_balanced, is_licensed}
 use Rattle.nook_defs.specs.Losses.{losses}
 use Rattle.nook_defs.specs.Runs.{IsRun}
 use Rattle.nook_defs.specs.Steps.{opening}
@@ -24,7 +24,7 @@ pub same_losses : (spec : PartSpec) (journal : List Event) → IsRun spec journa
 same_losses spec journal run = losses_alike journal (run_orderly spec journal run)
 
 pub same_licence : (spec : PartSpec) (journal : List Event) → IsRun spec journal → IsAllowed spec journal → IsLicensed spec journal
-unfolding licensed allowed
+unfolding is_licensed allowed
 same_licence spec journal run a =
     ap₂ ◌&&◌ (licensed_alike (opening spec) [] (first_watch spec.class spec.blocks) journal tt (run_orderly spec journal run))
     (ap is_balanced (same_losses spec journal run))

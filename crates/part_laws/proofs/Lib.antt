@@ -59,3 +59,11 @@ pub mod Judged
 pub mod ReadAloud
 pub mod Safe
 pub mod Answered
+pub mod LentEntries
+pub mod InsideCalls
+pub mod StepLoans
+pub mod Classes
+pub mod DeviceStays
+pub mod PartFacts
+pub mod CallNumbers
+pub mod UnansweredCalls

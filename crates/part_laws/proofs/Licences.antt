@@ -3,18 +3,18 @@ use Rattle.std.proofs.Common.{◌≡◌, ◌⊎◌, inl, inr, ℕ, suc, ◌+◌,
 use Rattle.std.specs.Prelude.{◌==◌, ◌&&◌, ◌||◌, nat_lt, is_none}
 use Rattle.std.specs.List.{list_any}
 use Rattle.std.proofs.lemmas.Bool.{eq-eqb, ne_eqb}
-use Rattle.nook_defs.specs.declared.data.Act.{Act}
-use Rattle.nook_defs.specs.declared.data.Answer.{Answer}
-use Rattle.nook_defs.specs.declared.data.Answer.TheVariants as answer
-use Rattle.nook_defs.specs.declared.data.End.{End}
-use Rattle.nook_defs.specs.declared.data.End.TheVariants as end
-use Rattle.nook_defs.specs.declared.data.Event.{Event}
-use Rattle.nook_defs.specs.declared.data.Event.TheVariants as event
-use Rattle.nook_defs.specs.declared.data.FailCause.{FailCause}
-use Rattle.nook_defs.specs.declared.data.Op.{Op}
-use Rattle.nook_defs.specs.declared.data.Op.TheVariants as op
-use Rattle.nook_defs.specs.declared.data.Stage.{Stage}
-use Rattle.nook_defs.specs.declared.data.Stage.TheVariants as stage
+use Rattle.nook_defs.specs.declared.machine.Act.{Act}
+use Rattle.nook_defs.specs.declared.calls.Answer.{Answer}
+use Rattle.nook_defs.specs.declared.calls.Answer.TheVariants as answer
+use Rattle.nook_defs.specs.declared.steps.End.{End}
+use Rattle.nook_defs.specs.declared.steps.End.TheVariants as end
+use Rattle.nook_defs.specs.declared.steps.Event.{Event}
+use Rattle.nook_defs.specs.declared.steps.Event.TheVariants as event
+use Rattle.nook_defs.specs.declared.steps.FailCause.{FailCause}
+use Rattle.nook_defs.specs.declared.calls.Op.{Op}
+use Rattle.nook_defs.specs.declared.calls.Op.TheVariants as op
+use Rattle.nook_defs.specs.declared.steps.Stage.{Stage}
+use Rattle.nook_defs.specs.declared.steps.Stage.TheVariants as stage
 use Rattle.part_laws.specs.Watch.{Watch, Watched, enters, leaves, sees, sees_acts, sees_crossing, watched}
 use Rattle.nook_defs.specs.Contract.{is_empty as was_empty}
 use Rattle.part_laws.specs.Allowed.{allows as allowed, allows_each, allows_event, allows_option, has_failed as had_failed, is_served as was_served, is_served_found, licenses as allows_at, licensed_from as allowed_from}
@@ -24,8 +24,9 @@ use Rattle.nook_defs.specs.Runs.{state_after, step_of}
 use Rattle.nook_defs.specs.State.{PartState}
 use Rattle.part_laws.proofs.Places.{split}
 use Rattle.nook_defs.specs.Answers.{answers_of, one_answer}
-use Rattle.nook_defs.specs.Contract.{Known, OpenCall, after, after_deeds, after_failure, call_of, change_call, crossing_deeds, deeds_of, during, enter_call, is_empty}
-use Rattle.nook_defs.specs.Licence.{allows, has_failed, is_served, is_served_call, licenses, licensed_from, refuses}
+use Rattle.nook_defs.specs.Contract.{Known, OpenCall, after, after_failure, call_of, change_call, crossing_deeds, deeds_of, during, is_empty}
+use Rattle.nook_defs.proofs.Changes.{after_deeds, enter_call}
+use Rattle.nook_defs.specs.Licence.{allows, has_failed, is_served, is_served_call, licenses, is_licensed_from, refuses}
 use Rattle.part_laws.specs.Orderly.{AreOwn, IsFitting, IsOfCall, IsOrderlyFrom, flags_after, is_open}
 use Rattle.part_laws.proofs.Breaks.{SeesAlike, event_alike}
 use Rattle.part_laws.proofs.Deeds.{acts_known, own_call, own_change}
@@ -259,11 +260,11 @@ event_licensed p flags w (event.Stage t answers released) s h =
 event_licensed p flags w (event.Arrive frame kept) s h = refl
 
 pub licensed_alike : (p : PartState) (flags : List Bool) (w : Watch) (events : List Event) → AreShut flags w.calls → IsOrderlyFrom flags events
-    → licensed_from p (known_of flags w) events ≡ allowed_from p w events
-unfolding licensed_from allowed_from
+    → is_licensed_from p (known_of flags w) events ≡ allowed_from p w events
+unfolding is_licensed_from allowed_from
 licensed_alike p flags w [] s h = refl
 licensed_alike p flags w (e ∷ events) s h =
     let alike : SeesAlike flags w e = event_alike flags w e s h.0 in
     ap₂ ◌&&◌ (event_licensed p flags w e s h.0)
-    (ap (λ k. licensed_from (state_after p (step_of e)) k events) alike.known
+    (ap (λ k. is_licensed_from (state_after p (step_of e)) k events) alike.known
     ∙ licensed_alike (state_after p (step_of e)) (flags_after flags e) (sees w e) events alike.shut h.1)

@@ -3,11 +3,11 @@ use Rattle.std.proofs.Common.{◌≡◌, ◌⊎◌, inl, inr, ℕ, suc, ◌+◌,
 use Rattle.std.specs.Prelude.{◌==◌, if◌then◌else◌}
 use Rattle.std.proofs.lemmas.Bool.{eqb-true, eq-eqb, ne_eqb}
 use Rattle.std.proofs.lemmas.Bool.Decides.{nat_tests}
-use Rattle.nook_defs.specs.declared.data.Answer.{Answer}
-use Rattle.nook_defs.specs.declared.data.Answer.TheVariants as answer
-use Rattle.nook_defs.specs.declared.data.CallEntry.{CallEntry}
-use Rattle.nook_defs.specs.declared.data.Stage.TheVariants as stage
-use Rattle.nook_defs.specs.Log.{call_of_thread, change_call, entered_call, gone_answers, held_call, is_call, is_kept, is_of_thread, queue_after, shadow_answer, stop_answers, stop_calls, with_answer}
+use Rattle.nook_defs.specs.declared.calls.Answer.{Answer}
+use Rattle.nook_defs.specs.declared.calls.Answer.TheVariants as answer
+use Rattle.nook_defs.specs.declared.calls.CallEntry.{CallEntry}
+use Rattle.nook_defs.specs.declared.steps.Stage.TheVariants as stage
+use Rattle.nook_defs.specs.Log.{call_of_thread, change_entry, entered_call, gone_answers, held_call, is_call, is_held, is_of_thread, queue_after, shadow_answer, stop_answers, stop_calls, with_answer}
 use Rattle.part_laws.proofs.Answered.{shadow_says}
 use Rattle.part_laws.proofs.Places.{some_same, split}
 use Rattle.part_laws.specs.Orderly.{AreOwn, is_open, is_told, kept_from}
@@ -108,7 +108,7 @@ pub numbers_push : (calls : List CallEntry) (c : CallEntry) → numbers_of (call
 numbers_push [] c = refl
 numbers_push (x ∷ calls) c = ap (λ l. x.call ∷ l) (numbers_push calls c)
 
-pub numbers_entered : (call : ℕ) (calls : List CallEntry) → numbers_of (map (change_call call entered_call) calls) ≡ numbers_of calls
+pub numbers_entered : (call : ℕ) (calls : List CallEntry) → numbers_of (map (change_entry call entered_call) calls) ≡ numbers_of calls
 numbers_entered call [] = refl
 numbers_entered call (c ∷ calls) = split (c.call == call)
     (λ e. rw e (ap (λ l. c.call ∷ l) (numbers_entered call calls)))
@@ -165,21 +165,21 @@ stop_keeps low (c ∷ calls) config holder queue r =
     others a = filter (λ m. not (is_told ((c.call, a) ∷ rest) m)) (numbers_of calls)
 
     by_shadow : filter (λ n. not (is_told (stop_answers calls config holder (queue_after c.op queue)) n)) (numbers_of calls) ≡ numbers_of (stop_calls calls)
-        → ((is_kept c.op ≡ true) × (shadow_answer c.op c.thread config holder stage.Stop queue ≡ None))
-        ⊎ ((is_kept c.op ≡ false) × ((a : Answer) × (shadow_answer c.op c.thread config holder stage.Stop queue ≡ Some a)))
+        → ((is_held c.op ≡ true) × (shadow_answer c.op c.thread config holder stage.Stop queue ≡ None))
+        ⊎ ((is_held c.op ≡ false) × ((a : Answer) × (shadow_answer c.op c.thread config holder stage.Stop queue ≡ Some a)))
         → filter (λ n. not (is_told (stop_answers (c ∷ calls) config holder queue) n)) (numbers_of (c ∷ calls)) ≡ numbers_of (stop_calls (c ∷ calls))
     by_shadow later (inl (k, n)) =
         ap (λ o. filter (λ m. not (is_told (with_answer c.call o rest) m)) (c.call ∷ numbers_of calls)) n
         ∙ ap (λ b. cond (not b) (c.call ∷ left) left)
         (stop_below c.call (suc c.call) calls config holder (queue_after c.op queue) r.1 (omega arith))
         ∙ ap (λ l. c.call ∷ l) later
-        ∙ ap (λ b. numbers_of (map held_call (cond b (c ∷ filter (λ d. is_kept d.op) calls) (filter (λ d. is_kept d.op) calls)))) (sym k)
+        ∙ ap (λ b. numbers_of (map held_call (cond b (c ∷ filter (λ d. is_held d.op) calls) (filter (λ d. is_held d.op) calls)))) (sym k)
     by_shadow later (inr (k, (a, n))) =
         ap (λ o. filter (λ m. not (is_told (with_answer c.call o rest) m)) (c.call ∷ numbers_of calls)) n
         ∙ ap (λ b. cond (not (b || is_told rest c.call)) (c.call ∷ others a) (others a)) (eq-eqb c.call c.call refl)
         ∙ past_told c.call a rest (numbers_of calls) r.1
         ∙ later
-        ∙ ap (λ b. numbers_of (map held_call (cond b (c ∷ filter (λ d. is_kept d.op) calls) (filter (λ d. is_kept d.op) calls)))) (sym k)
+        ∙ ap (λ b. numbers_of (map held_call (cond b (c ∷ filter (λ d. is_held d.op) calls) (filter (λ d. is_held d.op) calls)))) (sym k)
 
 abbrev pub AreOpen : List Bool → List CallEntry → Type 0
 AreOpen flags calls = (n : ℕ) → Has n (numbers_of calls) → is_open n 1 flags ≡ true

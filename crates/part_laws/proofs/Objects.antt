@@ -2,14 +2,14 @@ use Rattle.std.proofs.Common.{◌≡◌, ◌≢◌, inl, inr, ℕ, ◌+◌, ◌-
 use Rattle.std.specs.List.{list_any}
 use Rattle.std.proofs.lemmas.Bool.{and_parts, and_left, and_right, or_from, le-ltb, ltb-true, leb-true, cases_order}
 use Rattle.std.proofs.lemmas.List.{get_or-append_right, drop-set-add, set-append_left, set_at, length-set}
-use Rattle.nook_defs.specs.declared.data.Class.{Class}
-use Rattle.nook_defs.specs.declared.data.Entry.{Entry}
-use Rattle.nook_defs.specs.declared.data.Fault.{Fault}
-use Rattle.nook_defs.specs.declared.data.FaultKind.{FaultKind}
-use Rattle.nook_defs.specs.declared.data.FaultKind.TheVariants as fault
-use Rattle.nook_defs.specs.declared.data.Image.{Image}
-use Rattle.nook_defs.specs.declared.data.Op.{Op}
-use Rattle.nook_defs.specs.declared.data.Op.TheVariants as op
+use Rattle.nook_defs.specs.declared.classes.Class.{Class}
+use Rattle.nook_defs.specs.declared.entries.Entry.{Entry}
+use Rattle.nook_defs.specs.declared.scenario.Fault.{Fault}
+use Rattle.nook_defs.specs.declared.scenario.FaultKind.{FaultKind}
+use Rattle.nook_defs.specs.declared.scenario.FaultKind.TheVariants as fault
+use Rattle.nook_defs.specs.declared.scenario.Image.{Image}
+use Rattle.nook_defs.specs.declared.calls.Op.{Op}
+use Rattle.nook_defs.specs.declared.calls.Op.TheVariants as op
 use Rattle.nook_defs.specs.Burst.{burst}
 use Rattle.nook_defs.specs.Classes.{static_check, check_op, check_length, is_block_length, is_of_class}
 use Rattle.nook_defs.specs.Domain.{Lent, buffer_of, lent_memory}
@@ -18,7 +18,8 @@ use Rattle.nook_defs.specs.Pages.{may_write, is_lent, object_words, object_start
 use Rattle.nook_defs.specs.Turn.{Machine}
 use Rattle.part_laws.proofs.BurstKeeps.{split}
 use Rattle.part_laws.proofs.BurstIsolation.{changes_only_allowed, burst_keeps_length}
-use Rattle.part_laws.proofs.Words.{same_range, length-with_words, with_words_below, with_words_above, with_words_there, length-padded_words, take-set}
+use Rattle.part_laws.proofs.Words.{same_range, length-with_words, with_words_below, with_words_above, with_words_there, take-set}
+use Rattle.nook_defs.proofs.Padded.{length-padded_words}
 
 -- Which changes of memory keep the kernel's objects.
 

@@ -1,11 +1,11 @@
 use Rattle.std.proofs.Common.{◌≡◌, ◌<◌, ℕ, zero, suc, ◌+◌, ◌&&◌, ◌||◌, not, eqb, Bool, true, false, Some, None, List, [], ◌∷◌, ◌++◌, map, length, set, filter, find, sym, refl, ap, ap₂, ◌∙◌, arith, nat_lt}
 use Rattle.std.specs.List.{list_any}
 use Rattle.std.proofs.lemmas.Bool.{eqb-true, ne_eqb, eq-eqb, cond-true, cond-false, or_parts}
-use Rattle.nook_defs.specs.declared.data.CallEntry.{CallEntry}
-use Rattle.nook_defs.specs.declared.data.Class.{Class}
+use Rattle.nook_defs.specs.declared.calls.CallEntry.{CallEntry}
+use Rattle.nook_defs.specs.declared.classes.Class.{Class}
 use Rattle.nook_defs.specs.Classes.{conflicts}
-use Rattle.nook_defs.specs.Ideal.{waits_for}
-use Rattle.nook_defs.specs.Log.{is_of_thread, is_call, change_call, blocks_call, held_call, is_kept, stop_calls}
+use Rattle.nook_defs.proofs.Changes.{waits_for}
+use Rattle.nook_defs.specs.Log.{is_of_thread, is_call, change_entry, blocks_call, held_call, is_held, stop_calls}
 use Rattle.part_laws.specs.Facts.{At}
 use Rattle.part_laws.specs.Moves.{stop_core}
 use Rattle.part_laws.specs.Views.{Core, Call, core_of, entry_of, keep_waiting, open_from, as_opened}
@@ -103,10 +103,10 @@ drop_filter test true e es h = cond-false (test e) (e ∷ filter test es) (filte
 drop_filter test false e es h = refl
 
 -- calls behind a number do not have it
-past_map : (f : CallEntry → CallEntry) (m n : ℕ) (cs : List Core) → m < n → map (change_call m f) (open_from n cs) ≡ open_from n cs
+past_map : (f : CallEntry → CallEntry) (m n : ℕ) (cs : List Core) → m < n → map (change_entry m f) (open_from n cs) ≡ open_from n cs
 past_map f m n [] h = refl
 past_map f m n (c ∷ cs) h =
-    keep_map (change_call m f) c.waits (entry_of n c) (open_from (suc n) cs)
+    keep_map (change_entry m f) c.waits (entry_of n c) (open_from (suc n) cs)
     ∙ ap₂ (keep_waiting c.waits)
     (cond-false (eqb n m) (f (entry_of n c)) (entry_of n c) (ne_eqb n m (λ e. omega (arith, h, e))))
     (past_map f m (suc n) cs (omega (arith, h)))
@@ -121,20 +121,20 @@ past_filter m n (c ∷ cs) h =
 -- an open call is changed at its place
 pub open_change : (f : CallEntry → CallEntry) (g : Core → Core) → ((m : ℕ) (c : Core) → f (entry_of m c) ≡ entry_of m (g c))
     → (n : ℕ) (cs : List Core) (k : ℕ) (c : Core) → At cs k c → (g c).waits ≡ c.waits
-    → map (change_call (n + k) f) (open_from n cs) ≡ open_from n (set cs k (g c))
+    → map (change_entry (n + k) f) (open_from n cs) ≡ open_from n (set cs k (g c))
 open_change f g e n [] k c h w = absurd cc
 open_change f g e n (d ∷ cs) zero c h w =
-    keep_map (change_call (n + 0) f) d.waits (entry_of n d) (open_from (suc n) cs)
+    keep_map (change_entry (n + 0) f) d.waits (entry_of n d) (open_from (suc n) cs)
     ∙ ap₂ (keep_waiting d.waits)
     (cond-true (eqb n (n + 0)) (f (entry_of n d)) (entry_of n d) (eq-eqb n (n + 0) (omega arith))
     ∙ e n d ∙ ap (λ x. entry_of n (g x)) (some_same d c h))
     (past_map f (n + 0) (suc n) cs (omega arith))
     ∙ ap (λ v. keep_waiting v (entry_of n (g c)) (open_from (suc n) cs)) (ap (λ x. x.waits) (some_same d c h) ∙ sym w)
 open_change f g e n (d ∷ cs) (suc k) c h w =
-    keep_map (change_call (n + suc k) f) d.waits (entry_of n d) (open_from (suc n) cs)
+    keep_map (change_entry (n + suc k) f) d.waits (entry_of n d) (open_from (suc n) cs)
     ∙ ap₂ (keep_waiting d.waits)
     (cond-false (eqb n (n + suc k)) (f (entry_of n d)) (entry_of n d) (ne_eqb n (n + suc k) (λ e. omega (arith, e))))
-    (ap (λ m. map (change_call m f) (open_from (suc n) cs)) (omega arith) ∙ open_change f g e (suc n) cs k c h w)
+    (ap (λ m. map (change_entry m f) (open_from (suc n) cs)) (omega arith) ∙ open_change f g e (suc n) cs k c h w)
 
 -- an open call is closed at its place
 pub open_close : (n : ℕ) (cs : List Core) (k : ℕ) (c d : Core) → At cs k c → d.waits ≡ false
@@ -168,19 +168,19 @@ open_push n (d ∷ cs) c = by_waits d.waits
 -- at Stop
 pub open_stop : (n : ℕ) (cs : List Core) → stop_calls (open_from n cs) ≡ open_from n (map stop_core cs)
 open_stop n [] = refl
-open_stop n (c ∷ cs) = by_waits c.waits (is_kept c.op) refl (open_stop (suc n) cs)
+open_stop n (c ∷ cs) = by_waits c.waits (is_held c.op) refl (open_stop (suc n) cs)
   where
-    by_waits : (w t : Bool) → is_kept c.op ≡ t → stop_calls (open_from (suc n) cs) ≡ open_from (suc n) (map stop_core cs)
+    by_waits : (w t : Bool) → is_held c.op ≡ t → stop_calls (open_from (suc n) cs) ≡ open_from (suc n) (map stop_core cs)
         → stop_calls (keep_waiting w (entry_of n c) (open_from (suc n) cs))
         ≡ keep_waiting (w && t) (entry_of n (stop_core c)) (open_from (suc n) (map stop_core cs))
     by_waits false t k e = e
     by_waits true true k e =
-        ap (map held_call) (cond-true (is_kept c.op) (entry_of n c ∷ filter (λ c. is_kept c.op) (open_from (suc n) cs))
-        (filter (λ c. is_kept c.op) (open_from (suc n) cs)) k)
+        ap (map held_call) (cond-true (is_held c.op) (entry_of n c ∷ filter (λ c. is_held c.op) (open_from (suc n) cs))
+        (filter (λ c. is_held c.op) (open_from (suc n) cs)) k)
         ∙ ap (λ l. entry_of n (stop_core c) ∷ l) e
     by_waits true false k e =
-        ap (map held_call) (cond-false (is_kept c.op) (entry_of n c ∷ filter (λ c. is_kept c.op) (open_from (suc n) cs))
-        (filter (λ c. is_kept c.op) (open_from (suc n) cs)) k)
+        ap (map held_call) (cond-false (is_held c.op) (entry_of n c ∷ filter (λ c. is_held c.op) (open_from (suc n) cs))
+        (filter (λ c. is_held c.op) (open_from (suc n) cs)) k)
         ∙ e
 
 -- a call that is not blocked has no conflict with an open one before it

@@ -1,36 +1,36 @@
 -- Every run is orderly, by what each step of a part does to its open calls.
-use Rattle.std.proofs.Common.{◌≡◌, ◌⊎◌, inl, inr, ℕ, suc, ◌+◌, ◌&&◌, not, Bool, true, false, cond, Option, Some, None, Result, Ok, Err, List, [], ◌∷◌, ◌++◌, map, length, filter, sym, refl, ap, ◌∙◌, subst, arith}
-use Rattle.std.specs.Prelude.{◌==◌, if◌then◌else◌}
+use Rattle.std.proofs.Common.{◌≡◌, ◌⊎◌, inl, inr, ℕ, ◌+◌, ◌&&◌, not, Bool, true, false, Option, Some, None, Result, Ok, Err, List, [], ◌∷◌, ◌++◌, length, filter, sym, refl, ap, ◌∙◌, subst, arith}
+use Rattle.std.specs.Prelude.{◌==◌}
 use Rattle.nook_defs.specs.declared.classes.Accept.{Accept}
 use Rattle.nook_defs.specs.declared.classes.Accept.TheVariants as accepts
 use Rattle.nook_defs.specs.declared.classes.Admit.{Admit}
 use Rattle.nook_defs.specs.declared.classes.Admit.TheVariants as admits
-use Rattle.nook_defs.specs.declared.data.Answer.{Answer}
-use Rattle.nook_defs.specs.declared.data.CallEntry.{CallEntry}
-use Rattle.nook_defs.specs.declared.data.Event.{Event}
-use Rattle.nook_defs.specs.declared.data.Event.TheVariants as event
-use Rattle.nook_defs.specs.declared.data.Op.{Op}
-use Rattle.nook_defs.specs.declared.data.PartSpec.{PartSpec}
-use Rattle.nook_defs.specs.declared.data.Stage.{Stage}
-use Rattle.nook_defs.specs.declared.data.Stage.TheVariants as stage
-use Rattle.nook_defs.specs.declared.data.Step.{Step}
-use Rattle.nook_defs.specs.declared.data.Step.TheVariants as step
+use Rattle.nook_defs.specs.declared.calls.Answer.{Answer}
+use Rattle.nook_defs.specs.declared.calls.CallEntry.{CallEntry}
+use Rattle.nook_defs.specs.declared.steps.Event.{Event}
+use Rattle.nook_defs.specs.declared.steps.Event.TheVariants as event
+use Rattle.nook_defs.specs.declared.calls.Op.{Op}
+use Rattle.nook_defs.specs.declared.scenario.PartSpec.{PartSpec}
+use Rattle.nook_defs.specs.declared.steps.Stage.{Stage}
+use Rattle.nook_defs.specs.declared.steps.Stage.TheVariants as stage
+use Rattle.nook_defs.specs.declared.steps.Step.{Step}
+use Rattle.nook_defs.specs.declared.steps.Step.TheVariants as step
 use Rattle.nook_defs.specs.declared.machine.BadParam.{BadParam}
 use Rattle.nook_defs.specs.declared.machine.BurstEnd.{BurstEnd}
 use Rattle.nook_defs.specs.declared.machine.BurstEnd.TheVariants as ends
 use Rattle.nook_defs.specs.declared.machine.Service.{Service}
-use Rattle.nook_defs.specs.Calls.{Turned, admitted, answer_in, entered_by, entered_part, invoked, invoked_by, invoked_with, queue_in}
-use Rattle.nook_defs.specs.Classes.{accept, admit, static_check}
-use Rattle.nook_defs.specs.Crossing.{Crossed, call_replied, closes, crossed, fails, is_accepted, is_last, next_stage, reply_by, serve_by, shadow_replied}
+use Rattle.nook_defs.specs.Calls.{after_admit, answer_in, entered_by, after_enter, after_invoke, invoked_by, invoked_with, queue_in}
+use Rattle.nook_defs.specs.Classes.{accept, static_check}
+use Rattle.nook_defs.specs.Crossing.{Crossed, call_replied, closes_call, after_crossing, fails, is_accepted, is_last, next_stage, reply_by, serve_by, shadow_replied}
 use Rattle.nook_defs.specs.Domain.{DomainBurst, domain_burst}
-use Rattle.nook_defs.specs.Log.{acknowledged, answered, call_of_thread, change_call, entered, entered_call, gone_answers, is_call, new_call, numbered, opening_log, stop_answers, stop_calls, with_call}
+use Rattle.nook_defs.specs.Log.{after_acknowledging, after_answering, call_of_thread, after_entering, gone_answers, is_call, new_entry, with_answered_call, opening_log, stop_answers, with_call}
 use Rattle.nook_defs.specs.Runs.{IsRun, IsRunFrom, event_of, state_after, step_of}
-use Rattle.nook_defs.specs.Stages.{collects, given_up, inits, is_given_up, loads_image, replays_open, replays_set, resets, resumes, stage_by, stage_done, stage_due, stage_turned, stopped}
+use Rattle.nook_defs.specs.Stages.{collects, gives_up_part, inits, is_given_up, loads_image, replays_open, replays_set, resets, resumes, stage_by, stage_done, stage_due, stage_stepped, stops}
 use Rattle.nook_defs.specs.State.{CallLog, PartState}
-use Rattle.nook_defs.specs.Steps.{arrived, burst_event, burst_turned, can_burst, can_enter, enabled, faults_of_burst, is_driven, is_inside, is_ready, is_running, number_of, opening, served_number, turned, with_burst}
+use Rattle.nook_defs.specs.Steps.{after_arrival, burst_event, burst_stepped, can_burst, enabled, faults_of_burst, is_inside, is_ready, is_running, number_of_call, opening, served_number, stepped, with_burst}
 use Rattle.part_laws.proofs.Places.{split}
-use Rattle.nook_defs.specs.Answers.{answers_of, one_answer}
-use Rattle.part_laws.specs.Orderly.{AreOwn, IsCrossing, IsFitting, IsOfCall, IsOrderlyFrom, flags_after, flags_during, is_open, is_told, kept_from}
+use Rattle.nook_defs.specs.Answers.{one_answer}
+use Rattle.part_laws.specs.Orderly.{AreOwn, IsCrossing, IsFitting, IsOfCall, IsOrderlyFrom, flags_after, is_open, is_told, kept_from}
 use Rattle.part_laws.proofs.Numbers.{AreOpen, Has, RisesFrom, found_has, gone_keeps, gone_own, has_open, length_kept, length_push, numbers_answered, numbers_entered, numbers_of, numbers_push, opened, opened_kept, opened_push, opened_rises, opened_shut, stop_keeps, stop_own}
 use Rattle.part_laws.proofs.Picked.{kept_new, kept_none}
 
@@ -77,7 +77,7 @@ unfolding with_call
 invoke_held flags log thread o f = record {
   fits = let c = f.count in omega arith;
   flagged = record {
-    numbers = numbers_push log.pending (new_call (log.count + 1) thread o)
+    numbers = numbers_push log.pending (new_entry (log.count + 1) thread o)
         ∙ ap (λ l. l ++ (log.count + 1) ∷ []) f.numbers
         ∙ ap (λ n. opened 1 flags ++ n ∷ []) (let c = f.count in omega arith)
         ∙ sym (opened_push 1 flags)
@@ -90,11 +90,11 @@ invoke_held flags log thread o f = record {
 }
 
 invoke_at_once : (flags : List Bool) (log : CallLog) (thread : ℕ) (o : Op) (a : Answer) → Flagged flags log
-    → Follows flags (numbered log) (event.Invoke (log.count + 1) thread o (Some a))
-unfolding numbered
+    → Follows flags (with_answered_call log) (event.Invoke (log.count + 1) thread o (Some a))
+unfolding with_answered_call
 invoke_at_once flags log thread o a f = record {
   fits = let c = f.count in omega arith;
-  flagged = subst (λ l. Flagged l (numbered log)) (sym (kept_new 1 flags a) ∙ ap (λ n. kept_from 1 ((n, a) ∷ []) (flags ++ true ∷ [])) (let c = f.count in omega arith))
+  flagged = subst (λ l. Flagged l (with_answered_call log)) (sym (kept_new 1 flags a) ∙ ap (λ n. kept_from 1 ((n, a) ∷ []) (flags ++ true ∷ [])) (let c = f.count in omega arith))
       (record {
         numbers = f.numbers ∙ sym (opened_shut 1 flags);
         count = let c = f.count in let l = length_push flags false in omega arith;
@@ -114,13 +114,13 @@ invoke_follows flags p thread o (Some a) f = invoke_logged flags p thread o (Som
 -- ---- entries
 
 admit_follows : (flags : List Bool) (p : PartState) (c : CallEntry) (a : Admit) → Flagged flags p.log → is_open c.call 1 flags ≡ true
-    → Follows flags (admitted p c a).state.log (admitted p c a).event
-unfolding answered entered
-admit_follows flags p c (admits.Reply a) f h = record { fits = h; flagged = flagged_answered flags c.call a p.log (answered c.call p.log) f refl refl }
-admit_follows flags p c admits.TakeFrame f h = record { fits = h; flagged = flagged_answered flags c.call _ p.log (answered c.call p.log) f refl refl }
+    → Follows flags (after_admit p c a).state.log (after_admit p c a).event
+unfolding after_answering after_entering
+admit_follows flags p c (admits.Reply a) f h = record { fits = h; flagged = flagged_answered flags c.call a p.log (after_answering c.call p.log) f refl refl }
+admit_follows flags p c admits.TakeFrame f h = record { fits = h; flagged = flagged_answered flags c.call _ p.log (after_answering c.call p.log) f refl refl }
 admit_follows flags p c (admits.Enter place) f h = record {
   fits = h;
-  flagged = flagged_same flags p.log (entered c.call p.log) f (numbers_entered c.call p.log.pending) refl;
+  flagged = flagged_same flags p.log (after_entering c.call p.log) f (numbers_entered c.call p.log.pending) refl;
 }
 
 second_true : (a b : Bool) → (a && b) ≡ true → b ≡ true
@@ -135,7 +135,7 @@ enter_follows flags p thread (Some c) e r f = admit_follows flags p c _ f (open_
 -- ---- bursts
 
 -- a crossing answers the call of its context
-record ClosesCall (context : ℕ) (p : PartState) (x : Crossed) : Type 0 where
+pub record ClosesCall (context : ℕ) (p : PartState) (x : Crossed) : Type 0 where
   pub c : CallEntry
   pub a : Answer
   pub other : (context == 16) ≡ false
@@ -145,12 +145,12 @@ record ClosesCall (context : ℕ) (p : PartState) (x : Crossed) : Type 0 where
   pub count : x.state.log.count ≡ p.log.count
 
 -- or nothing
-record ClosesNone (p : PartState) (x : Crossed) : Type 0 where
+pub record ClosesNone (p : PartState) (x : Crossed) : Type 0 where
   pub told : x.answer ≡ None
   pub pending : x.state.log.pending ≡ p.log.pending
   pub count : x.state.log.count ≡ p.log.count
 
-abbrev Crosses : ℕ → PartState → Crossed → Type 0
+abbrev pub Crosses : ℕ → PartState → Crossed → Type 0
 Crosses context p x = IsCrossing x.end x.answer x.failure × (ClosesNone p x ⊎ ClosesCall context p x)
 
 none_closed : (p : PartState) (x : Crossed) → x.answer ≡ None → x.state.log.pending ≡ p.log.pending → x.state.log.count ≡ p.log.count
@@ -164,7 +164,7 @@ serve_crosses number context p (Ok s) = (tt, inl (none_closed p (serve_by number
 
 reply_crosses : (status context : ℕ) (p : PartState) (o : Option CallEntry) → (context == 16) ≡ false → call_of_thread context p.log.pending ≡ o
     → Crosses context p (call_replied status p o)
-unfolding fails closes answered acknowledged
+unfolding fails closes_call after_answering after_acknowledging
 reply_crosses status context p None e h = (tt, inl (none_closed p (call_replied status p None) refl refl refl))
 reply_crosses status context p (Some c) e h = by_accept (accept c.op status)
   where
@@ -179,8 +179,8 @@ shadow_crosses status context p = split (is_accepted status p)
     (λ e. rw e (tt, inl (record { told = refl; pending = refl; count = refl })))
     (λ e. rw e (tt, inl (record { told = refl; pending = refl; count = refl })))
 
-crossing_crosses : (context : ℕ) (e : BurstEnd) (p : PartState) → Crosses context p (crossed context e p)
-unfolding crossed fails
+pub crossing_crosses : (context : ℕ) (e : BurstEnd) (p : PartState) → Crosses context p (after_crossing context e p)
+unfolding after_crossing fails
 crossing_crosses context (ends.Trap cause) p = (tt, inl (record { told = refl; pending = refl; count = refl }))
 crossing_crosses context (ends.Kcall number) p = split (is_last context p)
     (λ e. rw e (tt, inl (record { told = refl; pending = refl; count = refl })))
@@ -204,9 +204,9 @@ burst_of_call flags p context f h = split (context == 16)
     by_call e None i k = let n : is_inside None ≡ true = subst (λ o. is_inside o ≡ true) i k in absurd cc
     by_call e (Some c) i k = inr (rw e (rw i (open_found flags p.log context c f i)))
 
-served_is : (context : ℕ) (p : PartState) (c : CallEntry) → (context == 16) ≡ false → call_of_thread context p.log.pending ≡ Some c
+pub served_is : (context : ℕ) (p : PartState) (c : CallEntry) → (context == 16) ≡ false → call_of_thread context p.log.pending ≡ Some c
     → served_number context p ≡ c.call
-served_is context p c n e = rw n (ap number_of e)
+served_is context p c n e = rw n (ap number_of_call e)
 
 -- what a burst answers
 answers_follow : (flags : List Bool) (context : ℕ) (p : PartState) (x : Crossed) → Flagged flags p.log → ClosesNone p x ⊎ ClosesCall context p x
@@ -224,10 +224,10 @@ answers_follow flags context p x f (inr k) =
     ((open_found flags p.log context k.c f k.found, refl, tt), flagged_answered flags k.c.call k.a p.log x.state.log f k.closed k.count))
 
 burst_follows : (flags : List Bool) (context : ℕ) (p : PartState) (b : DomainBurst) → Flagged flags p.log → can_burst p context ≡ true
-    → Follows flags (burst_event context p b (crossed context b.ending (with_burst b.domain p))).state.log
-    (burst_event context p b (crossed context b.ending (with_burst b.domain p))).event
+    → Follows flags (burst_event context p b (after_crossing context b.ending (with_burst b.domain p))).state.log
+    (burst_event context p b (after_crossing context b.ending (with_burst b.domain p))).event
 burst_follows flags context p b f h =
-    let x : Crossed = crossed context b.ending (with_burst b.domain p) in
+    let x : Crossed = after_crossing context b.ending (with_burst b.domain p) in
     let crosses : Crosses context (with_burst b.domain p) x = crossing_crosses context b.ending (with_burst b.domain p) in
     let told = answers_follow flags context (with_burst b.domain p) x f crosses.1 in
     record { fits = (burst_of_call flags p context f h, told.0, crosses.0); flagged = told.1 }
@@ -237,8 +237,8 @@ burst_follows flags context p b f h =
 plain_stage : (flags : List Bool) (log : CallLog) → Flagged flags log → Flagged (kept_from 1 [] flags) log
 plain_stage flags log f = flagged_same flags log log f refl refl
 
-stop_follows : (flags : List Bool) (p : PartState) → Flagged flags p.log → Follows flags (stopped p).state.log (stopped p).event
-unfolding stopped
+stop_follows : (flags : List Bool) (p : PartState) → Flagged flags p.log → Follows flags (stops p).state.log (stops p).event
+unfolding stops
 stop_follows flags p f =
     let answers = stop_answers p.log.pending p.log.config p.log.holder p.queue in
     record {
@@ -250,8 +250,8 @@ stop_follows flags p f =
       };
     }
 
-give_up_follows : (flags : List Bool) (p : PartState) → Flagged flags p.log → Follows flags (given_up p).state.log (given_up p).event
-unfolding given_up
+give_up_follows : (flags : List Bool) (p : PartState) → Flagged flags p.log → Follows flags (gives_up_part p).state.log (gives_up_part p).event
+unfolding gives_up_part
 give_up_follows flags p f =
     let answers = gone_answers p.failures p.log.pending in
     record {
@@ -284,7 +284,7 @@ stage_follows flags p (Some s) f = done_follows flags s p f
 
 step_follows : (flags : List Bool) (p : PartState) (s : Step) → Flagged flags p.log → enabled p s ≡ true
     → Follows flags (state_after p s).log (event_of p s)
-unfolding enabled turned invoked entered_part burst_turned stage_turned arrived
+unfolding enabled stepped after_invoke after_enter burst_stepped stage_stepped after_arrival
 step_follows flags p (step.Invoke thread o) f h = invoke_follows flags p thread o (static_check p.spec.class p.spec.blocks o) f
 step_follows flags p (step.Enter thread) f h = enter_follows flags p thread (call_of_thread thread p.log.pending) refl
     (second_true (is_running p.mode) (is_ready p (call_of_thread thread p.log.pending)) h) f

@@ -3,11 +3,11 @@ use Rattle.std.proofs.Common.{◌≡◌, ℕ, zero, suc, ◌+◌, ◌<◌, ◌||
 use Rattle.std.specs.Prelude.{◌==◌, if◌then◌else◌}
 use Rattle.std.specs.List.{list_any}
 use Rattle.std.proofs.lemmas.Bool.{eqb-true, eq-eqb, ne_eqb}
-use Rattle.nook_defs.specs.declared.data.Answer.{Answer}
-use Rattle.nook_defs.specs.declared.data.Op.{Op}
+use Rattle.nook_defs.specs.declared.calls.Answer.{Answer}
+use Rattle.nook_defs.specs.declared.calls.Op.{Op}
 use Rattle.part_laws.specs.Watch.{Watched, leaves, watched}
-use Rattle.nook_defs.specs.Places.{at_number, change_found, change_number, number_where, past_one}
-use Rattle.part_laws.proofs.Places.{split}
+use Rattle.nook_defs.specs.Places.{at_number, change_number, number_where, one_later}
+use Rattle.part_laws.proofs.Places.{change_found, split}
 use Rattle.nook_defs.specs.Contract.{OpenCall, call_of, change_call, change_first, is_answered_in, leave_call}
 use Rattle.part_laws.specs.Orderly.{is_open, is_told, kept_from}
 
@@ -68,11 +68,11 @@ abbrev pub change_where : {X : Type 0} → (X → Bool) → (X → X) → List X
 change_where test f [] = []
 change_where test f (x ∷ xs) = if test x then f x ∷ xs else x ∷ change_where test f xs
 
-past_found : {X : Type 0} (n : ℕ) (x : X) (xs : List X) → at_number (past_one n) (x ∷ xs) ≡ at_number n xs
+past_found : {X : Type 0} (n : ℕ) (x : X) (xs : List X) → at_number (one_later n) (x ∷ xs) ≡ at_number n xs
 past_found zero x xs = refl
 past_found (suc k) x xs = refl
 
-past_changed : {X : Type 0} (f : X → X) (n : ℕ) (x : X) (xs : List X) → change_number f (past_one n) (x ∷ xs) ≡ x ∷ change_number f n xs
+past_changed : {X : Type 0} (f : X → X) (n : ℕ) (x : X) (xs : List X) → change_number f (one_later n) (x ∷ xs) ≡ x ∷ change_number f n xs
 past_changed f zero x xs = refl
 past_changed f (suc k) x xs = put_later f k x xs (slice_get xs k)
 

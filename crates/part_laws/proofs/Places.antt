@@ -1,5 +1,5 @@
 use Rattle.std.proofs.Common.{◌≡◌, ◌⊎◌, ℕ, zero, suc, Bool, true, false, Option, Some, None, List, [], ◌∷◌, ◌++◌, map, length, set, slice_get, sym, refl, ap, ◌∙◌, inl, inr, arith}
-use Rattle.nook_defs.specs.Places.{change_found, change_number}
+use Rattle.nook_defs.specs.Places.{change_number}
 use Rattle.part_laws.specs.Facts.{At}
 
 -- Lists in which each item keeps its place.
@@ -106,6 +106,12 @@ set_get (y ∷ xs) (suc k) x h = ap (λ l. y ∷ l) (set_get xs k x h)
 pub length_map : {X Y : Type 0} (f : X → Y) (xs : List X) → length (map f xs) ≡ length xs
 length_map f [] = refl
 length_map f (x ∷ xs) = ap suc (length_map f xs)
+
+-- the list with the item that was found at a number changed
+abbrev pub change_found : {X : Type 0} → (X → X) → ℕ → List X → Option X → List X
+change_found f zero xs o = xs
+change_found f (suc place) xs None = xs
+change_found f (suc place) xs (Some x) = set xs place (f x)
 
 -- the item of a number is changed at its place
 pub change_at : {X : Type 0} (f : X → X) (k : ℕ) (xs : List X) (x : X) → At xs k x → change_number f (suc k) xs ≡ set xs k (f x)

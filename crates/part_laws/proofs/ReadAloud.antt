@@ -1,6 +1,6 @@
 use Rattle.std.proofs.Common.{◌≡◌, Bool, true, false, None, List, sym, refl, ap, ◌∙◌}
-use Rattle.nook_defs.specs.declared.data.Event.{Event}
-use Rattle.nook_defs.specs.declared.data.PartSpec.{PartSpec}
+use Rattle.nook_defs.specs.declared.steps.Event.{Event}
+use Rattle.nook_defs.specs.declared.scenario.PartSpec.{PartSpec}
 use Rattle.nook_defs.specs.Ideal.{Ideal, IsClassRun}
 use Rattle.nook_defs.specs.Licence.{IsLicensed}
 use Rattle.nook_defs.specs.Runs.{state_of}

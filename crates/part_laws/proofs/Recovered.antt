@@ -1,22 +1,22 @@
 use Rattle.std.proofs.Common.{◌≡◌, ◌⊎◌, ℕ, zero, suc, ◌&&◌, not, eqb, Bool, true, false, Option, Some, None, is_some, List, [], ◌∷◌, ◌++◌, length, fold, slice_index, slice_index_or, ext_get_or, sym, refl, ap, subst, ◌∙◌, inl, inr, true≢false}
 use Rattle.std.specs.List.{list_any}
 use Rattle.std.proofs.lemmas.Bool.{cond-true, cond-false, and_parts, and_from, not-true, or_left, or_right}
-use Rattle.nook_defs.specs.declared.data.Answer.{Answer}
-use Rattle.nook_defs.specs.declared.data.BadBlock.{BadBlock}
-use Rattle.nook_defs.specs.declared.data.Break.{Break}
-use Rattle.nook_defs.specs.declared.data.CallEntry.{CallEntry}
-use Rattle.nook_defs.specs.declared.data.Class.{Class}
-use Rattle.nook_defs.specs.declared.data.Class.TheVariants as class
-use Rattle.nook_defs.specs.declared.data.Event.{Event}
-use Rattle.nook_defs.specs.declared.data.Mode.{Mode}
-use Rattle.nook_defs.specs.declared.data.Mode.TheVariants as mode
-use Rattle.nook_defs.specs.declared.data.Op.{Op}
-use Rattle.nook_defs.specs.declared.data.PartSpec.{PartSpec}
-use Rattle.nook_defs.specs.declared.data.Stage.TheVariants as stage
-use Rattle.nook_defs.specs.declared.data.Step.{Step}
-use Rattle.nook_defs.specs.declared.data.Step.TheVariants as step
+use Rattle.nook_defs.specs.declared.calls.Answer.{Answer}
+use Rattle.nook_defs.specs.declared.scenario.BadBlock.{BadBlock}
+use Rattle.nook_defs.specs.declared.verdicts.Break.{Break}
+use Rattle.nook_defs.specs.declared.calls.CallEntry.{CallEntry}
+use Rattle.nook_defs.specs.declared.classes.Class.{Class}
+use Rattle.nook_defs.specs.declared.classes.Class.TheVariants as class
+use Rattle.nook_defs.specs.declared.steps.Event.{Event}
+use Rattle.nook_defs.specs.declared.steps.Mode.{Mode}
+use Rattle.nook_defs.specs.declared.steps.Mode.TheVariants as mode
+use Rattle.nook_defs.specs.declared.calls.Op.{Op}
+use Rattle.nook_defs.specs.declared.scenario.PartSpec.{PartSpec}
+use Rattle.nook_defs.specs.declared.steps.Stage.TheVariants as stage
+use Rattle.nook_defs.specs.declared.steps.Step.{Step}
+use Rattle.nook_defs.specs.declared.steps.Step.TheVariants as step
 use Rattle.nook_defs.specs.Blocks.{blank_blocks}
-use Rattle.nook_defs.specs.Calls.{invoked, invoked_by}
+use Rattle.nook_defs.specs.Calls.{after_invoke, invoked_by}
 use Rattle.nook_defs.specs.Classes.{defaults_of, is_set, same_class, static_check}
 use Rattle.part_laws.specs.Watch.{sees, break_at, break_from, first_watch, watched_break}
 use Rattle.nook_defs.specs.Devices.{opening_device}
@@ -26,9 +26,9 @@ use Rattle.part_laws.specs.Allowed.{IsAllowed, licenses, licensed, licensed_from
 use Rattle.part_laws.specs.Counts.{Counts, count_event, no_counts, counted_losses}
 use Rattle.nook_defs.specs.Log.{opening_log, call_of_thread}
 use Rattle.nook_defs.specs.Runs.{IsRun, IsRunFrom, state_after, state_from, state_of, step_of}
-use Rattle.nook_defs.specs.Stages.{collects, stage_turned, stage_due}
+use Rattle.nook_defs.specs.Stages.{collects, stage_stepped, stage_due}
 use Rattle.nook_defs.specs.State.{PartState}
-use Rattle.nook_defs.specs.Steps.{opening, enabled, turned, is_driven, is_running, is_ready, is_inside, arrived}
+use Rattle.nook_defs.specs.Steps.{opening, enabled, stepped, is_driven, is_running, is_ready, is_inside, after_arrival}
 use Rattle.nook_defs.specs.Trace.{shown, trace, trace_from, tracks_after}
 use Rattle.nook_defs.specs.Licence.{is_balanced}
 use Rattle.part_laws.specs.Balance.{Balanced}
@@ -49,9 +49,9 @@ use Rattle.part_laws.proofs.Stages.{stage_ok, with_mode}
 -- ---- the step theorem
 
 pub step_keeps : (p : PartState) (b : Past) (s : Step) → Facts (view_of p) b → length p.domain.contexts ≡ 17 → is_dead p.mode ≡ false
-    → enabled p s ≡ true → (sees (watch_of (view_of p) b) (turned p s).event).clause ≡ None
-    → Gone (turned p s).state ⊎ StepKeeps p b (turned p s)
-unfolding enabled turned
+    → enabled p s ≡ true → (sees (watch_of (view_of p) b) (stepped p s).event).clause ≡ None
+    → Gone (stepped p s).state ⊎ StepKeeps p b (stepped p s)
+unfolding enabled stepped
 step_keeps p b (step.Invoke thread o) f l d e h = inr (invoke_ok p b thread o f l d e)
 step_keeps p b (step.Enter thread) f l d e h = inr (enter_ok p b thread f l e)
 step_keeps p b (step.Burst context) f l d e h = inr (burst_ok p b context f l e h)
@@ -67,29 +67,29 @@ gone_runs (mode.Boot s) d r = absurd cc
 gone_runs mode.Running d r = absurd cc
 gone_runs (mode.Recovering s) d r = absurd cc
 
-gone_invoke : (p : PartState) (t : ℕ) (o : Op) → Gone p → Gone (invoked t o p).state
-unfolding invoked
+gone_invoke : (p : PartState) (t : ℕ) (o : Op) → Gone p → Gone (after_invoke t o p).state
+unfolding after_invoke
 gone_invoke p t o g = by_check (static_check p.spec.class p.spec.blocks o)
   where
     by_check : (r : Option Answer) → Gone (invoked_by p t o r).state
     by_check None = g
     by_check (Some a) = g
 
-gone_arrive : (p : PartState) (frame : List ℕ) → Gone p → Gone (arrived frame p).state
-unfolding arrived
+gone_arrive : (p : PartState) (frame : List ℕ) → Gone p → Gone (after_arrival frame p).state
+unfolding after_arrival
 gone_arrive p frame g = g
 
 gone_stage : (m : Mode) (p : PartState) → is_dead m ≡ true → is_driven p ≡ false → is_some (stage_due m) ≡ true
-    → Gone (stage_turned (with_mode m p)).state
-unfolding stage_turned collects collected_domain
+    → Gone (stage_stepped (with_mode m p)).state
+unfolding stage_stepped collects collected_domain
 gone_stage (mode.Dead false) p d n s = (refl, n)
 gone_stage (mode.Dead true) p d n s = absurd cc
 gone_stage (mode.Boot s) p d n e = absurd cc
 gone_stage mode.Running p d n s = absurd cc
 gone_stage (mode.Recovering s) p d n e = absurd cc
 
-pub gone_stays : (p : PartState) (s : Step) → Gone p → enabled p s ≡ true → Gone (turned p s).state
-unfolding enabled turned
+pub gone_stays : (p : PartState) (s : Step) → Gone p → enabled p s ≡ true → Gone (stepped p s).state
+unfolding enabled stepped
 gone_stays p (step.Invoke thread o) g e = gone_invoke p thread o g
 gone_stays p (step.Enter thread) g e = absurd (gone_runs p.mode g.0 (and_parts (is_running p.mode) (is_ready p (call_of_thread thread p.log.pending)) e).0)
 gone_stays p (step.Burst context) g e = absurd (split (eqb context 16)
@@ -129,29 +129,29 @@ unfolding IsRunFrom state_from
 gone_run [] p g r = g.0
 gone_run (e ∷ events) p g r = gone_run events (state_after p (step_of e)) (gone_stays p (step_of e) g r.0) r.2
 
-joined : (p : PartState) (b : Past) (e : Event) (events : List Event) → (k : StepKeeps p b (turned p (step_of e))) → (turned p (step_of e)).event ≡ e
-    → RunKeeps (turned p (step_of e)).state k.after events → RunKeeps p b (e ∷ events)
+joined : (p : PartState) (b : Past) (e : Event) (events : List Event) → (k : StepKeeps p b (stepped p (step_of e))) → (stepped p (step_of e)).event ≡ e
+    → RunKeeps (stepped p (step_of e)).state k.after events → RunKeeps p b (e ∷ events)
 unfolding state_from trace_from licensed_from
 joined p b e events k same r = record {
   after = r.after;
   facts = r.facts;
   seen = ap (λ w. fold sees w events) watched ∙ r.seen;
   tracked = ap (λ ts. fold (λ ts e. tracks_after e ts) ts events) tracked ∙ r.tracked;
-  counted = λ n x. r.counted (count_event n e) (subst (λ y. Balanced (view_of (turned p (step_of e)).state) k.after (count_event n y)) same (k.counted n x));
+  counted = λ n x. r.counted (count_event n e) (subst (λ y. Balanced (view_of (stepped p (step_of e)).state) k.after (count_event n y)) same (k.counted n x));
   shown =
       ap (λ ts. ran (ideal_of (view_of p) b) (shown e ts ++ trace_from ts events)) tracked
       ∙ ap (λ x. ran (ideal_of (view_of p) b) (shown x (tracks_of k.after) ++ trace_from (tracks_of k.after) events)) (sym same)
       ∙ k.shown (trace_from (tracks_of k.after) events)
       ∙ r.shown;
-  licensed = and_from (licenses p (sees (watch_of (view_of p) b) e) e) (licensed_from (turned p (step_of e)).state (sees (watch_of (view_of p) b) e) events)
-      (ap (λ w. licenses p w e) watched ∙ ap (licenses p (watch_of (view_of (turned p (step_of e)).state) k.after)) (sym same) ∙ k.licensed)
-      (ap (λ w. licensed_from (turned p (step_of e)).state w events) watched ∙ r.licensed);
+  licensed = and_from (licenses p (sees (watch_of (view_of p) b) e) e) (licensed_from (stepped p (step_of e)).state (sees (watch_of (view_of p) b) e) events)
+      (ap (λ w. licenses p w e) watched ∙ ap (licenses p (watch_of (view_of (stepped p (step_of e)).state) k.after)) (sym same) ∙ k.licensed)
+      (ap (λ w. licensed_from (stepped p (step_of e)).state w events) watched ∙ r.licensed);
 }
   where
     tracked : tracks_after e (tracks_of b) ≡ tracks_of k.after
     tracked = ap (λ x. tracks_after x (tracks_of b)) (sym same) ∙ k.tracked
 
-    watched : sees (watch_of (view_of p) b) e ≡ watch_of (view_of (turned p (step_of e)).state) k.after
+    watched : sees (watch_of (view_of p) b) e ≡ watch_of (view_of (stepped p (step_of e)).state) k.after
     watched = ap (sees (watch_of (view_of p) b)) (sym same) ∙ k.seen
 
 pub run_keeps : (events : List Event) (p : PartState) (b : Past) (place : ℕ) → Facts (view_of p) b → length p.domain.contexts ≡ 17 → is_dead p.mode ≡ false
@@ -160,22 +160,22 @@ unfolding IsRunFrom state_from break_from ran trace_from licensed_from
 run_keeps [] p b place f l d r h n = record { after = b; facts = f; shown = refl; licensed = refl; seen = refl; tracked = refl; counted = λ m x. x }
 run_keeps (e ∷ events) p b place f l d r h n = by_step
     (step_keeps p b (step_of e) f l d r.0 (ap (λ x. (sees (watch_of (view_of p) b) x).clause) r.1 ∙ clauses.0))
-    (λ b' g k i w. run_keeps events (turned p (step_of e)).state b' (suc place) g k i r.2 w n)
+    (λ b' g k i w. run_keeps events (stepped p (step_of e)).state b' (suc place) g k i r.2 w n)
   where
     clauses : ((sees (watch_of (view_of p) b) e).clause ≡ None) × (break_from (suc place) (sees (watch_of (view_of p) b) e) events ≡ None)
     clauses = unbroken (sees (watch_of (view_of p) b) e).clause place (break_from (suc place) (sees (watch_of (view_of p) b) e) events) h
 
-    by_step : Gone (turned p (step_of e)).state ⊎ StepKeeps p b (turned p (step_of e))
-        → ((b' : Past) → Facts (view_of (turned p (step_of e)).state) b' → length (turned p (step_of e)).state.domain.contexts ≡ 17
-        → is_dead (turned p (step_of e)).state.mode ≡ false → break_from (suc place) (watch_of (view_of (turned p (step_of e)).state) b') events ≡ None
-        → RunKeeps (turned p (step_of e)).state b' events)
+    by_step : Gone (stepped p (step_of e)).state ⊎ StepKeeps p b (stepped p (step_of e))
+        → ((b' : Past) → Facts (view_of (stepped p (step_of e)).state) b' → length (stepped p (step_of e)).state.domain.contexts ≡ 17
+        → is_dead (stepped p (step_of e)).state.mode ≡ false → break_from (suc place) (watch_of (view_of (stepped p (step_of e)).state) b') events ≡ None
+        → RunKeeps (stepped p (step_of e)).state b' events)
         → RunKeeps p b (e ∷ events)
     by_step (inl g) go = absurd (true≢false (sym (gone_run events (state_after p (step_of e)) g r.2) ∙ n))
-    by_step (inr k) go = split (is_dead (turned p (step_of e)).state.mode)
+    by_step (inr k) go = split (is_dead (stepped p (step_of e)).state.mode)
         (λ t. absurd (true≢false (sym (gone_run events (state_after p (step_of e)) (
           t,
-          undriven_dead (turned p (step_of e)).state.mode t
-              (is_driven (turned p (step_of e)).state) k.facts.driving,
+          undriven_dead (stepped p (step_of e)).state.mode t
+              (is_driven (stepped p (step_of e)).state) k.facts.driving,
         ) r.2) ∙ n)))
         (λ t. joined p b e events k r.1 (go k.after k.facts k.contexts t
         (subst (λ w. break_from (suc place) w events ≡ None) (ap (sees (watch_of (view_of p) b)) (sym r.1) ∙ k.seen) clauses.1)))

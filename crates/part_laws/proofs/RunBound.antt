@@ -2,15 +2,15 @@ use Rattle.std.proofs.Common.{◌≡◌, ℕ, zero, suc, ◌+◌, ◌*◌, ◌<�
 use Rattle.std.specs.List.{list_any, AllByRecursion}
 use Rattle.std.proofs.lemmas.Bool.{eqb-false, eq-eqb, ltb-true, ltb-false, lt-ltb, le-ltb, or_left, or_right}
 use Rattle.std.proofs.lemmas.List.Sums.{sum_by-cons}
-use Rattle.nook_defs.specs.declared.data.CallEntry.{CallEntry}
-use Rattle.nook_defs.specs.declared.data.Event.{Event}
-use Rattle.nook_defs.specs.declared.data.Event.TheVariants as event
-use Rattle.nook_defs.specs.declared.data.PartSpec.{PartSpec}
+use Rattle.nook_defs.specs.declared.calls.CallEntry.{CallEntry}
+use Rattle.nook_defs.specs.declared.steps.Event.{Event}
+use Rattle.nook_defs.specs.declared.steps.Event.TheVariants as event
+use Rattle.nook_defs.specs.declared.scenario.PartSpec.{PartSpec}
 use Rattle.nook_defs.specs.Domain.{opening_domain}
 use Rattle.nook_defs.specs.Log.{opening_log}
 use Rattle.nook_defs.specs.Runs.{step_of, event_of, state_after, state_from, IsRunFrom, IsRun}
 use Rattle.nook_defs.specs.State.{PartState}
-use Rattle.nook_defs.specs.Steps.{opening, turned}
+use Rattle.nook_defs.specs.Steps.{opening, stepped}
 use Rattle.part_laws.proofs.BurstKeeps.{split}
 use Rattle.part_laws.proofs.StepsFit.{fit_after, opening_fit}
 use Rattle.part_laws.proofs.TiedBursts.{step_tied}
@@ -138,7 +138,7 @@ cost_from threads test p [] few f t calls invoked r = omega arith
 cost_from threads test p (e ∷ events) few f t calls invoked r =
     let n : length p.log.pending ≤ passing_below 16 test = few_calls test p.log.pending t.apart (threads_of_fit p f) calls in
     let q : PartState = state_after p (step_of e) in
-    let k : StepTied threads p (turned p (step_of e)) = step_tied threads p (step_of e) f t (omega arith) r.0 in
+    let k : StepTied threads p (stepped p (step_of e)) = step_tied threads p (step_of e) f t (omega arith) r.0 in
     let c : 1 + left threads q ≤ left threads p + price threads (event_of p (step_of e)) = k.cost in
     let same : price threads (event_of p (step_of e)) ≡ price threads e = ap (price threads) r.1 in
     let mine : InvokesIn test (event_of p (step_of e)) = subst (InvokesIn test) (sym r.1) invoked.0 in

@@ -1,17 +1,18 @@
 use Rattle.std.proofs.Common.{◌≡◌, ◌⊎◌, inl, inr, ℕ, ◌<◌, ◌≤◌, ◌==◌, nat_lt, not, is_some, true, false, Option, Some, None, List, [], ◌∷◌, refl, ap, ◌∙◌, subst, arith, true≢false}
 use Rattle.std.specs.List.{list_any, AllByRecursion}
 use Rattle.std.proofs.lemmas.Bool.{and_left, and_right, and_cases, and_from, or_from, eq-eqb, ne_eqb, le-ltb, both_ways}
-use Rattle.nook_defs.specs.declared.data.CallEntry.{CallEntry}
-use Rattle.nook_defs.specs.declared.data.Class.{Class}
-use Rattle.nook_defs.specs.declared.data.Event.{Event}
-use Rattle.nook_defs.specs.declared.data.Mode.{Mode}
-use Rattle.nook_defs.specs.declared.data.Mode.TheVariants as mode
-use Rattle.nook_defs.specs.declared.data.PartSpec.{PartSpec}
-use Rattle.nook_defs.specs.declared.data.Step.{Step}
-use Rattle.nook_defs.specs.declared.data.Step.TheVariants as step
+use Rattle.nook_defs.specs.declared.calls.CallEntry.{CallEntry}
+use Rattle.nook_defs.specs.declared.classes.Class.{Class}
+use Rattle.nook_defs.specs.declared.steps.Event.{Event}
+use Rattle.nook_defs.specs.declared.steps.Mode.{Mode}
+use Rattle.nook_defs.specs.declared.steps.Mode.TheVariants as mode
+use Rattle.nook_defs.specs.declared.scenario.PartSpec.{PartSpec}
+use Rattle.nook_defs.specs.declared.steps.Step.{Step}
+use Rattle.nook_defs.specs.declared.steps.Step.TheVariants as step
 use Rattle.nook_defs.specs.Classes.{conflicts}
 use Rattle.nook_defs.specs.Log.{call_of_thread, is_blocked, blocks_call}
-use Rattle.nook_defs.specs.Runs.{if_enabled, next_for, next_recovery, or_step, next_of_calls, next_any, state_from, IsRun}
+use Rattle.std.specs.Option.{option_or}
+use Rattle.nook_defs.specs.Runs.{if_enabled, next_for, next_recovery, next_of_calls, next_any, state_from, IsRun}
 use Rattle.nook_defs.specs.Stages.{stage_due}
 use Rattle.nook_defs.specs.State.{PartState}
 use Rattle.nook_defs.specs.Steps.{opening, enabled, is_running, is_driven, is_ready, is_inside}
@@ -23,6 +24,7 @@ use Rattle.part_laws.proofs.TiedSteps.{threads_of_fit}
 use Rattle.part_laws.specs.Fit.{IsFitSpec, IsFit}
 use Rattle.part_laws.specs.Progress.{IsStill, HasProgress}
 use Rattle.part_laws.specs.Tied.{IsRising, IsTiedCall, IsTied}
+use Rattle.nook_defs.proofs.Options.{none_is_some, same_inside}
 
 -- Progress: where a call is open some step may be taken.
 
@@ -31,26 +33,20 @@ use Rattle.part_laws.specs.Tied.{IsRising, IsTiedCall, IsTied}
 IsOkNext : PartState → Option Step → Type 0
 IsOkNext p o = (s : Step) → o ≡ Some s → enabled p s ≡ true
 
-some_step : {G : Type 0} {s : Step} → None ≡ Some s → G
-some_step h = cc
-
-same_step : {a b : Step} → Some a ≡ Some b → a ≡ b
-same_step h = cc
-
 if_enabled_ok : (p : PartState) (s : Step) (others : Option Step) → IsOkNext p others → IsOkNext p (if_enabled p s others)
 unfolding IsOkNext
 if_enabled_ok p s others ok s' h = split (enabled p s)
-    (λ e. subst (λ x. enabled p x ≡ true) (same_step (rw e at h)) e)
+    (λ e. subst (λ x. enabled p x ≡ true) (same_inside (rw e at h)) e)
     (λ e. ok s' (rw e at h))
 
-or_step_ok : (p : PartState) (a b : Option Step) → IsOkNext p a → IsOkNext p b → IsOkNext p (or_step a b)
+or_step_ok : (p : PartState) (a b : Option Step) → IsOkNext p a → IsOkNext p b → IsOkNext p (option_or a b)
 unfolding IsOkNext
 or_step_ok p None b oka okb = okb
 or_step_ok p (Some s) b oka okb = oka
 
 none_ok : (p : PartState) → IsOkNext p None
 unfolding IsOkNext
-none_ok p s h = some_step h
+none_ok p s h = none_is_some h
 
 next_for_ok : (p : PartState) (thread : ℕ) → IsOkNext p (next_for p thread)
 unfolding IsOkNext
@@ -72,7 +68,7 @@ next_enabled p s h =
 
 -- where there is none
 
-or_none : (a b : Option Step) → or_step a b ≡ None → (a ≡ None) × (b ≡ None)
+or_none : (a b : Option Step) → option_or a b ≡ None → (a ≡ None) × (b ≡ None)
 or_none None b h = (refl, h)
 or_none (Some s) b h = cc
 

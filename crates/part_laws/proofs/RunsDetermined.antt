@@ -2,21 +2,21 @@ use Rattle.std.proofs.Common.{◌≡◌, ℕ, true, Option, Some, None, List, []
 use Rattle.std.specs.List.{find}
 use Rattle.nook_defs.specs.declared.classes.Admit.{Admit}
 use Rattle.nook_defs.specs.declared.classes.Admit.TheVariants as admits
-use Rattle.nook_defs.specs.declared.data.Answer.{Answer}
-use Rattle.nook_defs.specs.declared.data.CallEntry.{CallEntry}
-use Rattle.nook_defs.specs.declared.data.Event.{Event}
-use Rattle.nook_defs.specs.declared.data.Op.{Op}
-use Rattle.nook_defs.specs.declared.data.Stage.{Stage}
-use Rattle.nook_defs.specs.declared.data.Stage.TheVariants as stage
-use Rattle.nook_defs.specs.declared.data.Step.{Step}
-use Rattle.nook_defs.specs.declared.data.Step.TheVariants as step
-use Rattle.nook_defs.specs.Calls.{invoked, invoked_by, entered_part, entered_by, admitted}
+use Rattle.nook_defs.specs.declared.calls.Answer.{Answer}
+use Rattle.nook_defs.specs.declared.calls.CallEntry.{CallEntry}
+use Rattle.nook_defs.specs.declared.steps.Event.{Event}
+use Rattle.nook_defs.specs.declared.calls.Op.{Op}
+use Rattle.nook_defs.specs.declared.steps.Stage.{Stage}
+use Rattle.nook_defs.specs.declared.steps.Stage.TheVariants as stage
+use Rattle.nook_defs.specs.declared.steps.Step.{Step}
+use Rattle.nook_defs.specs.declared.steps.Step.TheVariants as step
+use Rattle.nook_defs.specs.Calls.{after_invoke, invoked_by, after_enter, entered_by, after_admit}
 use Rattle.nook_defs.specs.Classes.{static_check, admit}
 use Rattle.nook_defs.specs.Log.{call_of_thread, is_of_thread}
 use Rattle.nook_defs.specs.Runs.{step_of, event_of, state_after, state_from, IsRunFrom}
-use Rattle.nook_defs.specs.Stages.{is_given_up, stopped, given_up, collects, resets, loads_image, inits, replays_set, replays_open, resumes, stage_done, stage_by, stage_due, stage_turned}
+use Rattle.nook_defs.specs.Stages.{is_given_up, stops, gives_up_part, collects, resets, loads_image, inits, replays_set, replays_open, resumes, stage_done, stage_by, stage_due, stage_stepped}
 use Rattle.nook_defs.specs.State.{PartState}
-use Rattle.nook_defs.specs.Steps.{enabled, burst_turned, arrived, turned}
+use Rattle.nook_defs.specs.Steps.{enabled, burst_stepped, after_arrival, stepped}
 use Rattle.part_laws.proofs.BurstKeeps.{split}
 use Rattle.part_laws.specs.Determined.{events_made, state_made}
 
@@ -37,7 +37,7 @@ invoke_named : (p : PartState) (thread : ℕ) (o : Op) (r : Option Answer) → s
 invoke_named p thread o None = refl
 invoke_named p thread o (Some a) = refl
 
-admitted_named : (p : PartState) (c : CallEntry) (a : Admit) → step_of (admitted p c a).event ≡ step.Enter c.thread
+admitted_named : (p : PartState) (c : CallEntry) (a : Admit) → step_of (after_admit p c a).event ≡ step.Enter c.thread
 admitted_named p c (admits.Reply a) = refl
 admitted_named p c admits.TakeFrame = refl
 admitted_named p c (admits.Enter place) = refl
@@ -50,7 +50,7 @@ enter_named p thread (Some c) e =
     ∙ ap {B = Step} (λ (t : ℕ). step.Enter t) (found_thread thread p.log.pending c e)
 
 stage_named : (p : PartState) (s : Stage) → step_of (stage_done s p).event ≡ step.Stage
-unfolding stopped given_up collects resets loads_image inits replays_set replays_open resumes
+unfolding stops gives_up_part collects resets loads_image inits replays_set replays_open resumes
 stage_named p stage.Stop = split (is_given_up p) (λ e. rw e) (λ e. rw e)
 stage_named p stage.Collect = refl
 stage_named p stage.Reset = refl
@@ -65,7 +65,7 @@ stage_by_named p None = refl
 stage_by_named p (Some s) = stage_named p s
 
 pub step_named : (p : PartState) (s : Step) → step_of (event_of p s) ≡ s
-unfolding turned invoked entered_part burst_turned stage_turned arrived
+unfolding stepped after_invoke after_enter burst_stepped stage_stepped after_arrival
 step_named p (step.Invoke thread o) = invoke_named p thread o (static_check p.spec.class p.spec.blocks o)
 step_named p (step.Enter thread) = enter_named p thread (call_of_thread thread p.log.pending) refl
 step_named p (step.Burst context) = refl

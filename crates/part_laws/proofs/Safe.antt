@@ -1,6 +1,6 @@
 use Rattle.std.proofs.Common.{List}
-use Rattle.nook_defs.specs.declared.data.Event.{Event}
-use Rattle.nook_defs.specs.declared.data.PartSpec.{PartSpec}
+use Rattle.nook_defs.specs.declared.steps.Event.{Event}
+use Rattle.nook_defs.specs.declared.scenario.PartSpec.{PartSpec}
 use Rattle.nook_defs.specs.Runs.{IsRun}
 use Rattle.nook_defs.specs.Valid.{IsValidPart}
 use Rattle.part_laws.proofs.ReadAloud.{kept_agrees, kept_licensed, kept_shows_one_run}

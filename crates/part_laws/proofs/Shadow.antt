@@ -1,16 +1,16 @@
-use Rattle.std.proofs.Common.{◌≡◌, ℕ, not, eqb, Bool, true, false, Option, Some, None, List, [], ◌∷◌, ◌++◌, slice_index, refl, ap, arith}
+use Rattle.std.proofs.Common.{if◌then◌else◌, ◌≡◌, ℕ, not, eqb, Bool, true, false, Option, Some, None, List, [], ◌∷◌, ◌++◌, slice_index, refl, ap, arith}
 use Rattle.std.proofs.lemmas.Bool.{and_from, eq-eqb}
-use Rattle.nook_defs.specs.declared.data.Answer.{Answer}
-use Rattle.nook_defs.specs.declared.data.Answer.TheVariants as answered
-use Rattle.nook_defs.specs.declared.data.Op.{Op}
-use Rattle.nook_defs.specs.declared.data.Op.TheVariants.{Read, Write, Send, Recv, Open, Play, Close, Get, Set}
-use Rattle.nook_defs.specs.declared.data.Stage.{Stage}
-use Rattle.nook_defs.specs.declared.data.Stage.TheVariants as stage
+use Rattle.nook_defs.specs.declared.calls.Answer.{Answer}
+use Rattle.nook_defs.specs.declared.calls.Answer.TheVariants as answered
+use Rattle.nook_defs.specs.declared.calls.Op.{Op}
+use Rattle.nook_defs.specs.declared.calls.Op.TheVariants.{Read, Write, Send, Recv, Open, Play, Close, Get, Set}
+use Rattle.nook_defs.specs.declared.steps.Stage.{Stage}
+use Rattle.nook_defs.specs.declared.steps.Stage.TheVariants as stage
 use Rattle.nook_defs.specs.Classes.{is_holder}
 use Rattle.part_laws.specs.Watch.{Watch}
 use Rattle.nook_defs.specs.Ideal.{Ideal}
 use Rattle.part_laws.specs.Allowed.{allows}
-use Rattle.nook_defs.specs.Log.{shadow_answer, is_kept, queue_after, frame_or_empty, play_dropped}
+use Rattle.nook_defs.specs.Log.{shadow_answer, is_held, queue_after, frame_or_empty}
 use Rattle.nook_defs.specs.Trace.{Track, kept_blocks}
 use Rattle.nook_defs.specs.Licence.{same_stage}
 use Rattle.part_laws.specs.Facts.{Sub}
@@ -32,7 +32,7 @@ same_stage_refl stage.Resume = refl
 
 -- what an answer of the shadow is
 pub record Says (m : Ideal) (thread : ℕ) (o : Op) (s : Stage) (queue tail : List (List ℕ)) (a : Answer) : Type 0 where
-  pub kept : is_kept o ≡ false
+  pub kept : is_held o ≡ false
   pub frames : List (List ℕ)
   pub comes : Comes m thread o a [] (record m { pending = frames })
   pub chain : Sub (queue_after o queue ++ tail) frames
@@ -42,11 +42,12 @@ pub record Says (m : Ideal) (thread : ℕ) (o : Op) (s : Stage) (queue tail : Li
 
 -- what the shadow does with an operation: it holds it, or answers it
 abbrev pub ShadowSays : Ideal → ℕ → Op → Stage → List (List ℕ) → List (List ℕ) → Option Answer → Type 0
-ShadowSays m thread o s queue tail None = (is_kept o ≡ true) × (queue_after o queue ≡ queue)
+ShadowSays m thread o s queue tail None = (is_held o ≡ true) × (queue_after o queue ≡ queue)
 ShadowSays m thread o s queue tail (Some a) = Says m thread o s queue tail a
 
 recv_says : (m : Ideal) (thread : ℕ) (s : Stage) (queue tail : List (List ℕ)) → Sub (queue ++ tail) m.pending
     → Says m thread Recv s queue tail (frame_or_empty queue)
+unfolding shadow_answer
 recv_says m thread s [] tail h = record
     { kept = refl; frames = m.pending; comes = record { may = refl; after = refl }; chain = h; blocks = λ t. refl; allowed = λ q w n. refl; counted = omega arith }
 recv_says m thread s (frame ∷ queue) tail h = taken (sub_front frame (queue ++ tail) m.pending h)
@@ -56,7 +57,8 @@ recv_says m thread s (frame ∷ queue) tail h = taken (sub_front frame (queue ++
         { kept = refl; frames = t.rest; comes = frame_comes m thread frame [] t.rest t.after; chain = t.chain; blocks = λ t. refl; allowed = λ q w n. refl; counted = omega arith }
 
 play_says : (m : Ideal) (thread : ℕ) (samples : List ℕ) (s : Stage) (queue tail : List (List ℕ)) → Sub (queue ++ tail) m.pending
-    → (h : Bool) → is_holder m.holder thread ≡ h → Says m thread (Play samples) s queue tail (play_dropped h)
+    → (h : Bool) → is_holder m.holder thread ≡ h → Says m thread (Play samples) s queue tail (if h then answered.Done else answered.NotOpen)
+unfolding shadow_answer
 play_says m thread samples s queue tail c true e = record
     { kept = refl; frames = m.pending; comes = record { may = e; after = refl }; chain = c; blocks = λ t. refl; allowed = λ q w n. refl; counted = omega arith }
 play_says m thread samples s queue tail c false e = record

@@ -1,21 +1,21 @@
 use Rattle.std.proofs.Common.{◌≡◌, ◌⊎◌, ℕ, cond, Bool, true, false, Option, Some, is_some, List, [], length, slice_set, slice_index, sym, refl, ap, ap₂, subst, ◌∙◌, inl, inr, length-set}
 use Rattle.std.proofs.lemmas.Bool.{cond-true, cond-false}
-use Rattle.nook_defs.specs.declared.data.DeviceKind.{DeviceKind}
-use Rattle.nook_defs.specs.declared.data.DeviceKind.TheVariants as kind
-use Rattle.nook_defs.specs.declared.data.DeviceState.{DeviceState}
-use Rattle.nook_defs.specs.declared.data.Entry.{Entry}
-use Rattle.nook_defs.specs.declared.data.Event.TheVariants as event
-use Rattle.nook_defs.specs.declared.data.Mode.{Mode}
-use Rattle.nook_defs.specs.declared.data.Mode.TheVariants as mode
-use Rattle.nook_defs.specs.declared.data.Stage.{Stage}
-use Rattle.nook_defs.specs.declared.data.Stage.TheVariants as stage
+use Rattle.nook_defs.specs.declared.devices.DeviceKind.{DeviceKind}
+use Rattle.nook_defs.specs.declared.devices.DeviceKind.TheVariants as kind
+use Rattle.nook_defs.specs.declared.devices.DeviceState.{DeviceState}
+use Rattle.nook_defs.specs.declared.entries.Entry.{Entry}
+use Rattle.nook_defs.specs.declared.steps.Event.TheVariants as event
+use Rattle.nook_defs.specs.declared.steps.Mode.{Mode}
+use Rattle.nook_defs.specs.declared.steps.Mode.TheVariants as mode
+use Rattle.nook_defs.specs.declared.steps.Stage.{Stage}
+use Rattle.nook_defs.specs.declared.steps.Stage.TheVariants as stage
 use Rattle.nook_defs.specs.declared.machine.Context.{Context}
-use Rattle.nook_defs.specs.Calls.{Turned}
+use Rattle.nook_defs.specs.Calls.{Stepped}
 use Rattle.part_laws.specs.Watch.{Watch, sees_stage}
 use Rattle.nook_defs.specs.Devices.{reset_device, reset_kind, medium_of_kind, ring_of_kind}
 use Rattle.nook_defs.specs.Domain.{context_of, entered_domain, plainly_entered, stopped_domain, collected_domain, loaded_domain}
 use Rattle.nook_defs.specs.Ideal.{ran}
-use Rattle.nook_defs.specs.Stages.{is_given_up, stopped, given_up, collects, resets, loads_image, inits, replays_set, replays_open, resumes, stage_due, stage_turned}
+use Rattle.nook_defs.specs.Stages.{is_given_up, stops, gives_up_part, collects, resets, loads_image, inits, replays_set, replays_open, resumes, stage_due, stage_stepped}
 use Rattle.nook_defs.specs.State.{PartState}
 use Rattle.nook_defs.specs.Steps.{is_driven}
 use Rattle.part_laws.specs.Counts.{Counts, count_stage}
@@ -66,7 +66,7 @@ restage v b m d f n registers replay booting driving = record {
     none : (k : ℕ) (c : Core) → At (cores b) k c → c.inside ≡ true → ⊥
     none k c h i = absurd cc (n, f.insides k c h i)
 
-abbrev stage_event : PartState → Stage → List Entry → Turned
+abbrev stage_event : PartState → Stage → List Entry → Stepped
 stage_event q s released = record { state = q; event = event.Stage s [] released }
 
 -- a stage that changes the mode alone, or lets the shadow's call begin
@@ -223,16 +223,16 @@ replay_begins config defaults d k w key value e h = (h.0, h.1, λ s. at (h.2 s))
 -- ---- all stages
 
 stop_or_dead : (p : PartState) (b : Past) → Facts (view_of p) b → held_at (stage_of p.mode) b.rest ≡ length b.rest → is_driven p ≡ false
-    → Gone (cond (is_given_up p) (given_up p) (stopped p)).state ⊎ StepKeeps p b (cond (is_given_up p) (given_up p) (stopped p))
-unfolding given_up stopped_domain
+    → Gone (cond (is_given_up p) (gives_up_part p) (stops p)).state ⊎ StepKeeps p b (cond (is_given_up p) (gives_up_part p) (stops p))
+unfolding gives_up_part stopped_domain
 stop_or_dead p b f held d = split (is_given_up p)
-    (λ t. inl (subst (λ (x : Turned). Gone x.state) (sym (cond-true (is_given_up p) (given_up p) (stopped p) t)) (refl, refl)))
-    (λ t. inr (subst (λ x. StepKeeps p b x) (sym (cond-false (is_given_up p) (given_up p) (stopped p) t)) (stop_ok p b f held d)))
+    (λ t. inl (subst (λ (x : Stepped). Gone x.state) (sym (cond-true (is_given_up p) (gives_up_part p) (stops p) t)) (refl, refl)))
+    (λ t. inr (subst (λ x. StepKeeps p b x) (sym (cond-false (is_given_up p) (gives_up_part p) (stops p) t)) (stop_ok p b f held d)))
 
 stage_at : (m : Mode) (p : PartState) (b : Past) → Facts (view_of (with_mode m p)) b → length p.domain.contexts ≡ 17
     → is_driven p ≡ false → is_dead m ≡ false → is_some (stage_due m) ≡ true
-    → Gone (stage_turned (with_mode m p)).state ⊎ StepKeeps (with_mode m p) b (stage_turned (with_mode m p))
-unfolding stage_turned collects collected_domain resets loads_image loaded_domain inits replays_set replays_open resumes plainly_entered entered_domain
+    → Gone (stage_stepped (with_mode m p)).state ⊎ StepKeeps (with_mode m p) b (stage_stepped (with_mode m p))
+unfolding stage_stepped collects collected_domain resets loads_image loaded_domain inits replays_set replays_open resumes plainly_entered entered_domain
 stage_at mode.Running p b f l d n s = absurd cc
 stage_at (mode.Dead collected) p b f l d n s = absurd cc
 stage_at (mode.Boot stage.Stop) p b f l d n s = stop_or_dead (with_mode (mode.Boot stage.Stop) p) b f refl d
@@ -288,5 +288,5 @@ stage_at (mode.Recovering stage.Resume) p b f l d n s = inr (quiet (with_mode (m
 
 pub stage_ok : (p : PartState) (b : Past) → Facts (view_of p) b → length p.domain.contexts ≡ 17
     → is_driven p ≡ false → is_dead p.mode ≡ false → is_some (stage_due p.mode) ≡ true
-    → Gone (stage_turned p).state ⊎ StepKeeps p b (stage_turned p)
+    → Gone (stage_stepped p).state ⊎ StepKeeps p b (stage_stepped p)
 stage_ok p b f l d n s = stage_at p.mode p b f l d n s

@@ -1,18 +1,19 @@
 use Rattle.std.proofs.Common.{◌≡◌, ℕ, suc, ◌&&◌, Bool, true, false, Option, Some, None, List, [], ◌∷◌, ◌++◌, map, length, sym, refl, ap, subst, ◌∙◌, arith, append_assoc, length-append}
 use Rattle.std.proofs.lemmas.Bool.{and_parts, and_from}
-use Rattle.nook_defs.specs.declared.data.Answer.{Answer}
-use Rattle.nook_defs.specs.declared.data.CallEntry.{CallEntry}
-use Rattle.nook_defs.specs.declared.data.Op.{Op}
-use Rattle.nook_defs.specs.declared.data.Op.TheVariants.{Read, Write, Send, Recv, Open, Play, Close, Get, Set}
-use Rattle.nook_defs.specs.declared.data.Stage.TheVariants as stage
+use Rattle.nook_defs.specs.declared.calls.Answer.{Answer}
+use Rattle.nook_defs.specs.declared.calls.CallEntry.{CallEntry}
+use Rattle.nook_defs.specs.declared.calls.Op.{Op}
+use Rattle.nook_defs.specs.declared.calls.Op.TheVariants.{Read, Write, Send, Recv, Open, Play, Close, Get, Set}
+use Rattle.nook_defs.specs.declared.steps.Stage.TheVariants as stage
 use Rattle.nook_defs.specs.Classes.{is_write, static_check}
 use Rattle.part_laws.specs.Watch.{Watch, leaves}
 use Rattle.nook_defs.specs.Domain.{stopped_domain}
-use Rattle.nook_defs.specs.Ideal.{Ideal, Opened, ran, closes, stops_waiting}
+use Rattle.nook_defs.specs.Ideal.{Ideal, Opened, ran, closes}
+use Rattle.nook_defs.proofs.Changes.{stops_waiting}
 use Rattle.part_laws.specs.Allowed.{allows, allows_each}
-use Rattle.nook_defs.specs.Log.{shadow_answer, is_kept, queue_after, with_answer, stop_answers, stop_calls, stop_queue}
+use Rattle.nook_defs.specs.Log.{shadow_answer, is_held, queue_after, with_answer, stop_answers, stop_calls, stop_queue}
 use Rattle.nook_defs.specs.Places.{at_number, change_number}
-use Rattle.nook_defs.specs.Stages.{stopped}
+use Rattle.nook_defs.specs.Stages.{stops}
 use Rattle.nook_defs.specs.State.{PartState}
 use Rattle.nook_defs.specs.Steps.{is_driven}
 use Rattle.nook_defs.specs.Trace.{Visible, Track, answer, kept_blocks, shown_answers}
@@ -33,7 +34,8 @@ use Rattle.part_laws.proofs.Shadow.{ShadowSays, shadow_says}
 
 -- ---- the calls
 
-once_kept : (o : Op) → is_once o ≡ true → is_kept o ≡ true → ⊥
+once_kept : (o : Op) → is_once o ≡ true → is_held o ≡ true → ⊥
+unfolding shadow_answer
 once_kept (Read first count) h i = absurd cc
 once_kept (Write first words) h i = absurd cc
 once_kept (Send frame) h i = absurd cc
@@ -44,7 +46,8 @@ once_kept Close h i = absurd cc
 once_kept (Get key) h i = absurd cc
 once_kept (Set key value) h i = absurd cc
 
-write_kept : (o : Op) → is_write o ≡ true → is_kept o ≡ true
+write_kept : (o : Op) → is_write o ≡ true → is_held o ≡ true
+unfolding shadow_answer
 write_kept (Write first words) h = refl
 write_kept (Read first count) h = refl
 write_kept (Send frame) h = absurd cc
@@ -59,11 +62,11 @@ stop_less : (c : Core) → Less c (stop_core c)
 stop_less c = record {
   thread = refl;
   op = refl;
-  waits = λ w. (and_parts c.waits (is_kept c.op) w).0;
+  waits = λ w. (and_parts c.waits (is_held c.op) w).0;
   inside = λ i. absurd cc;
   opened = λ i. absurd cc;
   attempts = λ w. refl;
-  once = λ o w i. absurd (once_kept c.op o (and_parts c.waits (is_kept c.op) w).1);
+  once = λ o w i. absurd (once_kept c.op o (and_parts c.waits (is_held c.op) w).1);
 }
 
 all_stop_less : (cs : List Core) → AllLess cs (map stop_core cs)
@@ -78,7 +81,7 @@ stop_writes cs = record {
     stop_core c,
     get_map stop_core cs k c h,
     record
-        { waits = and_from c.waits (is_kept c.op) w (write_kept c.op i); op = refl; entered = λ a. a; stored = refl },
+        { waits = and_from c.waits (is_held c.op) w (write_kept c.op i); op = refl; entered = λ a. a; stored = refl },
   );
   back = λ k d n h w i s. by_call k d w (from_map stop_core cs k d h);
 }
@@ -88,7 +91,7 @@ stop_writes cs = record {
     by_call k d w (c, g, e) = (
       c,
       g,
-      (and_parts c.waits (is_kept c.op) (ap (λ x. x.waits) (sym e) ∙ w)).0,
+      (and_parts c.waits (is_held c.op) (ap (λ x. x.waits) (sym e) ∙ w)).0,
       subst (λ x. SameWrite c x) (sym e) (record
           { waits = ap (λ x. x.waits) (sym e) ∙ w; op = refl; entered = λ a. a; stored = refl }),
     )
@@ -135,10 +138,10 @@ one_stop : (m : Ideal) (front : List Opened) (n : ℕ) (c : Core) (o : Opened) (
     (ts : List Track) → n ≡ suc (length front) → o.thread ≡ c.thread → o.op ≡ c.op → o.waits ≡ true → static_check m.class m.size o.op ≡ None
     → (r : Option Answer) → shadow_answer c.op c.thread m.config m.holder stage.Stop queue ≡ r
     → ShadowSays (closes n (with_opened m (front ++ (o ∷ os)) frames)) c.thread c.op stage.Stop queue tail r
-    → ((o' : Opened) → o' ≡ record o { waits = is_kept c.op } → (queue frames : List (List ℕ)) → Sub (queue ++ tail) frames
+    → ((o' : Opened) → o' ≡ record o { waits = is_held c.op } → (queue frames : List (List ℕ)) → Sub (queue ++ tail) frames
     → Stopped m ((front ++ o' ∷ []) ++ os) es queue tail frames ts ((front ++ o' ∷ []) ++ os'))
     → Sub (queue ++ tail) frames
-    → Stopped m (front ++ (o ∷ os)) (entry_of n c ∷ es) queue tail frames ts (front ++ (record o { waits = is_kept c.op } ∷ os'))
+    → Stopped m (front ++ (o ∷ os)) (entry_of n c ∷ es) queue tail frames ts (front ++ (record o { waits = is_held c.op } ∷ os'))
 one_stop m front n c o os os' es queue tail frames ts e et eo w ch None a s later chain = record {
   left = next.left;
   chain = next.chain;
@@ -149,10 +152,10 @@ one_stop m front n c o os os' es queue tail frames ts e et eo w ch None a s late
       (next.counted ring held t (subst (λ l. Balance ring (length l) held (tally t)) (sym s.1) x));
 }
   where
-    next : Stopped m (front ++ (o ∷ os)) es (queue_after c.op queue) tail frames ts (front ++ (record o { waits = is_kept c.op } ∷ os'))
-    next = past_call m front o (record o { waits = is_kept c.op }) os os' es (queue_after c.op queue) tail frames ts
+    next : Stopped m (front ++ (o ∷ os)) es (queue_after c.op queue) tail frames ts (front ++ (record o { waits = is_held c.op } ∷ os'))
+    next = past_call m front o (record o { waits = is_held c.op }) os os' es (queue_after c.op queue) tail frames ts
         (ap (λ t. record o { waits = t }) (w ∙ sym s.0))
-        (later (record o { waits = is_kept c.op }) refl (queue_after c.op queue) frames (subst (λ l. Sub (l ++ tail) frames) (sym s.1) chain))
+        (later (record o { waits = is_held c.op }) refl (queue_after c.op queue) frames (subst (λ l. Sub (l ++ tail) frames) (sym s.1) chain))
 one_stop m front n c o os os' es queue tail frames ts e et eo w ch (Some x) a s later chain = record {
   left = next.left;
   chain = next.chain;
@@ -183,9 +186,9 @@ one_stop m front n c o os os' es queue tail frames ts e et eo w ch (Some x) a s 
     rest : List Visible
     rest = shown_answers (stop_answers es m.config m.holder (queue_after c.op queue)) ts
 
-    next : Stopped m (front ++ (record o { waits = is_kept c.op } ∷ os)) es (queue_after c.op queue) tail s.frames ts (front ++ (record o { waits = is_kept c.op } ∷ os'))
-    next = past_call m front (record o { waits = is_kept c.op }) (record o { waits = is_kept c.op }) os os' es (queue_after c.op queue) tail s.frames ts refl
-        (later (record o { waits = is_kept c.op }) refl (queue_after c.op queue) s.frames s.chain)
+    next : Stopped m (front ++ (record o { waits = is_held c.op } ∷ os)) es (queue_after c.op queue) tail s.frames ts (front ++ (record o { waits = is_held c.op } ∷ os'))
+    next = past_call m front (record o { waits = is_held c.op }) (record o { waits = is_held c.op }) os os' es (queue_after c.op queue) tail s.frames ts refl
+        (later (record o { waits = is_held c.op }) refl (queue_after c.op queue) s.frames s.chain)
 
 pub stops_shown : (m : Ideal) (front : List Opened) (n : ℕ) (cs : List Call) (queue tail frames : List (List ℕ)) (ts : List Track)
     → n ≡ suc (length front) → Sub (queue ++ tail) frames
@@ -206,20 +209,20 @@ stops_shown m front n (c ∷ cs) queue tail frames ts e h checked = by_waits c.c
     by_waits true w later = subst
         (λ t. Stopped m (front ++ (as_opened c ∷ map as_opened cs)) (entry_of n c.core ∷ open_from (suc n) (map core_of cs)) queue tail frames ts
         (front ++ (record (as_opened c) { waits = t } ∷ map as_opened (map stop_call cs))))
-        (ap (λ b. b && is_kept c.core.op) (sym w))
+        (ap (λ b. b && is_held c.core.op) (sym w))
         (one_stop m front n c.core (as_opened c) (map as_opened cs) (map as_opened (map stop_call cs)) (open_from (suc n) (map core_of cs)) queue tail frames ts
         e refl refl w (checked 0 c.core refl w) (shadow_answer c.core.op c.core.thread m.config m.holder stage.Stop queue) refl
         (shadow_says (closes n (with_opened m (front ++ (as_opened c ∷ map as_opened cs)) frames)) c.core.thread c.core.op stage.Stop queue tail h)
         (λ o x. later o) h)
     by_waits false w later = past_call m front (as_opened c) (as_opened (stop_call c)) (map as_opened cs) (map as_opened (map stop_call cs))
         (open_from (suc n) (map core_of cs)) queue tail frames ts
-        (ap (λ t. record (as_opened c) { waits = t }) (w ∙ sym (ap (λ b. b && is_kept c.core.op) w)))
+        (ap (λ t. record (as_opened c) { waits = t }) (w ∙ sym (ap (λ b. b && is_held c.core.op) w)))
         (later (as_opened (stop_call c)) queue frames h)
 
 -- ---- Stop within the limit
 
-pub stop_ok : (p : PartState) (b : Past) → Facts (view_of p) b → held_at (stage_of p.mode) b.rest ≡ length b.rest → is_driven p ≡ false → StepKeeps p b (stopped p)
-unfolding stopped stopped_domain
+pub stop_ok : (p : PartState) (b : Past) → Facts (view_of p) b → held_at (stage_of p.mode) b.rest ≡ length b.rest → is_driven p ≡ false → StepKeeps p b (stops p)
+unfolding stops stopped_domain
 stop_ok p b f held d = with_answers (stops_shown (ideal_of (view_of p) b) [] 1 b.calls p.queue (b.rest ++ (view_of p).dev.ring) b.frames (tracks_of b) refl
     f.chain (λ k c h. (f.calls.each k c h).checked))
   where
@@ -237,7 +240,7 @@ stop_ok p b f held d = with_answers (stops_shown (ideal_of (view_of p) b) [] 1 b
 
     with_answers : Stopped (ideal_of (view_of p) b) (map as_opened b.calls) (open_from 1 (cores b)) p.queue (b.rest ++ (view_of p).dev.ring) b.frames
         (tracks_of b) (map as_opened (map stop_call b.calls))
-        → StepKeeps p b (stopped p)
+        → StepKeeps p b (stops p)
     with_answers s = record {
       counted = λ t x. subst (λ l. Balance (length (view_of p).dev.ring) (length (stop_queue l p.queue)) (length b.rest)
           (tally (count_answers (stop_answers l p.log.config p.log.holder p.queue) t))) (sym open_now)
@@ -271,6 +274,6 @@ stop_ok p b f held d = with_answers (stops_shown (ideal_of (view_of p) b) [] 1 b
           ap (λ ts. ran (ideal_of (view_of p) b) (shown_answers (stop_answers p.log.pending p.log.config p.log.holder p.queue) ts ++ more)) (sym tracked)
           ∙ ap (λ l. ran (ideal_of (view_of p) b) (shown_answers (stop_answers l p.log.config p.log.holder p.queue) (tracks_of b) ++ more)) open_now
           ∙ s.shown more;
-      licensed = ap (λ l. allows_each (Some stage.Stop) p.queue (watch_of (view_of (stopped p).state) (record b { calls = map stop_call b.calls; frames = s.left })) (stop_answers l p.log.config p.log.holder p.queue)) open_now
-          ∙ s.allowed p.queue (watch_of (view_of (stopped p).state) (record b { calls = map stop_call b.calls; frames = s.left }));
+      licensed = ap (λ l. allows_each (Some stage.Stop) p.queue (watch_of (view_of (stops p).state) (record b { calls = map stop_call b.calls; frames = s.left })) (stop_answers l p.log.config p.log.holder p.queue)) open_now
+          ∙ s.allowed p.queue (watch_of (view_of (stops p).state) (record b { calls = map stop_call b.calls; frames = s.left }));
     }

@@ -1,25 +1,25 @@
 use Rattle.std.proofs.Common.{◌≡◌, ℕ, ◌+◌, ◌-◌, ◌*◌, ◌<◌, ◌≤◌, ◌==◌, not, is_some, Bool, true, false, Option, Some, None, List, [], ◌∷◌, length, map, replicate, slice_set, refl, sym, ap, ◌∙◌, subst, arith, true≢false, eqb-true}
 use Rattle.std.specs.List.{filter, AllByRecursion}
 use Rattle.std.proofs.lemmas.Bool.{and_parts, ltb-false}
-use Rattle.nook_defs.specs.declared.data.CallEntry.{CallEntry}
-use Rattle.nook_defs.specs.declared.data.Event.{Event}
-use Rattle.nook_defs.specs.declared.data.Fault.{Fault}
-use Rattle.nook_defs.specs.declared.data.Mode.{Mode}
-use Rattle.nook_defs.specs.declared.data.Mode.TheVariants as mode
-use Rattle.nook_defs.specs.declared.data.Op.TheVariants as op
-use Rattle.nook_defs.specs.declared.data.Stage.{Stage}
-use Rattle.nook_defs.specs.declared.data.Stage.TheVariants as stage
-use Rattle.nook_defs.specs.declared.data.Step.{Step}
-use Rattle.nook_defs.specs.declared.data.Step.TheVariants as step
+use Rattle.nook_defs.specs.declared.calls.CallEntry.{CallEntry}
+use Rattle.nook_defs.specs.declared.steps.Event.{Event}
+use Rattle.nook_defs.specs.declared.scenario.Fault.{Fault}
+use Rattle.nook_defs.specs.declared.steps.Mode.{Mode}
+use Rattle.nook_defs.specs.declared.steps.Mode.TheVariants as mode
+use Rattle.nook_defs.specs.declared.calls.Op.TheVariants as op
+use Rattle.nook_defs.specs.declared.steps.Stage.{Stage}
+use Rattle.nook_defs.specs.declared.steps.Stage.TheVariants as stage
+use Rattle.nook_defs.specs.declared.steps.Step.{Step}
+use Rattle.nook_defs.specs.declared.steps.Step.TheVariants as step
 use Rattle.nook_defs.specs.declared.machine.Context.{Context}
 use Rattle.nook_defs.specs.Burst.{Burst, burst}
 use Rattle.nook_defs.specs.Classes.{init_place, open_place, set_place}
-use Rattle.nook_defs.specs.Crossing.{crossed}
+use Rattle.nook_defs.specs.Crossing.{after_crossing}
 use Rattle.nook_defs.specs.Domain.{context_of, no_context, machine_of, after_burst, burst_by, domain_burst, entered_domain, plainly_entered, stopped_domain, collected_domain, loaded_domain}
-use Rattle.nook_defs.specs.Log.{held_call, call_of_thread, stop_calls, is_kept}
-use Rattle.nook_defs.specs.Stages.{stage_due, with_stage, is_given_up, stopped, given_up, after_collect, collects, with_reset, resets, loads_image, inits, replays_set, replays_open, resumes, stage_done, stage_by, stage_turned}
+use Rattle.nook_defs.specs.Log.{held_call, call_of_thread, stop_calls, is_held}
+use Rattle.nook_defs.specs.Stages.{stage_due, with_stage, is_given_up, stops, gives_up_part, collects, with_reset, resets, loads_image, inits, replays_set, replays_open, resumes, stage_done, stage_by, stage_stepped}
 use Rattle.nook_defs.specs.State.{DomainState, PartState}
-use Rattle.nook_defs.specs.Steps.{enabled, is_running, is_driven, is_inside, can_burst, can_stage, faults_of_burst, with_burst, past_burst, burst_turned, turned}
+use Rattle.nook_defs.specs.Steps.{enabled, is_running, is_driven, is_inside, can_burst, can_stage, faults_of_burst, with_burst, burst_step, burst_stepped, stepped}
 use Rattle.part_laws.proofs.BurstKeeps.{split}
 use Rattle.part_laws.proofs.EntriesFit.{filter_fits}
 use Rattle.part_laws.proofs.RunsDetermined.{found_thread}
@@ -31,14 +31,9 @@ use Rattle.part_laws.specs.Fit.{IsFit}
 use Rattle.part_laws.specs.Tied.{GoesOn, is_stop, IsAwayCall, IsRunningCall, IsTiedCall, is_driving_stage, is_driving, IsDriven, IsFitStage, IsFitMode, may_exceed, IsTied}
 use Rattle.std.proofs.lemmas.List.{length-set}
 use Rattle.part_laws.proofs.TiedSteps.{price, StepTied, threads_of_fit, running_is, invoke_tied, enter_tied, arrive_tied}
+use Rattle.nook_defs.proofs.Options.{none_is_some, same_inside}
 
 -- Bursts and stages keep how calls, contexts and mode hang together; every step does.
-
-some_same : {X : Type 0} {a b : X} → Some a ≡ Some b → a ≡ b
-some_same h = cc
-
-some_none : {X : Type 0} {a : X} {G : Type 0} → None ≡ Some a → G
-some_none h = cc
 
 -- a burst of a thread's call
 
@@ -52,7 +47,7 @@ loose_calls t failures before after (d ∷ pending) s th all = (
 
 burst_call : (threads t : ℕ) (p : PartState) (c : CallEntry) (x : Context) (b : Burst) → IsFit p → IsTied p → p.mode ≡ mode.Running
     → call_of_thread t p.log.pending ≡ Some c → c.inside ≡ true → context_of t p.domain.contexts ≡ Some x → x.bursts ≤ 31
-    → StepTied threads p (past_burst t p (after_burst t x b p.domain))
+    → StepTied threads p (burst_step t p (after_burst t x b p.domain))
 burst_call threads t p c x b f tied running found inside ctx low =
     let th : AreThreads p.log.pending = threads_of_fit p f in
     let same : c.thread ≡ t = found_thread t p.log.pending c found in
@@ -82,7 +77,7 @@ burst_call threads t p c x b f tied running found inside ctx low =
       within = tied.within (subst (λ m. may_exceed m ≡ false) (sym running) refl);
       contexts = lengths t y;
     } in
-    let k : CrossTied threads p' (crossed t b.ending p') = call_crossed threads t b.ending p' c y burst' in
+    let k : CrossTied threads p' (after_crossing t b.ending p') = call_crossed threads t b.ending p' c y burst' in
     let after : call_left contexts c ≡ 32 - y.bursts =
     ap (λ (i : Bool). inside_left i (context_of c.thread contexts)) inside ∙ ap (inside_left true) (ap (λ (n : ℕ). context_of n contexts) same ∙ here) in
     let before : call_left p.domain.contexts c ≡ 32 - x.bursts =
@@ -115,13 +110,13 @@ burst_call threads t p c x b f tied running found inside ctx low =
 
 burst_call_by : (threads t : ℕ) (p : PartState) (c : CallEntry) (faults : List Fault) (o : Option Context) → IsFit p → IsTied p → p.mode ≡ mode.Running
     → call_of_thread t p.log.pending ≡ Some c → c.inside ≡ true → context_of t p.domain.contexts ≡ o → GoesOn o
-    → StepTied threads p (past_burst t p (burst_by t faults p.domain o))
+    → StepTied threads p (burst_step t p (burst_by t faults p.domain o))
 burst_call_by threads t p c faults None f tied running found inside ctx goes = absurd goes
 burst_call_by threads t p c faults (Some x) f tied running found inside ctx goes =
     burst_call threads t p c x (burst p.domain.entries faults (machine_of x p.domain)) f tied running found inside ctx goes
 
 burst_found : (threads t : ℕ) (p : PartState) (o : Option CallEntry) (faults : List Fault) → IsFit p → IsTied p → p.mode ≡ mode.Running
-    → call_of_thread t p.log.pending ≡ o → is_inside o ≡ true → StepTied threads p (past_burst t p (domain_burst t faults p.domain))
+    → call_of_thread t p.log.pending ≡ o → is_inside o ≡ true → StepTied threads p (burst_step t p (domain_burst t faults p.domain))
 unfolding domain_burst
 burst_found threads t p None faults f tied running found inside = absurd (true≢false (sym inside))
 burst_found threads t p (Some c) faults f tied running found inside =
@@ -162,7 +157,7 @@ driving_mode_left threads (mode.Dead collected) h f = absurd (true≢false (sym 
 
 burst_own : (threads : ℕ) (p : PartState) (x : Context) (b : Burst) → IsFit p → IsTied p
     → context_of 16 p.domain.contexts ≡ Some x → x.bursts ≤ 31 → is_driving p.mode ≡ true
-    → StepTied threads p (past_burst 16 p (after_burst 16 x b p.domain))
+    → StepTied threads p (burst_step 16 p (after_burst 16 x b p.domain))
 burst_own threads p x b f tied ctx low driving =
     let th : AreThreads p.log.pending = threads_of_fit p f in
     let y : Context = record { cpu = b.machine.cpu; bursts = x.bursts + 1 } in
@@ -181,7 +176,7 @@ burst_own threads p x b f tied ctx low driving =
       within = tied.within (driving_within p.mode driving);
       contexts = length-set p.domain.contexts 16 (Some y) ∙ f.domain.contexts;
     } in
-    let k : CrossTied threads p' (crossed 16 b.ending p') = own_crossed threads b.ending p' y burst' in
+    let k : CrossTied threads p' (after_crossing 16 b.ending p') = own_crossed threads b.ending p' y burst' in
     let same : calls_left contexts p.log.pending ≡ calls_left p.domain.contexts p.log.pending =
     same_left_sixteen p.domain.contexts contexts p.log.pending (set_same_but 16 p.domain.contexts (Some y)) th in
     let sp : spent (context_of 16 contexts) ≡ 1 + (x.bursts + 1) = ap spent here in
@@ -199,22 +194,22 @@ burst_own threads p x b f tied ctx low driving =
     within n e = omega arith
 
 burst_own_by : (threads : ℕ) (p : PartState) (faults : List Fault) (o : Option Context) → IsFit p → IsTied p
-    → context_of 16 p.domain.contexts ≡ o → is_some o ≡ true → IsDriven p.mode o → StepTied threads p (past_burst 16 p (burst_by 16 faults p.domain o))
+    → context_of 16 p.domain.contexts ≡ o → is_some o ≡ true → IsDriven p.mode o → StepTied threads p (burst_step 16 p (burst_by 16 faults p.domain o))
 burst_own_by threads p faults None f tied ctx some driven = absurd (true≢false (sym some))
 burst_own_by threads p faults (Some x) f tied ctx some driven =
     burst_own threads p x (burst p.domain.entries faults (machine_of x p.domain)) f tied ctx driven.0 driven.1
 
 burst_sixteen : (threads : ℕ) (p : PartState) (faults : List Fault) → IsFit p → IsTied p → is_driven p ≡ true
-    → StepTied threads p (past_burst 16 p (domain_burst 16 faults p.domain))
+    → StepTied threads p (burst_step 16 p (domain_burst 16 faults p.domain))
 unfolding domain_burst
 burst_sixteen threads p faults f tied some = burst_own_by threads p faults (context_of 16 p.domain.contexts) f tied refl some tied.driven
 
-burst_tied : (threads context : ℕ) (p : PartState) → IsFit p → IsTied p → can_burst p context ≡ true → StepTied threads p (burst_turned context p)
-unfolding burst_turned
+burst_tied : (threads context : ℕ) (p : PartState) → IsFit p → IsTied p → can_burst p context ≡ true → StepTied threads p (burst_stepped context p)
+unfolding burst_stepped
 burst_tied threads context p f tied e = split (context == 16)
     (λ own.
     let same : context ≡ 16 = eqb-true context 16 own in
-    subst (λ k. StepTied threads p (past_burst k p (domain_burst k (faults_of_burst (p.bursts + 1) p.spec.faults) p.domain))) (sym same)
+    subst (λ k. StepTied threads p (burst_step k p (domain_burst k (faults_of_burst (p.bursts + 1) p.spec.faults) p.domain))) (sym same)
     (burst_sixteen threads p (faults_of_burst (p.bursts + 1) p.spec.faults) f tied (rw own at e)))
     (λ other.
     let parts = and_parts (is_running p.mode) (is_inside (call_of_thread context p.log.pending)) (rw other at e) in
@@ -228,33 +223,33 @@ is_collect stage.Collect = true
 is_collect _ = false
 
 due_left : (threads : ℕ) (m : Mode) (s : Stage) → stage_due m ≡ Some s → mode_left threads m ≡ stage_left threads s
-due_left threads (mode.Boot x) s h = ap (stage_left threads) (some_same h)
-due_left threads mode.Running s h = some_none h
-due_left threads (mode.Recovering x) s h = ap (stage_left threads) (some_same h)
-due_left threads (mode.Dead false) s h = ap (stage_left threads) (some_same h)
-due_left threads (mode.Dead true) s h = some_none h
+due_left threads (mode.Boot x) s h = ap (stage_left threads) (same_inside h)
+due_left threads mode.Running s h = none_is_some h
+due_left threads (mode.Recovering x) s h = ap (stage_left threads) (same_inside h)
+due_left threads (mode.Dead false) s h = ap (stage_left threads) (same_inside h)
+due_left threads (mode.Dead true) s h = none_is_some h
 
 due_calls : (m : Mode) (s : Stage) (failures : ℕ) (contexts : List (Option Context)) (pending : List CallEntry) → stage_due m ≡ Some s
     → AllByRecursion (IsTiedCall m failures contexts) pending → AllByRecursion (IsAwayCall s failures) pending
-due_calls (mode.Boot x) s failures contexts pending h all = subst (λ z. AllByRecursion (IsAwayCall z failures) pending) (some_same h) all
-due_calls mode.Running s failures contexts pending h all = some_none h
-due_calls (mode.Recovering x) s failures contexts pending h all = subst (λ z. AllByRecursion (IsAwayCall z failures) pending) (some_same h) all
+due_calls (mode.Boot x) s failures contexts pending h all = subst (λ z. AllByRecursion (IsAwayCall z failures) pending) (same_inside h) all
+due_calls mode.Running s failures contexts pending h all = none_is_some h
+due_calls (mode.Recovering x) s failures contexts pending h all = subst (λ z. AllByRecursion (IsAwayCall z failures) pending) (same_inside h) all
 due_calls (mode.Dead collected) s failures contexts pending h all =
     all_weaker (λ d. ⊥) (IsAwayCall s failures) pending (λ d k. absurd k) all
 
 due_driving : (m : Mode) (s : Stage) → stage_due m ≡ Some s → is_driving_stage s ≡ true → is_driving m ≡ true
-due_driving (mode.Boot x) s h d = ap is_driving_stage (some_same h) ∙ d
-due_driving mode.Running s h d = some_none h
-due_driving (mode.Recovering x) s h d = ap is_driving_stage (some_same h) ∙ d
-due_driving (mode.Dead false) s h d = absurd (true≢false (sym d ∙ sym (ap is_driving_stage (some_same h))))
-due_driving (mode.Dead true) s h d = some_none h
+due_driving (mode.Boot x) s h d = ap is_driving_stage (same_inside h) ∙ d
+due_driving mode.Running s h d = none_is_some h
+due_driving (mode.Recovering x) s h d = ap is_driving_stage (same_inside h) ∙ d
+due_driving (mode.Dead false) s h d = absurd (true≢false (sym d ∙ sym (ap is_driving_stage (same_inside h))))
+due_driving (mode.Dead true) s h d = none_is_some h
 
 due_within : (m : Mode) (s : Stage) → stage_due m ≡ Some s → is_stop s ≡ false → is_collect s ≡ false → may_exceed m ≡ false
-due_within (mode.Boot x) s h a b = ap is_stop (some_same h) ∙ a
+due_within (mode.Boot x) s h a b = ap is_stop (same_inside h) ∙ a
 due_within mode.Running s h a b = refl
-due_within (mode.Recovering x) s h a b = ap is_stop (some_same h) ∙ a
-due_within (mode.Dead false) s h a b = absurd (true≢false (ap is_collect (some_same h) ∙ b))
-due_within (mode.Dead true) s h a b = some_none h
+due_within (mode.Recovering x) s h a b = ap is_stop (same_inside h) ∙ a
+due_within (mode.Dead false) s h a b = absurd (true≢false (ap is_collect (same_inside h) ∙ b))
+due_within (mode.Dead true) s h a b = none_is_some h
 
 record IsMoved (threads failures : ℕ) (m q : Mode) (s : Stage) : Type 0 where
   calls : (before after : List (Option Context)) (pending : List CallEntry) → AllByRecursion (IsTiedCall m failures before) pending
@@ -270,26 +265,26 @@ away_moved x s failures pending h all = all_weaker (IsAwayCall x failures) (IsAw
 moved : (threads failures : ℕ) (m : Mode) (s next : Stage) → stage_due m ≡ Some s → is_stop s ≡ false → is_collect s ≡ false
     → IsFitStage next → IsMoved threads failures m (with_stage next m) next
 moved threads failures (mode.Boot x) s next h a b f =
-    let n : is_stop x ≡ false = ap is_stop (some_same h) ∙ a in
+    let n : is_stop x ≡ false = ap is_stop (same_inside h) ∙ a in
     record { calls = λ before after pending all. away_moved x next failures pending n all; fit = f; cost = omega arith; within = λ e. n }
 moved threads failures (mode.Recovering x) s next h a b f =
-    let n : is_stop x ≡ false = ap is_stop (some_same h) ∙ a in
+    let n : is_stop x ≡ false = ap is_stop (same_inside h) ∙ a in
     record { calls = λ before after pending all. away_moved x next failures pending n all; fit = f; cost = omega arith; within = λ e. n }
-moved threads failures mode.Running s next h a b f = some_none h
-moved threads failures (mode.Dead false) s next h a b f = absurd (true≢false (ap is_collect (some_same h) ∙ b))
-moved threads failures (mode.Dead true) s next h a b f = some_none h
+moved threads failures mode.Running s next h a b f = none_is_some h
+moved threads failures (mode.Dead false) s next h a b f = absurd (true≢false (ap is_collect (same_inside h) ∙ b))
+moved threads failures (mode.Dead true) s next h a b f = none_is_some h
 
-collect_moved : (threads failures : ℕ) (m : Mode) → stage_due m ≡ Some stage.Collect → IsMoved threads failures m (after_collect m) stage.Reset
+collect_moved : (threads failures : ℕ) (m : Mode) → stage_due m ≡ Some stage.Collect → IsMoved threads failures m (with_stage stage.Reset m) stage.Reset
 collect_moved threads failures (mode.Boot x) h =
-    let n : is_stop x ≡ false = ap is_stop (some_same h) in
+    let n : is_stop x ≡ false = ap is_stop (same_inside h) in
     record { calls = λ before after pending all. away_moved x stage.Reset failures pending n all; fit = tt; cost = omega arith; within = λ e. n }
 collect_moved threads failures (mode.Recovering x) h =
-    let n : is_stop x ≡ false = ap is_stop (some_same h) in
+    let n : is_stop x ≡ false = ap is_stop (same_inside h) in
     record { calls = λ before after pending all. away_moved x stage.Reset failures pending n all; fit = tt; cost = omega arith; within = λ e. n }
-collect_moved threads failures mode.Running h = some_none h
+collect_moved threads failures mode.Running h = none_is_some h
 collect_moved threads failures (mode.Dead false) h =
     record { calls = λ before after pending all. all; fit = tt; cost = omega arith; within = λ e. absurd (true≢false e) }
-collect_moved threads failures (mode.Dead true) h = some_none h
+collect_moved threads failures (mode.Dead true) h = none_is_some h
 
 moved_step : (threads : ℕ) (p : PartState) (s next : Stage) (q : Mode) (d : DomainState) (e : Event) → IsTied p
     → context_of 16 p.domain.contexts ≡ None → d.contexts ≡ p.domain.contexts → stage_due p.mode ≡ Some s
@@ -384,8 +379,8 @@ held_calls failures [] all = tt
 held_calls failures (c ∷ pending) all = ((all.0.0, λ e. refl), held_calls failures pending all.1)
 
 stop_step : (threads : ℕ) (p : PartState) → IsTied p → length p.log.pending ≤ threads → context_of 16 p.domain.contexts ≡ None
-    → stage_due p.mode ≡ Some stage.Stop → is_given_up p ≡ false → StepTied threads p (stopped p)
-unfolding stopped stopped_domain
+    → stage_due p.mode ≡ Some stage.Stop → is_given_up p ≡ false → StepTied threads p (stops p)
+unfolding stops stopped_domain
 stop_step threads p t few free due going =
     let was : mode_left threads p.mode ≡ stage_left threads stage.Stop = due_left threads p.mode stage.Stop due in
     let b : spent (context_of 16 p.domain.contexts) ≡ 0 = ap spent free in
@@ -393,28 +388,28 @@ stop_step threads p t few free due going =
     due_calls p.mode stage.Stop p.failures p.domain.contexts p.log.pending due t.calls in
     let low : p.failures ≤ p.spec.limit = ltb-false p.spec.limit p.failures going in
     let l : calls_left (replicate 17 no_context) (stop_calls p.log.pending) ≤ 33 * length p.log.pending =
-    held_left (replicate 17 no_context) (λ c. is_kept c.op) p.log.pending in
+    held_left (replicate 17 no_context) (λ c. is_held c.op) p.log.pending in
     record {
       tied = record {
-        rising = rising_map held_call 0 p.log.count (filter (λ c. is_kept c.op) p.log.pending) (λ c. refl)
-            (rising_filter (λ c. is_kept c.op) 0 p.log.count p.log.pending t.rising);
-        apart = apart_map held_call (filter (λ c. is_kept c.op) p.log.pending) (λ c. refl)
-            (apart_filter (λ c. is_kept c.op) p.log.pending t.apart);
-        calls = held_calls p.failures (filter (λ c. is_kept c.op) p.log.pending)
-            (filter_fits (IsAwayCall stage.Stop p.failures) (λ c. is_kept c.op) p.log.pending away);
+        rising = rising_map held_call 0 p.log.count (filter (λ c. is_held c.op) p.log.pending) (λ c. refl)
+            (rising_filter (λ c. is_held c.op) 0 p.log.count p.log.pending t.rising);
+        apart = apart_map held_call (filter (λ c. is_held c.op) p.log.pending) (λ c. refl)
+            (apart_filter (λ c. is_held c.op) p.log.pending t.apart);
+        calls = held_calls p.failures (filter (λ c. is_held c.op) p.log.pending)
+            (filter_fits (IsAwayCall stage.Stop p.failures) (λ c. is_held c.op) p.log.pending away);
         driven = tt;
         stages = tt;
         limit = t.limit;
         within = λ h. low;
       };
       cost = omega arith;
-      calls = λ test all mine. all_map (λ c. test c.thread ≡ true) held_call (filter (λ c. is_kept c.op) p.log.pending) (λ c h. h)
-          (filter_fits (λ c. test c.thread ≡ true) (λ c. is_kept c.op) p.log.pending all);
+      calls = λ test all mine. all_map (λ c. test c.thread ≡ true) held_call (filter (λ c. is_held c.op) p.log.pending) (λ c h. h)
+          (filter_fits (λ c. test c.thread ≡ true) (λ c. is_held c.op) p.log.pending all);
     }
 
 give_up_step : (threads : ℕ) (p : PartState) → IsTied p → context_of 16 p.domain.contexts ≡ None
-    → stage_due p.mode ≡ Some stage.Stop → StepTied threads p (given_up p)
-unfolding given_up stopped_domain
+    → stage_due p.mode ≡ Some stage.Stop → StepTied threads p (gives_up_part p)
+unfolding gives_up_part stopped_domain
 give_up_step threads p t free due =
     let was : mode_left threads p.mode ≡ stage_left threads stage.Stop = due_left threads p.mode stage.Stop due in
     let b : spent (context_of 16 p.domain.contexts) ≡ 0 = ap spent free in
@@ -439,7 +434,7 @@ stage_done_tied threads p stage.Stop f t few free due = split (is_given_up p)
     (λ e. rw e (give_up_step threads p t free due))
     (λ e. rw e (stop_step threads p t few free due e))
 stage_done_tied threads p stage.Collect f t few free due =
-    moved_step threads p stage.Collect stage.Reset (after_collect p.mode) (collected_domain p.domain) _ t free refl due (omega arith)
+    moved_step threads p stage.Collect stage.Reset (with_stage stage.Reset p.mode) (collected_domain p.domain) _ t free refl due (omega arith)
     (collect_moved threads p.failures p.mode due) refl
 stage_done_tied threads p stage.Reset f t few free due =
     moved_step threads p stage.Reset stage.Load (with_stage stage.Load p.mode) (with_reset p.log.defaults p.domain) _ t free refl due (omega arith)
@@ -465,8 +460,8 @@ not_some None h = refl
 not_some (Some x) h = absurd (true≢false (sym h))
 
 stage_tied : (threads : ℕ) (p : PartState) → IsFit p → IsTied p → length p.log.pending ≤ threads → can_stage p ≡ true
-    → StepTied threads p (stage_turned p)
-unfolding stage_turned
+    → StepTied threads p (stage_stepped p)
+unfolding stage_stepped
 stage_tied threads p f t few e =
     let parts = and_parts (is_some (stage_due p.mode)) (not (is_driven p)) e in
     stage_tied_by threads p (stage_due p.mode) f t few (not_some (context_of 16 p.domain.contexts) parts.1) refl parts.0
@@ -474,13 +469,13 @@ stage_tied threads p f t few e =
 -- every step
 
 pub step_tied : (threads : ℕ) (p : PartState) (s : Step) → IsFit p → IsTied p → length p.log.pending ≤ threads → enabled p s ≡ true
-    → StepTied threads p (turned p s)
-unfolding enabled turned
+    → StepTied threads p (stepped p s)
+unfolding enabled stepped
 step_tied threads p (step.Invoke thread o) f t few e = invoke_tied threads p thread o t e
 step_tied threads p (step.Enter thread) f t few e = enter_tied threads p thread f t e
 step_tied threads p (step.Burst context) f t few e = burst_tied threads context p f t e
 step_tied threads p step.Stage f t few e = stage_tied threads p f t few e
 step_tied threads p (step.Arrive frame) f t few e = arrive_tied threads p frame t
 
-pub tied_after : (p : PartState) (s : Step) → IsFit p → IsTied p → enabled p s ≡ true → IsTied (turned p s).state
+pub tied_after : (p : PartState) (s : Step) → IsFit p → IsTied p → enabled p s ≡ true → IsTied (stepped p s).state
 tied_after p s f t e = (step_tied (length p.log.pending) p s f t (omega arith) e).tied

@@ -1,11 +1,11 @@
 use Rattle.std.proofs.Common.{◌≡◌, ◌≢◌, ℕ, zero, suc, ◌+◌, ◌-◌, ◌*◌, ◌<◌, ◌≤◌, ◌==◌, not, Bool, true, false, Option, Some, None, List, [], ◌∷◌, ◌++◌, length, map, replicate, slice_set, is_none, refl, sym, ap, ◌∙◌, arith, subst, true≢false, eqb-true}
 use Rattle.std.specs.List.{find, filter, AllByRecursion}
 use Rattle.std.proofs.lemmas.Bool.{eqb-false, eq-eqb, ne_eqb}
-use Rattle.nook_defs.specs.declared.data.CallEntry.{CallEntry}
-use Rattle.nook_defs.specs.declared.data.Op.{Op}
+use Rattle.nook_defs.specs.declared.calls.CallEntry.{CallEntry}
+use Rattle.nook_defs.specs.declared.calls.Op.{Op}
 use Rattle.nook_defs.specs.declared.machine.Context.{Context}
 use Rattle.nook_defs.specs.Domain.{context_of, bursts_of, no_context}
-use Rattle.nook_defs.specs.Log.{is_of_thread, is_call, call_of_thread, new_call, held_call, change_call}
+use Rattle.nook_defs.specs.Log.{is_of_thread, is_call, call_of_thread, new_entry, held_call, change_entry}
 use Rattle.part_laws.proofs.BurstKeeps.{split}
 use Rattle.part_laws.specs.Tied.{IsRising, AreApart}
 
@@ -75,7 +75,7 @@ rising_map f low count (c ∷ pending) same r =
     (omega arith, omega arith, rw e more)
 
 pub rising_push : (low count thread : ℕ) (o : Op) (pending : List CallEntry) → low ≤ count → IsRising low count pending
-    → IsRising low (count + 1) (pending ++ new_call (count + 1) thread o ∷ [])
+    → IsRising low (count + 1) (pending ++ new_entry (count + 1) thread o ∷ [])
 rising_push low count thread o [] h r = (omega arith, omega arith, tt)
 rising_push low count thread o (c ∷ pending) h r = (r.0, omega arith, rising_push c.call count thread o pending r.1 r.2)
 
@@ -128,18 +128,18 @@ no_call_apart thread (d ∷ pending) h = split (is_of_thread thread d)
     (λ other. (other, no_call_apart thread pending (rw (other, find) at h)))
 
 pub apart_push : (thread call : ℕ) (o : Op) (pending : List CallEntry) → is_none (call_of_thread thread pending) ≡ true → AreApart pending
-    → AreApart (pending ++ new_call call thread o ∷ [])
+    → AreApart (pending ++ new_entry call thread o ∷ [])
 apart_push thread call o pending h a = go pending (no_call_apart thread pending h) a
   where
     flip : (a b : ℕ) → (a == b) ≡ false → (b == a) ≡ false
     flip a b e = ne_eqb b a (λ same. eqb-false a b e (sym same))
 
     others : (t : ℕ) (xs : List CallEntry) → (t == thread) ≡ false → AllByRecursion (λ d. (d.thread == t) ≡ false) xs
-        → AllByRecursion (λ d. (d.thread == t) ≡ false) (xs ++ new_call call thread o ∷ [])
+        → AllByRecursion (λ d. (d.thread == t) ≡ false) (xs ++ new_entry call thread o ∷ [])
     others t [] e all = (flip t thread e, tt)
     others t (x ∷ xs) e all = (all.0, others t xs e all.1)
 
-    go : (xs : List CallEntry) → AllByRecursion (λ d. is_of_thread thread d ≡ false) xs → AreApart xs → AreApart (xs ++ new_call call thread o ∷ [])
+    go : (xs : List CallEntry) → AllByRecursion (λ d. is_of_thread thread d ≡ false) xs → AreApart xs → AreApart (xs ++ new_entry call thread o ∷ [])
     go [] all a' = (tt, tt)
     go (x ∷ xs) all a' = (others x.thread xs all.0 a'.0, go xs all.1 a'.1)
 
@@ -157,7 +157,7 @@ above_not_call call low count (d ∷ pending) h r =
 rest_entered : (P Q : CallEntry → Type 0) (f : CallEntry → CallEntry) (thread call : ℕ) (pending : List CallEntry)
     → ((d : CallEntry) → (d.thread == thread) ≡ false → P d → Q d)
     → AllByRecursion (λ d. (d.thread == thread) ≡ false) pending → AllByRecursion (λ d. is_call call d ≡ false) pending
-    → AllByRecursion P pending → AllByRecursion Q (map (change_call call f) pending)
+    → AllByRecursion P pending → AllByRecursion Q (map (change_entry call f) pending)
 rest_entered P Q f thread call [] others t n all = tt
 rest_entered P Q f thread call (d ∷ pending) others t n all =
     (rw n.0 (others d t.0 all.0), rest_entered P Q f thread call pending others t.1 n.1 all.1)
@@ -170,7 +170,7 @@ of_thread thread d pending h all = let e : d.thread ≡ thread = eqb-true d.thre
 pub one_entered : (P Q : CallEntry → Type 0) (f : CallEntry → CallEntry) (thread low count : ℕ) (pending : List CallEntry) (c : CallEntry)
     → ((d : CallEntry) → (d.thread == thread) ≡ false → P d → Q d) → (P c → Q (f c))
     → IsRising low count pending → AreApart pending → call_of_thread thread pending ≡ Some c → AllByRecursion P pending
-    → AllByRecursion Q (map (change_call c.call f) pending)
+    → AllByRecursion Q (map (change_entry c.call f) pending)
 one_entered P Q f thread low count [] c others one r a h all = cc
 one_entered P Q f thread low count (d ∷ pending) c others one r a h all = split (is_of_thread thread d)
     (λ here. at_head here (rw (here, find) at h))
@@ -183,16 +183,16 @@ one_entered P Q f thread low count (d ∷ pending) c others one r a h all = spli
     no_order : (m n : ℕ) → m < n → m ≡ n → ⊥
     no_order m n h e = omega arith
 
-    at_d : (P d → Q (f d)) → is_of_thread thread d ≡ true → AllByRecursion Q (map (change_call d.call f) (d ∷ pending))
+    at_d : (P d → Q (f d)) → is_of_thread thread d ≡ true → AllByRecursion Q (map (change_entry d.call f) (d ∷ pending))
     at_d one' here = (
       rw (eq-eqb d.call d.call refl) (one' all.0),
       rest_entered P Q f thread d.call pending others (of_thread thread d pending here a.0) (above_not_call d.call d.call count pending (omega arith) r.2) all.1,
     )
 
-    at_head : is_of_thread thread d ≡ true → Some d ≡ Some c → AllByRecursion Q (map (change_call c.call f) (d ∷ pending))
+    at_head : is_of_thread thread d ≡ true → Some d ≡ Some c → AllByRecursion Q (map (change_entry c.call f) (d ∷ pending))
     at_head here e =
         let s : d ≡ c = cc in
-        subst (λ x. AllByRecursion Q (map (change_call x.call f) (d ∷ pending))) s (at_d (subst (λ x. P x → Q (f x)) (sym s) one) here)
+        subst (λ x. AllByRecursion Q (map (change_entry x.call f) (d ∷ pending))) s (at_d (subst (λ x. P x → Q (f x)) (sym s) one) here)
 
 abbrev pub without_call : ℕ → List CallEntry → List CallEntry
 without_call call pending = filter (λ c. not (is_call call c)) pending
@@ -313,18 +313,18 @@ removed_left t before after (d ∷ pending) c s th a h = split (is_of_thread t d
 
 rest_entered_left : (t call : ℕ) (before after : List (Option Context)) (f : CallEntry → CallEntry) (pending : List CallEntry) → SameBut t before after
     → AreThreads pending → AllByRecursion (λ d. (d.thread == t) ≡ false) pending → AllByRecursion (λ d. is_call call d ≡ false) pending
-    → calls_left after (map (change_call call f) pending) ≡ calls_left before pending
+    → calls_left after (map (change_entry call f) pending) ≡ calls_left before pending
 rest_entered_left t call before after f [] s th e n = refl
 rest_entered_left t call before after f (d ∷ pending) s th e n =
     let a : call_left after d ≡ call_left before d = same_left t before after d s th.0 e.0 in
-    let b : calls_left after (map (change_call call f) pending) ≡ calls_left before pending =
+    let b : calls_left after (map (change_entry call f) pending) ≡ calls_left before pending =
     rest_entered_left t call before after f pending s th.1 e.1 n.1 in
     rw n.0 (omega arith)
 
 pub entered_left : (t k low count : ℕ) (before after : List (Option Context)) (f : CallEntry → CallEntry) (pending : List CallEntry) (c : CallEntry)
     → SameBut t before after → AreThreads pending → AreApart pending → IsRising low count pending → call_of_thread t pending ≡ Some c
     → call_left after (f c) + k ≤ call_left before c
-    → calls_left after (map (change_call c.call f) pending) + k ≤ calls_left before pending
+    → calls_left after (map (change_entry c.call f) pending) + k ≤ calls_left before pending
 entered_left t k low count before after f [] c s th a r h l = cc
 entered_left t k low count before after f (d ∷ pending) c s th a r h l = split (is_of_thread t d)
     (λ here. at_head here (rw (here, find) at h))
@@ -333,7 +333,7 @@ entered_left t k low count before after f (d ∷ pending) c s th a r h l = split
     let below : d.call < c.call = found_above t d.call count pending c r.2 found in
     let other : is_call c.call d ≡ false = ne_eqb d.call c.call (λ e. no_order d.call c.call below e) in
     let b : call_left after d ≡ call_left before d = same_left t before after d s th.0 later in
-    let more : calls_left after (map (change_call c.call f) pending) + k ≤ calls_left before pending =
+    let more : calls_left after (map (change_entry c.call f) pending) + k ≤ calls_left before pending =
     entered_left t k d.call count before after f pending c s th.1 a.1 r.2 found l in
     rw other (omega arith))
   where
@@ -341,14 +341,14 @@ entered_left t k low count before after f (d ∷ pending) c s th a r h l = split
     no_order m n h e = omega arith
 
     at_head : is_of_thread t d ≡ true → Some d ≡ Some c
-        → calls_left after (map (change_call c.call f) (d ∷ pending)) + k ≤ calls_left before (d ∷ pending)
+        → calls_left after (map (change_entry c.call f) (d ∷ pending)) + k ≤ calls_left before (d ∷ pending)
     at_head here e =
         let same : d ≡ c = cc in
-        let b : calls_left after (map (change_call d.call f) pending) ≡ calls_left before pending =
+        let b : calls_left after (map (change_entry d.call f) pending) ≡ calls_left before pending =
         rest_entered_left t d.call before after f pending s th.1 (of_thread t d pending here a.0)
         (above_not_call d.call d.call count pending (omega arith) r.2) in
         let l' : call_left after (f d) + k ≤ call_left before d = subst (λ x. call_left after (f x) + k ≤ call_left before x) (sym same) l in
-        subst (λ x. calls_left after (map (change_call x.call f) (d ∷ pending)) + k ≤ calls_left before (d ∷ pending)) same
+        subst (λ x. calls_left after (map (change_entry x.call f) (d ∷ pending)) + k ≤ calls_left before (d ∷ pending)) same
         (rw (eq-eqb d.call d.call refl) (omega arith))
 
 pub pushed_left : (contexts : List (Option Context)) (pending : List CallEntry) (c : CallEntry)

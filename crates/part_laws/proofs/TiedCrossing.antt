@@ -3,25 +3,26 @@ use Rattle.std.specs.List.{AllByRecursion}
 use Rattle.std.proofs.lemmas.Bool.{eqb-false, ne_eqb}
 use Rattle.nook_defs.specs.declared.classes.Accept.{Accept}
 use Rattle.nook_defs.specs.declared.classes.Accept.TheVariants as accepts
-use Rattle.nook_defs.specs.declared.data.CallEntry.{CallEntry}
-use Rattle.nook_defs.specs.declared.data.End.{End}
-use Rattle.nook_defs.specs.declared.data.FailCause.{FailCause}
-use Rattle.nook_defs.specs.declared.data.Mode.{Mode}
-use Rattle.nook_defs.specs.declared.data.Mode.TheVariants as mode
-use Rattle.nook_defs.specs.declared.data.Op.{Op}
-use Rattle.nook_defs.specs.declared.data.Op.TheVariants as op
-use Rattle.nook_defs.specs.declared.data.Stage.{Stage}
-use Rattle.nook_defs.specs.declared.data.Stage.TheVariants as stage
+use Rattle.nook_defs.specs.declared.calls.CallEntry.{CallEntry}
+use Rattle.nook_defs.specs.declared.steps.End.{End}
+use Rattle.nook_defs.specs.declared.steps.FailCause.{FailCause}
+use Rattle.nook_defs.specs.declared.steps.Mode.{Mode}
+use Rattle.nook_defs.specs.declared.steps.Mode.TheVariants as mode
+use Rattle.nook_defs.specs.declared.calls.Op.{Op}
+use Rattle.nook_defs.specs.declared.calls.Op.TheVariants as op
+use Rattle.nook_defs.specs.declared.steps.Stage.{Stage}
+use Rattle.nook_defs.specs.declared.steps.Stage.TheVariants as stage
 use Rattle.nook_defs.specs.declared.machine.BadParam.{BadParam}
 use Rattle.nook_defs.specs.declared.machine.BurstEnd.{BurstEnd}
 use Rattle.nook_defs.specs.declared.machine.BurstEnd.TheVariants as ends
 use Rattle.nook_defs.specs.declared.machine.Context.{Context}
 use Rattle.nook_defs.specs.declared.machine.Service.{Service}
 use Rattle.nook_defs.specs.Classes.{accept}
-use Rattle.nook_defs.specs.Crossing.{Crossed, fails, failed, goes_on, is_last, heap_start, serve_by, next_stage, next_mode, is_accepted, closes, reply_by, crossed, noted_set}
+use Rattle.nook_defs.specs.Crossing.{Crossed, fails, failed_crossing, goes_on, is_last, heap_start, serve_by, next_stage, next_mode, is_accepted, closes_call, reply_by, after_crossing, noted_set}
 use Rattle.nook_defs.specs.Domain.{context_of, bursts_of, no_context, with_result, result_set, left_domain, noted, first_argument, second_argument}
-use Rattle.nook_defs.specs.Log.{call_of_thread, is_call, acknowledged, answered, queue_after, next_replay, replay_stream, replay_after}
+use Rattle.nook_defs.specs.Log.{call_of_thread, is_call, after_acknowledging, after_answering, queue_after, next_replay, replay_stream, replay_after}
 use Rattle.nook_defs.specs.Services.{Served, checked, served}
+use Rattle.nook_defs.specs.Stages.{mode_after}
 use Rattle.nook_defs.specs.State.{DomainState, CallLog, PartState}
 use Rattle.part_laws.proofs.BurstKeeps.{split}
 use Rattle.part_laws.proofs.EntriesFit.{filter_fits}
@@ -96,7 +97,7 @@ record IsFailing (p : PartState) : Type 0 where
   within : p.failures ≤ p.spec.limit
   contexts : length p.domain.contexts ≡ 17
 
-failed_tied : (t : ℕ) (p : PartState) (e : End) (cause : FailCause) → IsFailing p → CrossTied t p (failed p e cause)
+failed_tied : (t : ℕ) (p : PartState) (e : End) (cause : FailCause) → IsFailing p → CrossTied t p (failed_crossing p e cause)
 unfolding fails noted
 failed_tied t p e cause f =
     let freed : context_of 16 (slice_set p.domain.contexts 16 no_context) ≡ None =
@@ -213,12 +214,12 @@ call_goes_on threads t p c y y' d queue e b s ctx bursts early shadow =
 -- a call is answered
 call_closed : (threads t : ℕ) (p : PartState) (c : CallEntry) (y : Context) (d : DomainState) (x : Crossed)
     → IsCallBurst t p c y → SameBut t p.domain.contexts d.contexts → context_of 16 d.contexts ≡ None
-    → x.state ≡ record p { domain = d; log = answered c.call (acknowledged c.thread c.op p.log); queue = queue_after c.op p.queue }
+    → x.state ≡ record p { domain = d; log = after_answering c.call (after_acknowledging c.thread c.op p.log); queue = queue_after c.op p.queue }
     → x.failure ≡ None → CrossTied threads p x
-unfolding answered acknowledged
+unfolding after_answering after_acknowledging
 call_closed threads t p c y d x b s shadow state quiet =
     let w : p.failures ≤ p.spec.limit = b.within in
-    let q : PartState = record p { domain = d; log = answered c.call (acknowledged c.thread c.op p.log); queue = queue_after c.op p.queue } in
+    let q : PartState = record p { domain = d; log = after_answering c.call (after_acknowledging c.thread c.op p.log); queue = queue_after c.op p.queue } in
     let running' : AllByRecursion (IsRunningCall p.failures d.contexts) (without_call c.call p.log.pending) =
     one_removed (λ z. (z.thread < 16) × IsLoose t p.failures p.domain.contexts z) (IsRunningCall p.failures d.contexts) t p.log.pending c
     (λ z other h. (h.1.0, h.1.1, λ inside. subst GoesOn (sym (s z.thread h.0 other)) (h.1.2 inside other)))
@@ -259,8 +260,8 @@ unfolding left_domain
 closed_contexts o t d = noted_set_contexts o (left_domain t d)
 
 closes_tied : (threads t : ℕ) (p : PartState) (c : CallEntry) (y : Context) (x : Crossed) → IsCallBurst t p c y
-    → x.state ≡ closes c p → x.failure ≡ None → CrossTied threads p x
-unfolding closes
+    → x.state ≡ closes_call c p → x.failure ≡ None → CrossTied threads p x
+unfolding closes_call
 closes_tied threads t p c y x b state quiet =
     let d : DomainState = noted_set c.op (left_domain c.thread p.domain) in
     let e : d.contexts ≡ slice_set p.domain.contexts t no_context =
@@ -312,8 +313,8 @@ call_reply threads t status p c y (accepts.IoError block) b = closes_tied thread
 call_reply threads t status p c y (accepts.Fail cause) b = failed_tied threads p _ _ (call_failing t p c y b)
 
 pub call_crossed : (threads t : ℕ) (e : BurstEnd) (p : PartState) (c : CallEntry) (y : Context) → IsCallBurst t p c y
-    → CrossTied threads p (crossed t e p)
-unfolding crossed
+    → CrossTied threads p (after_crossing t e p)
+unfolding after_crossing
 call_crossed threads t (ends.Trap cause) p c y b = failed_tied threads p _ _ (call_failing t p c y b)
 call_crossed threads t (ends.Kcall number) p c y b = split (is_last t p)
     (λ last. rw last (failed_tied threads p _ _ (call_failing t p c y b)))
@@ -453,6 +454,18 @@ driving_left threads stage.Reset d f = absurd (true≢false (sym d))
 driving_left threads stage.Load d f = absurd (true≢false (sym d))
 driving_left threads stage.Resume d f = absurd (true≢false (sym d))
 
+-- behind a stage that drives the driver a replay or Resume follows
+pub mode_after_drive : (s : Stage) (log : CallLog) → is_driving_stage s ≡ true
+    → mode_after s log (mode.Recovering s) ≡ mode.Recovering (replay_after s log)
+mode_after_drive stage.Init log d = refl
+mode_after_drive (stage.ReplaySet key value) log d = refl
+mode_after_drive stage.ReplayOpen log d = refl
+mode_after_drive stage.Stop log d = absurd (true≢false (sym d))
+mode_after_drive stage.Collect log d = absurd (true≢false (sym d))
+mode_after_drive stage.Reset log d = absurd (true≢false (sym d))
+mode_after_drive stage.Load log d = absurd (true≢false (sym d))
+mode_after_drive stage.Resume log d = absurd (true≢false (sym d))
+
 record IsNextMode (threads : ℕ) (m : Mode) (failures limit : ℕ) (contexts : List (Option Context)) (pending : List CallEntry) (q : Mode) : Type 0 where
   calls : AllByRecursion (IsTiedCall q failures contexts) pending
   fit : IsFitMode q
@@ -472,11 +485,11 @@ next_mode_ok threads (mode.Recovering s) p limit contexts pending d f all =
     let n : IsNext threads (stage_left threads s - 33) (replay_after s p.log) = replay_next threads s p.log d f in
     let c : stage_left threads (replay_after s p.log) ≤ stage_left threads s - 33 = n.cost in
     let l : 34 ≤ stage_left threads s = driving_left threads s d f in
-    record {
+    subst (IsNextMode threads (mode.Recovering s) p.failures limit contexts pending) (sym (mode_after_drive s p.log d)) (record {
       calls = all_weaker (λ d. (d.attempts ≤ p.failures) × (d.inside ≡ false)) (IsAwayCall (replay_after s p.log) p.failures) pending (λ d k. (k.0, λ e. k.1)) all;
       fit = n.fit;
       cost = omega arith;
-    }
+    })
 next_mode_ok threads mode.Running p limit contexts pending d f all = absurd (true≢false (sym d))
 next_mode_ok threads (mode.Dead collected) p limit contexts pending d f all = absurd (true≢false (sym d))
 
@@ -511,8 +524,8 @@ own_replied threads p y e b =
     within : (n : ℕ) → n ≡ 17 → 16 < n
     within n e = omega arith
 
-pub own_crossed : (threads : ℕ) (e : BurstEnd) (p : PartState) (y : Context) → IsOwnBurst p y → CrossTied threads p (crossed 16 e p)
-unfolding crossed
+pub own_crossed : (threads : ℕ) (e : BurstEnd) (p : PartState) (y : Context) → IsOwnBurst p y → CrossTied threads p (after_crossing 16 e p)
+unfolding after_crossing
 own_crossed threads (ends.Trap cause) p y b = failed_tied threads p _ _ (own_failing p y b)
 own_crossed threads (ends.Kcall number) p y b = split (is_last 16 p)
     (λ last. rw last (failed_tied threads p _ _ (own_failing p y b)))

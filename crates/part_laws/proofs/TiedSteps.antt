@@ -3,22 +3,22 @@ use Rattle.std.specs.List.{AllByRecursion}
 use Rattle.std.proofs.lemmas.Bool.{and_parts, not-true}
 use Rattle.nook_defs.specs.declared.classes.Admit.{Admit}
 use Rattle.nook_defs.specs.declared.classes.Admit.TheVariants as admits
-use Rattle.nook_defs.specs.declared.data.Answer.{Answer}
-use Rattle.nook_defs.specs.declared.data.CallEntry.{CallEntry}
-use Rattle.nook_defs.specs.declared.data.Event.{Event}
-use Rattle.nook_defs.specs.declared.data.Event.TheVariants as event
-use Rattle.nook_defs.specs.declared.data.Mode.{Mode}
-use Rattle.nook_defs.specs.declared.data.Mode.TheVariants as mode
-use Rattle.nook_defs.specs.declared.data.Op.{Op}
+use Rattle.nook_defs.specs.declared.calls.Answer.{Answer}
+use Rattle.nook_defs.specs.declared.calls.CallEntry.{CallEntry}
+use Rattle.nook_defs.specs.declared.steps.Event.{Event}
+use Rattle.nook_defs.specs.declared.steps.Event.TheVariants as event
+use Rattle.nook_defs.specs.declared.steps.Mode.{Mode}
+use Rattle.nook_defs.specs.declared.steps.Mode.TheVariants as mode
+use Rattle.nook_defs.specs.declared.calls.Op.{Op}
 use Rattle.nook_defs.specs.declared.machine.Context.{Context}
 use Rattle.nook_defs.specs.Burst.{burst}
-use Rattle.nook_defs.specs.Calls.{Turned, invoked, invoked_by, invoked_with, answer_in, queue_in, entered_part, entered_by, admitted}
+use Rattle.nook_defs.specs.Calls.{Stepped, after_invoke, invoked_by, invoked_with, answer_in, queue_in, after_enter, entered_by, after_admit}
 use Rattle.nook_defs.specs.Classes.{static_check, admit}
 use Rattle.nook_defs.specs.Devices.{tail_of}
 use Rattle.nook_defs.specs.Domain.{context_of, entered_domain, entry_context, arguments_of}
-use Rattle.nook_defs.specs.Log.{new_call, with_call, numbered, entered, answered, change_call, entered_call, is_call, call_of_thread, is_blocked}
+use Rattle.nook_defs.specs.Log.{new_entry, with_call, with_answered_call, after_entering, after_answering, change_entry, entered_call, is_call, call_of_thread, is_blocked}
 use Rattle.nook_defs.specs.State.{DomainState, PartState}
-use Rattle.nook_defs.specs.Steps.{is_running, is_ready, can_invoke, can_enter, arrived}
+use Rattle.nook_defs.specs.Steps.{is_running, is_ready, can_invoke, can_enter, after_arrival}
 use Rattle.part_laws.proofs.BurstKeeps.{split}
 use Rattle.part_laws.proofs.EntriesFit.{filter_fits}
 use Rattle.part_laws.proofs.RunsDetermined.{found_thread}
@@ -43,7 +43,7 @@ abbrev pub InvokesIn : (ℕ → Bool) → Event → Type 0
 InvokesIn test (event.Invoke call thread o answer) = test thread ≡ true
 InvokesIn test _ = Unit {0}
 
-pub record StepTied (threads : ℕ) (p : PartState) (t : Turned) : Type 0 where
+pub record StepTied (threads : ℕ) (p : PartState) (t : Stepped) : Type 0 where
   pub tied : IsTied t.state
   pub cost : 1 + left threads t.state ≤ left threads p + price threads t.event
   pub calls : (test : ℕ → Bool) → AllByRecursion (λ d. test d.thread ≡ true) p.log.pending → InvokesIn test t.event
@@ -55,7 +55,7 @@ threads_of_fit p f = all_weaker (IsFitCall p.spec.class p.spec.blocks) (λ c. c.
 -- Invoke
 
 new_tied : (m : Mode) (thread number : ℕ) (o : Op) (p : PartState) (failures : ℕ) (contexts : List (Option Context))
-    → answer_in m thread o p ≡ None → IsTiedCall m failures contexts (new_call number thread o)
+    → answer_in m thread o p ≡ None → IsTiedCall m failures contexts (new_entry number thread o)
 new_tied (mode.Boot s) thread number o p failures contexts h = (omega arith, λ e. refl)
 new_tied mode.Running thread number o p failures contexts h = (omega arith, λ e. omega arith, λ e. absurd (true≢false (sym e)))
 new_tied (mode.Recovering s) thread number o p failures contexts h = (omega arith, λ e. refl)
@@ -63,24 +63,24 @@ new_tied (mode.Dead collected) thread number o p failures contexts h = cc
 
 logged_tied : (threads : ℕ) (p : PartState) (thread : ℕ) (o : Op) (a : Option Answer) (queue : List (List ℕ)) → IsTied p
     → is_none (call_of_thread thread p.log.pending) ≡ true
-    → (a ≡ None → IsTiedCall p.mode p.failures p.domain.contexts (new_call (p.log.count + 1) thread o))
+    → (a ≡ None → IsTiedCall p.mode p.failures p.domain.contexts (new_entry (p.log.count + 1) thread o))
     → StepTied threads p (invoked_with p thread o a queue)
-unfolding with_call numbered
+unfolding with_call with_answered_call
 logged_tied threads p thread o None queue t free new =
-    let l : calls_left p.domain.contexts (p.log.pending ++ new_call (p.log.count + 1) thread o ∷ [])
-    ≡ calls_left p.domain.contexts p.log.pending + 33 = pushed_left p.domain.contexts p.log.pending (new_call (p.log.count + 1) thread o) in
+    let l : calls_left p.domain.contexts (p.log.pending ++ new_entry (p.log.count + 1) thread o ∷ [])
+    ≡ calls_left p.domain.contexts p.log.pending + 33 = pushed_left p.domain.contexts p.log.pending (new_entry (p.log.count + 1) thread o) in
     record {
       tied = record {
         rising = rising_push 0 p.log.count thread o p.log.pending (omega arith) t.rising;
         apart = apart_push thread (p.log.count + 1) o p.log.pending free t.apart;
-        calls = all_push (IsTiedCall p.mode p.failures p.domain.contexts) p.log.pending (new_call (p.log.count + 1) thread o) t.calls (new refl);
+        calls = all_push (IsTiedCall p.mode p.failures p.domain.contexts) p.log.pending (new_entry (p.log.count + 1) thread o) t.calls (new refl);
         driven = t.driven;
         stages = t.stages;
         limit = t.limit;
         within = t.within;
       };
       cost = omega arith;
-      calls = λ test all mine. all_push (λ d. test d.thread ≡ true) p.log.pending (new_call (p.log.count + 1) thread o) all mine;
+      calls = λ test all mine. all_push (λ d. test d.thread ≡ true) p.log.pending (new_entry (p.log.count + 1) thread o) all mine;
     }
 logged_tied threads p thread o (Some a) queue t free new = record {
   tied = record {
@@ -107,8 +107,8 @@ invoke_tied_by threads p thread o (Some a) t free =
     some_none : {G : Type 0} → Some a ≡ None → G
     some_none e = cc
 
-pub invoke_tied : (threads : ℕ) (p : PartState) (thread : ℕ) (o : Op) → IsTied p → can_invoke p thread ≡ true → StepTied threads p (invoked thread o p)
-unfolding invoked
+pub invoke_tied : (threads : ℕ) (p : PartState) (thread : ℕ) (o : Op) → IsTied p → can_invoke p thread ≡ true → StepTied threads p (after_invoke thread o p)
+unfolding after_invoke
 invoke_tied threads p thread o t e =
     invoke_tied_by threads p thread o (static_check p.spec.class p.spec.blocks o) t
     (and_parts (nat_lt thread 16) (is_none (call_of_thread thread p.log.pending))
@@ -130,8 +130,8 @@ held_call_left contexts c h = ap (λ (i : Bool). inside_left i (context_of c.thr
 
 answered_tied : (threads : ℕ) (p : PartState) (thread : ℕ) (c : CallEntry) (queue : List (List ℕ)) (e : Event) → IsFit p → IsTied p
     → call_of_thread thread p.log.pending ≡ Some c → c.inside ≡ false → price threads e ≡ 0
-    → StepTied threads p (record { state = record p { log = answered c.call p.log; queue = queue }; event = e })
-unfolding answered
+    → StepTied threads p (record { state = record p { log = after_answering c.call p.log; queue = queue }; event = e })
+unfolding after_answering
 answered_tied threads p thread c queue e f t found held free =
     let l : calls_left p.domain.contexts (without_call c.call p.log.pending) + call_left p.domain.contexts c ≤ calls_left p.domain.contexts p.log.pending =
     removed_left thread p.domain.contexts p.domain.contexts p.log.pending c (same_all thread p.domain.contexts) (threads_of_fit p f) t.apart found in
@@ -150,7 +150,7 @@ answered_tied threads p thread c queue e f t found held free =
       calls = λ test all mine. filter_fits (λ d. test d.thread ≡ true) _ p.log.pending all;
     }
 
-entered_fields : (call : ℕ) (c : CallEntry) → ((change_call call entered_call c).call ≡ c.call) × ((change_call call entered_call c).thread ≡ c.thread)
+entered_fields : (call : ℕ) (c : CallEntry) → ((change_entry call entered_call c).call ≡ c.call) × ((change_entry call entered_call c).thread ≡ c.thread)
 entered_fields call c = split (is_call call c)
     (λ e. rw e (refl, refl))
     (λ e. rw e (refl, refl))
@@ -162,8 +162,8 @@ threads_all_both P (x ∷ xs) a l = ((a.0, l.0), threads_all_both P xs a.1 l.1)
 inside_tied : (threads : ℕ) (p : PartState) (thread : ℕ) (c : CallEntry) (x : Context) (d : DomainState) (e : Event) → IsFit p → IsTied p
     → p.mode ≡ mode.Running → call_of_thread thread p.log.pending ≡ Some c → c.inside ≡ false → price threads e ≡ 0
     → d.contexts ≡ slice_set p.domain.contexts thread (Some x) → x.bursts ≡ 0
-    → StepTied threads p (record { state = record p { log = entered c.call p.log; domain = d }; event = e })
-unfolding entered
+    → StepTied threads p (record { state = record p { log = after_entering c.call p.log; domain = d }; event = e })
+unfolding after_entering
 inside_tied threads p thread c x d e f t running found held free ctx fresh =
     let th : AreThreads p.log.pending = threads_of_fit p f in
     let same : c.thread ≡ thread = found_thread thread p.log.pending c found in
@@ -175,7 +175,7 @@ inside_tied threads p thread c x d e f t running found held free ctx fresh =
     ap (context_of 16) ctx ∙ context_set_other p.domain.contexts thread 16 (Some x) (apart thread (low' thread c.thread same low)) in
     let was : AllByRecursion (IsRunningCall p.failures p.domain.contexts) p.log.pending =
     subst (λ m. AllByRecursion (IsTiedCall m p.failures p.domain.contexts) p.log.pending) running t.calls in
-    let now : AllByRecursion (IsRunningCall p.failures d.contexts) (map (change_call c.call entered_call) p.log.pending) =
+    let now : AllByRecursion (IsRunningCall p.failures d.contexts) (map (change_entry c.call entered_call) p.log.pending) =
     one_entered (λ z. (z.thread < 16) × IsRunningCall p.failures p.domain.contexts z) (IsRunningCall p.failures d.contexts) entered_call thread 0 p.log.count p.log.pending c
     (λ z other h. (h.1.0, h.1.1, λ inside. subst GoesOn (sym (s z.thread h.0 other)) (h.1.2 inside)))
     (λ h. let a : c.attempts ≤ p.failures = h.1.1 held in (
@@ -187,21 +187,21 @@ inside_tied threads p thread c x d e f t running found held free ctx fresh =
     let before : call_left p.domain.contexts c ≡ 33 = held_call_left p.domain.contexts c held in
     let after : call_left d.contexts (entered_call c) ≡ 32 - x.bursts =
     ap (inside_left true) (ap (λ (k : ℕ). context_of k d.contexts) same ∙ here) in
-    let l : calls_left d.contexts (map (change_call c.call entered_call) p.log.pending) + 1 ≤ calls_left p.domain.contexts p.log.pending =
+    let l : calls_left d.contexts (map (change_entry c.call entered_call) p.log.pending) + 1 ≤ calls_left p.domain.contexts p.log.pending =
     entered_left thread 1 0 p.log.count p.domain.contexts d.contexts entered_call p.log.pending c s th t.apart t.rising found (omega arith) in
     let sp : spent (context_of 16 d.contexts) ≡ spent (context_of 16 p.domain.contexts) = ap spent shadow in
     record {
       tied = record {
-        rising = rising_map (change_call c.call entered_call) 0 p.log.count p.log.pending (λ z. (entered_fields c.call z).0) t.rising;
-        apart = apart_map (change_call c.call entered_call) p.log.pending (λ z. (entered_fields c.call z).1) t.apart;
-        calls = subst (λ m. AllByRecursion (IsTiedCall m p.failures d.contexts) (map (change_call c.call entered_call) p.log.pending)) (sym running) now;
+        rising = rising_map (change_entry c.call entered_call) 0 p.log.count p.log.pending (λ z. (entered_fields c.call z).0) t.rising;
+        apart = apart_map (change_entry c.call entered_call) p.log.pending (λ z. (entered_fields c.call z).1) t.apart;
+        calls = subst (λ m. AllByRecursion (IsTiedCall m p.failures d.contexts) (map (change_entry c.call entered_call) p.log.pending)) (sym running) now;
         driven = subst (λ o. IsDriven p.mode o) (sym shadow) t.driven;
         stages = t.stages;
         limit = t.limit;
         within = t.within;
       };
       cost = rw sp (omega arith);
-      calls = λ test all mine. all_map (λ z. test z.thread ≡ true) (change_call c.call entered_call) p.log.pending
+      calls = λ test all mine. all_map (λ z. test z.thread ≡ true) (change_entry c.call entered_call) p.log.pending
           (λ z h. ap test (entered_fields c.call z).1 ∙ h) all;
     }
   where
@@ -215,7 +215,7 @@ inside_tied threads p thread c x d e f t running found held free ctx fresh =
     apart t h e = omega arith
 
 admitted_tied : (threads : ℕ) (p : PartState) (thread : ℕ) (c : CallEntry) (a : Admit) → IsFit p → IsTied p → p.mode ≡ mode.Running
-    → call_of_thread thread p.log.pending ≡ Some c → c.inside ≡ false → StepTied threads p (admitted p c a)
+    → call_of_thread thread p.log.pending ≡ Some c → c.inside ≡ false → StepTied threads p (after_admit p c a)
 unfolding entered_domain
 admitted_tied threads p thread c (admits.Reply a) f t running found held = answered_tied threads p thread c p.queue _ f t found held refl
 admitted_tied threads p thread c admits.TakeFrame f t running found held = answered_tied threads p thread c (tail_of p.queue) _ f t found held refl
@@ -232,16 +232,16 @@ enter_tied_by threads p thread (Some c) f t running found ready =
     admitted_tied threads p thread c (admit p.spec.class thread c.op p.log.holder (length p.queue)) f t running found
     (not-true c.inside (and_parts (not c.inside) (not (is_blocked p.spec.class c p.log.pending)) ready).0)
 
-pub enter_tied : (threads : ℕ) (p : PartState) (thread : ℕ) → IsFit p → IsTied p → can_enter p thread ≡ true → StepTied threads p (entered_part thread p)
-unfolding entered_part
+pub enter_tied : (threads : ℕ) (p : PartState) (thread : ℕ) → IsFit p → IsTied p → can_enter p thread ≡ true → StepTied threads p (after_enter thread p)
+unfolding after_enter
 enter_tied threads p thread f t e =
     let parts = and_parts (is_running p.mode) (is_ready p (call_of_thread thread p.log.pending)) e in
     enter_tied_by threads p thread (call_of_thread thread p.log.pending) f t (running_is p.mode parts.0) refl parts.1
 
 -- Arrive
 
-pub arrive_tied : (threads : ℕ) (p : PartState) (frame : List ℕ) → IsTied p → StepTied threads p (arrived frame p)
-unfolding arrived
+pub arrive_tied : (threads : ℕ) (p : PartState) (frame : List ℕ) → IsTied p → StepTied threads p (after_arrival frame p)
+unfolding after_arrival
 arrive_tied threads p frame t = record {
   tied = record {
     rising = t.rising;

@@ -1,13 +1,13 @@
 use Rattle.std.proofs.Common.{◌≡◌, ℕ, zero, suc, ◌&&◌, ◌||◌, not, eqb, Bool, true, false, Option, Some, None, List, [], ◌∷◌, sym, refl, ap, ap₂, ◌∙◌, arith, bytes_eq}
 use Rattle.std.proofs.lemmas.Bool.{eqb-true, cond-true, cond-false, and_parts}
-use Rattle.nook_defs.specs.declared.data.Act.{Act}
-use Rattle.nook_defs.specs.declared.data.Act.TheVariants as act
-use Rattle.nook_defs.specs.declared.data.Op.{Op}
-use Rattle.nook_defs.specs.declared.data.Op.TheVariants.{Read, Write, Send, Recv, Open, Play, Close, Get, Set}
+use Rattle.nook_defs.specs.declared.machine.Act.{Act}
+use Rattle.nook_defs.specs.declared.machine.Act.TheVariants as act
+use Rattle.nook_defs.specs.declared.calls.Op.{Op}
+use Rattle.nook_defs.specs.declared.calls.Op.TheVariants.{Read, Write, Send, Recv, Open, Play, Close, Get, Set}
 use Rattle.nook_defs.specs.Blocks.{words_for}
 use Rattle.nook_defs.specs.Classes.{covers, is_write}
 use Rattle.part_laws.specs.Watch.{Watch, Watched, wanted, stores_at, is_covered, is_agreed, is_setting, sees_act, sees_acts}
-use Rattle.nook_defs.specs.Places.{at_number, number_where, past_one}
+use Rattle.nook_defs.specs.Places.{at_number, number_where, one_later}
 use Rattle.nook_defs.specs.Contract.{sets}
 use Rattle.part_laws.specs.Facts.{At}
 use Rattle.part_laws.proofs.Places.{split, some_same}
@@ -50,15 +50,15 @@ pub record FoundWhere {X : Type 0} (test : X → Bool) (xs : List X) (x : X) : T
 pub where_at : {X : Type 0} (test : X → Bool) (xs : List X) (x : X) → at_number (number_where test xs) xs ≡ Some x → FoundWhere test xs x
 where_at test [] x h = absurd cc
 where_at {X} test (y ∷ xs) x h = split (test y)
-    (λ t. here t (sym (ap (λ n. at_number n (y ∷ xs)) (cond-true (test y) 1 (past_one (number_where test xs)) t)) ∙ h))
-    (λ t. there t (number_where test xs) refl (sym (ap (λ n. at_number n (y ∷ xs)) (cond-false (test y) 1 (past_one (number_where test xs)) t)) ∙ h)
+    (λ t. here t (sym (ap (λ n. at_number n (y ∷ xs)) (cond-true (test y) 1 (one_later (number_where test xs)) t)) ∙ h))
+    (λ t. there t (number_where test xs) refl (sym (ap (λ n. at_number n (y ∷ xs)) (cond-false (test y) 1 (one_later (number_where test xs)) t)) ∙ h)
     (where_at test xs x))
   where
     here : test y ≡ true → Some y ≡ Some x → FoundWhere test (y ∷ xs) x
     here t e = record
-        { place = 0; number = cond-true (test y) 1 (past_one (number_where test xs)) t; at = e; passes = ap test (sym (some_same y x e)) ∙ t }
+        { place = 0; number = cond-true (test y) 1 (one_later (number_where test xs)) t; at = e; passes = ap test (sym (some_same y x e)) ∙ t }
 
-    there : test y ≡ false → (n : ℕ) → number_where test xs ≡ n → at_number (past_one n) (y ∷ xs) ≡ Some x
+    there : test y ≡ false → (n : ℕ) → number_where test xs ≡ n → at_number (one_later n) (y ∷ xs) ≡ Some x
         → (at_number (number_where test xs) xs ≡ Some x → FoundWhere test xs x) → FoundWhere test (y ∷ xs) x
     there t zero e h go = absurd cc
     there t (suc n) e h go = further (go (ap (λ n. at_number n xs) e ∙ h))
@@ -66,7 +66,7 @@ where_at {X} test (y ∷ xs) x h = split (test y)
         further : FoundWhere test xs x → FoundWhere test (y ∷ xs) x
         further f = record {
           place = suc f.place;
-          number = cond-false (test y) 1 (past_one (number_where test xs)) t ∙ ap past_one f.number;
+          number = cond-false (test y) 1 (one_later (number_where test xs)) t ∙ ap one_later f.number;
           at = f.at;
           passes = f.passes;
         }
@@ -76,11 +76,11 @@ pub where_only : {X : Type 0} (test : X → Bool) (xs : List X) (k : ℕ) (x : X
     → ((j : ℕ) (y : X) → At xs j y → test y ≡ true → j ≡ k) → number_where test xs ≡ suc k
 where_only test [] k x h t only = absurd cc
 where_only test (y ∷ xs) zero x h t only =
-    cond-true (test y) 1 (past_one (number_where test xs)) (ap test (some_same y x h) ∙ t)
+    cond-true (test y) 1 (one_later (number_where test xs)) (ap test (some_same y x h) ∙ t)
 where_only test (y ∷ xs) (suc k) x h t only = split (test y)
     (λ e. absurd (omega (arith, only 0 y refl e)))
-    (λ e. cond-false (test y) 1 (past_one (number_where test xs)) e
-    ∙ ap past_one (where_only test xs k x h t (λ j z i u. omega (arith, only (suc j) z i u))))
+    (λ e. cond-false (test y) 1 (one_later (number_where test xs)) e
+    ∙ ap one_later (where_only test xs k x h t (λ j z i u. omega (arith, only (suc j) z i u))))
 
 -- ---- stores
 

@@ -60,13 +60,6 @@ with_words_there start words memory to h e =
     ap (take (to - start)) (drop_at (take start memory) (words ++ drop (start + length words) memory) start c)
     ∙ take_at words (drop (start + length words) memory) (to - start) (sym n)
 
-pub length-padded_words : (n : ℕ) (words : List ℕ) → length words ≤ n → length (padded_words n words) ≡ n
-length-padded_words n words h =
-    let tail : List ℕ = replicate (n - length words) 0 in
-    let a : length (words ++ tail) ≡ length words + length tail = length-append words tail in
-    let b : length tail ≡ n - length words = length-replicate (n - length words) 0 in
-    omega arith
-
 pub length-slice_range : (xs : List ℕ) (from to : ℕ) → from ≤ to → to ≤ length xs → length (slice_range xs from to) ≡ to - from
 length-slice_range xs from to a b =
     let c : length (drop from xs) ≡ length xs - from = length-drop from xs in

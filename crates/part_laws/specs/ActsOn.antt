@@ -1,9 +1,9 @@
 use Rattle.std.specs.Prelude.{◌≡◌, ◌<◌, ℕ, Bool, true, false, List, [], ◌∷◌, drop, length, slice_index, slice_set}
-use Rattle.nook_defs.specs.declared.data.Act.{Act}
-use Rattle.nook_defs.specs.declared.data.Act.TheVariants as act
-use Rattle.nook_defs.specs.declared.data.DeviceKind.{DeviceKind}
-use Rattle.nook_defs.specs.declared.data.DeviceKind.TheVariants as kind
-use Rattle.nook_defs.specs.declared.data.DeviceState.{DeviceState}
+use Rattle.nook_defs.specs.declared.machine.Act.{Act}
+use Rattle.nook_defs.specs.declared.machine.Act.TheVariants as act
+use Rattle.nook_defs.specs.declared.devices.DeviceKind.{DeviceKind}
+use Rattle.nook_defs.specs.declared.devices.DeviceKind.TheVariants as kind
+use Rattle.nook_defs.specs.declared.devices.DeviceState.{DeviceState}
 use Rattle.nook_defs.specs.Devices.{medium_of, ring_of}
 
 -- What the acts of a burst tell of its device.

@@ -1,16 +1,16 @@
 use Rattle.std.specs.Prelude.{◌≡◌, ℕ, Bool, true, false, List, [], ◌∷◌, length, Option, Some, None, is_some, is_none, nat_lt, ◌+◌, ◌==◌, ◌&&◌, ◌||◌}
-use Rattle.nook_defs.specs.declared.data.Answer.{Answer}
-use Rattle.nook_defs.specs.declared.data.Answer.TheVariants as answered
-use Rattle.nook_defs.specs.declared.data.Event.{Event}
-use Rattle.nook_defs.specs.declared.data.Event.TheVariants as event
-use Rattle.nook_defs.specs.declared.data.Losses.{Losses}
-use Rattle.nook_defs.specs.declared.data.Mode.{Mode}
-use Rattle.nook_defs.specs.declared.data.Mode.TheVariants as mode
-use Rattle.nook_defs.specs.declared.data.Op.{Op}
-use Rattle.nook_defs.specs.declared.data.Op.TheVariants.{Send, Play}
-use Rattle.nook_defs.specs.declared.data.PartSpec.{PartSpec}
-use Rattle.nook_defs.specs.declared.data.Stage.{Stage}
-use Rattle.nook_defs.specs.declared.data.Stage.TheVariants as stages
+use Rattle.nook_defs.specs.declared.calls.Answer.{Answer}
+use Rattle.nook_defs.specs.declared.calls.Answer.TheVariants as answered
+use Rattle.nook_defs.specs.declared.steps.Event.{Event}
+use Rattle.nook_defs.specs.declared.steps.Event.TheVariants as event
+use Rattle.nook_defs.specs.declared.verdicts.Losses.{Losses}
+use Rattle.nook_defs.specs.declared.steps.Mode.TheVariants as mode
+use Rattle.nook_defs.specs.declared.steps.Mode.{Mode}
+use Rattle.nook_defs.specs.declared.calls.Op.{Op}
+use Rattle.nook_defs.specs.declared.calls.Op.TheVariants.{Send, Play}
+use Rattle.nook_defs.specs.declared.scenario.PartSpec.{PartSpec}
+use Rattle.nook_defs.specs.declared.steps.Stage.{Stage}
+use Rattle.nook_defs.specs.declared.steps.Stage.TheVariants as stages
 use Rattle.nook_defs.specs.Blocks.{has_block}
 use Rattle.part_laws.specs.Watch.{Watch, Watched, first_watch, sees}
 use Rattle.part_laws.specs.Counts.{counted_losses}
@@ -18,13 +18,18 @@ use Rattle.nook_defs.specs.Places.{at_number}
 use Rattle.nook_defs.specs.Runs.{state_after, step_of}
 use Rattle.nook_defs.specs.State.{PartState}
 use Rattle.nook_defs.specs.Steps.{opening}
-use Rattle.nook_defs.specs.Licence.{is_balanced, is_stage, recovery_stage, same_stage, shadow_stage, stop_alone}
+use Rattle.nook_defs.specs.Licence.{is_balanced, is_stage, same_stage, shadow_stage}
 use Rattle.nook_defs.specs.Contract.{is_empty}
 
 -- The licence of losses and busy answers by the fold of the contract: what is proved first. Over a run it is the licence
 -- that nook_defs defines.
 
 -- ---- where the shadow answers
+
+-- the stage of a recovery
+abbrev pub recovery_stage : Mode → Option Stage
+recovery_stage (mode.Recovering s) = Some s
+recovery_stage m = None
 
 -- ---- one answer
 

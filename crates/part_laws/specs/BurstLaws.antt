@@ -1,6 +1,6 @@
 use Rattle.std.specs.Prelude.{◌≡◌, List, length}
-use Rattle.nook_defs.specs.declared.data.Entry.{Entry}
-use Rattle.nook_defs.specs.declared.data.Fault.{Fault}
+use Rattle.nook_defs.specs.declared.entries.Entry.{Entry}
+use Rattle.nook_defs.specs.declared.scenario.Fault.{Fault}
 use Rattle.nook_defs.specs.Burst.{burst}
 use Rattle.nook_defs.specs.Isolation.{ChangesOnlyAllowed}
 use Rattle.nook_defs.specs.Turn.{Machine}

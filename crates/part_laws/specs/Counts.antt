@@ -1,17 +1,17 @@
 use Rattle.std.specs.Prelude.{ℕ, suc, Bool, true, false, List, [], ◌∷◌, ◌++◌, length, fold, Option, Some, None, ◌+◌, ◌-◌, ◌==◌, not, if◌then◌else◌}
-use Rattle.nook_defs.specs.declared.data.Act.{Act}
-use Rattle.nook_defs.specs.declared.data.Act.TheVariants as act
-use Rattle.nook_defs.specs.declared.data.Answer.{Answer}
-use Rattle.nook_defs.specs.declared.data.Answer.TheVariants as answered
-use Rattle.nook_defs.specs.declared.data.End.{End}
-use Rattle.nook_defs.specs.declared.data.End.TheVariants as ends
-use Rattle.nook_defs.specs.declared.data.Event.{Event}
-use Rattle.nook_defs.specs.declared.data.Event.TheVariants as event
-use Rattle.nook_defs.specs.declared.data.Losses.{Losses}
-use Rattle.nook_defs.specs.declared.data.Op.{Op}
-use Rattle.nook_defs.specs.declared.data.Op.TheVariants.{Send, Play}
-use Rattle.nook_defs.specs.declared.data.Stage.{Stage}
-use Rattle.nook_defs.specs.declared.data.Stage.TheVariants as stages
+use Rattle.nook_defs.specs.declared.machine.Act.{Act}
+use Rattle.nook_defs.specs.declared.machine.Act.TheVariants as act
+use Rattle.nook_defs.specs.declared.calls.Answer.{Answer}
+use Rattle.nook_defs.specs.declared.calls.Answer.TheVariants as answered
+use Rattle.nook_defs.specs.declared.steps.End.{End}
+use Rattle.nook_defs.specs.declared.steps.End.TheVariants as ends
+use Rattle.nook_defs.specs.declared.steps.Event.{Event}
+use Rattle.nook_defs.specs.declared.steps.Event.TheVariants as event
+use Rattle.nook_defs.specs.declared.verdicts.Losses.{Losses}
+use Rattle.nook_defs.specs.declared.calls.Op.{Op}
+use Rattle.nook_defs.specs.declared.calls.Op.TheVariants.{Send, Play}
+use Rattle.nook_defs.specs.declared.steps.Stage.{Stage}
+use Rattle.nook_defs.specs.declared.steps.Stage.TheVariants as stages
 use Rattle.nook_defs.specs.Places.{at_number, change_number}
 use Rattle.nook_defs.specs.Losses.{handed_result, one_if}
 

@@ -1,6 +1,6 @@
 use Rattle.std.specs.Prelude.{List, [], ◌∷◌}
-use Rattle.nook_defs.specs.declared.data.Event.{Event}
-use Rattle.nook_defs.specs.declared.data.Step.{Step}
+use Rattle.nook_defs.specs.declared.steps.Event.{Event}
+use Rattle.nook_defs.specs.declared.steps.Step.{Step}
 use Rattle.nook_defs.specs.Runs.{event_of, state_after}
 use Rattle.nook_defs.specs.State.{PartState}
 

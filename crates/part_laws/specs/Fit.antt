@@ -1,10 +1,12 @@
 use Rattle.std.specs.Prelude.{◌≡◌, ℕ, ◌+◌, ◌≤◌, ◌<◌, true, false, None, List, [], ◌∷◌, length}
 use Rattle.std.specs.List.{AllByRecursion}
-use Rattle.nook_defs.specs.declared.data.CallEntry.{CallEntry}
-use Rattle.nook_defs.specs.declared.data.Class.{Class}
-use Rattle.nook_defs.specs.declared.data.Entry.{Entry}
-use Rattle.nook_defs.specs.declared.data.Entry.TheVariants as entry
-use Rattle.nook_defs.specs.declared.data.PartSpec.{PartSpec}
+use Rattle.nook_defs.specs.declared.calls.CallEntry.{CallEntry}
+use Rattle.nook_defs.specs.declared.classes.Class.{Class}
+use Rattle.nook_defs.specs.declared.entries.Entry.{Entry}
+use Rattle.nook_defs.specs.declared.entries.Entry.TheVariants as entry
+use Rattle.nook_defs.specs.declared.scenario.PartSpec.{PartSpec}
+use Rattle.nook_defs.specs.declared.limits.TheConstants.{CONTEXTS, MOST_THREADS, SHADOW}
+use Rattle.nook_defs.specs.declared.memory_map.TheConstants.{DATA_END, DATA_WORDS, LAST_OBJECT, MEMORY_WORDS, OBJECT_WORDS, TEXT_WORDS}
 use Rattle.nook_defs.specs.Classes.{static_check, defaults_of}
 use Rattle.nook_defs.specs.Crossing.{heap_start}
 use Rattle.nook_defs.specs.Entries.{comes_before, is_registration}
@@ -15,14 +17,14 @@ use Rattle.nook_defs.specs.State.{DomainState, CallLog, PartState}
 
 -- the image of a part fits its memory
 pub record IsFitSpec (spec : PartSpec) : Type 0 where
-  pub text : length spec.image.text ≤ 2048
-  pub initial : length spec.image.initial ≤ 2048
+  pub text : length spec.image.text ≤ TEXT_WORDS
+  pub initial : length spec.image.initial ≤ DATA_WORDS
 
 -- what the driver holds lies in the heap, which begins at `heap`, and is of a kernel object or a context
 abbrev pub IsFitEntry : ℕ → Entry → Type 0
-IsFitEntry heap (entry.Heap start len) = (heap ≤ start) × (start + len ≤ 4096)
-IsFitEntry heap (entry.Borrow object start) = (1 ≤ object) × (object ≤ 12) × (heap ≤ start) × (start + 64 ≤ 4096)
-IsFitEntry heap (entry.Buffer context writable) = context ≤ 16
+IsFitEntry heap (entry.Heap start len) = (heap ≤ start) × (start + len ≤ DATA_END)
+IsFitEntry heap (entry.Borrow object start) = (1 ≤ object) × (object ≤ LAST_OBJECT) × (heap ≤ start) × (start + OBJECT_WORDS ≤ DATA_END)
+IsFitEntry heap (entry.Buffer context writable) = context ≤ SHADOW
 IsFitEntry heap (entry.Registration live) = Unit {0}
 
 -- the entries stand in Collect's order, the one registration last
@@ -32,14 +34,14 @@ IsOrdered (e ∷ []) = is_registration e ≡ true
 IsOrdered (e ∷ x ∷ entries) = (is_registration e ≡ false) × (comes_before x e ≡ false) × IsOrdered (x ∷ entries)
 
 pub record IsFitDomain (heap : ℕ) (d : DomainState) : Type 0 where
-  pub memory : length d.memory ≡ 8192
-  pub contexts : length d.contexts ≡ 17
+  pub memory : length d.memory ≡ MEMORY_WORDS
+  pub contexts : length d.contexts ≡ CONTEXTS
   pub entries : AllByRecursion (IsFitEntry heap) d.entries
   pub ordered : IsOrdered d.entries
 
 -- an open call is of one of 16 threads, and its operation passed the static check
 pub record IsFitCall (class : Class) (blocks : ℕ) (c : CallEntry) : Type 0 where
-  pub thread : c.thread < 16
+  pub thread : c.thread < MOST_THREADS
   pub checked : static_check class blocks c.op ≡ None
 
 pub record IsFitLog (class : Class) (blocks : ℕ) (log : CallLog) : Type 0 where

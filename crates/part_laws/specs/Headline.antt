@@ -1,7 +1,7 @@
 -- What is claimed of each part of a run.
 use Rattle.std.specs.Prelude.{◌≡◌, ◌≤◌, false, None, List, [], ◌∷◌, length}
-use Rattle.nook_defs.specs.declared.data.Event.{Event}
-use Rattle.nook_defs.specs.declared.data.PartSpec.{PartSpec}
+use Rattle.nook_defs.specs.declared.steps.Event.{Event}
+use Rattle.nook_defs.specs.declared.scenario.PartSpec.{PartSpec}
 use Rattle.nook_defs.specs.Contract.{first_break}
 use Rattle.nook_defs.specs.Ideal.{Ideal, IsClassRun}
 use Rattle.nook_defs.specs.Isolation.{IsIsolated}

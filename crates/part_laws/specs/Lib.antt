@@ -17,3 +17,4 @@ pub mod Balance
 pub mod Recovery
 pub mod Headline
 pub mod Answered
+pub mod Loans

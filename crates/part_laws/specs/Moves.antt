@@ -1,7 +1,7 @@
 use Rattle.std.specs.Prelude.{ℕ, suc, ◌+◌, ◌&&◌, Bool, true, false, [], ◌∷◌, nat_lt, if◌then◌else◌}
 use Rattle.nook_defs.specs.Classes.{covers}
-use Rattle.nook_defs.specs.Log.{is_kept}
-use Rattle.nook_defs.specs.declared.data.Op.{Op}
+use Rattle.nook_defs.specs.Log.{is_held}
+use Rattle.nook_defs.specs.declared.calls.Op.{Op}
 use Rattle.part_laws.specs.Views.{Core, Call}
 
 -- What a step makes of a call.
@@ -32,7 +32,7 @@ close_core c = record c { waits = false; inside = false }
 
 -- at Stop a call is answered, or held
 abbrev pub stop_core : Core → Core
-stop_core c = record c { waits = c.waits && is_kept c.op; inside = false }
+stop_core c = record c { waits = c.waits && is_held c.op; inside = false }
 
 -- a block was stored
 abbrev pub store_core : ℕ → Core → Core

@@ -1,6 +1,6 @@
 use Rattle.std.specs.Prelude.{◌≡◌, ℕ, true, false, None, Some, []}
-use Rattle.nook_defs.specs.declared.data.Step.{Step}
-use Rattle.nook_defs.specs.declared.data.Step.TheVariants as step
+use Rattle.nook_defs.specs.declared.steps.Step.{Step}
+use Rattle.nook_defs.specs.declared.steps.Step.TheVariants as step
 use Rattle.nook_defs.specs.Runs.{next_any}
 use Rattle.nook_defs.specs.State.{PartState}
 use Rattle.nook_defs.specs.Steps.{enabled}

@@ -1,10 +1,11 @@
 use Rattle.std.specs.Prelude.{◌≡◌, ◌&&◌, Bool, true, false, Some, None, List, [], ◌++◌, fold, length}
 use Rattle.std.specs.List.{list_any}
-use Rattle.nook_defs.specs.declared.data.CallEntry.{CallEntry}
-use Rattle.nook_defs.specs.declared.data.Event.{Event}
-use Rattle.nook_defs.specs.declared.data.Mode.TheVariants as mode
-use Rattle.nook_defs.specs.declared.data.PartSpec.{PartSpec}
-use Rattle.nook_defs.specs.Calls.{Turned}
+use Rattle.nook_defs.specs.declared.calls.CallEntry.{CallEntry}
+use Rattle.nook_defs.specs.declared.steps.Event.{Event}
+use Rattle.nook_defs.specs.declared.steps.Mode.TheVariants as mode
+use Rattle.nook_defs.specs.declared.scenario.PartSpec.{PartSpec}
+use Rattle.nook_defs.specs.declared.limits.TheConstants.{CONTEXTS}
+use Rattle.nook_defs.specs.Calls.{Stepped}
 use Rattle.nook_defs.specs.Classes.{is_set, is_write}
 use Rattle.nook_defs.specs.Contract.{first_break}
 use Rattle.part_laws.specs.Watch.{first_watch, sees}
@@ -62,10 +63,10 @@ Gone p = (is_dead p.mode ≡ true) × (is_driven p ≡ false)
 
 -- what a step keeps: the facts, beside what the monitor then knows, what the trace then keeps of the calls, the state in
 -- which the never-failing device then is, the licence of the step's answers, and the balance of frames
-pub record StepKeeps (p : PartState) (b : Past) (t : Turned) : Type 0 where
+pub record StepKeeps (p : PartState) (b : Past) (t : Stepped) : Type 0 where
   pub after : Past
   pub facts : Facts (view_of t.state) after
-  pub contexts : length t.state.domain.contexts ≡ 17
+  pub contexts : length t.state.domain.contexts ≡ CONTEXTS
   pub seen : sees (watch_of (view_of p) b) t.event ≡ watch_of (view_of t.state) after
   pub tracked : tracks_after t.event (tracks_of b) ≡ tracks_of after
   pub shown : (more : List Visible)

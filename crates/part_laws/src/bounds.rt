@@ -2,10 +2,10 @@
 
 ghost use Rattle.nook_defs.specs.Runs.{IsRun, state_of};
 ghost use Rattle.nook_defs.specs.State.{PartState};
-ghost use Rattle.nook_defs.specs.Steps.{enabled, turned};
-ghost use Rattle.nook_defs.specs.declared.data.Event.{Event};
-ghost use Rattle.nook_defs.specs.declared.data.PartSpec.{PartSpec};
-ghost use Rattle.nook_defs.specs.declared.data.Step.{Step};
+ghost use Rattle.nook_defs.specs.Steps.{enabled, stepped};
+ghost use Rattle.nook_defs.specs.declared.steps.Event.{Event};
+ghost use Rattle.nook_defs.specs.declared.scenario.PartSpec.{PartSpec};
+ghost use Rattle.nook_defs.specs.declared.steps.Step.{Step};
 ghost use Rattle.part_laws.specs.Bound.{IsMeasured, most_events};
 ghost use Rattle.part_laws.specs.Fit.{IsFit, IsFitSpec};
 ghost use Rattle.part_laws.specs.Progress.{HasProgress};
@@ -16,7 +16,7 @@ ghost use Rattle.std.specs.Prelude.{List, length, true, ◌+◌, ◌^◌, ◌<�
 /// open call each, a call that is Inside has its context with fewer than 32 bursts, attempts are at most one more than
 /// failures, and failures at most one more than the limit.
 pub fn each_step_is_tied()
-    ensures { (p : PartState) (s : Step) → IsFit p → IsTied p → enabled p s ≡ true → IsTied (turned p s).state }
+    ensures { (p : PartState) (s : Step) → IsFit p → IsTied p → enabled p s ≡ true → IsTied (stepped p s).state }
 {}
 
 /// So it is after every journal that is a run.

@@ -1,8 +1,8 @@
 //! Laws of one burst.
 
 ghost use Rattle.nook_defs.specs.Turn.{Machine};
-ghost use Rattle.nook_defs.specs.declared.data.Entry.{Entry};
-ghost use Rattle.nook_defs.specs.declared.data.Fault.{Fault};
+ghost use Rattle.nook_defs.specs.declared.entries.Entry.{Entry};
+ghost use Rattle.nook_defs.specs.declared.scenario.Fault.{Fault};
 ghost use Rattle.nook_defs.specs.Burst.{burst};
 ghost use Rattle.part_laws.specs.ActsOn.{dev_of, Tells};
 ghost use Rattle.part_laws.specs.BurstLaws.{IsIsolatedBurst};

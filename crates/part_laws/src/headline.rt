@@ -2,8 +2,8 @@
 
 ghost use Rattle.nook_defs.specs.Runs.{IsRun};
 ghost use Rattle.nook_defs.specs.Valid.{IsValidPart};
-ghost use Rattle.nook_defs.specs.declared.data.Event.{Event};
-ghost use Rattle.nook_defs.specs.declared.data.PartSpec.{PartSpec};
+ghost use Rattle.nook_defs.specs.declared.steps.Event.{Event};
+ghost use Rattle.nook_defs.specs.declared.scenario.PartSpec.{PartSpec};
 ghost use Rattle.part_laws.specs.Headline.{IsSafe};
 ghost use Rattle.std.specs.Prelude.{List};
 

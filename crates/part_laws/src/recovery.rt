@@ -6,11 +6,12 @@ ghost use Rattle.nook_defs.specs.Ideal.{Ideal, IsClassRun};
 ghost use Rattle.nook_defs.specs.Licence.{IsLicensed};
 ghost use Rattle.nook_defs.specs.Runs.{state_of};
 ghost use Rattle.nook_defs.specs.State.{PartState};
-ghost use Rattle.nook_defs.specs.Steps.{enabled, turned};
+ghost use Rattle.nook_defs.specs.Steps.{enabled, stepped};
 ghost use Rattle.nook_defs.specs.Trace.{trace};
-ghost use Rattle.nook_defs.specs.declared.data.Event.{Event};
-ghost use Rattle.nook_defs.specs.declared.data.PartSpec.{PartSpec};
-ghost use Rattle.nook_defs.specs.declared.data.Step.{Step};
+ghost use Rattle.nook_defs.specs.declared.steps.Event.{Event};
+ghost use Rattle.nook_defs.specs.declared.limits.TheConstants.{CONTEXTS};
+ghost use Rattle.nook_defs.specs.declared.scenario.PartSpec.{PartSpec};
+ghost use Rattle.nook_defs.specs.declared.steps.Step.{Step};
 ghost use Rattle.part_laws.specs.Facts.{Facts, is_dead};
 ghost use Rattle.part_laws.specs.Recovery.{Agrees, Gone, HasFacts, IsKeptRun, ShowsDevice, StepKeeps};
 ghost use Rattle.part_laws.specs.Views.{Past, view_of, watch_of};
@@ -47,8 +48,8 @@ pub fn facts_hold()
 
 /// Each step that breaks no clause keeps the facts, from any part and past of which they hold, or gives the part up.
 pub fn each_step_keeps_the_facts()
-    ensures { (p : PartState) (past : Past) (s : Step) → Facts (view_of p) past → length p.domain.contexts ≡ 17
+    ensures { (p : PartState) (past : Past) (s : Step) → Facts (view_of p) past → length p.domain.contexts ≡ CONTEXTS
         → is_dead p.mode ≡ false → enabled p s ≡ true
-        → (sees (watch_of (view_of p) past) (turned p s).event).clause ≡ None
-        → Gone (turned p s).state ⊎ StepKeeps p past (turned p s) }
+        → (sees (watch_of (view_of p) past) (stepped p s).event).clause ≡ None
+        → Gone (stepped p s).state ⊎ StepKeeps p past (stepped p s) }
 {}

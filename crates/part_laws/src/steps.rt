@@ -2,12 +2,12 @@
 
 ghost use Rattle.nook_defs.specs.Isolation.{IsIsolated};
 ghost use Rattle.nook_defs.specs.Runs.{IsRun, answered_at, event_of, state_after, state_of, step_of};
-ghost use Rattle.nook_defs.specs.Steps.{enabled, opening, turned};
+ghost use Rattle.nook_defs.specs.Steps.{enabled, opening, stepped};
 ghost use Rattle.nook_defs.specs.State.{PartState};
 ghost use Rattle.nook_defs.specs.Valid.{IsValidPart};
-ghost use Rattle.nook_defs.specs.declared.data.Event.{Event};
-ghost use Rattle.nook_defs.specs.declared.data.PartSpec.{PartSpec};
-ghost use Rattle.nook_defs.specs.declared.data.Step.{Step};
+ghost use Rattle.nook_defs.specs.declared.steps.Event.{Event};
+ghost use Rattle.nook_defs.specs.declared.scenario.PartSpec.{PartSpec};
+ghost use Rattle.nook_defs.specs.declared.steps.Step.{Step};
 ghost use Rattle.part_laws.specs.Answered.{is_answered};
 ghost use Rattle.part_laws.specs.Collection.{IsCollecting};
 ghost use Rattle.part_laws.specs.Determined.{events_made, state_made};
@@ -18,7 +18,7 @@ ghost use Rattle.std.specs.Prelude.{ℕ, List, [], ◌∷◌, ◌++◌, is_some,
 /// that lie in the heap, open calls that passed the static check, and object 0 as the record and the count of
 /// failures.
 pub fn each_step_fits()
-    ensures { (p : PartState) (s : Step) → IsFit p → enabled p s ≡ true → IsFit (turned p s).state }
+    ensures { (p : PartState) (s : Step) → IsFit p → enabled p s ≡ true → IsFit (stepped p s).state }
 {}
 
 /// A part whose image fits is so at first, and after every journal that is a run.

@@ -3,12 +3,12 @@ use Rattle.std.proofs.Common.{◌≡◌, ℕ, ◌+◌, ◌<◌, ◌≤◌, ◌^�
 use Rattle.std.specs.List.{Contains}
 use Rattle.std.proofs.lemmas.List.Elements.{Contains-push}
 use mathlib.Core.List.{IsPrefix}
-use Rattle.nook_defs.specs.declared.data.DeskRefused.{DeskRefused}
-use Rattle.nook_defs.specs.declared.data.DeskRefused.TheVariants as refused
-use Rattle.nook_defs.specs.declared.data.Event.{Event}
-use Rattle.nook_defs.specs.declared.data.Op.{Op}
-use Rattle.nook_defs.specs.declared.data.PartSpec.{PartSpec}
-use Rattle.nook_defs.specs.declared.data.Receipt.{Receipt}
+use Rattle.nook_defs.specs.declared.desks.DeskRefused.{DeskRefused}
+use Rattle.nook_defs.specs.declared.desks.DeskRefused.TheVariants as refused
+use Rattle.nook_defs.specs.declared.steps.Event.{Event}
+use Rattle.nook_defs.specs.declared.calls.Op.{Op}
+use Rattle.nook_defs.specs.declared.scenario.PartSpec.{PartSpec}
+use Rattle.nook_defs.specs.declared.desks.Receipt.{Receipt}
 use Rattle.nook_defs.specs.declared.memory.NoMemory.{NoMemory}
 use Rattle.nook_defs.specs.Places.{at_number}
 use Rattle.nook_defs.specs.Runs.{PartRun, IsRun, answer_at, next_any, state_of}

@@ -3,14 +3,14 @@ use Rattle.std.proofs.Common.{◌≡◌, ◌⊎◌, inl, inr, ℕ, zero, suc, �
 use Rattle.std.specs.List.{list_any, AllByRecursion}
 use Rattle.std.proofs.lemmas.Bool.{and_parts, or_left, or_right, eq-eqb}
 use mathlib.Core.List.{IsPrefix}
-use Rattle.nook_defs.specs.declared.data.Answer.{Answer}
-use Rattle.nook_defs.specs.declared.data.CallEntry.{CallEntry}
-use Rattle.nook_defs.specs.declared.data.Event.{Event}
-use Rattle.nook_defs.specs.declared.data.Event.TheVariants as event
-use Rattle.nook_defs.specs.declared.data.Op.{Op}
-use Rattle.nook_defs.specs.declared.data.PartSpec.{PartSpec}
-use Rattle.nook_defs.specs.declared.data.Step.{Step}
-use Rattle.nook_defs.specs.declared.data.Step.TheVariants as step
+use Rattle.nook_defs.specs.declared.calls.Answer.{Answer}
+use Rattle.nook_defs.specs.declared.calls.CallEntry.{CallEntry}
+use Rattle.nook_defs.specs.declared.steps.Event.{Event}
+use Rattle.nook_defs.specs.declared.steps.Event.TheVariants as event
+use Rattle.nook_defs.specs.declared.calls.Op.{Op}
+use Rattle.nook_defs.specs.declared.scenario.PartSpec.{PartSpec}
+use Rattle.nook_defs.specs.declared.steps.Step.{Step}
+use Rattle.nook_defs.specs.declared.steps.Step.TheVariants as step
 use Rattle.nook_defs.specs.Log.{call_of_thread, opening_log}
 use Rattle.nook_defs.specs.Places.{at_number}
 use Rattle.nook_defs.specs.Runs.{IsRun, IsRunFrom, answer_at, answered_from, event_of, state_after, state_from, state_of, step_of}
@@ -28,20 +28,15 @@ use Rattle.part_laws.specs.Fit.{IsFit}
 use Rattle.part_laws.specs.Tied.{IsTied}
 use Rattle.run_laws.proofs.Numbers.{number, told_number, started_number, number_found, none_found, step_says}
 use Rattle.part_server.specs.Answers.{Numbers, is_invocation}
-
-pub inner : {X : Type 0} {x y : X} → Some x ≡ Some y → x ≡ y
-inner h = cc
-
-pub no_some : {X G : Type 0} {x : X} → None ≡ Some x → G
-no_some h = cc
+use Rattle.nook_defs.proofs.Options.{none_is_some, same_inside}
 
 -- ---- a thread's open call by its number
 
 open_has : (t call : ℕ) (p : PartState) (pending : List CallEntry) → number t pending ≡ Some call
     → (c : CallEntry) × (call_of_thread t pending ≡ Some c) × (c.call ≡ call)
-open_has t call p [] h = no_some h
+open_has t call p [] h = none_is_some h
 open_has t call p (c ∷ pending) h = split (c.thread == t)
-    (λ mine. (c, rw mine refl, inner (rw mine at h)))
+    (λ mine. (c, rw mine refl, same_inside (rw mine at h)))
     (λ other. let more = open_has t call p pending (rw other at h) in (more.0, rw other more.1, more.2))
 
 pub has_number : (p : PartState) (t call : ℕ) → HasOpen p t call → number t p.log.pending ≡ Some call
@@ -63,7 +58,7 @@ not_started p t call (event.Invoke c thread o a) n h = split (thread == t)
     let free : is_none (call_of_thread thread p.log.pending) ≡ true =
     (and_parts (nat_lt thread 16) (is_none (call_of_thread thread p.log.pending))
     (and_parts (nat_lt thread 16 && is_none (call_of_thread thread p.log.pending)) (nat_lt p.log.count 100000) n).0).1 in
-    no_some (sym (none_found thread p.log.pending free) ∙ ap (λ k. number k p.log.pending) (eqb-true thread t mine) ∙ h))
+    none_is_some (sym (none_found thread p.log.pending free) ∙ ap (λ k. number k p.log.pending) (eqb-true thread t mine) ∙ h))
     (λ other. rw other refl)
 not_started p t call (event.Enter c thread attempt a) n h = refl
 not_started p t call (event.Burst context c burst count end acts a failure) n h = refl
@@ -76,7 +71,7 @@ not_told f call h = rw h refl
 was_told : (f : ℕ → Option Answer) (w : Option ℕ) (call : ℕ) → told_number f w ≡ Some call → w ≡ Some call
 was_told f None call h = h
 was_told f (Some c) call h = split (is_some (f c))
-    (λ e. no_some (rw e at h))
+    (λ e. none_is_some (rw e at h))
     (λ e. rw e at h)
 
 says_of : (p : PartState) (e : Event) (t : ℕ) → IsTied p → enabled p (step_of e) ≡ true → event_of p (step_of e) ≡ e
@@ -100,7 +95,7 @@ stays_from p (e ∷ events) t call f tied r n all =
 
 started_here : (t call : ℕ) (e : Event) (w : Option ℕ) → started_number t e w ≡ Some call → (w ≡ Some call) ⊎ (is_invocation call t e ≡ true)
 started_here t call (event.Invoke c thread o a) w h = split (thread == t)
-    (λ mine. let same : c ≡ call = inner (rw mine at h) in inr (rw (same, mine) (here call)))
+    (λ mine. let same : c ≡ call = same_inside (rw mine at h) in inr (rw (same, mine) (here call)))
     (λ other. inl (rw other at h))
   where
     here : (n : ℕ) → (n == n && true) ≡ true
@@ -132,7 +127,7 @@ pub was_invoked : (spec : PartSpec) (journal : List Event) (t call : ℕ) → Is
     → list_any (is_invocation call t) journal ≡ true
 was_invoked spec journal t call valid r h =
     elim (invoked_from (opening spec) journal t call (opening_fit spec (valid_fits spec valid)) (opening_tied spec) r (has_number (state_of spec journal) t call h)) [
-      | inl n ↦ no_some (sym (none_at_first spec t) ∙ n)
+      | inl n ↦ none_is_some (sym (none_at_first spec t) ∙ n)
       | inr some ↦ some
     ]
 
@@ -147,7 +142,7 @@ none_answers n call (e ∷ events) h = by_answer (answer_at call e) refl (none_a
   where
     by_answer : (o : Option Answer) → answer_at call e ≡ o → (answered_from (n + 1) call events ≡ None → IsUnanswered call events) → IsUnanswered call (e ∷ events)
     by_answer None i more = (i, more (rw i at h))
-    by_answer (Some a) i more = no_some (sym (rw i at h))
+    by_answer (Some a) i more = none_is_some (sym (rw i at h))
 
 -- an event answers at a place past the number
 record AnswersPast (from call place : ℕ) (events : List Event) : Type 0 where
@@ -158,7 +153,7 @@ record AnswersPast (from call place : ℕ) (events : List Event) : Type 0 where
   answers : is_some (answer_at call event) ≡ true
 
 first_answers : (from call place : ℕ) (events : List Event) → answered_from (from + 1) call events ≡ Some place → AnswersPast from call place events
-first_answers from call place [] h = no_some h
+first_answers from call place [] h = none_is_some h
 first_answers from call place (e ∷ events) h = by_answer (answer_at call e) refl (first_answers (from + 1) call place events)
   where
     next : AnswersPast (from + 1) call place events → AnswersPast from call place (e ∷ events)
@@ -169,7 +164,7 @@ first_answers from call place (e ∷ events) h = by_answer (answer_at call e) re
     by_answer None i more = next (more (rw i at h))
     by_answer (Some a) i more = record {
       past = 0;
-      stands = let p : from + 1 ≡ place = inner (rw i at h) in omega arith;
+      stands = let p : from + 1 ≡ place = same_inside (rw i at h) in omega arith;
       event = e;
       there = refl;
       answers = ap is_some i;
@@ -177,7 +172,7 @@ first_answers from call place (e ∷ events) h = by_answer (answer_at call e) re
 
 past_drop : (from k n : ℕ) (events : List Event) (e : Event) → n ≡ from + k → slice_get (drop from events) k ≡ Some e → slice_get events n ≡ Some e
 past_drop zero k n events e same h = subst (λ (m : ℕ). slice_get events m ≡ Some e) (omega arith) h
-past_drop (suc from) k n [] e same h = no_some h
+past_drop (suc from) k n [] e same h = none_is_some h
 past_drop (suc from) k zero (x ∷ events) e same h = absurd (none from k same)
   where
     none : (from k : ℕ) → 0 ≡ suc from + k → ⊥

@@ -6,43 +6,44 @@ use Rattle.nook_defs.specs.declared.classes.Accept.{Accept}
 use Rattle.nook_defs.specs.declared.classes.Accept.TheVariants as accepts
 use Rattle.nook_defs.specs.declared.classes.Admit.{Admit}
 use Rattle.nook_defs.specs.declared.classes.Admit.TheVariants as admits
-use Rattle.nook_defs.specs.declared.data.Answer.{Answer}
-use Rattle.nook_defs.specs.declared.data.Answer.TheVariants as answer
-use Rattle.nook_defs.specs.declared.data.CallEntry.{CallEntry}
-use Rattle.nook_defs.specs.declared.data.Class.{Class}
-use Rattle.nook_defs.specs.declared.data.Class.TheVariants as class
-use Rattle.nook_defs.specs.declared.data.Entry.{Entry}
-use Rattle.nook_defs.specs.declared.data.Event.{Event}
-use Rattle.nook_defs.specs.declared.data.Event.TheVariants as event
-use Rattle.nook_defs.specs.declared.data.Mode.{Mode}
-use Rattle.nook_defs.specs.declared.data.Mode.TheVariants as mode
-use Rattle.nook_defs.specs.declared.data.Op.{Op}
-use Rattle.nook_defs.specs.declared.data.Op.TheVariants as op
-use Rattle.nook_defs.specs.declared.data.PartSpec.{PartSpec}
-use Rattle.nook_defs.specs.declared.data.Stage.{Stage}
-use Rattle.nook_defs.specs.declared.data.Stage.TheVariants as stage
-use Rattle.nook_defs.specs.declared.data.Step.{Step}
-use Rattle.nook_defs.specs.declared.data.Step.TheVariants as step
+use Rattle.nook_defs.specs.declared.calls.Answer.{Answer}
+use Rattle.nook_defs.specs.declared.calls.Answer.TheVariants as answer
+use Rattle.nook_defs.specs.declared.calls.CallEntry.{CallEntry}
+use Rattle.nook_defs.specs.declared.classes.Class.{Class}
+use Rattle.nook_defs.specs.declared.classes.Class.TheVariants as class
+use Rattle.nook_defs.specs.declared.entries.Entry.{Entry}
+use Rattle.nook_defs.specs.declared.steps.Event.{Event}
+use Rattle.nook_defs.specs.declared.steps.Event.TheVariants as event
+use Rattle.nook_defs.specs.declared.steps.Mode.{Mode}
+use Rattle.nook_defs.specs.declared.steps.Mode.TheVariants as mode
+use Rattle.nook_defs.specs.declared.calls.Op.{Op}
+use Rattle.nook_defs.specs.declared.calls.Op.TheVariants as op
+use Rattle.nook_defs.specs.declared.scenario.PartSpec.{PartSpec}
+use Rattle.nook_defs.specs.declared.steps.Stage.{Stage}
+use Rattle.nook_defs.specs.declared.steps.Stage.TheVariants as stage
+use Rattle.nook_defs.specs.declared.steps.Step.{Step}
+use Rattle.nook_defs.specs.declared.steps.Step.TheVariants as step
 use Rattle.nook_defs.specs.declared.machine.BadParam.{BadParam}
 use Rattle.nook_defs.specs.declared.machine.BurstEnd.{BurstEnd}
 use Rattle.nook_defs.specs.declared.machine.BurstEnd.TheVariants as ends
 use Rattle.nook_defs.specs.declared.machine.Service.{Service}
 use Rattle.nook_defs.specs.declared.machine.Service.TheVariants as service
-use Rattle.nook_defs.specs.Calls.{Turned, invoked, invoked_by, answer_in, queue_in, entered_part, entered_by, admitted}
+use Rattle.nook_defs.specs.Calls.{Stepped, after_invoke, invoked_by, answer_in, queue_in, after_enter, entered_by, after_admit}
 use Rattle.nook_defs.specs.Classes.{static_check, check_op, check_range, check_length, is_block_length, is_of_class, maximum_of, same_class, admit, admit_open, admit_holder, is_holder, entry_place, accept}
-use Rattle.nook_defs.specs.Crossing.{Crossed, fails, is_last, heap_start, serve_by, is_accepted, next_stage, closes, reply_answer, reply_by, call_replied, crossed}
+use Rattle.nook_defs.specs.Crossing.{Crossed, fails, is_last, heap_start, serve_by, is_accepted, next_stage, closes_call, reply_answer, reply_by, call_replied, after_crossing}
 use Rattle.nook_defs.specs.Devices.{head_of, tail_of}
 use Rattle.nook_defs.specs.Domain.{domain_burst, first_argument, second_argument}
-use Rattle.nook_defs.specs.Log.{call_of_thread, shadow_answer, frame_or_empty, play_dropped, queue_after, with_answer, stop_answers, stop_queue, gone_answers}
+use Rattle.nook_defs.specs.Log.{call_of_thread, shadow_answer, frame_or_empty, queue_after, with_answer, stop_answers, stop_queue, gone_answers}
 use Rattle.nook_defs.specs.Pages.{buffer_start}
 use Rattle.nook_defs.specs.Places.{at_number}
 use Rattle.nook_defs.specs.Valid.{IsValidPart}
-use Rattle.nook_defs.specs.Runs.{IsRun, IsRunFrom, answer_among, if_call, event_of, state_after, step_of}
+use Rattle.nook_defs.specs.Answers.{one_answer}
+use Rattle.nook_defs.specs.Runs.{IsRun, IsRunFrom, answer_among, event_of, state_after, step_of}
 use Rattle.nook_defs.specs.Services.{needs, is_frame_length, tested_length, checked_frame, checked, served}
-use Rattle.nook_defs.specs.Stages.{stage_due, is_given_up, stopped, given_up, collects, resets, loads_image, inits, replays_set, replays_open, resumes, stage_by, stage_turned}
+use Rattle.nook_defs.specs.Stages.{stage_due, is_given_up, stops, gives_up_part, collects, resets, loads_image, inits, replays_set, replays_open, resumes, stage_by, stage_stepped}
 use Rattle.nook_defs.specs.State.{PartState}
-use Rattle.nook_defs.specs.Steps.{opening, turned, burst_turned, with_burst, faults_of_burst, arrived}
-use Rattle.device_laws.proofs.PartFacts.{open_read_count}
+use Rattle.nook_defs.specs.Steps.{opening, stepped, burst_stepped, with_burst, faults_of_burst, after_arrival}
+use Rattle.part_laws.proofs.PartFacts.{open_read_count}
 use Rattle.part_laws.proofs.BurstKeeps.{split}
 use Rattle.part_laws.proofs.Served.{queue_stays}
 use Rattle.part_laws.proofs.StepsFit.{fit_after, opening_fit}
@@ -72,7 +73,7 @@ IsShortEvent (event.Burst context call burst count end acts a failure) = IsShort
 IsShortEvent (event.Stage s answers released) = AreShort answers
 IsShortEvent (event.Arrive frame kept) = Unit {0}
 
-abbrev StaysShort : Turned → Type 0
+abbrev StaysShort : Stepped → Type 0
 StaysShort t = AreShortFrames t.state.queue × IsShortEvent t.event
 
 -- ---- ranges
@@ -113,7 +114,7 @@ frame_short (frame ∷ queue) h = h.0
 
 -- ---- answers of the shadow and of the static check
 
-dropped_short : (b : Bool) → IsShort (play_dropped b)
+dropped_short : (b : Bool) → IsShort (if b then answer.Done else answer.NotOpen)
 dropped_short true = omega arith
 dropped_short false = omega arith
 
@@ -175,8 +176,8 @@ mode_queue mode.Running o queue h = h
 mode_queue (mode.Recovering s) o queue h = after_short o queue h
 mode_queue (mode.Dead collected) o queue h = h
 
-invoke_short : (p : PartState) (thread : ℕ) (o : Op) → AreShortFrames p.queue → StaysShort (invoked thread o p)
-unfolding invoked
+invoke_short : (p : PartState) (thread : ℕ) (o : Op) → AreShortFrames p.queue → StaysShort (after_invoke thread o p)
+unfolding after_invoke
 invoke_short p thread o h = by_check (static_check p.spec.class p.spec.blocks o) (check_short p.spec.class p.spec.blocks o)
   where
     by_check : (a : Option Answer) → IsShortOption a → StaysShort (invoked_by p thread o a)
@@ -209,11 +210,11 @@ admit_short c thread op.Close holder queued = holder_short (is_holder holder thr
 admit_short c thread (op.Get key) holder queued = tt
 admit_short c thread (op.Set key value) holder queued = tt
 
-enter_short : (p : PartState) (thread : ℕ) → AreShortFrames p.queue → StaysShort (entered_part thread p)
-unfolding entered_part
+enter_short : (p : PartState) (thread : ℕ) → AreShortFrames p.queue → StaysShort (after_enter thread p)
+unfolding after_enter
 enter_short p thread h = by_call (call_of_thread thread p.log.pending)
   where
-    by_admit : (c : CallEntry) (a : Admit) → IsShortAdmit a → StaysShort (admitted p c a)
+    by_admit : (c : CallEntry) (a : Admit) → IsShortAdmit a → StaysShort (after_admit p c a)
     by_admit c (admits.Reply a) i = (h, i)
     by_admit c admits.TakeFrame i = (tail_short p.queue h, head_short p.queue h)
     by_admit c (admits.Enter place) i = (h, tt)
@@ -313,7 +314,7 @@ IsSmallCall None = Unit {0}
 IsSmallCall (Some c) = IsSmall c.op
 
 call_short : (status : ℕ) (p : PartState) (o : Option CallEntry) → AreShortFrames p.queue → IsSmallCall o → CrossesShort (call_replied status p o)
-unfolding fails closes
+unfolding fails closes_call
 call_short status p None h i = (h, tt)
 call_short status p (Some c) h i = by_accept (accept c.op status)
   where
@@ -323,8 +324,8 @@ call_short status p (Some c) h i = by_accept (accept c.op status)
     by_accept (accepts.Fail cause) = (h, tt)
 
 crossed_short : (context : ℕ) (e : BurstEnd) (p : PartState) → AreShortFrames p.queue → IsSmallCall (call_of_thread context p.log.pending)
-    → CrossesShort (crossed context e p)
-unfolding crossed fails next_stage
+    → CrossesShort (after_crossing context e p)
+unfolding after_crossing fails next_stage
 crossed_short context (ends.Trap cause) p h i = (h, tt)
 crossed_short context (ends.Kcall k) p h i = split (is_last context p)
     (λ e. rw e (h, tt))
@@ -338,8 +339,8 @@ crossed_short context (ends.Reply status) p h i = split (context == 16)
     (λ f. rw f (h, tt))))
     (λ e. rw e (call_short status p (call_of_thread context p.log.pending) h i))
 
-burst_short : (p : PartState) (context : ℕ) → AreShortFrames p.queue → IsSmallCall (call_of_thread context p.log.pending) → StaysShort (burst_turned context p)
-unfolding burst_turned
+burst_short : (p : PartState) (context : ℕ) → AreShortFrames p.queue → IsSmallCall (call_of_thread context p.log.pending) → StaysShort (burst_stepped context p)
+unfolding burst_stepped
 burst_short p context h i =
     let b = domain_burst context (faults_of_burst (p.bursts + 1) p.spec.faults) p.domain in
     crossed_short context b.ending (with_burst b.domain p) h i
@@ -380,8 +381,8 @@ gone_short : (failures : ℕ) (pending : List CallEntry) → AreShort (gone_answ
 gone_short failures [] = tt
 gone_short failures (c ∷ pending) = (omega arith, gone_short failures pending)
 
-stage_short : (p : PartState) → AreShortFrames p.queue → StaysShort (stage_turned p)
-unfolding stage_turned stopped given_up collects resets loads_image inits replays_set replays_open resumes
+stage_short : (p : PartState) → AreShortFrames p.queue → StaysShort (stage_stepped p)
+unfolding stage_stepped stops gives_up_part collects resets loads_image inits replays_set replays_open resumes
 stage_short p h = by_due (stage_due p.mode)
   where
     by_due : (o : Option Stage) → StaysShort (stage_by p o)
@@ -399,17 +400,18 @@ stage_short p h = by_due (stage_due p.mode)
 
 -- ---- any step, and any run
 
-step_short : (p : PartState) (s : Step) → IsFit p → AreShortFrames p.queue → StaysShort (turned p s)
-unfolding turned arrived
+step_short : (p : PartState) (s : Step) → IsFit p → AreShortFrames p.queue → StaysShort (stepped p s)
+unfolding stepped after_arrival
 step_short p (step.Invoke thread o) fit h = invoke_short p thread o h
 step_short p (step.Enter thread) fit h = enter_short p thread h
 step_short p (step.Burst context) fit h = burst_short p context h (small_call p context (call_of_thread context p.log.pending) fit refl)
 step_short p step.Stage fit h = stage_short p h
 step_short p (step.Arrive frame) fit h = (h, tt)
 
-if_answered : (c call : ℕ) (o : Option Answer) (a : Answer) → IsShortOption o → if_call call c o ≡ Some a → IsShort a
-if_answered c call o a h e = split (c == call)
-    (λ i. of_option o h (rw i at e))
+if_answered : (c call : ℕ) (o : Option Answer) (a : Answer) → IsShortOption o → answer_among call (one_answer c o) ≡ Some a → IsShort a
+if_answered c call None a h e = absurd (let k : None ≡ Some a = e in cc)
+if_answered c call (Some x) a h e = split (c == call)
+    (λ i. of_option (Some x) h (rw i at e))
     (λ i. none_is (rw i at e))
   where
     none_is : {G : Type 0} → None ≡ Some a → G
@@ -442,7 +444,7 @@ short_from : (p : PartState) (events : List Event) → IsFit p → AreShortFrame
 unfolding IsRunFrom
 short_from p [] f h r = tt
 short_from p (e ∷ events) f h r =
-    let s : StaysShort (turned p (step_of e)) = step_short p (step_of e) f h in (
+    let s : StaysShort (stepped p (step_of e)) = step_short p (step_of e) f h in (
       subst AnswersShortly r.1 (event_answers (event_of p (step_of e)) s.1),
       short_from (state_after p (step_of e)) events (fit_after p (step_of e) f r.0) s.0 r.2,
     )

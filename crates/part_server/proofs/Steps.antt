@@ -2,26 +2,27 @@
 use Rattle.std.proofs.Common.{◌≡◌, ℕ, zero, suc, ◌+◌, ◌-◌, ◌<◌, ◌≤◌, ◌&&◌, nat_lt, nat_le, is_none, Bool, true, false, Option, Some, None, IsSome, Result, Ok, Err, List, [], ◌∷◌, ◌++◌, length, drop, is_some, slice_get, refl, sym, ap, ◌∙◌, subst, arith, true≢false}
 use Rattle.std.specs.List.{list_any}
 use Rattle.std.proofs.lemmas.Bool.{and_from, lt-ltb, ltb-false, le-leb}
-use Rattle.nook_defs.specs.declared.data.Class.TheVariants as class
-use Rattle.nook_defs.specs.declared.data.Event.{Event}
-use Rattle.nook_defs.specs.declared.data.Event.TheVariants as event
-use Rattle.nook_defs.specs.declared.data.DeskRefused.{DeskRefused}
-use Rattle.nook_defs.specs.declared.data.Op.{Op}
-use Rattle.nook_defs.specs.declared.data.Receipt.{Receipt}
-use Rattle.nook_defs.specs.declared.data.PartSpec.{PartSpec}
-use Rattle.nook_defs.specs.declared.data.Step.{Step}
-use Rattle.nook_defs.specs.declared.data.Step.TheVariants as step
-use Rattle.nook_defs.specs.declared.data.CallEntry.{CallEntry}
+use Rattle.nook_defs.specs.declared.classes.Class.TheVariants as class
+use Rattle.nook_defs.specs.declared.steps.Event.{Event}
+use Rattle.nook_defs.specs.declared.steps.Event.TheVariants as event
+use Rattle.nook_defs.specs.declared.desks.DeskRefused.{DeskRefused}
+use Rattle.nook_defs.specs.declared.calls.Op.{Op}
+use Rattle.nook_defs.specs.declared.desks.Receipt.{Receipt}
+use Rattle.nook_defs.specs.declared.scenario.PartSpec.{PartSpec}
+use Rattle.nook_defs.specs.declared.steps.Step.{Step}
+use Rattle.nook_defs.specs.declared.steps.Step.TheVariants as step
+use Rattle.nook_defs.specs.declared.calls.CallEntry.{CallEntry}
 use Rattle.nook_defs.specs.Classes.{same_class}
 use Rattle.nook_defs.specs.Log.{call_of_thread}
 use Rattle.nook_defs.specs.Places.{at_number}
-use Rattle.nook_defs.specs.Runs.{PartRun, IsRun, answer_at, answered_from, event_of, run_after, state_after, state_of, step_of, if_enabled, next_for, next_recovery, next_of_calls, next_any, or_step}
+use Rattle.std.specs.Option.{option_or}
+use Rattle.nook_defs.specs.Runs.{PartRun, IsRun, answer_at, answered_from, event_of, run_after, state_after, state_of, step_of, if_enabled, next_for, next_recovery, next_of_calls, next_any}
 use Rattle.nook_defs.specs.State.{PartState}
 use Rattle.nook_defs.specs.Steps.{can_invoke, enabled}
 use Rattle.nook_defs.specs.Valid.{IsValidPart}
 use Rattle.nook_defs.proofs.NextSteps.{next_for_case}
 use Rattle.desk_like.specs.Desks.{IsAt, Answers, IsInvoke, IsArrive, IsOther, HasOpen, HasNoneOpen}
-use Rattle.device_laws.proofs.DeviceStays.{spec_after}
+use Rattle.part_laws.proofs.DeviceStays.{spec_after}
 use Rattle.part_core.proofs.Kept.{kept_after}
 use Rattle.part_core.specs.Answering.{call_number}
 use Rattle.part_core.specs.Kept.{IsKept}
@@ -42,7 +43,8 @@ use Rattle.part_server.specs.declared.waiting.Waiting.{Waiting}
 use Rattle.part_server.specs.Answers.{Invokes, Numbers, is_invocation}
 use Rattle.part_server.specs.Turns.{Grows, InvokeGives, InvokedGives, GoOnGives, ReachedGives, LookGives, IsOwn, IsGoingOn, IsWaitingFor}
 use Rattle.part_server.proofs.Views.{low_at}
-use Rattle.part_server.proofs.Opens.{inner, no_some, open_after, opened_after, was_invoked, answer_there}
+use Rattle.part_server.proofs.Opens.{open_after, opened_after, was_invoked, answer_there}
+use Rattle.nook_defs.proofs.Options.{none_is_some, same_inside}
 
 -- ---- the last event
 
@@ -58,7 +60,7 @@ pub last_there : (xs : List Event) (e : Event) → at_number (length (xs ++ e �
 last_there xs e = ap (λ (n : ℕ). at_number n (xs ++ e ∷ [])) (length_more xs e) ∙ last_at xs e
 
 pub last_is : (journal xs : List Event) (e : Event) (Is : Event → Type 0) → journal ≡ xs ++ e ∷ [] → IsAt journal (length journal) Is → Is e
-last_is journal xs e Is same at = subst Is (inner (sym (subst (λ (l : List Event). at_number (length l) l ≡ Some at.event) same at.there) ∙ last_there xs e)) at.is
+last_is journal xs e Is same at = subst Is (same_inside (sym (subst (λ (l : List Event). at_number (length l) l ≡ Some at.event) same at.there) ∙ last_there xs e)) at.is
 
 -- the event at a place, as it is read
 pub at_place : (place : ℕ) (xs : List Event) (e : Event) → 0 < place → slice_get xs (place - 1) ≡ Some e → at_number place xs ≡ Some e
@@ -109,7 +111,7 @@ event_other p s h = own_other (event_of p s) (subst IsOwn (sym (step_named p s))
 
 if_own : (p : PartState) (s x : Step) (others : Option Step) → IsOwn s → (others ≡ Some x → IsOwn x) → if_enabled p s others ≡ Some x → IsOwn x
 if_own p s x others own more h = split (enabled p s)
-    (λ e. subst IsOwn (inner (rw e at h)) own)
+    (λ e. subst IsOwn (same_inside (rw e at h)) own)
     (λ e. more (rw e at h))
 
 pub for_own : (p : PartState) (t : ℕ) (x : Step) → next_for p t ≡ Some x → IsOwn x
@@ -117,14 +119,14 @@ for_own p t x h = next_for_case IsOwn p t x (λ e. tt) (λ e. tt) h
 
 recovery_own : (p : PartState) (x : Step) → next_recovery p ≡ Some x → IsOwn x
 unfolding next_recovery
-recovery_own p x h = if_own p step.Stage x (if_enabled p (step.Burst 16) None) tt (λ i. if_own p (step.Burst 16) x None tt (λ j. no_some j) i) h
+recovery_own p x h = if_own p step.Stage x (if_enabled p (step.Burst 16) None) tt (λ i. if_own p (step.Burst 16) x None tt (λ j. none_is_some j) i) h
 
-either_own : (a b : Option Step) (x : Step) → (a ≡ Some x → IsOwn x) → (b ≡ Some x → IsOwn x) → or_step a b ≡ Some x → IsOwn x
+either_own : (a b : Option Step) (x : Step) → (a ≡ Some x → IsOwn x) → (b ≡ Some x → IsOwn x) → option_or a b ≡ Some x → IsOwn x
 either_own None b x f g h = g h
 either_own (Some s) b x f g h = f h
 
 calls_own : (p : PartState) (calls : List CallEntry) (x : Step) → next_of_calls p calls ≡ Some x → IsOwn x
-calls_own p [] x h = no_some h
+calls_own p [] x h = none_is_some h
 calls_own p (c ∷ calls) x h = either_own (next_for p c.thread) (next_of_calls p calls) x (for_own p c.thread x) (calls_own p calls x) h
 
 pub any_own : (p : PartState) (x : Step) → next_any p ≡ Some x → IsOwn x
@@ -163,11 +165,11 @@ module _ (spec : PartSpec) (journal : List Event) (p : PartState) (valid : IsVal
 
   none_number : (o : Option CallEntry) → call_number o ≡ None → o ≡ None
   none_number None h = refl
-  none_number (Some c) h = no_some (sym h)
+  none_number (Some c) h = none_is_some (sym h)
 
   none_true : (o : Option CallEntry) → o ≡ None → is_none o ≡ true
   none_true None h = refl
-  none_true (Some c) h = no_some (sym h)
+  none_true (Some c) h = none_is_some (sym h)
 
   -- a thread with no open call may not invoke: all numbers were given
   pub too_many_calls : (thread : ℕ) → thread < 16 → can_invoke p thread ≡ false → call_number (call_of_thread thread p.log.pending) ≡ None
@@ -197,8 +199,8 @@ pub number_open : (p : PartState) (thread call : ℕ) → call_number (call_of_t
 number_open p thread call h = by_call (call_of_thread thread p.log.pending) refl
   where
     by_call : (o : Option CallEntry) → call_of_thread thread p.log.pending ≡ o → HasOpen p thread call
-    by_call None e = no_some (sym (ap call_number e) ∙ h)
-    by_call (Some c) e = record { entry = c; open_one = e; number = inner (sym (ap call_number e) ∙ h) }
+    by_call None e = none_is_some (sym (ap call_number e) ∙ h)
+    by_call (Some c) e = record { entry = c; open_one = e; number = same_inside (sym (ap call_number e) ∙ h) }
 
 -- ---- what a part's step gives
 
@@ -228,7 +230,7 @@ module _ (r q : PartRun) (s : Step) (done : StepDone) (h : IsStepped r s (Ok don
   last_stands = ap (λ (l : List Event). at_number (length l) l) journal_is ∙ last_there r.journal (event_of r.state s)
 
   pub event_is : (e : Event) → at_number done.place q.journal ≡ Some e → event_of r.state s ≡ e
-  event_is e there = inner (sym last_stands ∙ ap (λ (n : ℕ). at_number n q.journal) (sym h.2) ∙ there)
+  event_is e there = same_inside (sym last_stands ∙ ap (λ (n : ℕ). at_number n q.journal) (sym h.2) ∙ there)
 
   pub step_is : (e : Event) → at_number done.place q.journal ≡ Some e → step_of e ≡ s
   step_is e there = subst (λ (x : Event). step_of x ≡ s) (event_is e there) (step_named r.state s)
@@ -350,7 +352,7 @@ module _ (r : PartRun) (events : List Event) (looked call place : ℕ) (same : e
   look_place = low_at place r.journal first_there.1.0 first_there.1.1
 
   pub look_answers : (e : Event) → at_number place r.journal ≡ Some e → is_some (answer_at call e) ≡ true
-  look_answers e there = subst (λ (x : Event). is_some (answer_at call x) ≡ true) (inner (sym first_there.1.1 ∙ there)) first_there.1.2
+  look_answers e there = subst (λ (x : Event). is_some (answer_at call x) ≡ true) (same_inside (sym first_there.1.1 ∙ there)) first_there.1.2
 
 pub look_gives : (r : PartRun) (events : List Event) (w : Waiting) (receipt : Receipt) (place : ℕ) (e : Event) → events ≡ r.journal
     → answered_from (w.looked + 1) w.call (drop w.looked events) ≡ Some place → at_number place r.journal ≡ Some e

@@ -4,10 +4,10 @@ use Rattle.std.specs.List.{All, list_all}
 use Rattle.std.proofs.lemmas.Bool.{ltb-true}
 use Rattle.std.proofs.lemmas.List.Elements.{All-nil, All-weaker}
 use Rattle.std.proofs.lemmas.List.Sums.{AllPass-from_list_all}
-use Rattle.nook_defs.specs.declared.data.Class.{Class}
-use Rattle.nook_defs.specs.declared.data.Class.TheVariants as class
-use Rattle.nook_defs.specs.declared.data.Image.{Image}
-use Rattle.nook_defs.specs.declared.data.PartSpec.{PartSpec}
+use Rattle.nook_defs.specs.declared.classes.Class.{Class}
+use Rattle.nook_defs.specs.declared.classes.Class.TheVariants as class
+use Rattle.nook_defs.specs.declared.scenario.Image.{Image}
+use Rattle.nook_defs.specs.declared.scenario.PartSpec.{PartSpec}
 use Rattle.nook_defs.specs.Names.{is_name}
 use Rattle.nook_defs.specs.Valid.{FitsClass, IsValidImage, IsValidPart}
 use Rattle.part_server.specs.Tested.{tested_blocks}

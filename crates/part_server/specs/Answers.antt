@@ -1,16 +1,17 @@
 -- How many words an answer has, and which event invokes a call.
 use Rattle.std.specs.Prelude.{◌≡◌, ℕ, ◌≤◌, ◌==◌, ◌&&◌, Bool, false, Some, length}
-use Rattle.nook_defs.specs.declared.data.Answer.{Answer}
-use Rattle.nook_defs.specs.declared.data.Event.{Event}
-use Rattle.nook_defs.specs.declared.data.Event.TheVariants as event
-use Rattle.nook_defs.specs.declared.data.Op.{Op}
+use Rattle.nook_defs.specs.declared.calls.Answer.{Answer}
+use Rattle.nook_defs.specs.declared.steps.Event.{Event}
+use Rattle.nook_defs.specs.declared.steps.Event.TheVariants as event
+use Rattle.nook_defs.specs.declared.calls.Op.{Op}
+use Rattle.nook_defs.specs.declared.limits.TheConstants.{MOST_ANSWER_WORDS}
 use Rattle.nook_defs.specs.Views.Room.{answer_words}
 use Rattle.nook_defs.specs.Runs.{answer_at}
 use Rattle.desk_like.specs.Desks.{IsInvoke}
 
 -- an answer of at most 128 words
 abbrev pub IsShort : Answer → Type 0
-IsShort a = length (answer_words a) ≤ 128
+IsShort a = length (answer_words a) ≤ MOST_ANSWER_WORDS
 
 -- what an event answers is short
 abbrev pub AnswersShortly : Event → Type 0

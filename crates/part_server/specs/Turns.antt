@@ -1,15 +1,16 @@
 -- What one turn does to a part, and to what a seat of its desk knows.
 use Rattle.std.specs.Prelude.{◌≡◌, ℕ, ◌+◌, ◌<◌, ◌≤◌, Bool, true, false, Option, Some, None, Result, Ok, Err, List, [], ◌∷◌, ◌++◌, drop, length}
 use Rattle.atomic_table.specs.declared.shared.Seat.{Seat}
-use Rattle.nook_defs.specs.declared.data.DeskRefused.{DeskRefused}
-use Rattle.nook_defs.specs.declared.data.DeskRefused.TheVariants as refused
-use Rattle.nook_defs.specs.declared.data.Event.{Event}
-use Rattle.nook_defs.specs.declared.data.Op.{Op}
-use Rattle.nook_defs.specs.declared.data.PartSpec.{PartSpec}
-use Rattle.nook_defs.specs.declared.data.Receipt.{Receipt}
-use Rattle.nook_defs.specs.declared.data.Step.{Step}
-use Rattle.nook_defs.specs.declared.data.Step.TheVariants as step
+use Rattle.nook_defs.specs.declared.desks.DeskRefused.{DeskRefused}
+use Rattle.nook_defs.specs.declared.desks.DeskRefused.TheVariants as refused
+use Rattle.nook_defs.specs.declared.steps.Event.{Event}
+use Rattle.nook_defs.specs.declared.calls.Op.{Op}
+use Rattle.nook_defs.specs.declared.scenario.PartSpec.{PartSpec}
+use Rattle.nook_defs.specs.declared.desks.Receipt.{Receipt}
+use Rattle.nook_defs.specs.declared.steps.Step.{Step}
+use Rattle.nook_defs.specs.declared.steps.Step.TheVariants as step
 use Rattle.nook_defs.specs.declared.memory.NoMemory.{NoMemory}
+use Rattle.nook_defs.specs.declared.limits.TheConstants.{MOST_ANSWER_WORDS}
 use Rattle.nook_defs.specs.Runs.{PartRun, IsRun, answer_at, answered_from, next_any}
 use Rattle.desk_like.specs.Desks.{DeskView, IsAt, IsInvoke, IsArrive, IsOther, Answers, Adds, AddsNothing, Waits, HasOpen, HasNoneOpen, CallEnds, ResumeEnds, state_seen}
 use Rattle.shares.specs.Shares.{whole}
@@ -30,11 +31,11 @@ pub record Grows (old new : PartRun) (Is : Event → Type 0) : Type 0 where
 
 -- the call is open, all events were looked at, and there is room for its answer
 abbrev pub IsWaitingFor : PartRun → Waiting → Type 0
-IsWaitingFor r w = HasOpen r.state w.thread w.call × (w.looked ≡ length r.journal) × (128 ≤ w.room)
+IsWaitingFor r w = HasOpen r.state w.thread w.call × (w.looked ≡ length r.journal) × (MOST_ANSWER_WORDS ≤ w.room)
 
 -- the call is open, and there is room for its answer
 abbrev pub IsGoingOn : PartRun → Waiting → Type 0
-IsGoingOn r w = HasOpen r.state w.thread w.call × (128 ≤ w.room)
+IsGoingOn r w = HasOpen r.state w.thread w.call × (MOST_ANSWER_WORDS ≤ w.room)
 
 -- they wait for one call
 abbrev pub IsSameCall : Waiting → Waiting → Type 0
@@ -74,7 +75,7 @@ InvokedGives journal thread (progress.Answered receipt) =
     (receipt.at_invoke ≡ length journal) × (receipt.at_reply ≡ length journal)
     × IsAt journal (length journal) (λ e. Numbers receipt.call e × Answers receipt.call receipt.answer e)
 InvokedGives journal thread (progress.Open w) =
-    (w.at_invoke ≡ length journal) × (w.thread ≡ thread) × (w.looked ≡ length journal) × (128 ≤ w.room)
+    (w.at_invoke ≡ length journal) × (w.thread ≡ thread) × (w.looked ≡ length journal) × (MOST_ANSWER_WORDS ≤ w.room)
     × IsAt journal (length journal) (λ e. Numbers w.call e × (answer_at w.call e ≡ None))
 
 -- an operation of a thread is invoked
@@ -134,7 +135,7 @@ IsSeen home seen = (spec : PartSpec) → home ≡ Some spec → IsRun spec seen
 
 -- the call is open where the seat has seen all, all was looked at, and there is room for its answer
 abbrev pub IsWaitingIn : PartSpec → DeskView → Waiting → Type 0
-IsWaitingIn spec v w = HasOpen (state_seen spec v) w.thread w.call × (w.looked ≡ length v.seen) × (128 ≤ w.room)
+IsWaitingIn spec v w = HasOpen (state_seen spec v) w.thread w.call × (w.looked ≡ length v.seen) × (MOST_ANSWER_WORDS ≤ w.room)
 
 -- ---- what a turn does to what a seat knows
 

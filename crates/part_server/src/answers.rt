@@ -2,48 +2,11 @@
 
 ghost use Rattle.std.specs.Prelude.{◌≡◌, ◌+◌, ◌≤◌, None, Some, MatchOption, drop, false, length};
 ghost use Rattle.std.specs.List.{list_any};
-ghost use Rattle.nook_defs.specs.Runs.{answer_among, answer_at, answered_from};
+ghost use Rattle.nook_defs.specs.Runs.{answered_from};
 ghost use Rattle.desk_like.specs.Desks.{IsAt};
 ghost use Rattle.part_server.specs.Answers.{InvokesCall, is_invocation};
 
-use nook_defs::data::{Answer, Event};
-
-/// What an event answers to a call.
-pub fn answer_to(event: &Event, call: u32) -> Option<&Answer>
-    ensures { MatchOption result (answer_at call event.now ≡ None) (λ answer. answer_at call event.now ≡ Some answer.now) }
-{
-    match event {
-        Event::Invoke {
-            call: this,
-            answer: Some(answer),
-            ..
-        }
-        | Event::Enter {
-            call: this,
-            answer: Some(answer),
-            ..
-        }
-        | Event::Burst {
-            call: this,
-            answer: Some(answer),
-            ..
-        } if *this == call => Some(answer),
-        Event::Stage { answers, .. } => answer_in(answers.as_slice(), call),
-        _ => None,
-    }
-}
-
-/// The first answer to a call among the answers of a stage.
-fn answer_in(answers: &[(u32, Answer)], call: u32) -> Option<&Answer>
-    ensures { MatchOption result (answer_among call answers.now ≡ None) (λ answer. answer_among call answers.now ≡ Some answer.now) }
-{
-    for (this, answer) in answers {
-        if *this == call {
-            return Some(answer);
-        }
-    }
-    None
-}
+use nook_defs::steps::Event;
 
 /// The place, from 1, of the first event behind the first `looked` that answers a call.
 pub fn first_answer(events: &[Event], looked: usize, call: u32) -> Option<u64>
@@ -51,7 +14,7 @@ pub fn first_answer(events: &[Event], looked: usize, call: u32) -> Option<u64>
     ensures { result ≡ answered_from (looked + 1) call (drop looked events.now) }
 {
     for place in looked..events.len() {
-        if answer_to(&events[place], call).is_some() {
+        if events[place].answer_to(call).is_some() {
             return Some(place as u64 + 1);
         }
     }

@@ -5,7 +5,7 @@ ghost use mathlib.Core.List.{IsPrefix};
 ghost use Rattle.desk_like.specs.Desks.{Accounts, ArriveEnds, CallEnds, IsAlone, Joins, ResumeEnds, Waits, halved_view, new_view, state_seen};
 ghost use Rattle.nook_defs.specs.Classes.{same_class};
 ghost use Rattle.nook_defs.specs.Runs.{IsRun, next_any};
-ghost use Rattle.nook_defs.specs.declared.data.Class.TheVariants as class;
+ghost use Rattle.nook_defs.specs.declared.classes.Class.TheVariants as class;
 ghost use Rattle.part_core.specs.Kept.{IsKept};
 ghost use Rattle.part_server.specs.Desk.{IsDeskSeat, desk_spec, desk_view};
 ghost use Rattle.part_server.specs.Turns.{AdvanceEnds, FindEnds, FinishEnds, InvokeEnds, IsWaitingIn, SettlesOnce, opening_view};
@@ -14,16 +14,15 @@ use crate::held::Held;
 use crate::seat::DeskSeat;
 use crate::waiting::{Progress, Waiting};
 use desk_like::DeskLike;
-use nook_defs::data::{DeskRefused, Op, Receipt};
+use nook_defs::calls::Op;
+use nook_defs::desks::{DeskRefused, Receipt};
+use nook_defs::limits::{MOST_ANSWER_WORDS, MOST_FRAME_WORDS};
 use nook_defs::lists::{TryCopy, Words};
 use nook_defs::memory::{NoMemory, Room};
 use part_core::Part;
 use std::alloc::Global;
 use std::sync::Wait;
 use turn_lock::Turn;
-
-/// The words for which a call takes room, as many as an answer may have.
-const ANSWER_WORDS: usize = 128;
 
 /// A part behind a desk. Threads share it by reference, and each works through a seat of its own.
 ///
@@ -67,7 +66,7 @@ impl PartDesk {
     {
         // What is so of a seat between two calls is so also where nothing is done.
         let _ = &seat.seat;
-        let Ok(room) = Room::new(alloc, ANSWER_WORDS) else {
+        let Ok(room) = Room::new(alloc, MOST_ANSWER_WORDS) else {
             return Err(DeskRefused::NoMemory { call: None });
         };
         let waiting = self.find(rt, seat, thread, room)?;
@@ -117,7 +116,7 @@ impl PartDesk {
     ) -> Result<Progress, DeskRefused>
         requires seat { IsDeskSeat self.now seat.old }
         requires thread { thread < 16 }
-        requires room { 128 ≤ room }
+        requires room { MOST_ANSWER_WORDS ≤ room }
         ensures seat { IsDeskSeat self.now seat.new }
         ensures run { IsRun (desk_spec self.now) (desk_view seat.new).seen }
         ensures accounts { Accounts (desk_view seat.new) }
@@ -203,7 +202,7 @@ impl PartDesk {
         room: Room<u32>,
     ) -> Result<Waiting, DeskRefused>
         requires seat { IsDeskSeat self.now seat.old }
-        requires room { 128 ≤ room }
+        requires room { MOST_ANSWER_WORDS ≤ room }
         ensures seat { IsDeskSeat self.now seat.new }
         ensures run { IsRun (desk_spec self.now) (desk_view seat.new).seen }
         ensures accounts { Accounts (desk_view seat.new) }
@@ -250,7 +249,7 @@ impl PartDesk {
         requires seat { IsDeskSeat self.now seat.old }
         requires net { same_class (desk_spec self.now).class class.Net ≡ true }
         requires some { 1 ≤ length frame }
-        requires fits { length frame ≤ 64 }
+        requires fits { length frame ≤ MOST_FRAME_WORDS }
         ensures seat { IsDeskSeat self.now seat.new }
         ensures run { IsRun (desk_spec self.now) (desk_view seat.new).seen }
         ensures accounts { Accounts (desk_view seat.new) }
@@ -289,7 +288,7 @@ impl DeskLike for PartDesk {
     ) -> Result<Receipt, DeskRefused> {
         // What is so of a seat between two calls is so also where nothing is done.
         let _ = &seat.seat;
-        let Ok(room) = Room::new(alloc, ANSWER_WORDS) else {
+        let Ok(room) = Room::new(alloc, MOST_ANSWER_WORDS) else {
             return Err(DeskRefused::NoMemory { call: None });
         };
         let Ok(op) = op.copy(alloc) else {

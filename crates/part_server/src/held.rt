@@ -5,18 +5,22 @@ ghost use Rattle.nook_defs.specs.Classes.{same_class};
 ghost use Rattle.nook_defs.specs.Places.{at_number};
 ghost use Rattle.nook_defs.specs.Log.{call_of_thread};
 ghost use Rattle.nook_defs.specs.Steps.{can_invoke, enabled};
-ghost use Rattle.nook_defs.specs.declared.data.Class.TheVariants as class;
+ghost use Rattle.nook_defs.specs.declared.classes.Class.TheVariants as class;
 ghost use Rattle.part_core.specs.Kept.{IsKept};
 ghost use Rattle.part_core.specs.Turning.{IsStepped};
 ghost use Rattle.part_server.specs.Answers.{AnswersShortly, Invokes};
 ghost use Rattle.part_server.specs.Turns.{ArriveGives, FindGives, GoOnGives, InvokeGives, InvokedGives, IsGoingOn, IsOwn, LookGives, ReachedGives, RefusalGives, SettleGives};
 ghost use Rattle.desk_like.specs.Desks.{IsAt};
 
-use crate::answers::{answer_to, first_answer, invocation};
+use crate::answers::{first_answer, invocation};
 use crate::waiting::{Progress, Waiting};
-use nook_defs::data::{DeskRefused, Event, Op, PartSpec, Receipt, Step};
+use nook_defs::calls::Op;
+use nook_defs::desks::{DeskRefused, Receipt};
+use nook_defs::limits::{MOST_ANSWER_WORDS, MOST_FRAME_WORDS};
 use nook_defs::lists::Words;
 use nook_defs::memory::{NoMemory, Room};
+use nook_defs::scenario::PartSpec;
+use nook_defs::steps::{Event, Step};
 use part_core::{Part, StepDone, StepRefused};
 use std::marker::Model;
 use turn_lock::Kept;
@@ -92,7 +96,7 @@ impl Held {
     /// The receipt for an open call where one of the events that were not looked at answers it, else the call again.
     pub fn look(&self, waiting: Waiting) -> Result<Receipt, Waiting>
         requires looked { waiting.looked ≤ length self.now.journal }
-        requires room { 128 ≤ waiting.room }
+        requires room { MOST_ANSWER_WORDS ≤ waiting.room }
         ensures gives { LookGives self.now.journal waiting result }
         ensures kept { IsKept self.now }
     {
@@ -106,7 +110,7 @@ impl Held {
     /// Invokes an operation for a thread.
     pub fn invoke(&mut self, thread: u8, op: Op, room: Room<u32>) -> Result<Progress, DeskRefused>
         requires thread { thread < 16 }
-        requires room { 128 ≤ room }
+        requires room { MOST_ANSWER_WORDS ≤ room }
         ensures gives { InvokeGives self.old self.new thread op result }
         ensures kept { IsKept self.new }
     {
@@ -132,7 +136,7 @@ impl Held {
     /// How far the call of the last event, an invocation, got.
     fn invoked(&self, place: u64, thread: u8, room: Room<u32>) -> Progress
         requires last { (place ≡ length self.now.journal) × IsAt self.now.journal place Invokes }
-        requires room { 128 ≤ room }
+        requires room { MOST_ANSWER_WORDS ≤ room }
         ensures { InvokedGives self.now.journal thread result }
     {
         let Event::Invoke { call, .. } = self.event(place) else {
@@ -151,12 +155,12 @@ impl Held {
     fn reached(&self, waiting: Waiting) -> Progress
         requires some { 0 < length self.now.journal }
         requires looked { waiting.looked ≡ length self.now.journal }
-        requires room { 128 ≤ waiting.room }
+        requires room { MOST_ANSWER_WORDS ≤ waiting.room }
         ensures { ReachedGives self.now.journal waiting result }
     {
         let place = waiting.looked as u64;
         let event = self.event(place);
-        if answer_to(event, waiting.call).is_some() {
+        if event.answer_to(waiting.call).is_some() {
             Progress::Answered(waiting.receipt(place, event))
         } else {
             Progress::Open(waiting)
@@ -198,7 +202,7 @@ impl Held {
 
     /// The thread's open call, to be waited for.
     pub fn find(&self, thread: u8, room: Room<u32>) -> Result<Waiting, DeskRefused>
-        requires { 128 ≤ room }
+        requires { MOST_ANSWER_WORDS ≤ room }
         ensures gives { FindGives self.now thread result }
         ensures kept { IsKept self.now }
     {
@@ -222,7 +226,7 @@ impl Held {
     pub fn arrive(&mut self, frame: Words) -> Result<bool, DeskRefused>
         requires net { same_class self.old.state.spec.class class.Net ≡ true }
         requires some { 1 ≤ length frame }
-        requires fits { length frame ≤ 64 }
+        requires fits { length frame ≤ MOST_FRAME_WORDS }
         ensures gives { ArriveGives self.old self.new frame result }
         ensures kept { IsKept self.new }
     {

@@ -5,15 +5,17 @@ ghost use Rattle.nook_defs.specs.Classes.{entry_count, same_class};
 ghost use Rattle.nook_defs.specs.Valid.{AreWords, IsTextPlace, IsValidImage, IsValidPart};
 ghost use Rattle.part_server.specs.Desk.{IsDeskSeat, desk_spec};
 ghost use Rattle.part_server.specs.Tested.{tested_blocks};
-ghost use Rattle.nook_defs.specs.declared.data.Class.TheVariants as class;
+ghost use Rattle.nook_defs.specs.declared.classes.Class.TheVariants as class;
 
 use crate::{DeskSeat, PartDesk};
 use desk_like::DeskLike;
-use nook_defs::data::{
-    Answer, BadBlocks, Class, DeskRefused, Event, Image, Op, PartSpec, Receipt, Stage,
-};
+use nook_defs::calls::{Answer, Op};
+use nook_defs::classes::Class;
+use nook_defs::desks::{DeskRefused, Receipt};
 use nook_defs::lists::{Frames, Items, Word, Words};
 use nook_defs::name::Name;
+use nook_defs::scenario::{BadBlocks, Image, PartSpec};
+use nook_defs::steps::{Event, Stage};
 use part_core::Part;
 use std::alloc::Global;
 use std::sync::Wait;

@@ -4,9 +4,10 @@ ghost use Rattle.std.specs.Prelude.{◌≡◌, ◌≤◌, Some, is_some, true};
 ghost use Rattle.nook_defs.specs.Runs.{answer_at};
 ghost use Rattle.part_server.specs.Answers.{AnswersShortly};
 
-use crate::answers::answer_to;
-use nook_defs::data::{Event, Receipt};
+use nook_defs::desks::Receipt;
+use nook_defs::limits::MOST_ANSWER_WORDS;
 use nook_defs::memory::Room;
+use nook_defs::steps::Event;
 
 /// An open call of a thread, the place of its invocation, and room for its answer. None of the first `looked` events
 /// answers it.
@@ -31,13 +32,13 @@ impl Waiting {
     pub fn receipt(self, place: u64, event: &Event) -> Receipt
         requires answers { is_some (answer_at self.call event.now) ≡ true }
         requires short { AnswersShortly event.now }
-        requires room { 128 ≤ self.room }
+        requires room { MOST_ANSWER_WORDS ≤ self.room }
         ensures call { result.call ≡ self.call }
         ensures at_invoke { result.at_invoke ≡ self.at_invoke }
         ensures at_reply { result.at_reply ≡ place }
         ensures answer { answer_at self.call event.now ≡ Some result.answer }
     {
-        match answer_to(event, self.call) {
+        match event.answer_to(self.call) {
             Some(answer) => Receipt {
                 call: self.call,
                 at_invoke: self.at_invoke,

@@ -1,13 +1,14 @@
 -- Stop goes over the open calls from the first to the last.
-use Rattle.std.proofs.Common.{◌≡◌, ℕ, zero, suc, ◌+◌, ◌≤◌, ◌<◌, true, Option, Some, None, List, [], ◌∷◌, ◌++◌, length, take, drop, slice_get, slice_index_or, refl, sym, ap, ◌∙◌, append_assoc, length-append, arith}
-use Rattle.nook_defs.specs.declared.data.Answer.{Answer}
-use Rattle.nook_defs.specs.declared.data.CallEntry.{CallEntry}
-use Rattle.nook_defs.specs.declared.data.Op.{Op}
-use Rattle.nook_defs.specs.declared.data.Op.TheVariants as op
-use Rattle.nook_defs.specs.declared.data.Stage.{Stage}
-use Rattle.nook_defs.specs.declared.data.Stage.TheVariants as stage
-use Rattle.nook_defs.specs.Log.{shadow_answer, frame_or_empty, front_of, queue_after, with_answer, stop_answers, stop_queue, gone_answer, gone_answers}
-use Rattle.recovery_manager.specs.Front.{front_for}
+use Rattle.std.proofs.Common.{◌≡◌, ℕ, zero, suc, ◌+◌, ◌≤◌, Option, Some, None, List, [], ◌∷◌, ◌++◌, length, drop, slice_get, refl, sym, ap, ◌∙◌, append_assoc, length-append, arith}
+use Rattle.nook_defs.specs.declared.calls.Answer.{Answer}
+use Rattle.nook_defs.specs.declared.calls.Answer.TheVariants as answer
+use Rattle.nook_defs.specs.declared.calls.CallEntry.{CallEntry}
+use Rattle.nook_defs.specs.declared.calls.Op.{Op}
+use Rattle.nook_defs.specs.declared.calls.Op.TheVariants as op
+use Rattle.nook_defs.specs.declared.steps.Stage.{Stage}
+use Rattle.nook_defs.specs.declared.steps.Stage.TheVariants as stage
+use Rattle.nook_defs.specs.Log.{shadow_answer, frame_or_empty, front_of, queue_after, with_answer, stop_answers, stop_queue, gone_answers}
+use Rattle.shadow_proxy.specs.Front.{front_for}
 use Rattle.shadow_proxy.specs.Table.{queue_of}
 
 -- the front decides what the queue decides
@@ -67,9 +68,9 @@ pub long_more : (made more : List (ℕ × Answer)) (call i : ℕ) (a : Option An
 long_more made more call i a e l = rw e (omega (arith, length-append made (with_answer call a []), answer_long call a, l))
 
 pub gone_more : (failures : ℕ) (xs : List CallEntry) (i n : ℕ) (x : CallEntry) (made more : List (ℕ × Answer)) → slice_get xs i ≡ Some x → n ≡ suc i
-    → made ++ gone_answers failures (drop i xs) ≡ gone_answers failures xs → more ≡ made ++ gone_answer failures x ∷ []
+    → made ++ gone_answers failures (drop i xs) ≡ gone_answers failures xs → more ≡ made ++ (x.call, answer.Gone failures) ∷ []
     → more ++ gone_answers failures (drop n xs) ≡ gone_answers failures xs
 gone_more failures xs i n x made more e k h m =
     ap (λ z. z ++ gone_answers failures (drop n xs)) m
-    ∙ (append_assoc made (gone_answer failures x ∷ []) (gone_answers failures (drop n xs))
+    ∙ (append_assoc made ((x.call, answer.Gone failures) ∷ []) (gone_answers failures (drop n xs))
     ∙ (ap (λ z. made ++ gone_answers failures z) (sym (split_at xs i n x e k)) ∙ h))

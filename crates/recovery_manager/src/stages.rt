@@ -3,7 +3,7 @@
 ghost use Rattle.std.specs.Prelude.{◌≡◌};
 ghost use Rattle.nook_defs.specs.Log.{following};
 
-use nook_defs::data::Stage;
+use nook_defs::steps::Stage;
 use shadow_log::ShadowLog;
 
 /// The stage that follows a stage of a recovery. None exactly after Resume.

@@ -1,16 +1,15 @@
 //! The stage Stop: open calls are answered, or held for the driver that comes.
 
 ghost use Rattle.std.specs.Prelude.{◌≡◌, ◌+◌, ◌++◌, [], ◌<◌, ◌≤◌, length, vec_len, vec_capacity, IfOk, OnOk, OnErr};
-ghost use Rattle.nook_defs.specs.Log.{gone_answers, held_by_shadow, no_call_open, queue_after, stop_answers, stop_queue, with_answer};
-ghost use Rattle.recovery_manager.specs.Front.{front_for};
+ghost use Rattle.nook_defs.specs.Log.{gone_answers, held_by_shadow, no_call_open, stop_answers, stop_queue, with_answer};
 ghost use Rattle.shadow_proxy.specs.Table.{answer_of};
 
-use nook_defs::data::{Answer, CallAnswers, Op, Stage};
-use nook_defs::lists::Words;
+use nook_defs::calls::{Answer, CallAnswers};
 use nook_defs::memory::{NoMemory, Room};
 use nook_defs::outside::RxFront;
+use nook_defs::steps::Stage;
 use shadow_log::ShadowLog;
-use shadow_proxy::{Proxy, proxy};
+use shadow_proxy::{Proxy, front_for, proxy};
 use std::alloc::Global;
 
 /// Where the failures are at most the limit, each open call is answered or held by the shadow's table, in the
@@ -37,7 +36,7 @@ pub fn stop<Q: RxFront>(
     let room = Room::new(alloc, log.open_count())?;
     if failures <= limit {
         let answers = shadow_answers(log, queue, room);
-        log.stopped();
+        log.stopped(answers.as_slice());
         Ok(answers)
     } else {
         let answers = gone_answers(log, failures, room);
@@ -64,17 +63,6 @@ fn shadow_answers<Q: RxFront>(
         add_answer(&mut answers, entry.call, decision);
     }
     CallAnswers::from_vec(answers)
-}
-
-/// The frame that answers the operation: the queue's front for a Recv, none for any other.
-fn front_for<Q: RxFront>(op: &Op, queue: &mut Q) -> Option<Words>
-    ensures front { result ≡ front_for op.now (Q.frames queue.old) }
-    ensures left { Q.frames queue.new ≡ queue_after op.now (Q.frames queue.old) }
-{
-    match op {
-        Op::Recv => queue.take_front(),
-        _ => None,
-    }
 }
 
 /// A call's answer, where it has one, goes behind the others. There is room for it.

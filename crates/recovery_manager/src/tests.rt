@@ -5,10 +5,11 @@ ghost use Rattle.nook_defs.specs.Devices.{tail_of};
 ghost use Rattle.nook_defs.specs.Log.{front_of};
 
 use crate::{following, stop};
-use nook_defs::data::{Answer, CallAnswers, Op, Stage};
+use nook_defs::calls::{Answer, CallAnswers, Op};
 use nook_defs::lists::{Items, Words};
 use nook_defs::memory::NoMemory;
 use nook_defs::outside::RxFront;
+use nook_defs::steps::Stage;
 use shadow_log::ShadowLog;
 use std::alloc::Global;
 use std::fmt::Write;

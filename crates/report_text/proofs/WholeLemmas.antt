@@ -1,23 +1,25 @@
 -- A whole report: its rows, part by part and act by act, and the text that they are.
 use Rattle.std.proofs.Common.{◌≡◌, ℕ, zero, suc, ◌+◌, ◌≤◌, ◌++◌, ◌∷◌, [], List, Bool, false, if◌then◌else◌, is_some, nat_lt, ◌||◌, codes, drop, length, Option, refl, sym, ap, ◌∙◌, add-one, append_assoc}
+use Rattle.std.specs.List.{flat_map}
 use Rattle.std.proofs.lemmas.List.{drop_all}
-use Rattle.nook_defs.specs.declared.data.Act.{Act}
-use Rattle.nook_defs.specs.declared.data.Act.TheVariants as act
-use Rattle.nook_defs.specs.declared.data.Break.{Break}
-use Rattle.nook_defs.specs.declared.data.Class.{Class}
-use Rattle.nook_defs.specs.declared.data.Class.TheVariants as class
-use Rattle.nook_defs.specs.declared.data.Event.{Event}
-use Rattle.nook_defs.specs.declared.data.Losses.{Losses}
-use Rattle.nook_defs.specs.declared.data.MirrorAnswer.{MirrorAnswer}
-use Rattle.nook_defs.specs.declared.data.PartSpec.{PartSpec}
-use Rattle.nook_defs.specs.declared.data.Scenario.{Scenario}
-use Rattle.nook_defs.specs.declared.data.ThreadSpec.{ThreadSpec}
+use Rattle.std.proofs.lemmas.List.Concat.{flat_map-append}
+use Rattle.nook_defs.specs.declared.machine.Act.{Act}
+use Rattle.nook_defs.specs.declared.machine.Act.TheVariants as act
+use Rattle.nook_defs.specs.declared.verdicts.Break.{Break}
+use Rattle.nook_defs.specs.declared.classes.Class.{Class}
+use Rattle.nook_defs.specs.declared.classes.Class.TheVariants as class
+use Rattle.nook_defs.specs.declared.steps.Event.{Event}
+use Rattle.nook_defs.specs.declared.verdicts.Losses.{Losses}
+use Rattle.nook_defs.specs.declared.mirror.MirrorAnswer.{MirrorAnswer}
+use Rattle.nook_defs.specs.declared.scenario.PartSpec.{PartSpec}
+use Rattle.nook_defs.specs.declared.scenario.Scenario.{Scenario}
+use Rattle.nook_defs.specs.declared.scenario.ThreadSpec.{ThreadSpec}
 use Rattle.nook_defs.specs.Contract.{first_break}
 use Rattle.nook_defs.specs.Devices.{medium_of}
 use Rattle.nook_defs.specs.Losses.{losses}
 use Rattle.nook_defs.specs.Pages.{object_words}
 use Rattle.nook_defs.specs.ReportLines.{event_lines, line_feed, spaced, with_list, with_number}
-use Rattle.nook_defs.specs.ReportText.{acts_of, acts_of_event, block_lines, config_line, contract_line, device_lines, failures_line, final_lines, has_break, has_given_up, losses_lines, object_line, object_lines, part_line, part_text, parts_text, played_lines, report_text, status_line, status_of, taps_text, thread_line, threads_text, wire_lines}
+use Rattle.nook_defs.specs.ReportText.{acts_of, acts_of_event, block_lines, config_line, contract_line, device_lines, failures_line, final_lines, has_break, has_given_up, losses_lines, object_line, object_lines, part_line, part_text, parts_text, played_line, report_text, status_line, status_of, taps_text, thread_line, threads_text, wire_line}
 use Rattle.nook_defs.specs.Views.Room.{Kept}
 use Rattle.nook_defs.specs.Runs.{state_of}
 use Rattle.nook_defs.specs.Stages.{is_given_up}
@@ -28,7 +30,7 @@ use Rattle.report_text.specs.declared.whole_report.PartReport.{PartReport}
 use Rattle.report_text.specs.declared.whole_report.Report.{Report}
 use Rattle.report_text.specs.declared.whole_text.Kind.TheVariants as kind
 use Rattle.report_text.specs.Mirrored.{mirror_answer_line, mirror_report_rows, mirror_report_text, mirror_threads_text}
-use Rattle.report_text.specs.Whole.{HaveEnds, IsReport, ShowsState, device_rows, event_text, final_rows, is_broken, is_gone, lists_of, objects_from, part_rows, parts_rows, played_row, report_rows, status_in, summaries, summary, wire_row}
+use Rattle.report_text.specs.Whole.{HaveEnds, IsReport, ShowsState, device_rows, event_text, final_rows, is_broken, is_gone, lists_of, objects_from, part_rows, parts_rows, report_rows, status_in, summaries, summary}
 use Rattle.report_text.specs.Writing.{each_text}
 
 -- ---- one item and the others
@@ -42,59 +44,19 @@ pub rows_first : (place : ℕ) (specs : List PartSpec) (journals : List (Kept Ev
 rows_first place specs journals reports ends s journal r e more_specs more_journals more_reports more_ends a b c d =
     rw (a, b, c, d, add-one place) refl
 
-four : (a b c d rest : List ℕ) → (a ++ (b ++ (c ++ d))) ++ rest ≡ a ++ (b ++ (c ++ (d ++ rest)))
-four a b c d rest =
-    append_assoc a (b ++ (c ++ d)) rest
-    ∙ ap (λ t. a ++ t) (append_assoc b (c ++ d) rest ∙ ap (λ t. b ++ t) (append_assoc c d rest))
-
-pub wire_first : (a : Act) (acts : List Act) → wire_lines (a ∷ acts) ≡ wire_row a ++ wire_lines acts
-wire_first (act.Sent frame) acts = sym (append_assoc (with_list (codes "wire ") frame) line_feed (wire_lines acts))
-wire_first (act.Load block) acts = refl
-wire_first (act.Store block words) acts = refl
-wire_first (act.Failed block store) acts = refl
-wire_first (act.Popped frame) acts = refl
-wire_first (act.Played word rate volume) acts = refl
-wire_first (act.Register key value) acts = refl
-
-pub played_first : (a : Act) (acts : List Act) → played_lines (a ∷ acts) ≡ played_row a ++ played_lines acts
-played_first (act.Played word rate volume) acts =
-    sym (four (with_number (codes "played ") word) (spaced rate) (spaced volume) line_feed (played_lines acts))
-played_first (act.Load block) acts = refl
-played_first (act.Store block words) acts = refl
-played_first (act.Failed block store) acts = refl
-played_first (act.Popped frame) acts = refl
-played_first (act.Sent frame) acts = refl
-played_first (act.Register key value) acts = refl
-
-wire_append : (xs ys : List Act) → wire_lines (xs ++ ys) ≡ wire_lines xs ++ wire_lines ys
-wire_append [] ys = refl
-wire_append (a ∷ xs) ys =
-    wire_first a (xs ++ ys)
-    ∙ (ap (λ t. wire_row a ++ t) (wire_append xs ys)
-    ∙ (sym (append_assoc (wire_row a) (wire_lines xs) (wire_lines ys))
-    ∙ ap (λ t. t ++ wire_lines ys) (sym (wire_first a xs))))
-
-played_append : (xs ys : List Act) → played_lines (xs ++ ys) ≡ played_lines xs ++ played_lines ys
-played_append [] ys = refl
-played_append (a ∷ xs) ys =
-    played_first a (xs ++ ys)
-    ∙ (ap (λ t. played_row a ++ t) (played_append xs ys)
-    ∙ (sym (append_assoc (played_row a) (played_lines xs) (played_lines ys))
-    ∙ ap (λ t. t ++ played_lines ys) (sym (played_first a xs))))
-
 -- ---- the rows are the text
 
-wire_text : (place : ℕ) (events : List Event) → each_text (event_text kind.Frames) place events ≡ wire_lines (acts_of events)
+wire_text : (place : ℕ) (events : List Event) → each_text (event_text kind.Frames) place events ≡ flat_map wire_line (acts_of events)
 wire_text place [] = refl
 wire_text place (e ∷ events) =
-    ap (λ more. wire_lines (acts_of_event e) ++ more) (wire_text (suc place) events)
-    ∙ sym (wire_append (acts_of_event e) (acts_of events))
+    ap (λ more. flat_map wire_line (acts_of_event e) ++ more) (wire_text (suc place) events)
+    ∙ sym (flat_map-append wire_line (acts_of_event e) (acts_of events))
 
-played_text : (place : ℕ) (events : List Event) → each_text (event_text kind.Samples) place events ≡ played_lines (acts_of events)
+played_text : (place : ℕ) (events : List Event) → each_text (event_text kind.Samples) place events ≡ flat_map played_line (acts_of events)
 played_text place [] = refl
 played_text place (e ∷ events) =
-    ap (λ more. played_lines (acts_of_event e) ++ more) (played_text (suc place) events)
-    ∙ sym (played_append (acts_of_event e) (acts_of events))
+    ap (λ more. flat_map played_line (acts_of_event e) ++ more) (played_text (suc place) events)
+    ∙ sym (flat_map-append played_line (acts_of_event e) (acts_of events))
 
 device_text : (c : Class) (events : List Event) (p : PartState) (medium : List (List ℕ)) → medium ≡ medium_of p.domain.device
     → device_rows c events medium ≡ device_lines c events p

@@ -5,10 +5,10 @@ use Rattle.std.proofs.Math.Seq.{drop-cons}
 use Rattle.std.proofs.Math.Nat.{le_refl, le_trans}
 use Rattle.std.specs.Io.KnownBytes.{Appends}
 use Rattle.nook_defs.specs.Views.Causes.{AppendsPrefix, Rose}
-use Rattle.nook_defs.specs.declared.data.Answer.{Answer}
-use Rattle.nook_defs.specs.declared.data.Event.{Event}
+use Rattle.nook_defs.specs.declared.calls.Answer.{Answer}
+use Rattle.nook_defs.specs.declared.steps.Event.{Event}
 use Rattle.nook_defs.specs.ReportLines.{answer_text, event_line, event_lines, line_feed, with_number}
-use Rattle.nook_defs.specs.declared.data.ThreadSpec.{ThreadSpec}
+use Rattle.nook_defs.specs.declared.scenario.ThreadSpec.{ThreadSpec}
 use Rattle.nook_defs.specs.ReportText.{answer_lines, thread_line, threads_text}
 use Rattle.report_text.specs.Answers.{answer_line}
 use Rattle.report_text.specs.declared.write.WriteStop.{WriteStop}

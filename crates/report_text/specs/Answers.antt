@@ -1,6 +1,6 @@
 -- The line of one answer.
 use Rattle.std.specs.Prelude.{ℕ, List, ◌++◌, codes, decimal}
-use Rattle.nook_defs.specs.declared.data.Answer.{Answer}
+use Rattle.nook_defs.specs.declared.calls.Answer.{Answer}
 use Rattle.nook_defs.specs.ReportLines.{answer_text, line_feed, with_number}
 
 -- a thread's answer: K pP ANSWER

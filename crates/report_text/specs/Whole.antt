@@ -1,19 +1,19 @@
 -- A report with what its parts end in, and its text by rows of it.
-use Rattle.std.specs.Prelude.{◌≡◌, ℕ, zero, suc, Bool, false, is_some, nat_lt, ◌||◌, if◌then◌else◌, List, [], ◌∷◌, ◌++◌, codes, map}
-use Rattle.nook_defs.specs.declared.data.Act.{Act}
-use Rattle.nook_defs.specs.declared.data.Act.TheVariants as act
-use Rattle.nook_defs.specs.declared.data.Class.{Class}
-use Rattle.nook_defs.specs.declared.data.Class.TheVariants as class
-use Rattle.nook_defs.specs.declared.data.Event.{Event}
-use Rattle.nook_defs.specs.declared.data.Losses.{Losses}
-use Rattle.nook_defs.specs.declared.data.PartSpec.{PartSpec}
-use Rattle.nook_defs.specs.declared.data.Scenario.{Scenario}
+use Rattle.std.specs.Prelude.{◌≡◌, ℕ, zero, suc, Bool, false, is_some, nat_lt, ◌||◌, if◌then◌else◌, List, [], ◌∷◌, ◌++◌, codes, map, flat_map}
+use Rattle.nook_defs.specs.declared.machine.Act.{Act}
+use Rattle.nook_defs.specs.declared.machine.Act.TheVariants as act
+use Rattle.nook_defs.specs.declared.classes.Class.{Class}
+use Rattle.nook_defs.specs.declared.classes.Class.TheVariants as class
+use Rattle.nook_defs.specs.declared.steps.Event.{Event}
+use Rattle.nook_defs.specs.declared.verdicts.Losses.{Losses}
+use Rattle.nook_defs.specs.declared.scenario.PartSpec.{PartSpec}
+use Rattle.nook_defs.specs.declared.scenario.Scenario.{Scenario}
 use Rattle.nook_defs.specs.Contract.{first_break}
 use Rattle.nook_defs.specs.Devices.{medium_of}
 use Rattle.nook_defs.specs.Losses.{losses}
 use Rattle.nook_defs.specs.Pages.{object_words}
 use Rattle.nook_defs.specs.ReportLines.{event_lines, line_feed, spaced, with_list, with_number}
-use Rattle.nook_defs.specs.ReportText.{acts_of_event, block_lines, config_line, contract_line, failures_line, losses_lines, object_line, part_line, played_lines, status_line, status_of, taps_text, threads_text, wire_lines}
+use Rattle.nook_defs.specs.ReportText.{acts_of_event, block_lines, config_line, contract_line, failures_line, losses_lines, object_line, part_line, played_line, status_line, status_of, taps_text, threads_text, wire_line}
 use Rattle.nook_defs.specs.Views.Room.{Kept}
 use Rattle.nook_defs.specs.Runs.{state_of}
 use Rattle.nook_defs.specs.State.{PartState}
@@ -87,21 +87,10 @@ pub record IsReport (scenario : Scenario) (r : Report) : Type 0 where
 
 -- ---- the text
 
--- the line of an act, where it sent a frame
-abbrev pub wire_row : Act → List ℕ
-wire_row (act.Sent frame) = with_list (codes "wire ") frame ++ line_feed
-wire_row a = []
-
--- the line of an act, where it played a sample
-abbrev pub played_row : Act → List ℕ
-played_row (act.Played word rate volume) =
-    with_number (codes "played ") word ++ (spaced rate ++ (spaced volume ++ line_feed))
-played_row a = []
-
 -- the lines of an event's acts: frames sent, or samples played
 abbrev pub event_rows : Kind → Event → List ℕ
-event_rows kind.Frames e = wire_lines (acts_of_event e)
-event_rows kind.Samples e = played_lines (acts_of_event e)
+event_rows kind.Frames e = flat_map wire_line (acts_of_event e)
+event_rows kind.Samples e = flat_map played_line (acts_of_event e)
 
 -- the same, whatever the event's number is
 abbrev pub event_text : Kind → ℕ → Event → List ℕ

@@ -6,11 +6,14 @@ ghost use Rattle.nook_defs.specs.ReportLines.{act_text, acts_tail, answer_tail, 
 ghost use Rattle.report_text.specs.Mirrored.{mirror_answer_text};
 
 use crate::line::Line;
-use nook_defs::data::{
-    Act, Acts, Answer, Class, End, Entry, Event, FailCause, MirrorAnswer, Op, Stage, TrapCause,
-};
+use nook_defs::calls::{Answer, Op};
+use nook_defs::classes::Class;
+use nook_defs::entries::Entry;
 use nook_defs::lists::Words;
+use nook_defs::machine::{Act, Acts, TrapCause};
 use nook_defs::memory::NoMemory;
+use nook_defs::mirror::MirrorAnswer;
+use nook_defs::steps::{End, Event, FailCause, Stage};
 
 /// A text and a number.
 pub fn push_number(line: &mut Line, text: &str, number: u64) -> Result<(), NoMemory>

@@ -1,7 +1,8 @@
 //! What a run left.
 
-use nook_defs::data::{AnswerTable, TapTotals};
+use nook_defs::calls::AnswerTable;
 use nook_defs::journal::Journal;
+use nook_defs::listeners::TapTotals;
 use nook_defs::lists::Items;
 
 /// Each part's journal.

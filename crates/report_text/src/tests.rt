@@ -3,14 +3,18 @@
 use crate::report::{Journals, Run};
 use crate::whole_report::{PartEnd, PartEnds, report_of};
 use crate::whole_text::write_report;
-use nook_defs::data::{
-    Act, Acts, AnswerTable, BadBlocks, Class, End, Event, Faults, Image, PartSpec, Parts, Scenario,
-    ScheduleSpec, TapTotals, ThreadSpecs,
-};
+use nook_defs::calls::AnswerTable;
+use nook_defs::classes::Class;
 use nook_defs::journal::Journal;
+use nook_defs::listeners::TapTotals;
 use nook_defs::lists::{Frames, Words};
+use nook_defs::machine::{Act, Acts};
 use nook_defs::memory::NoMemory;
 use nook_defs::name::Name;
+use nook_defs::scenario::{
+    BadBlocks, Faults, Image, PartSpec, Parts, Scenario, ScheduleSpec, ThreadSpecs,
+};
+use nook_defs::steps::{End, Event};
 use nook_defs::streams_in_memory::ListSink;
 use std::alloc::Global;
 use std::test::Fail;

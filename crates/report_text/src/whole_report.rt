@@ -7,10 +7,12 @@ ghost use Rattle.report_text.specs.Whole.{HaveEnds, IsReport, is_broken, is_gone
 
 use crate::report::Run;
 use contract_monitor::Monitor;
-use nook_defs::data::{Break, Event, Losses, PartSpec, Scenario};
 use nook_defs::journal::Journal;
 use nook_defs::lists::{Frames, Items};
 use nook_defs::memory::NoMemory;
+use nook_defs::scenario::{PartSpec, Scenario};
+use nook_defs::steps::Event;
+use nook_defs::verdicts::{Break, Losses};
 use std::alloc::Global;
 
 /// What a part ends in: the kernel objects 1 to 12, the medium, the configuration last acknowledged, the failures.

@@ -1,11 +1,12 @@
 //! The writing of a whole report into a sink.
 
-ghost use Rattle.std.specs.Prelude.{◌≡◌, ◌+◌, ◌^◌, ◌<◌, ◌++◌, ℕ, List, OnOk, bytes_eq, length, replicate};
+ghost use Rattle.std.specs.Prelude.{◌≡◌, ◌+◌, ◌^◌, ◌<◌, ◌++◌, ℕ, List, OnOk, bytes_eq, flat_map, length, replicate};
 ghost use Rattle.nook_defs.specs.Pages.{opening_object};
-ghost use Rattle.nook_defs.specs.ReportText.{block_line, block_lines, config_line, contract_line, failures_line, final_lines, losses_lines, object_line, played_lines, report_text, spaced_each, status_line, tap_line, tap_text, taps_text, threads_text, wire_lines};
+ghost use Rattle.nook_defs.specs.ReportLines.{spaced};
+ghost use Rattle.nook_defs.specs.ReportText.{block_line, block_lines, config_line, contract_line, failures_line, final_lines, losses_lines, object_line, played_line, report_text, status_line, tap_line, tap_text, taps_text, threads_text, wire_line};
 ghost use Rattle.nook_defs.specs.State.{PartState};
 ghost use Rattle.report_text.specs.Mirrored.{mirror_report_rows, mirror_report_text};
-ghost use Rattle.report_text.specs.Whole.{IsReport, ShowsState, device_rows, ending_rows, event_rows, event_text, final_rows, frame_counts, kept_counts, lists_of, lost_counts, part_rows, parts_rows, played_row, report_rows, sample_counts, wire_row};
+ghost use Rattle.report_text.specs.Whole.{IsReport, ShowsState, device_rows, ending_rows, event_rows, event_text, final_rows, frame_counts, kept_counts, lists_of, lost_counts, part_rows, parts_rows, report_rows, sample_counts};
 ghost use Rattle.report_text.specs.Writing.{Wrote, each_text};
 
 use crate::line::Line;
@@ -15,13 +16,17 @@ use crate::write::{
     WriteStop, spill, write_events, write_mirror_threads, write_part_line, write_status_line,
     write_text, write_threads,
 };
-use nook_defs::data::{
-    Act, Break, Class, Event, Losses, MirrorAnswer, MirrorAnswers, PartSpec, Scenario,
-};
+use nook_defs::classes::Class;
 use nook_defs::journal::Journal;
 use nook_defs::lists::Words;
+use nook_defs::machine::Act;
 use nook_defs::memory::NoMemory;
+use nook_defs::memory_map::OBJECT_WORDS;
+use nook_defs::mirror::{MirrorAnswer, MirrorAnswers};
 use nook_defs::outside::Sink;
+use nook_defs::scenario::{PartSpec, Scenario};
+use nook_defs::steps::Event;
+use nook_defs::verdicts::{Break, Losses};
 use std::alloc::Global;
 
 /// Which acts of a device are told line by line.
@@ -38,7 +43,9 @@ fn is_opening(object: u64, words: &[u32]) -> bool
     ensures { result ≡ bytes_eq words.now (opening_object object) }
 {
     match words.split_first() {
-        Some((first, rest)) => u64::from(*first) == object && rest.len() == 63 && all_zeros(rest),
+        Some((first, rest)) => u64::from(*first) == object
+            && rest.len() == OBJECT_WORDS as usize - 1
+            && all_zeros(rest),
         None => false,
     }
 }
@@ -112,7 +119,7 @@ fn push_blocks(line: &mut Line, medium: &[Words]) -> Result<(), NoMemory>
 
 /// The frames that were sent.
 fn push_frames(line: &mut Line, acts: &[Act]) -> Result<(), NoMemory>
-    ensures { OnOk result (line.new ≡ line.old ++ wire_lines acts.now) }
+    ensures { OnOk result (line.new ≡ line.old ++ flat_map wire_line acts.now) }
 {
     for act in acts {
         push_frame(line, act)?;
@@ -122,7 +129,7 @@ fn push_frames(line: &mut Line, acts: &[Act]) -> Result<(), NoMemory>
 
 /// An act, where it sent a frame.
 fn push_frame(line: &mut Line, act: &Act) -> Result<(), NoMemory>
-    ensures { OnOk result (line.new ≡ line.old ++ wire_row act.now) }
+    ensures { OnOk result (line.new ≡ line.old ++ wire_line act.now) }
 {
     match act {
         Act::Sent { frame } => {
@@ -135,7 +142,7 @@ fn push_frame(line: &mut Line, act: &Act) -> Result<(), NoMemory>
 
 /// The samples that were played.
 fn push_samples(line: &mut Line, acts: &[Act]) -> Result<(), NoMemory>
-    ensures { OnOk result (line.new ≡ line.old ++ played_lines acts.now) }
+    ensures { OnOk result (line.new ≡ line.old ++ flat_map played_line acts.now) }
 {
     for act in acts {
         push_sample(line, act)?;
@@ -145,7 +152,7 @@ fn push_samples(line: &mut Line, acts: &[Act]) -> Result<(), NoMemory>
 
 /// An act, where it played a sample.
 fn push_sample(line: &mut Line, act: &Act) -> Result<(), NoMemory>
-    ensures { OnOk result (line.new ≡ line.old ++ played_row act.now) }
+    ensures { OnOk result (line.new ≡ line.old ++ played_line act.now) }
 {
     match act {
         Act::Played {
@@ -186,7 +193,7 @@ fn push_config(line: &mut Line, config: &[u32; 4]) -> Result<(), NoMemory>
 
 /// Words, each behind a space.
 fn push_spaced(line: &mut Line, words: &[u32]) -> Result<(), NoMemory>
-    ensures { OnOk result (line.new ≡ line.old ++ spaced_each words.now) }
+    ensures { OnOk result (line.new ≡ line.old ++ flat_map spaced words.now) }
 {
     for word in words {
         push_number(line, " ", u64::from(*word))?;

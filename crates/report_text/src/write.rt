@@ -9,10 +9,13 @@ ghost use Rattle.report_text.specs.Writing.{Spilled, Wrote, each_text};
 
 use crate::line::Line;
 use crate::pieces::{push_answer, push_class, push_event, push_mirror_answer, push_number};
-use nook_defs::data::{Answer, Event, MirrorAnswer, PartAnswers, PartSpec, ThreadSpec};
+use nook_defs::calls::{Answer, PartAnswers};
 use nook_defs::lists::Words8;
 use nook_defs::memory::NoMemory;
+use nook_defs::mirror::MirrorAnswer;
 use nook_defs::outside::{Failed, Sink};
+use nook_defs::scenario::{PartSpec, ThreadSpec};
+use nook_defs::steps::Event;
 use nook_defs::whole::write_all;
 use std::alloc::Global;
 

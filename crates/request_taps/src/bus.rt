@@ -5,10 +5,11 @@ ghost use Rattle.request_taps.specs.Bus.{detach_answer, detached, is_present, re
 
 use crate::boxed::{Boxed, all_held};
 use crate::tap::Tap;
-use nook_defs::data::{Event, TapTotals};
+use nook_defs::listeners::TapTotals;
 use nook_defs::lists::Items;
 use nook_defs::memory::NoMemory;
 use nook_defs::outside::Listener;
+use nook_defs::steps::Event;
 use std::alloc::Global;
 use std::marker::Model;
 

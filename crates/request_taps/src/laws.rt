@@ -3,7 +3,7 @@
 ghost use Rattle.std.specs.Prelude.{◌≡◌, ℕ, List, map};
 ghost use Rattle.nook_defs.specs.Listening.{Listening};
 ghost use Rattle.nook_defs.specs.Taps.{tap_result};
-ghost use Rattle.nook_defs.specs.declared.data.Event.{Event};
+ghost use Rattle.nook_defs.specs.declared.steps.Event.{Event};
 ghost use Rattle.request_taps.specs.Bus.{result_of, settled, told_all};
 
 /// After any events, each with its part, a bus of any listeners tells for each the number of events that its masks

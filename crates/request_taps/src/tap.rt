@@ -3,8 +3,8 @@
 ghost use Rattle.std.specs.Prelude.{◌≡◌};
 ghost use Rattle.request_taps.specs.Bus.{detach_answer, detached, heard_below, is_present, seen, settled_tap, told, total_of};
 
-use nook_defs::data::Event;
 use nook_defs::outside::Listener;
+use nook_defs::steps::Event;
 
 /// A listener that is there, or the total of one that was dropped.
 #[derive(Drop)]

@@ -1,10 +1,10 @@
 //! Listeners that come and go, and one that tells what was done to it.
 
 use crate::{Bus, TapBus};
-use nook_defs::data::{End, Event, Stage};
 use nook_defs::listeners::CountListener;
 use nook_defs::lists::Items;
 use nook_defs::outside::Listener;
+use nook_defs::steps::{End, Event, Stage};
 use std::alloc::Global;
 use std::fmt::Write;
 use std::sync::Arc;

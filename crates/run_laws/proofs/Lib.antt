@@ -2,3 +2,13 @@ pub mod Numbers
 pub mod Choices
 pub mod Threads
 pub mod Reached
+pub mod Lines
+pub mod Words
+pub mod Naming
+pub mod NoFeed
+pub mod OneLine
+pub mod Wholes
+pub mod Leading
+pub mod Passing
+pub mod Nexts
+pub mod Reading

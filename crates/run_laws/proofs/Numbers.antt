@@ -6,32 +6,34 @@ use Rattle.nook_defs.specs.declared.classes.Accept.{Accept}
 use Rattle.nook_defs.specs.declared.classes.Accept.TheVariants as accepts
 use Rattle.nook_defs.specs.declared.classes.Admit.{Admit}
 use Rattle.nook_defs.specs.declared.classes.Admit.TheVariants as admits
-use Rattle.nook_defs.specs.declared.data.Answer.{Answer}
-use Rattle.nook_defs.specs.declared.data.CallEntry.{CallEntry}
-use Rattle.nook_defs.specs.declared.data.Event.{Event}
-use Rattle.nook_defs.specs.declared.data.Event.TheVariants as event
-use Rattle.nook_defs.specs.declared.data.Op.{Op}
-use Rattle.nook_defs.specs.declared.data.Op.TheVariants as op
-use Rattle.nook_defs.specs.declared.data.Stage.{Stage}
-use Rattle.nook_defs.specs.declared.data.Stage.TheVariants as stage
-use Rattle.nook_defs.specs.declared.data.Step.{Step}
-use Rattle.nook_defs.specs.declared.data.Step.TheVariants as step
+use Rattle.nook_defs.specs.declared.calls.Answer.{Answer}
+use Rattle.nook_defs.specs.declared.calls.CallEntry.{CallEntry}
+use Rattle.nook_defs.specs.declared.steps.Event.{Event}
+use Rattle.nook_defs.specs.declared.steps.Event.TheVariants as event
+use Rattle.nook_defs.specs.declared.calls.Op.{Op}
+use Rattle.nook_defs.specs.declared.calls.Op.TheVariants as op
+use Rattle.nook_defs.specs.declared.steps.Stage.{Stage}
+use Rattle.nook_defs.specs.declared.steps.Stage.TheVariants as stage
+use Rattle.nook_defs.specs.declared.steps.Step.{Step}
+use Rattle.nook_defs.specs.declared.steps.Step.TheVariants as step
 use Rattle.nook_defs.specs.declared.machine.BadParam.{BadParam}
 use Rattle.nook_defs.specs.declared.machine.BurstEnd.{BurstEnd}
 use Rattle.nook_defs.specs.declared.machine.BurstEnd.TheVariants as ends
 use Rattle.nook_defs.specs.declared.machine.Service.{Service}
-use Rattle.nook_defs.specs.Calls.{Turned, invoked, invoked_by, invoked_with, answer_in, queue_in, entered_part, entered_by, admitted}
+use Rattle.nook_defs.specs.Calls.{Stepped, after_invoke, invoked_by, invoked_with, answer_in, queue_in, after_enter, entered_by, after_admit}
 use Rattle.nook_defs.specs.Classes.{static_check, admit, accept}
-use Rattle.nook_defs.specs.Crossing.{Crossed, fails, is_last, serve_by, is_accepted, next_stage, shadow_replied, closes, reply_by, call_replied, crossed}
+use Rattle.nook_defs.specs.Crossing.{Crossed, fails, is_last, serve_by, is_accepted, next_stage, shadow_replied, closes_call, reply_by, call_replied, after_crossing}
 use Rattle.nook_defs.specs.Domain.{domain_burst}
-use Rattle.nook_defs.specs.Log.{is_call, call_of_thread, new_call, with_call, numbered, entered, answered, acknowledged, change_call, entered_call, held_call, is_kept, shadow_answer, queue_after, with_answer, stop_answers, gone_answers}
-use Rattle.nook_defs.specs.Runs.{answer_at, if_call, answer_among}
-use Rattle.nook_defs.specs.Stages.{stage_due, is_given_up, stopped, given_up, collects, resets, loads_image, inits, replays_set, replays_open, resumes, stage_done, stage_by, stage_turned}
+use Rattle.nook_defs.specs.Log.{is_call, call_of_thread, new_entry, with_call, with_answered_call, after_entering, after_answering, after_acknowledging, change_entry, entered_call, held_call, is_held, shadow_answer, queue_after, with_answer, stop_answers, gone_answers}
+use Rattle.nook_defs.specs.Answers.{one_answer}
+use Rattle.nook_defs.specs.Runs.{answer_at, answer_among}
+use Rattle.nook_defs.specs.Stages.{stage_due, is_given_up, stops, gives_up_part, collects, resets, loads_image, inits, replays_set, replays_open, resumes, stage_done, stage_by, stage_stepped}
 use Rattle.nook_defs.specs.State.{PartState}
-use Rattle.nook_defs.specs.Steps.{enabled, turned, burst_turned, with_burst, served_number, faults_of_burst, arrived}
+use Rattle.nook_defs.specs.Steps.{enabled, stepped, burst_stepped, with_burst, served_number, faults_of_burst, after_arrival}
 use Rattle.part_laws.proofs.Answered.{AnswersCall, Shows, crossed_shows, no_call, none_below, shadow_says}
 use Rattle.part_laws.proofs.BurstKeeps.{split}
 use Rattle.part_laws.specs.Tied.{IsRising, AreApart, IsTied}
+use Rattle.nook_defs.proofs.Options.{none_is_some, same_inside}
 
 -- the number of a thread's open call
 abbrev pub number : ℕ → List CallEntry → Option ℕ
@@ -55,12 +57,6 @@ unless call (Some c) = if c == call then None else Some c
 abbrev or_else : Option ℕ → Option ℕ → Option ℕ
 or_else None other = other
 or_else (Some c) other = Some c
-
-no_some : {X G : Type 0} {x : X} → None ≡ Some x → G
-no_some h = cc
-
-inner : {X : Type 0} {x y : X} → Some x ≡ Some y → x ≡ y
-inner h = cc
 
 -- ---- the list of open calls
 
@@ -98,10 +94,10 @@ pushed t (d ∷ calls) c = split (d.thread == t)
 
 -- numbers are those that were given
 above : (t low count m : ℕ) (calls : List CallEntry) → IsRising low count calls → number t calls ≡ Some m → (low < m) × (m ≤ count)
-above t low count m [] r h = no_some h
+above t low count m [] r h = none_is_some h
 above t low count m (c ∷ calls) r h = split (c.thread == t)
     (λ mine.
-    let same : c.call ≡ m = inner (rw mine at h) in
+    let same : c.call ≡ m = same_inside (rw mine at h) in
     (subst (λ n. low < n) same r.0, subst (λ n. n ≤ count) same r.1))
     (λ other.
     let more = above t c.call count m calls r.2 (rw other at h) in
@@ -111,9 +107,9 @@ above t low count m (c ∷ calls) r h = split (c.thread == t)
 
 -- the open call of a thread has its number
 pub number_found : (t : ℕ) (calls : List CallEntry) (c : CallEntry) → call_of_thread t calls ≡ Some c → number t calls ≡ Some c.call
-number_found t [] c h = no_some h
+number_found t [] c h = none_is_some h
 number_found t (d ∷ calls) c h = split (d.thread == t)
-    (λ mine. rw mine (ap {B = Option ℕ} (λ (x : CallEntry). Some x.call) (inner (rw mine at h))))
+    (λ mine. rw mine (ap {B = Option ℕ} (λ (x : CallEntry). Some x.call) (same_inside (rw mine at h))))
     (λ other. rw other (number_found t calls c (rw other at h)))
 
 pub none_found : (t : ℕ) (calls : List CallEntry) → is_none (call_of_thread t calls) ≡ true → number t calls ≡ None
@@ -125,7 +121,7 @@ none_found t (d ∷ calls) h = split (d.thread == t)
 pub found_none : (t : ℕ) (calls : List CallEntry) → number t calls ≡ None → is_none (call_of_thread t calls) ≡ true
 found_none t [] h = refl
 found_none t (d ∷ calls) h = split (d.thread == t)
-    (λ mine. no_some (sym (rw mine at h)))
+    (λ mine. none_is_some (sym (rw mine at h)))
     (λ other. rw other (found_none t calls (rw other at h)))
 
 -- ---- nothing is answered
@@ -135,7 +131,7 @@ silent f None h = refl
 silent f (Some call) h = rw (h call) refl
 
 -- one call is answered
-one_told : (c : ℕ) (a : Answer) (w : Option ℕ) → unless c w ≡ told_number (λ call. if_call call c (Some a)) w
+one_told : (c : ℕ) (a : Answer) (w : Option ℕ) → unless c w ≡ told_number (λ call. answer_among call (one_answer c (Some a))) w
 one_told c a None = refl
 one_told c a (Some m) = split (c == m)
     (λ e. let s : m ≡ c = sym (eqb-true c m e) in rw (e, eq-eqb m c s) refl)
@@ -145,10 +141,10 @@ one_told c a (Some m) = split (c == m)
 
 invoked_number : (p : PartState) (t thread : ℕ) (o : Op) (a : Option Answer) (queue : List (List ℕ)) → IsTied p → number thread p.log.pending ≡ None
     → number t (invoked_with p thread o a queue).state.log.pending
-    ≡ told_number (λ call. if_call call (p.log.count + 1) a) (if thread == t then Some (p.log.count + 1) else number t p.log.pending)
-unfolding with_call numbered
+    ≡ told_number (λ call. answer_among call (one_answer (p.log.count + 1) a)) (if thread == t then Some (p.log.count + 1) else number t p.log.pending)
+unfolding with_call with_answered_call
 invoked_number p t thread o None queue tied free =
-    pushed t p.log.pending (new_call (p.log.count + 1) thread o)
+    pushed t p.log.pending (new_entry (p.log.count + 1) thread o)
     ∙ split (thread == t)
     (λ mine. rw (mine, ap (λ n. number n p.log.pending) (sym (eqb-true thread t mine)) ∙ free) (silent _ _ (λ call. no_call call (p.log.count + 1))))
     (λ other. rw other (last (number t p.log.pending) ∙ silent _ _ (λ call. no_call call (p.log.count + 1))))
@@ -160,7 +156,7 @@ invoked_number p t thread o (Some a) queue tied free = split (thread == t)
     (λ mine. rw (mine, eq-eqb (p.log.count + 1) (p.log.count + 1) refl) (ap (λ n. number n p.log.pending) (sym (eqb-true thread t mine)) ∙ free))
     (λ other. rw other (old (number t p.log.pending) refl))
   where
-    old : (w : Option ℕ) → number t p.log.pending ≡ w → w ≡ told_number (λ call. if_call call (p.log.count + 1) (Some a)) w
+    old : (w : Option ℕ) → number t p.log.pending ≡ w → w ≡ told_number (λ call. answer_among call (one_answer (p.log.count + 1) (Some a))) w
     old None e = refl
     old (Some m) e =
         let low : m ≤ p.log.count = (above t 0 p.log.count m p.log.pending tied.rising e).1 in
@@ -169,11 +165,11 @@ invoked_number p t thread o (Some a) queue tied free = split (thread == t)
         past : (m : ℕ) → m ≤ p.log.count → p.log.count + 1 ≡ m → ⊥
         past m l s = omega arith
 
-abbrev pub Says : PartState → ℕ → Turned → Type 0
+abbrev pub Says : PartState → ℕ → Stepped → Type 0
 Says p t turn = number t turn.state.log.pending ≡ told_number (λ call. answer_at call turn.event) (started_number t turn.event (number t p.log.pending))
 
-invoke_says : (p : PartState) (t thread : ℕ) (o : Op) → IsTied p → number thread p.log.pending ≡ None → Says p t (invoked thread o p)
-unfolding invoked
+invoke_says : (p : PartState) (t thread : ℕ) (o : Op) → IsTied p → number thread p.log.pending ≡ None → Says p t (after_invoke thread o p)
+unfolding after_invoke
 invoke_says p t thread o tied free = by_check (static_check p.spec.class p.spec.blocks o)
   where
     by_check : (a : Option Answer) → Says p t (invoked_by p thread o a)
@@ -182,15 +178,15 @@ invoke_says p t thread o tied free = by_check (static_check p.spec.class p.spec.
 
 -- ---- Enter
 
-enter_says : (p : PartState) (t thread : ℕ) → IsTied p → Says p t (entered_part thread p)
-unfolding entered_part answered entered
+enter_says : (p : PartState) (t thread : ℕ) → IsTied p → Says p t (after_enter thread p)
+unfolding after_enter after_answering after_entering
 enter_says p t thread tied = by_call (call_of_thread thread p.log.pending)
   where
-    by_answer : (c : CallEntry) (a : Admit) → Says p t (admitted p c a)
+    by_answer : (c : CallEntry) (a : Admit) → Says p t (after_admit p c a)
     by_answer c (admits.Reply a) = removed t c.call p.log.pending tied.apart ∙ one_told c.call a (number t p.log.pending)
     by_answer c admits.TakeFrame = removed t c.call p.log.pending tied.apart ∙ one_told c.call _ (number t p.log.pending)
     by_answer c (admits.Enter place) =
-        renamed (change_call c.call entered_call) t p.log.pending (λ d. split (is_call c.call d) (λ e. rw e refl) (λ e. rw e refl))
+        renamed (change_entry c.call entered_call) t p.log.pending (λ d. split (is_call c.call d) (λ e. rw e refl) (λ e. rw e refl))
         (λ d. split (is_call c.call d) (λ e. rw e refl) (λ e. rw e refl))
         ∙ silent _ (number t p.log.pending) (λ call. no_call call c.call)
 
@@ -201,25 +197,25 @@ enter_says p t thread tied = by_call (call_of_thread thread p.log.pending)
 -- ---- Burst
 
 burst_by : (context : ℕ) (p q : PartState) (t : ℕ) (x : Crossed) → IsTied p → q.log ≡ p.log → Shows context q x
-    → number t x.state.log.pending ≡ told_number (λ call. if_call call (served_number context p) x.answer) (number t p.log.pending)
+    → number t x.state.log.pending ≡ told_number (λ call. answer_among call (one_answer (served_number context p) x.answer)) (number t p.log.pending)
 burst_by context p q t x tied same (inl h) =
     ap (number t) (h.1 ∙ ap (λ l. l.pending) same)
-    ∙ silent (λ call. if_call call (served_number context p) None) (number t p.log.pending) (λ call. no_call call (served_number context p))
-    ∙ ap (λ a. told_number (λ call. if_call call (served_number context p) a) (number t p.log.pending)) (sym h.0)
+    ∙ silent (λ call. answer_among call (one_answer (served_number context p) None)) (number t p.log.pending) (λ call. no_call call (served_number context p))
+    ∙ ap (λ a. told_number (λ call. answer_among call (one_answer (served_number context p) a)) (number t p.log.pending)) (sym h.0)
 burst_by context p q t x tied same (inr h) =
     let found : call_of_thread context p.log.pending ≡ Some h.c = ap (λ l. call_of_thread context l.pending) (sym same) ∙ h.found in
     let served : served_number context p ≡ h.c.call = rw (h.other, found) refl in
     ap (number t) (h.closed ∙ ap (λ l. filter (λ d. not (is_call h.c.call d)) l.pending) same)
     ∙ removed t h.c.call p.log.pending tied.apart ∙ one_told h.c.call h.a (number t p.log.pending)
-    ∙ ap (λ n. told_number (λ call. if_call call n (Some h.a)) (number t p.log.pending)) (sym served)
-    ∙ ap (λ a. told_number (λ call. if_call call (served_number context p) a) (number t p.log.pending)) (sym h.told)
+    ∙ ap (λ n. told_number (λ call. answer_among call (one_answer n (Some h.a))) (number t p.log.pending)) (sym served)
+    ∙ ap (λ a. told_number (λ call. answer_among call (one_answer (served_number context p) a)) (number t p.log.pending)) (sym h.told)
 
-burst_says : (p : PartState) (t context : ℕ) → IsTied p → Says p t (burst_turned context p)
-unfolding burst_turned
+burst_says : (p : PartState) (t context : ℕ) → IsTied p → Says p t (burst_stepped context p)
+unfolding burst_stepped
 burst_says p t context tied =
     let b = domain_burst context (faults_of_burst (p.bursts + 1) p.spec.faults) p.domain in
     let q = with_burst b.domain p in
-    burst_by context p q t (crossed context b.ending q) tied refl (crossed_shows context b.ending q)
+    burst_by context p q t (after_crossing context b.ending q) tied refl (crossed_shows context b.ending q)
 
 -- ---- Stage
 
@@ -233,19 +229,19 @@ told_past k a answers (Some m) h = rw (ne_eqb k m (λ e. apart k m (h m refl) e)
     apart k m l e = omega arith
 
 stop_says : (t low count : ℕ) (calls : List CallEntry) (config : List ℕ) (holder : Option ℕ) (queue : List (List ℕ)) → IsRising low count calls → AreApart calls
-    → number t (filter (λ c. is_kept c.op) calls) ≡ told_number (λ call. answer_among call (stop_answers calls config holder queue)) (number t calls)
+    → number t (filter (λ c. is_held c.op) calls) ≡ told_number (λ call. answer_among call (stop_answers calls config holder queue)) (number t calls)
 stop_says t low count [] config holder queue r apart = refl
 stop_says t low count (c ∷ calls) config holder queue r apart =
     by_shadow (shadow_says c.op c.thread config holder queue) (stop_says t c.call count calls config holder (queue_after c.op queue) r.2 apart.1)
   where
-    not_again : (c.thread == t) ≡ true → number t (filter (λ c. is_kept c.op) calls) ≡ told_number (λ call. answer_among call (stop_answers calls config holder (queue_after c.op queue))) (number t calls)
-        → number t (filter (λ c. is_kept c.op) calls) ≡ None
+    not_again : (c.thread == t) ≡ true → number t (filter (λ c. is_held c.op) calls) ≡ told_number (λ call. answer_among call (stop_answers calls config holder (queue_after c.op queue))) (number t calls)
+        → number t (filter (λ c. is_held c.op) calls) ≡ None
     not_again mine more = more ∙ ap (told_number _) (apart_none t c calls apart.0 mine)
 
-    by_shadow : ((is_kept c.op ≡ true) × (shadow_answer c.op c.thread config holder stage.Stop queue ≡ None))
-        ⊎ ((is_kept c.op ≡ false) × ((a : Answer) × (shadow_answer c.op c.thread config holder stage.Stop queue ≡ Some a)))
-        → number t (filter (λ c. is_kept c.op) calls) ≡ told_number (λ call. answer_among call (stop_answers calls config holder (queue_after c.op queue))) (number t calls)
-        → number t (filter (λ c. is_kept c.op) (c ∷ calls)) ≡ told_number (λ call. answer_among call (stop_answers (c ∷ calls) config holder queue)) (number t (c ∷ calls))
+    by_shadow : ((is_held c.op ≡ true) × (shadow_answer c.op c.thread config holder stage.Stop queue ≡ None))
+        ⊎ ((is_held c.op ≡ false) × ((a : Answer) × (shadow_answer c.op c.thread config holder stage.Stop queue ≡ Some a)))
+        → number t (filter (λ c. is_held c.op) calls) ≡ told_number (λ call. answer_among call (stop_answers calls config holder (queue_after c.op queue))) (number t calls)
+        → number t (filter (λ c. is_held c.op) (c ∷ calls)) ≡ told_number (λ call. answer_among call (stop_answers (c ∷ calls) config holder queue)) (number t (c ∷ calls))
     by_shadow (inl h) more = split (c.thread == t)
         (λ mine. rw (h.0, h.1, mine, none_below c.call c.call count calls config holder (queue_after c.op queue) r.2 (omega arith)) refl)
         (λ other. rw (h.0, h.1, other) more)
@@ -255,11 +251,11 @@ stop_says t low count (c ∷ calls) config holder queue r apart =
         (more ∙ told_past c.call h.1.0 (stop_answers calls config holder (queue_after c.op queue)) (number t calls) (λ m e. (above t c.call count m calls r.2 e).0)))
 
 gone_found : (failures t m : ℕ) (calls : List CallEntry) → number t calls ≡ Some m → is_some (answer_among m (gone_answers failures calls)) ≡ true
-gone_found failures t m [] h = no_some h
+gone_found failures t m [] h = none_is_some h
 gone_found failures t m (c ∷ calls) h = split (c.call == m)
     (λ it. rw it refl)
     (λ no. split (c.thread == t)
-    (λ mine. absurd (true≢false (sym (eq-eqb c.call m (inner (rw mine at h))) ∙ no)))
+    (λ mine. absurd (true≢false (sym (eq-eqb c.call m (same_inside (rw mine at h))) ∙ no)))
     (λ other. rw no (gone_found failures t m calls (rw other at h))))
 
 gone_says : (failures t : ℕ) (calls : List CallEntry) (w : Option ℕ) → number t calls ≡ w → None ≡ told_number (λ call. answer_among call (gone_answers failures calls)) w
@@ -269,14 +265,14 @@ gone_says failures t calls (Some m) h = rw (gone_found failures t m calls h) ref
 quiet : (p : PartState) (t : ℕ) → number t p.log.pending ≡ told_number (λ call. None) (number t p.log.pending)
 quiet p t = silent (λ call. None) (number t p.log.pending) (λ call. refl)
 
-stage_says : (p : PartState) (t : ℕ) → IsTied p → Says p t (stage_turned p)
-unfolding stage_turned stopped given_up collects resets loads_image inits replays_set replays_open resumes
+stage_says : (p : PartState) (t : ℕ) → IsTied p → Says p t (stage_stepped p)
+unfolding stage_stepped stops gives_up_part collects resets loads_image inits replays_set replays_open resumes
 stage_says p t tied = by_due (stage_due p.mode)
   where
     at_stop : (b : Bool) → is_given_up p ≡ b → Says p t (stage_done stage.Stop p)
     at_stop true e = rw e (gone_says p.failures t p.log.pending (number t p.log.pending) refl)
     at_stop false e = rw e
-        (renamed held_call t (filter (λ c. is_kept c.op) p.log.pending) (λ c. refl) (λ c. refl)
+        (renamed held_call t (filter (λ c. is_held c.op) p.log.pending) (λ c. refl) (λ c. refl)
         ∙ stop_says t 0 p.log.count p.log.pending p.log.config p.log.holder p.queue tied.rising tied.apart)
 
     by_due : (o : Option Stage) → Says p t (stage_by p o)
@@ -297,8 +293,8 @@ and_part true true c h = refl
 and_part true false c h = absurd (true≢false (sym h))
 and_part false b c h = absurd (true≢false (sym h))
 
-pub step_says : (p : PartState) (s : Step) (t : ℕ) → IsTied p → enabled p s ≡ true → Says p t (turned p s)
-unfolding turned enabled arrived
+pub step_says : (p : PartState) (s : Step) (t : ℕ) → IsTied p → enabled p s ≡ true → Says p t (stepped p s)
+unfolding stepped enabled after_arrival
 step_says p (step.Invoke thread o) t tied may =
     invoke_says p t thread o tied
     (none_found thread p.log.pending (and_part (nat_lt thread 16) (is_none (call_of_thread thread p.log.pending)) (nat_lt p.log.count 100000) may))

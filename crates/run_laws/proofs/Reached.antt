@@ -4,18 +4,20 @@ use Rattle.std.proofs.Common.{◌≡◌, ◌⊎◌, inl, inr, ℕ, zero, suc, �
 use Rattle.std.specs.List.{AllByRecursion}
 use Rattle.std.proofs.lemmas.Bool.{eq-eqb, eqb-true, ne_eqb, lt-ltb, ltb-true, ltb-false}
 use Rattle.std.proofs.lemmas.List.Elements.{recursion_from_All}
-use Rattle.nook_defs.specs.declared.data.CallEntry.{CallEntry}
-use Rattle.nook_defs.specs.declared.data.Event.{Event}
-use Rattle.nook_defs.specs.declared.data.Event.TheVariants as event
-use Rattle.nook_defs.specs.declared.data.Op.{Op}
-use Rattle.nook_defs.specs.declared.data.PartSpec.{PartSpec}
-use Rattle.nook_defs.specs.declared.data.Scenario.{Scenario}
-use Rattle.nook_defs.specs.declared.data.Step.TheVariants as step
-use Rattle.nook_defs.specs.declared.data.ThreadSpec.{ThreadSpec}
+use Rattle.nook_defs.specs.declared.calls.CallEntry.{CallEntry}
+use Rattle.nook_defs.specs.declared.steps.Event.{Event}
+use Rattle.nook_defs.specs.declared.steps.Event.TheVariants as event
+use Rattle.nook_defs.specs.declared.calls.Op.{Op}
+use Rattle.nook_defs.specs.declared.scenario.PartSpec.{PartSpec}
+use Rattle.nook_defs.specs.declared.scenario.Scenario.{Scenario}
+use Rattle.nook_defs.specs.declared.steps.Step.TheVariants as step
+use Rattle.nook_defs.specs.declared.scenario.ThreadSpec.{ThreadSpec}
 use Rattle.nook_defs.specs.Log.{call_of_thread, opening_log}
 use Rattle.nook_defs.specs.Runs.{answer_at, event_of, if_enabled, next_for, next_recovery, next_of_calls, next_any, step_of}
 use Rattle.nook_defs.specs.Schedules.{Order, picked}
-use Rattle.nook_defs.specs.Simulation.{Choice, IsScheduledRun, PartSeat, Simulation, ThreadState, Waiting, actor_of, answer_table, answers_of, arrival, begins, choices_of, going_on, invocation, opening_seat, opening_thread, part_choices, runs, seat_after, stepped_by, taken, taken_by, threads_after}
+use Rattle.nook_defs.specs.Simulation.{Choice, IsScheduledRun, RunningPart, Simulation, ThreadState, Waiting, actor_of, answer_table, answers_of, arrival, begins, choices_of, going_on, invocation, opening_part, opening_thread, runs, part_after, stepped_by, taken, threads_after}
+use Rattle.nook_defs.proofs.Changes.{taken_by}
+use Rattle.nook_defs.proofs.ChoicesInOrder.{part_choices, choices_in_order}
 use Rattle.nook_defs.specs.State.{PartState}
 use Rattle.nook_defs.specs.Steps.{enabled, opening}
 use Rattle.nook_defs.specs.Valid.{IsValidPart, IsValidScenario, IsValidStep, IsValidThread}
@@ -34,9 +36,10 @@ use Rattle.part_laws.specs.Tied.{IsTied}
 use Rattle.run_laws.proofs.Choices.{IsOwn, IsGood, HasNoStep, arrivals_none, choices_good, threads_none, parts_none}
 use Rattle.run_laws.proofs.Numbers.{number, told_number, started_number, found_none, step_says}
 use Rattle.run_laws.proofs.Threads.{AreThreadsOf, IsThreadOf, all_parts, heard_length, rest_count, rest_le, rest_less, threads_step, waiting_part, waits_in}
+use Rattle.nook_defs.proofs.Options.{none_is_some, same_inside}
 
 -- the part with a number
-abbrev At : List PartSeat → ℕ → PartSeat → Type 0
+abbrev At : List RunningPart → ℕ → RunningPart → Type 0
 At parts k seat = slice_get parts k ≡ Some seat
 
 -- how many operations a scenario has
@@ -49,20 +52,14 @@ ops_count (t ∷ threads) = length t.ops + ops_count threads
 record Holds (scenario : Scenario) (s : Simulation) : Type 0 where
   size : length s.parts ≡ length scenario.parts
   count : length s.threads ≡ length scenario.threads
-  fit : (k : ℕ) (seat : PartSeat) → At s.parts k seat → IsFit seat.run.state
-  tied : (k : ℕ) (seat : PartSeat) → At s.parts k seat → IsTied seat.run.state
+  fit : (k : ℕ) (seat : RunningPart) → At s.parts k seat → IsFit seat.run.state
+  tied : (k : ℕ) (seat : RunningPart) → At s.parts k seat → IsTied seat.run.state
   threads : AreThreadsOf s.parts 0 scenario.threads s.threads
-  few : (k : ℕ) (seat : PartSeat) → At s.parts k seat → seat.run.state.log.count + rest_count s.threads ≤ ops_count scenario.threads
-  outside : (k : ℕ) (seat : PartSeat) (t : ℕ) → At s.parts k seat → length s.threads ≤ t → number t seat.run.state.log.pending ≡ None
-
-no_some : {X G : Type 0} {x : X} → None ≡ Some x → G
-no_some h = cc
-
-inner : {X : Type 0} {x y : X} → Some x ≡ Some y → x ≡ y
-inner h = cc
+  few : (k : ℕ) (seat : RunningPart) → At s.parts k seat → seat.run.state.log.count + rest_count s.threads ≤ ops_count scenario.threads
+  outside : (k : ℕ) (seat : RunningPart) (t : ℕ) → At s.parts k seat → length s.threads ≤ t → number t seat.run.state.log.pending ≡ None
 
 within : {X : Type 0} (xs : List X) (k : ℕ) (x : X) → slice_get xs k ≡ Some x → k < length xs
-within [] k x h = no_some h
+within [] k x h = none_is_some h
 within (y ∷ xs) zero x h = omega arith
 within (y ∷ xs) (suc k) x h = let l : k < length xs = within xs k x h in omega arith
 
@@ -79,8 +76,8 @@ set_length (y ∷ xs) (suc k) x = ap suc (set_length xs k x)
 -- ---- one step
 
 -- what holds of the new part and of each part before holds of each part after
-after_set : (P : PartSeat → Type 0) (parts : List PartSeat) (part : ℕ) (new : PartSeat) → P new → ((k : ℕ) (seat : PartSeat) → At parts k seat → P seat)
-    → (k : ℕ) (seat : PartSeat) → At (slice_set parts part new) k seat → P seat
+after_set : (P : RunningPart → Type 0) (parts : List RunningPart) (part : ℕ) (new : RunningPart) → P new → ((k : ℕ) (seat : RunningPart) → At parts k seat → P seat)
+    → (k : ℕ) (seat : RunningPart) → At (slice_set parts part new) k seat → P seat
 after_set P parts part new here there k seat h = by_place (get_set parts k part new seat h)
   where
     by_place : ((k ≡ part) × (seat ≡ new)) ⊎ ((k ≡ part → ⊥) × At parts k seat) → P seat
@@ -119,7 +116,7 @@ none_started t part (event.Burst context call burst count end acts a failure) wh
 none_started t part (event.Stage stage answers released) whole own l = refl
 none_started t part (event.Arrive frame kept) whole own l = refl
 
-step_holds : (scenario : Scenario) (s : Simulation) (order : Order) (c : Choice) (seat : PartSeat) → Holds scenario s
+step_holds : (scenario : Scenario) (s : Simulation) (order : Order) (c : Choice) (seat : RunningPart) → Holds scenario s
     → At s.parts c.part seat → enabled seat.run.state c.step ≡ true → IsOwn s.threads c.part c.step
     → Holds scenario (stepped_by s order c (Some seat))
 step_holds scenario s order c seat h at may own =
@@ -128,7 +125,7 @@ step_holds scenario s order c seat h at may own =
     let own' : IsOwn s.threads c.part (step_of e) = subst (IsOwn s.threads c.part) (sym named) own in
     let tied = h.tied c.part seat at in
     let fit = h.fit c.part seat at in
-    let new = seat_after c.step seat in
+    let new = part_after c.step seat in
     let left : ℕ = rest_count (threads_after 0 c.part e s.threads) in
     let counted : new.run.state.log.count ≡ seat.run.state.log.count + cond (is_invoke e) 1 0 = (step_counted seat.run.state c.step).calls' in
     record {
@@ -137,12 +134,12 @@ step_holds scenario s order c seat h at may own =
       fit = after_set (λ x. IsFit x.run.state) s.parts c.part new (fit_after seat.run.state c.step fit may) h.fit;
       tied = after_set (λ x. IsTied x.run.state) s.parts c.part new (tied_after seat.run.state c.step fit tied may) h.tied;
       threads = threads_step s.parts 0 scenario.threads s.threads s.threads c.part seat c.step at tied may own (λ k. ap (slice_get s.threads) (plus k)) h.threads;
-      few = after_set (λ (x : PartSeat). x.run.state.log.count + rest_count (threads_after 0 c.part e s.threads) ≤ ops_count scenario.threads) s.parts c.part new
+      few = after_set (λ (x : RunningPart). x.run.state.log.count + rest_count (threads_after 0 c.part e s.threads) ≤ ops_count scenario.threads) s.parts c.part new
           (sum _ _ _ _ _ _ counted (one_less c.part e s.threads own') (h.few c.part seat at))
           (λ k x p. less _ _ _ _ (rest_le 0 c.part e s.threads) (h.few k x p));
       outside = λ k x t p l.
           let far : length s.threads ≤ t = subst (λ (n : ℕ). n ≤ t) (heard_length 0 c.part e s.threads) l in
-          after_set (λ (y : PartSeat). number t y.run.state.log.pending ≡ None) s.parts c.part new
+          after_set (λ (y : RunningPart). number t y.run.state.log.pending ≡ None) s.parts c.part new
           (step_says seat.run.state c.step t tied may
           ∙ ap (λ w. told_number (λ call. answer_at call e) (started_number t e w)) (h.outside c.part seat t at far)
           ∙ ap (told_number (λ call. answer_at call e)) (none_started t c.part e s.threads own' far))
@@ -170,8 +167,8 @@ order_holds scenario s order h = record {
 }
 
 at_place : {X : Type 0} (P : X → Type 0) (xs : List X) (i : ℕ) (x : X) → AllByRecursion P xs → slice_get xs i ≡ Some x → P x
-at_place P [] i x all h = no_some h
-at_place P (y ∷ xs) zero x all h = subst P (inner h) all.0
+at_place P [] i x all h = none_is_some h
+at_place P (y ∷ xs) zero x all h = subst P (same_inside h) all.0
 at_place P (y ∷ xs) (suc i) x all h = at_place P xs i x all.1 h
 
 taken_holds : (scenario : Scenario) (s : Simulation) (choices : List Choice) → AllByRecursion (IsGood s.parts s.threads) choices → Holds scenario s
@@ -203,8 +200,8 @@ rest_of_all : (threads : List ThreadSpec) → rest_count (map opening_thread thr
 rest_of_all [] = refl
 rest_of_all (t ∷ threads) = ap (λ n. length t.ops + n) (rest_of_all threads)
 
-opening_threads : (specs : List PartSpec) (n : ℕ) (threads : List ThreadSpec) → ((k : ℕ) (seat : PartSeat) → At (map opening_seat specs) k seat → seat.run.state.log.pending ≡ [])
-    → AreThreadsOf (map opening_seat specs) n threads (map opening_thread threads)
+opening_threads : (specs : List PartSpec) (n : ℕ) (threads : List ThreadSpec) → ((k : ℕ) (seat : RunningPart) → At (map opening_part specs) k seat → seat.run.state.log.pending ≡ [])
+    → AreThreadsOf (map opening_part specs) n threads (map opening_thread threads)
 opening_threads specs n [] none = tt
 opening_threads specs n (t ∷ threads) none =
     (record { order = refl; waits = λ k seat h. ap (number n) (none k seat h) }, opening_threads specs (n + 1) threads none)
@@ -213,18 +210,18 @@ begins_holds : (scenario : Scenario) → IsValidScenario scenario → Holds scen
 unfolding begins opening opening_log
 begins_holds scenario v =
     let valid = recursion_from_All IsValidPart scenario.parts v.parts in
-    let first : (k : ℕ) (seat : PartSeat) → At (map opening_seat scenario.parts) k seat → (spec : PartSpec) × (slice_get scenario.parts k ≡ Some spec) × (seat ≡ opening_seat spec) =
-    λ k seat h. from_map opening_seat scenario.parts k seat h in
-    let none : (k : ℕ) (seat : PartSeat) → At (map opening_seat scenario.parts) k seat → seat.run.state.log.pending ≡ [] =
-    λ k seat h. ap (λ (x : PartSeat). x.run.state.log.pending) (first k seat h).2 in
+    let first : (k : ℕ) (seat : RunningPart) → At (map opening_part scenario.parts) k seat → (spec : PartSpec) × (slice_get scenario.parts k ≡ Some spec) × (seat ≡ opening_part spec) =
+    λ k seat h. from_map opening_part scenario.parts k seat h in
+    let none : (k : ℕ) (seat : RunningPart) → At (map opening_part scenario.parts) k seat → seat.run.state.log.pending ≡ [] =
+    λ k seat h. ap (λ (x : RunningPart). x.run.state.log.pending) (first k seat h).2 in
     record {
-      size = length_map opening_seat scenario.parts;
+      size = length_map opening_part scenario.parts;
       count = length_map opening_thread scenario.threads;
       fit = λ k seat h. let o = first k seat h in
-          subst (λ (x : PartSeat). IsFit x.run.state) (sym o.2) (opening_fit o.0 (valid_fits o.0 (at_place IsValidPart scenario.parts k o.0 valid o.1)));
-      tied = λ k seat h. let o = first k seat h in subst (λ (x : PartSeat). IsTied x.run.state) (sym o.2) (opening_tied o.0);
+          subst (λ (x : RunningPart). IsFit x.run.state) (sym o.2) (opening_fit o.0 (valid_fits o.0 (at_place IsValidPart scenario.parts k o.0 valid o.1)));
+      tied = λ k seat h. let o = first k seat h in subst (λ (x : RunningPart). IsTied x.run.state) (sym o.2) (opening_tied o.0);
       threads = opening_threads scenario.parts 0 scenario.threads none;
-      few = λ k seat h. small _ _ _ (ap (λ (x : PartSeat). x.run.state.log.count) (first k seat h).2) (rest_of_all scenario.threads);
+      few = λ k seat h. small _ _ _ (ap (λ (x : RunningPart). x.run.state.log.count) (first k seat h).2) (rest_of_all scenario.threads);
       outside = λ k seat t h l. ap (number t) (none k seat h);
     }
   where
@@ -233,13 +230,13 @@ begins_holds scenario v =
 
 -- ---- the end
 
-thread_at : (parts : List PartSeat) (n : ℕ) (specs : List ThreadSpec) (threads : List ThreadState) (k : ℕ) (t : ThreadState) → AreThreadsOf parts n specs threads
+thread_at : (parts : List RunningPart) (n : ℕ) (specs : List ThreadSpec) (threads : List ThreadState) (k : ℕ) (t : ThreadState) → AreThreadsOf parts n specs threads
     → slice_get threads k ≡ Some t → (spec : ThreadSpec) × IsThreadOf parts (n + k) spec t
-thread_at parts n [] [] k t are h = no_some h
+thread_at parts n [] [] k t are h = none_is_some h
 thread_at parts n [] (x ∷ threads) k t are h = absurd are
 thread_at parts n (spec ∷ specs) [] k t are h = absurd are
 thread_at parts n (spec ∷ specs) (x ∷ threads) zero t are h =
-    (spec, subst (λ (m : ℕ). IsThreadOf parts m spec t) (plus n) (subst (IsThreadOf parts n spec) (inner h) are.0))
+    (spec, subst (λ (m : ℕ). IsThreadOf parts m spec t) (plus n) (subst (IsThreadOf parts n spec) (same_inside h) are.0))
   where
     plus : (n : ℕ) → n ≡ n + 0
     plus n = omega arith
@@ -251,16 +248,16 @@ thread_at parts n (spec ∷ specs) (x ∷ threads) (suc k) t are h =
     plus n k = omega arith
 
 -- a thread that waits in a part and has no step there
-waits_still : (parts : List PartSeat) (n k m : ℕ) (seat : PartSeat) (rest : List (ℕ × Op)) (w : Option Waiting) → At parts k seat → HasNoStep parts n rest w
+waits_still : (parts : List RunningPart) (n k m : ℕ) (seat : RunningPart) (rest : List (ℕ × Op)) (w : Option Waiting) → At parts k seat → HasNoStep parts n rest w
     → waits_in k w ≡ Some m → next_for seat.run.state n ≡ None
-waits_still parts n k m seat [] None at h e = no_some e
-waits_still parts n k m seat (x ∷ rest) None at h e = no_some e
+waits_still parts n k m seat [] None at h e = none_is_some e
+waits_still parts n k m seat (x ∷ rest) None at h e = none_is_some e
 waits_still parts n k m seat [] (Some w) at h e = split (w.part == k)
     (λ here. sym (ap (going_on n) at) ∙ ap (λ (j : ℕ). going_on n (slice_get parts j)) (sym (eqb-true w.part k here)) ∙ h)
-    (λ other. no_some (rw other at e))
+    (λ other. none_is_some (rw other at e))
 waits_still parts n k m seat (x ∷ rest) (Some w) at h e = split (w.part == k)
     (λ here. sym (ap (going_on n) at) ∙ ap (λ (j : ℕ). going_on n (slice_get parts j)) (sym (eqb-true w.part k here)) ∙ h)
-    (λ other. no_some (rw other at e))
+    (λ other. none_is_some (rw other at e))
 
 none_next : (p : PartState) (calls : List CallEntry) → ((t m : ℕ) → number t calls ≡ Some m → next_for p t ≡ None) → next_of_calls p calls ≡ None
 none_next p [] each = refl
@@ -288,13 +285,12 @@ few_ops (t ∷ threads) parts h = sum _ _ _ h.0.op_count (few_ops threads parts 
 module _ (scenario : Scenario) (v : IsValidScenario scenario) (s : Simulation) (h : Holds scenario s) (ended : choices_of s ≡ []) where
   threads_end : ((k : ℕ) (t : ThreadState) → slice_get s.threads k ≡ Some t → HasNoStep s.parts (0 + k) t.rest t.waiting)
       × (part_choices (length s.threads) 0 s.parts ≡ [])
-  unfolding choices_of
-  threads_end = threads_none s.parts 0 s.threads (part_choices (length s.threads) 0 s.parts) ended
+  threads_end = threads_none s.parts 0 s.threads (part_choices (length s.threads) 0 s.parts) (sym (choices_in_order s) ∙ ended)
 
-  recovery_end : (k : ℕ) (seat : PartSeat) → At s.parts k seat → next_recovery seat.run.state ≡ None
+  recovery_end : (k : ℕ) (seat : RunningPart) → At s.parts k seat → next_recovery seat.run.state ≡ None
   recovery_end = parts_none (length s.threads) 0 s.parts threads_end.1
 
-  call_end : (k : ℕ) (seat : PartSeat) → At s.parts k seat → (t m : ℕ) → number t seat.run.state.log.pending ≡ Some m → next_for seat.run.state t ≡ None
+  call_end : (k : ℕ) (seat : RunningPart) → At s.parts k seat → (t m : ℕ) → number t seat.run.state.log.pending ≡ Some m → next_for seat.run.state t ≡ None
   call_end k seat at t m e = split (nat_lt t (length s.threads))
       (λ low.
       let one = some_at s.threads t (ltb-true t (length s.threads) low) in
@@ -304,20 +300,20 @@ module _ (scenario : Scenario) (v : IsValidScenario scenario) (s : Simulation) (
       let waits : number t seat.run.state.log.pending ≡ waits_in k one.0.waiting =
       subst (λ (n : ℕ). number n seat.run.state.log.pending ≡ waits_in k one.0.waiting) (plus t) (is.1.waits k seat at) in
       waits_still s.parts t k m seat one.0.rest one.0.waiting at none (sym waits ∙ e))
-      (λ high. no_some (sym (h.outside k seat t at (ltb-false t (length s.threads) high)) ∙ e))
+      (λ high. none_is_some (sym (h.outside k seat t at (ltb-false t (length s.threads) high)) ∙ e))
     where
       plus : (n : ℕ) → 0 + n ≡ n
       plus n = omega arith
 
   -- no call is open in any part
-  none_open : (k : ℕ) (seat : PartSeat) → At s.parts k seat → seat.run.state.log.pending ≡ []
+  none_open : (k : ℕ) (seat : RunningPart) → At s.parts k seat → seat.run.state.log.pending ≡ []
   unfolding next_any
   none_open k seat at =
       (none_still seat.run.state (h.fit k seat at) (h.tied k seat at)
       (rw (recovery_end k seat at) (none_next seat.run.state seat.run.state.log.pending (call_end k seat at)))).calls
 
   -- every operation is on a part that is there
-  on_part : (k : ℕ) → k < length scenario.parts → (seat : PartSeat) × At s.parts k seat
+  on_part : (k : ℕ) → k < length scenario.parts → (seat : RunningPart) × At s.parts k seat
   on_part k l = some_at s.parts k (subst (λ (n : ℕ). k < n) (sym h.size) l)
 
   waits_nowhere : (n : ℕ) (spec : ThreadSpec) (t : ThreadState) (w : Option Waiting) → IsThreadOf s.parts n spec t → t.waiting ≡ w
@@ -330,13 +326,13 @@ module _ (scenario : Scenario) (v : IsValidScenario scenario) (s : Simulation) (
       (subst (λ o. AllByRecursion (λ k. k < length scenario.parts) (waiting_part o ++ map (λ o. o.0) t.rest)) e parts).0 in
       let seat = on_part w.part here in
       let nothing : None ≡ waits_in w.part t.waiting = sym (ap (number n) (none_open w.part seat.0 seat.1)) ∙ is.waits w.part seat.0 seat.1 in
-      no_some (nothing ∙ ap (waits_in w.part) e ∙ mine (w.part == w.part) (eq-eqb w.part w.part refl))
+      none_is_some (nothing ∙ ap (waits_in w.part) e ∙ mine (w.part == w.part) (eq-eqb w.part w.part refl))
     where
       mine : (b : Bool) → b ≡ true → (if b then Some w.call else None) ≡ Some w.call
       mine b e = rw e refl
 
   invokes_nothing : (n : ℕ) (spec : ThreadSpec) (t : ThreadState) (rest : List (ℕ × Op)) → IsThreadOf s.parts n spec t → t.waiting ≡ None → t.rest ≡ rest → n < 16
-      → HasNoStep s.parts n rest None → ((k : ℕ) (seat : PartSeat) → At s.parts k seat → seat.run.state.log.count < 100000)
+      → HasNoStep s.parts n rest None → ((k : ℕ) (seat : RunningPart) → At s.parts k seat → seat.run.state.log.count < 100000)
       → AllByRecursion (λ k. k < length scenario.parts) (all_parts t) → rest ≡ []
   unfolding enabled
   invokes_nothing n spec t [] is free e few none counts low = refl
@@ -358,9 +354,9 @@ module _ (scenario : Scenario) (v : IsValidScenario scenario) (s : Simulation) (
       three a b c x y z = rw (x, y, z) refl
 
       some_none : {G : Type 0} (b : Bool) → b ≡ true → (if b then Some (step.Invoke n o) else None) ≡ None → G
-      some_none b e h = let full : (if b then Some (step.Invoke n o) else None) ≡ Some (step.Invoke n o) = rw e refl in no_some (sym h ∙ full)
+      some_none b e h = let full : (if b then Some (step.Invoke n o) else None) ≡ Some (step.Invoke n o) = rw e refl in none_is_some (sym h ∙ full)
 
-  counts_low : (k : ℕ) (seat : PartSeat) → At s.parts k seat → seat.run.state.log.count < 100000
+  counts_low : (k : ℕ) (seat : RunningPart) → At s.parts k seat → seat.run.state.log.count < 100000
   counts_low k seat at =
       sum _ _ _ _ (h.few k seat at) (few_ops scenario.threads (length scenario.parts) (recursion_from_All (IsValidThread (length scenario.parts)) scenario.threads v.threads)) v.thread_count
     where
@@ -423,15 +419,15 @@ all_answered scenario s v r = (both_end scenario v s (run_holds scenario s v r) 
 
 -- at the end no part has a step left but invocations and arrivals
 pub parts_settled : (scenario : Scenario) (s : Simulation) → IsValidScenario scenario → IsScheduledRun scenario s
-    → (k : ℕ) (seat : PartSeat) → slice_get s.parts k ≡ Some seat → next_any seat.run.state ≡ None
+    → (k : ℕ) (seat : RunningPart) → slice_get s.parts k ≡ Some seat → next_any seat.run.state ≡ None
 unfolding next_any
 parts_settled scenario s v r k seat at =
     let h = run_holds scenario s v r in
     rw (recovery_end scenario v s h r.ended k seat at, none_open scenario v s h r.ended k seat at) refl
 
 -- and no frame of a part may arrive
-pub none_arrives : (s : Simulation) → choices_of s ≡ [] → (k : ℕ) (seat : PartSeat) → slice_get s.parts k ≡ Some seat
+pub none_arrives : (s : Simulation) → choices_of s ≡ [] → (k : ℕ) (seat : RunningPart) → slice_get s.parts k ≡ Some seat
     → arrival seat.run seat.coming ≡ None
-unfolding choices_of
 none_arrives s ended =
-    arrivals_none (length s.threads) 0 s.parts (threads_none s.parts 0 s.threads (part_choices (length s.threads) 0 s.parts) ended).1
+    arrivals_none (length s.threads) 0 s.parts
+    (threads_none s.parts 0 s.threads (part_choices (length s.threads) 0 s.parts) (sym (choices_in_order s) ∙ ended)).1

@@ -1,16 +1,17 @@
 -- What holds of each simulation that a scenario's run reaches: a thread's answers, its open call and what it has still
 -- to invoke are its operations, in order; and it waits where it has an open call.
-use Rattle.std.proofs.Common.{◌≡◌, ◌⊎◌, inl, inr, ℕ, zero, suc, ◌+◌, ◌≤◌, ◌==◌, if◌then◌else◌, true, false, Option, Some, None, List, [], ◌∷◌, ◌++◌, map, length, slice_get, slice_set, refl, sym, ap, ◌∙◌, subst, arith, append_assoc}
+use Rattle.std.proofs.Common.{drop, ◌≡◌, ◌⊎◌, inl, inr, ℕ, zero, suc, ◌+◌, ◌≤◌, ◌==◌, if◌then◌else◌, true, false, Option, Some, None, List, [], ◌∷◌, ◌++◌, map, length, slice_get, slice_set, refl, sym, ap, ◌∙◌, subst, arith, append_assoc}
 use Rattle.std.proofs.lemmas.Bool.{eqb-true, eq-eqb, ne_eqb}
-use Rattle.nook_defs.specs.declared.data.Answer.{Answer}
-use Rattle.nook_defs.specs.declared.data.Event.{Event}
-use Rattle.nook_defs.specs.declared.data.Event.TheVariants as event
-use Rattle.nook_defs.specs.declared.data.Op.{Op}
-use Rattle.nook_defs.specs.declared.data.Step.{Step}
-use Rattle.nook_defs.specs.declared.data.Step.TheVariants as step
-use Rattle.nook_defs.specs.declared.data.ThreadSpec.{ThreadSpec}
+use Rattle.nook_defs.specs.declared.calls.Answer.{Answer}
+use Rattle.nook_defs.specs.declared.steps.Event.{Event}
+use Rattle.nook_defs.specs.declared.steps.Event.TheVariants as event
+use Rattle.nook_defs.specs.declared.calls.Op.{Op}
+use Rattle.nook_defs.specs.declared.steps.Step.{Step}
+use Rattle.nook_defs.specs.declared.steps.Step.TheVariants as step
+use Rattle.nook_defs.specs.declared.scenario.ThreadSpec.{ThreadSpec}
 use Rattle.nook_defs.specs.Runs.{answer_at, event_of, step_of}
-use Rattle.nook_defs.specs.Simulation.{PartSeat, ThreadState, Waiting, tail_ops, started, if_part, settled_by, settled, told, threads_after, seat_after}
+use Rattle.nook_defs.specs.Simulation.{RunningPart, ThreadState, Waiting, started, told, threads_after, part_after}
+use Rattle.nook_defs.proofs.Changes.{settled_by, settled}
 use Rattle.nook_defs.specs.Steps.{enabled}
 use Rattle.part_laws.proofs.BurstKeeps.{split}
 use Rattle.part_laws.proofs.Places.{get_set, map_push}
@@ -18,6 +19,7 @@ use Rattle.part_laws.proofs.RunsDetermined.{step_named}
 use Rattle.part_laws.specs.Tied.{IsTied}
 use Rattle.run_laws.proofs.Choices.{IsOwn}
 use Rattle.run_laws.proofs.Numbers.{number, told_number, started_number, step_says}
+use Rattle.nook_defs.proofs.Options.{same_inside}
 
 -- the number of the call that a thread waits for in a part
 abbrev pub waits_in : ℕ → Option Waiting → Option ℕ
@@ -32,18 +34,15 @@ waiting_part (Some w) = w.part ∷ []
 abbrev pub all_parts : ThreadState → List ℕ
 all_parts t = map (λ a. a.0) t.answers ++ (waiting_part t.waiting ++ map (λ o. o.0) t.rest)
 
-pub record IsThreadOf (parts : List PartSeat) (n : ℕ) (spec : ThreadSpec) (t : ThreadState) : Type 0 where
+pub record IsThreadOf (parts : List RunningPart) (n : ℕ) (spec : ThreadSpec) (t : ThreadState) : Type 0 where
   pub order : all_parts t ≡ map (λ o. o.0) spec.ops
-  pub waits : (k : ℕ) (seat : PartSeat) → slice_get parts k ≡ Some seat → number n seat.run.state.log.pending ≡ waits_in k t.waiting
+  pub waits : (k : ℕ) (seat : RunningPart) → slice_get parts k ≡ Some seat → number n seat.run.state.log.pending ≡ waits_in k t.waiting
 
-abbrev pub AreThreadsOf : List PartSeat → ℕ → List ThreadSpec → List ThreadState → Type 0
+abbrev pub AreThreadsOf : List RunningPart → ℕ → List ThreadSpec → List ThreadState → Type 0
 AreThreadsOf parts n [] [] = Unit {0}
 AreThreadsOf parts n [] (t ∷ threads) = ⊥
 AreThreadsOf parts n (spec ∷ specs) [] = ⊥
 AreThreadsOf parts n (spec ∷ specs) (t ∷ threads) = IsThreadOf parts n spec t × AreThreadsOf parts (n + 1) specs threads
-
-inner : {X : Type 0} {x y : X} → Some x ≡ Some y → x ≡ y
-inner h = cc
 
 -- ---- an answer
 
@@ -90,10 +89,10 @@ settles part e s (Some w) h = split (w.part == part)
       there = λ k elsewhere. refl;
     }))
   where
-    mine : (w.part == part) ≡ true → answer_at w.call e ≡ if_part part w.part (answer_at w.call e)
+    mine : (w.part == part) ≡ true → answer_at w.call e ≡ (if w.part == part then answer_at w.call e else None)
     mine same = rw same refl
 
-    none : (w.part == part) ≡ false → None ≡ if_part part w.part (answer_at w.call e)
+    none : (w.part == part) ≡ false → None ≡ (if w.part == part then answer_at w.call e else None)
     none other = rw other refl
 
     away : (w.part == part) ≡ false → waits_in part s.waiting ≡ None
@@ -115,7 +114,7 @@ starts n part (event.Invoke call thread o a) s own = split (thread == n)
     (λ mine.
     let next = own mine in
     record {
-      order = rw mine (ap (λ xs. map (λ a. a.0) s.answers ++ (part ∷ map (λ o. o.0) (tail_ops xs))) next.1.1
+      order = rw mine (ap (λ xs. map (λ a. a.0) s.answers ++ (part ∷ map (λ o. o.0) (drop 1 xs))) next.1.1
           ∙ sym (ap (λ w. map (λ a. a.0) s.answers ++ (waiting_part w ++ map (λ o. o.0) s.rest)) next.0
           ∙ ap (λ xs. map (λ a. a.0) s.answers ++ map (λ o. o.0) xs) next.1.1));
       here = rw (mine, eq-eqb part part refl) refl;
@@ -133,9 +132,9 @@ starts n part (event.Arrive frame kept) s own = record { order = refl; here = re
 
 -- ---- a thread after a step
 
-thread_step : (parts : List PartSeat) (n : ℕ) (spec : ThreadSpec) (t : ThreadState) (part : ℕ) (seat : PartSeat) (s : Step)
+thread_step : (parts : List RunningPart) (n : ℕ) (spec : ThreadSpec) (t : ThreadState) (part : ℕ) (seat : RunningPart) (s : Step)
     → slice_get parts part ≡ Some seat → IsTied seat.run.state → enabled seat.run.state s ≡ true → IsOwnOf n part t s → IsThreadOf parts n spec t
-    → IsThreadOf (slice_set parts part (seat_after s seat)) n spec
+    → IsThreadOf (slice_set parts part (part_after s seat)) n spec
     (told part (event_of seat.run.state s) (started n part (event_of seat.run.state s) t))
 thread_step parts n spec t part seat s at tied may own is =
     let e = event_of seat.run.state s in
@@ -144,8 +143,8 @@ thread_step parts n spec t part seat s at tied may own is =
     let done : Settled part e one (told part e one) = settles part e one one.waiting refl in
     record {
       order = done.order ∙ begun.order ∙ is.order;
-      waits = λ k new h. by_place (get_set parts k part (seat_after s seat) new h)
-          (λ same. ap (λ (x : PartSeat). number n x.run.state.log.pending) same.1
+      waits = λ k new h. by_place (get_set parts k part (part_after s seat) new h)
+          (λ same. ap (λ (x : RunningPart). number n x.run.state.log.pending) same.1
           ∙ step_says seat.run.state s n tied may
           ∙ ap (λ w. told_number (λ call. answer_at call e) (started_number n e w)) (is.waits part seat at)
           ∙ ap (told_number (λ call. answer_at call e)) begun.here
@@ -163,17 +162,17 @@ thread_step parts n spec t part seat s at tied may own is =
 pub own_of : (whole : List ThreadState) (n part : ℕ) (t : ThreadState) (s : Step) → IsOwn whole part s → slice_get whole n ≡ Some t → IsOwnOf n part t s
 own_of whole n part t (step.Invoke thread o) own at =
     λ mine.
-    let same : own.t ≡ t = inner (sym own.at ∙ ap (slice_get whole) (eqb-true thread n mine) ∙ at) in
+    let same : own.t ≡ t = same_inside (sym own.at ∙ ap (slice_get whole) (eqb-true thread n mine) ∙ at) in
     (sym (ap (λ (x : ThreadState). x.waiting) same) ∙ own.free, (own.more, sym (ap (λ (x : ThreadState). x.rest) same) ∙ own.next))
 own_of whole n part t (step.Enter thread) own at = tt
 own_of whole n part t (step.Burst context) own at = tt
 own_of whole n part t step.Stage own at = tt
 own_of whole n part t (step.Arrive frame) own at = tt
 
-pub threads_step : (parts : List PartSeat) (n : ℕ) (specs : List ThreadSpec) (whole threads : List ThreadState) (part : ℕ) (seat : PartSeat) (s : Step)
+pub threads_step : (parts : List RunningPart) (n : ℕ) (specs : List ThreadSpec) (whole threads : List ThreadState) (part : ℕ) (seat : RunningPart) (s : Step)
     → slice_get parts part ≡ Some seat → IsTied seat.run.state → enabled seat.run.state s ≡ true → IsOwn whole part s
     → ((k : ℕ) → slice_get threads k ≡ slice_get whole (n + k)) → AreThreadsOf parts n specs threads
-    → AreThreadsOf (slice_set parts part (seat_after s seat)) n specs (threads_after n part (event_of seat.run.state s) threads)
+    → AreThreadsOf (slice_set parts part (part_after s seat)) n specs (threads_after n part (event_of seat.run.state s) threads)
 threads_step parts n [] whole [] part seat s at tied may own same are = tt
 threads_step parts n [] whole (t ∷ threads) part seat s at tied may own same are = are
 threads_step parts n (spec ∷ specs) whole [] part seat s at tied may own same are = are
@@ -196,13 +195,13 @@ rest_count (t ∷ threads) = length t.rest + rest_count threads
 
 settled_rest : (part : ℕ) (e : Event) (s : ThreadState) (w : Option Waiting) → (settled part e s w).rest ≡ s.rest
 settled_rest part e s None = refl
-settled_rest part e s (Some w) = by_answer' (if_part part w.part (answer_at w.call e))
+settled_rest part e s (Some w) = by_answer' (if w.part == part then answer_at w.call e else None)
   where
     by_answer' : (a : Option Answer) → (settled_by part s a).rest ≡ s.rest
     by_answer' None = refl
     by_answer' (Some a) = refl
 
-tail_less : (xs : List (ℕ × Op)) → length (tail_ops xs) ≤ length xs
+tail_less : (xs : List (ℕ × Op)) → length (drop 1 xs) ≤ length xs
 tail_less [] = omega arith
 tail_less (x ∷ xs) = omega arith
 
@@ -232,7 +231,7 @@ pub rest_less : (n part call thread : ℕ) (o p : Op) (a : Option Answer) (threa
 rest_less n part call thread o p a [] k t more h i r = cc
 rest_less n part call thread o p a (x ∷ threads) zero t more h i r =
     let mine : (thread == n) ≡ true = eq-eqb thread n (omega arith) in
-    let same : x.rest ≡ (part, p) ∷ more = ap (λ (y : ThreadState). y.rest) (inner h) ∙ r in
+    let same : x.rest ≡ (part, p) ∷ more = ap (λ (y : ThreadState). y.rest) (same_inside h) ∙ r in
     sum _ _ _ _
     (subst (λ (xs : List (ℕ × Op)). length xs + 1 ≤ length x.rest)
     (sym (settled_rest part (event.Invoke call thread o a) (started n part (event.Invoke call thread o a) x) (started n part (event.Invoke call thread o a) x).waiting))

@@ -1,19 +1,8 @@
-//! A scheduled run ends only when every operation has its answer: a theorem over the definitions alone.
+//! The laws of runs, and of the reports on them: theorems over the definitions alone.
 //!
-//! The law is the contract of a public function with an empty body: what it promises holds of all its arguments,
+//! Each law is the contract of a public function with an empty body: what it promises holds of all its arguments,
 //! whoever made them.
 #![tactic(auto)]
 
-ghost use Rattle.nook_defs.specs.Simulation.{IsScheduledRun, Simulation, answer_table};
-ghost use Rattle.nook_defs.specs.Valid.{IsValidScenario};
-ghost use Rattle.nook_defs.specs.declared.data.Scenario.{Scenario};
-ghost use Rattle.std.specs.Prelude.{length, map, ◌≡◌};
-
-/// At the end of a scheduled run each thread has as many answers as operations, and the parts of its answers are, in
-/// order, the parts of its operations.
-pub fn every_operation_is_answered()
-    ensures parts { (scenario : Scenario) (s : Simulation) → IsValidScenario scenario → IsScheduledRun scenario s
-        → map (λ answers. map (λ a. a.0) answers) (answer_table s) ≡ map (λ t. map (λ o. o.0) t.ops) scenario.threads }
-    ensures count { (scenario : Scenario) (s : Simulation) → IsValidScenario scenario → IsScheduledRun scenario s
-        → map length (answer_table s) ≡ map (λ t. length t.ops) scenario.threads }
-{}
+pub mod answers;
+pub mod audits;

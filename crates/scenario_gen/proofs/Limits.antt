@@ -11,7 +11,7 @@ use Rattle.nook_defs.specs.Generated.{trap_at, generated_disk, frames_to, genera
 use Rattle.nook_defs.specs.References.{block_words, block_image, net_words, net_image, sound_words, sound_image}
 use Rattle.nook_defs.specs.Valid.{IsWord, AreWords, IsValidImage, IsValidFault, IsValidFrame, IsValidPart, IsValidStep, IsValidThread, IsValidScenario}
 use Rattle.nook_defs.specs.Names.{is_name}
-use Rattle.nook_defs.specs.declared.data.Op.TheVariants as op
+use Rattle.nook_defs.specs.declared.calls.Op.TheVariants as op
 
 -- numbers that a test finds small
 below : (n : ℕ) (xs : List ℕ) → list_all (λ x. nat_lt x n) xs ≡ true → All (λ x. x < n) xs

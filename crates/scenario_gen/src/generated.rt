@@ -6,13 +6,14 @@ ghost use Rattle.nook_defs.specs.Names.{is_name};
 ghost use Rattle.nook_defs.specs.Valid.{IsValidScenario};
 
 use crate::references::{block_driver, net_driver, sound_driver};
-use nook_defs::data::{
-    Class, Fault, FaultKind, Faults, Op, PartOps, PartSpec, Parts, Scenario, ScheduleSpec,
-    ThreadSpec, ThreadSpecs,
-};
+use nook_defs::calls::{Op, PartOps};
+use nook_defs::classes::Class;
 use nook_defs::lists::{Frames, Items, Words};
 use nook_defs::memory::NoMemory;
 use nook_defs::name::Name;
+use nook_defs::scenario::{
+    Fault, FaultKind, Faults, PartSpec, Parts, Scenario, ScheduleSpec, ThreadSpec, ThreadSpecs,
+};
 use std::alloc::Global;
 
 /// The scenario of a number from 1 to 256: so many operations a thread, so many arrivals, and a schedule that is

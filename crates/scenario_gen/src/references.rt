@@ -1,11 +1,12 @@
 //! The reference drivers as images: a disk's, a net device's and a sound device's.
 
 ghost use Rattle.std.specs.Prelude.{◌≡◌, [], ◌∷◌, IfOk};
-ghost use Rattle.nook_defs.specs.References.{block_image, block_words, failing_block_image, failing_block_words, net_image, net_words, sound_image, sound_words};
+ghost use Rattle.nook_defs.specs.References.{block_image, block_words, net_image, net_words, sound_image, sound_words};
 
-use nook_defs::data::{Class, Image};
+use nook_defs::classes::Class;
 use nook_defs::lists::{Items, Words};
 use nook_defs::memory::NoMemory;
+use nook_defs::scenario::Image;
 use std::alloc::Global;
 
 // the text of the block driver
@@ -18,19 +19,6 @@ const BLOCK_TEXT: [u32; 62] = [
     0x0e00002e, 0x14600009, 0x0e00002e, 0x1460000a, 0x0e00002e, 0x1460000b, 0x0d630000, 0x17000000,
     0x01500001, 0x0f150038, 0x01500002, 0x0f15003a, 0x01500003, 0x0f15003c, 0x15200008, 0x17000000,
     0x15200009, 0x17000000, 0x1520000a, 0x17000000, 0x1520000b, 0x17000000,
-];
-
-// the text of the careful block driver
-const FAILING_BLOCK_TEXT: [u32; 71] = [
-    0x01100000, 0x16000003, 0x01100000, 0x17100000, 0x01500010, 0x01600001, 0x01b00100, 0x15100001,
-    0x15600000, 0x14a00003, 0x10a00029, 0x01700000, 0x14800002, 0x0d830000, 0x0b330001, 0x0b770001,
-    0x1175000c, 0x0b110001, 0x0bbb0001, 0x05260000, 0x10200007, 0x17000000, 0x01500010, 0x01600001,
-    0x01900002, 0x01b00100, 0x15100001, 0x01700000, 0x0c830000, 0x15800002, 0x0b330001, 0x0b770001,
-    0x1175001c, 0x15900000, 0x14a00003, 0x10a00029, 0x0b110001, 0x0bbb0001, 0x05260000, 0x1020001a,
-    0x17000000, 0x17b00000, 0x01500001, 0x0f150032, 0x01500002, 0x0f150034, 0x01500003, 0x0f150036,
-    0x14600008, 0x0e000037, 0x14600009, 0x0e000037, 0x1460000a, 0x0e000037, 0x1460000b, 0x0d630000,
-    0x17000000, 0x01500001, 0x0f150041, 0x01500002, 0x0f150043, 0x01500003, 0x0f150045, 0x15200008,
-    0x17000000, 0x15200009, 0x17000000, 0x1520000a, 0x17000000, 0x1520000b, 0x17000000,
 ];
 
 // the text of the net driver
@@ -72,25 +60,6 @@ fn block_text(alloc: Global) -> Result<Words, NoMemory>
     ensures { IfOk result (λ made. made ≡ block_words) }
 {
     words_of(alloc, &BLOCK_TEXT)
-}
-
-/// A block driver that asks for the status behind each command, and replies 256 + i where block i of the call failed.
-pub fn failing_block_driver(alloc: Global) -> Result<Image, NoMemory>
-    ensures { IfOk result (λ made. made ≡ failing_block_image) }
-{
-    Ok(Image {
-        class: Class::Block,
-        entries: words_of(alloc, &[0, 4, 22, 42, 57])?,
-        text: failing_block_text(alloc)?,
-        initial: Items::new(alloc),
-    })
-}
-
-/// Its text words.
-fn failing_block_text(alloc: Global) -> Result<Words, NoMemory>
-    ensures { IfOk result (λ made. made ≡ failing_block_words) }
-{
-    words_of(alloc, &FAILING_BLOCK_TEXT)
 }
 
 /// A net driver: a received frame is handed up from the stack page.

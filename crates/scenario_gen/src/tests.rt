@@ -1,7 +1,8 @@
 //! The scenario of 12, against one that was written apart from this program.
 
 use crate::generate;
-use nook_defs::data::{Op, PartSpec, ThreadSpec};
+use nook_defs::calls::Op;
+use nook_defs::scenario::{PartSpec, ThreadSpec};
 use std::alloc::Global;
 use std::fmt::Write;
 use std::test::Fail;

@@ -7,12 +7,12 @@ use Rattle.nook_defs.specs.Campaigns.{IsValidCampaign}
 use Rattle.nook_defs.specs.ImageReading.{image_of}
 use Rattle.nook_defs.specs.ScenarioReading.{scenario_of}
 use Rattle.nook_defs.specs.Valid.{IsValidImage, IsValidScenario}
-use Rattle.nook_defs.specs.declared.data.Campaign.{Campaign}
-use Rattle.nook_defs.specs.declared.data.Image.{Image}
-use Rattle.nook_defs.specs.declared.data.Scenario.{Scenario}
-use Rattle.scenario_laws.proofs.CampaignsRead.{campaign_holds}
-use Rattle.scenario_laws.proofs.ImagesRead.{image_is_valid}
-use Rattle.scenario_laws.proofs.ScenariosRead.{scenario_holds}
+use Rattle.nook_defs.specs.declared.campaign.Campaign.{Campaign}
+use Rattle.nook_defs.specs.declared.scenario.Image.{Image}
+use Rattle.nook_defs.specs.declared.scenario.Scenario.{Scenario}
+use Rattle.reading_laws.proofs.CampaignsRead.{campaign_holds}
+use Rattle.reading_laws.proofs.ImagesRead.{image_is_valid}
+use Rattle.reading_laws.proofs.ScenariosRead.{scenario_holds}
 use Rattle.scenario_read.specs.Gives.{Gives}
 use Rattle.scenario_read.specs.declared.stop.ScenarioFault.{ScenarioFault}
 

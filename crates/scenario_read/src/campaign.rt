@@ -1,11 +1,11 @@
 //! Campaigns: a scenario, one of its parts, and the faults that strike it.
 
-ghost use Rattle.std.specs.Prelude.{◌≡◌, List, IfOk, length, nat_lt};
+ghost use Rattle.std.specs.Prelude.{◌≡◌, ◌-◌, List, IfOk, length, nat_lt};
 ghost use Rattle.serde_json.specs.View.{view};
 ghost use Rattle.nook_defs.specs.CampaignReading.{campaign_from, campaign_of, check_base, check_ops, check_own_faults};
 ghost use Rattle.nook_defs.specs.Campaigns.{IsValidCampaign, faults_at, ops_count};
 ghost use Rattle.nook_defs.specs.Reading.{refuse_if};
-ghost use Rattle.nook_defs.specs.declared.data.Fault.{Fault};
+ghost use Rattle.nook_defs.specs.declared.scenario.Fault.{Fault};
 ghost use Rattle.nook_defs.specs.declared.input.InputFault.TheVariants as fault;
 ghost use Rattle.scenario_read.specs.Gives.{Gives};
 
@@ -13,15 +13,12 @@ use crate::faults::member_faults_of;
 use crate::fields::{check_keys, field, number_at};
 use crate::scenario::{json_of, scenario_of};
 use crate::stop::{ScenarioFault, at, bad_here, behind};
-use nook_defs::data::{Campaign, PartSpec, Scenario, ThreadSpec};
+use nook_defs::campaign::Campaign;
 use nook_defs::input::{InputFault, Key, PathStep};
+use nook_defs::limits::{MOST_CAMPAIGN_OPS, MOST_FAULTS};
+use nook_defs::scenario::{PartSpec, Scenario, ThreadSpec};
 use serde_json::Value;
 use std::alloc::Global;
-
-/// Operations that the threads of a campaign's scenario may have in all.
-const MOST_OPS: usize = 64;
-/// Faults that the struck part may have of its own.
-const MOST_OWN_FAULTS: usize = 63;
 
 /// The campaign of a JSON text. It keeps its limits.
 ///
@@ -65,7 +62,7 @@ fn check_base(alloc: Global, base: &Scenario, part: u32) -> Result<(), ScenarioF
 {
     check_ops(alloc, base.threads.as_slice())?;
     let own = own_fault_count(base.parts.as_slice(), part as usize);
-    check_own_faults(alloc, part, own > MOST_OWN_FAULTS)
+    check_own_faults(alloc, part, own >= MOST_FAULTS)
 }
 
 /// The threads have at most 64 operations in all.
@@ -78,7 +75,7 @@ fn check_ops(alloc: Global, threads: &[ThreadSpec]) -> Result<(), ScenarioFault>
 
 /// The part at a place is told whether it has too many faults of its own.
 fn check_own_faults(alloc: Global, part: u32, too_many: bool) -> Result<(), ScenarioFault>
-    ensures { (own : List Fault) → too_many ≡ nat_lt 63 (length own) → Gives result (check_own_faults part own) }
+    ensures { (own : List Fault) → too_many ≡ nat_lt (MOST_FAULTS - 1) (length own) → Gives result (check_own_faults part own) }
 {
     let checked = at(Key::Faults, refuse_if(alloc, too_many));
     at(
@@ -100,9 +97,9 @@ fn refuse_if(alloc: Global, too_long: bool) -> Result<(), ScenarioFault>
 /// Whether the threads have more than 64 operations in all.
 #[tactic(auto, using(crate::proofs::OpCounts::one_thread, crate::proofs::OpCounts::fewer_left, crate::proofs::OpCounts::none_left))]
 fn has_many_ops(threads: &[ThreadSpec]) -> bool
-    ensures { result ≡ nat_lt 64 (ops_count threads.now) }
+    ensures { result ≡ nat_lt MOST_CAMPAIGN_OPS (ops_count threads.now) }
 {
-    let mut left = MOST_OPS;
+    let mut left = MOST_CAMPAIGN_OPS;
     for thread in threads {
         let count = thread.ops.len();
         if left < count {

@@ -16,8 +16,9 @@ use crate::keys::key_text;
 use crate::stop::{ScenarioFault, at, bad_here};
 use driver_asm::{AsmError, assemble};
 use nook_defs::assembler::AsmFault;
-use nook_defs::data::{Class, Image};
+use nook_defs::classes::Class;
 use nook_defs::input::{InputFault, Key};
+use nook_defs::scenario::Image;
 use serde_json::Value;
 use std::alloc::Global;
 

@@ -12,8 +12,9 @@ use crate::fields::{check_keys, check_object, field, number_at, word_at};
 use crate::keys::{fault_keys, fault_named};
 use crate::lists::{ItemReader, read_list};
 use crate::stop::{ScenarioFault, at, bad_here};
-use nook_defs::data::{BadBlock, BadBlocks, Fault, FaultKind, Faults};
 use nook_defs::input::{FaultName, InputFault, Key};
+use nook_defs::limits::{MOST_BAD_BLOCKS, MOST_CAMPAIGN_FAULTS, MOST_FAULTS, MOST_TURNS};
+use nook_defs::scenario::{BadBlock, BadBlocks, Fault, FaultKind, Faults};
 use serde_json::Value;
 use std::alloc::Global;
 
@@ -21,14 +22,14 @@ use std::alloc::Global;
 pub fn faults_of(alloc: Global, value: &Value) -> Result<Faults, ScenarioFault>
     ensures { Gives result (faults_of (view value.now)) }
 {
-    read_list(alloc, &FaultReader, value, 0, 64)
+    read_list(alloc, &FaultReader, value, 0, MOST_FAULTS)
 }
 
 /// 1 to 4,096 faults, one for each member of a campaign.
 pub fn member_faults_of(alloc: Global, value: &Value) -> Result<Faults, ScenarioFault>
     ensures { Gives result (member_faults_of (view value.now)) }
 {
-    read_list(alloc, &FaultReader, value, 1, 4096)
+    read_list(alloc, &FaultReader, value, 1, MOST_CAMPAIGN_FAULTS)
 }
 
 /// Reads faults.
@@ -61,7 +62,7 @@ fn fault_of(alloc: Global, value: &Value) -> Result<Fault, ScenarioFault>
     )?;
     check_keys(alloc, value, fault_keys(name))?;
     let burst = number_at(alloc, value, Key::Burst, 1, 4_294_967_295)? as u32;
-    let after = number_at(alloc, value, Key::After, 0, 4095)? as u32;
+    let after = number_at(alloc, value, Key::After, 0, u64::from(MOST_TURNS) - 1)? as u32;
     let kind = fault_kind(alloc, value, name)?;
     Ok(Fault { burst, after, kind })
 }
@@ -106,7 +107,7 @@ fn fault_kind(alloc: Global, value: &Value, name: FaultName) -> Result<FaultKind
 pub fn bad_blocks_of(alloc: Global, value: &Value, blocks: u32) -> Result<BadBlocks, ScenarioFault>
     ensures { Gives result (bad_blocks_of blocks (view value.now)) }
 {
-    read_list(alloc, &BadBlockReader { blocks }, value, 0, 64)
+    read_list(alloc, &BadBlockReader { blocks }, value, 0, MOST_BAD_BLOCKS)
 }
 
 /// Reads bad blocks of a disk of so many blocks.

@@ -13,9 +13,11 @@ use crate::keys::{class_named, entry_keys};
 use crate::lists::{ItemReader, read_list};
 use crate::scenario::json_of;
 use crate::stop::{ScenarioFault, at, bad_here};
-use nook_defs::data::{Class, Image};
+use nook_defs::classes::Class;
 use nook_defs::input::{InputFault, Key};
 use nook_defs::lists::{Items, Words};
+use nook_defs::memory_map::TEXT_WORDS;
+use nook_defs::scenario::Image;
 use serde_json::Value;
 use std::alloc::Global;
 
@@ -87,7 +89,7 @@ fn places_of(alloc: Global, value: &Value, keys: &[Key]) -> Result<Words, Scenar
 {
     let mut places = Words::new(alloc);
     for key in keys {
-        let place = number_at(alloc, value, *key, 0, 2047)?;
+        let place = number_at(alloc, value, *key, 0, u64::from(TEXT_WORDS) - 1)?;
         places.push(place as u32)?;
     }
     Ok(places)
@@ -97,7 +99,7 @@ fn places_of(alloc: Global, value: &Value, keys: &[Key]) -> Result<Words, Scenar
 fn words_of(alloc: Global, value: &Value) -> Result<Words, ScenarioFault>
     ensures { Gives result (words_of (view value.now)) }
 {
-    read_list(alloc, &HexReader, value, 0, 2048)
+    read_list(alloc, &HexReader, value, 0, TEXT_WORDS as usize)
 }
 
 /// Reads words of eight hexadecimal digits.

@@ -6,7 +6,7 @@ ghost use Rattle.nook_defs.specs.PartReading.{fault_named, fault_keys, part_keys
 ghost use Rattle.nook_defs.specs.ScenarioReading.{schedule_named, schedule_keys, op_named, op_keys};
 ghost use Rattle.nook_defs.specs.declared.input.Key.TheVariants as key;
 
-use nook_defs::data::Class;
+use nook_defs::classes::Class;
 use nook_defs::input::{FaultName, Key, OpName, ScheduleName};
 
 /// The text of a key.

@@ -8,9 +8,9 @@ ghost use Rattle.scenario_read.specs.Gives.{Gives};
 
 use crate::fields::text_in;
 use crate::stop::{ScenarioFault, bad_here};
-use nook_defs::data::{PartSpec, ThreadSpec};
 use nook_defs::input::InputFault;
 use nook_defs::name::Name;
+use nook_defs::scenario::{PartSpec, ThreadSpec};
 use serde_json::Value;
 use std::alloc::Global;
 

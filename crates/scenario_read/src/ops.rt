@@ -10,7 +10,7 @@ use crate::fields::{check_keys, check_object, field, number_at, word_at};
 use crate::keys::{op_keys, op_named};
 use crate::lists::{ItemReader, read_list, read_words};
 use crate::stop::{ScenarioFault, at, bad_here};
-use nook_defs::data::{Op, PartOps};
+use nook_defs::calls::{Op, PartOps};
 use nook_defs::input::{InputFault, Key, OpName};
 use nook_defs::lists::Words;
 use serde_json::Value;

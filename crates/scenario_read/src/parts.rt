@@ -16,9 +16,11 @@ use crate::keys::{key_text, part_keys};
 use crate::lists::{ItemReader, read_list, read_words};
 use crate::names::part_name;
 use crate::stop::{ScenarioFault, at};
-use nook_defs::data::{BadBlocks, Class, Faults, PartSpec, Parts};
+use nook_defs::classes::Class;
 use nook_defs::input::Key;
+use nook_defs::limits::{MOST_FAILURES, MOST_FRAME_WORDS, MOST_PARTS};
 use nook_defs::lists::{Frames, Words};
+use nook_defs::scenario::{BadBlocks, Faults, PartSpec, Parts};
 use serde_json::Value;
 use std::alloc::Global;
 
@@ -26,7 +28,7 @@ use std::alloc::Global;
 pub fn parts_of(alloc: Global, value: &Value, version: u32) -> Result<Parts, ScenarioFault>
     ensures { Gives result (parts_of version (view value.now)) }
 {
-    read_list(alloc, &PartReader { version }, value, 1, 8)
+    read_list(alloc, &PartReader { version }, value, 1, MOST_PARTS)
 }
 
 /// Reads the parts of a scenario of a version.
@@ -70,7 +72,7 @@ fn part_of(
     let name = at(Key::Name, part_name(alloc, earlier.as_slice(), inside))?;
     let blocks = part_blocks(alloc, value, class)?;
     let bad = part_bad(alloc, value, class, blocks)?;
-    let limit = number_or(alloc, value, Key::Limit, 0, 16, 0)? as u32;
+    let limit = number_or(alloc, value, Key::Limit, 0, u64::from(MOST_FAILURES), 0)? as u32;
     let inside = field(alloc, value, Key::Driver)?;
     let image = at(Key::Driver, driver_of(alloc, inside, class))?;
     let faults = part_faults(alloc, value)?;
@@ -156,6 +158,6 @@ impl ItemReader for FrameReader {
         _earlier: &Frames,
         value: &Value,
     ) -> Result<Words, ScenarioFault> {
-        read_words(alloc, value, 1, 64)
+        read_words(alloc, value, 1, MOST_FRAME_WORDS)
     }
 }

@@ -5,7 +5,7 @@ ghost use Rattle.serde_json.specs.View.{view};
 ghost use Rattle.nook_defs.specs.Reading.{json_of, optional};
 ghost use Rattle.nook_defs.specs.ScenarioReading.{scenario_from, scenario_of, schedule_of};
 ghost use Rattle.nook_defs.specs.Valid.{IsValidScenario};
-ghost use Rattle.nook_defs.specs.declared.data.ScheduleSpec.TheVariants as schedule;
+ghost use Rattle.nook_defs.specs.declared.scenario.ScheduleSpec.TheVariants as schedule;
 ghost use Rattle.nook_defs.specs.declared.input.Key.TheVariants as key;
 ghost use Rattle.scenario_read.specs.Gives.{Fails, Gives};
 
@@ -15,8 +15,8 @@ use crate::parts::parts_of;
 use crate::schedule::schedule_of;
 use crate::stop::{ScenarioFault, at, bad_here};
 use crate::threads::threads_of;
-use nook_defs::data::{Scenario, ScheduleSpec};
 use nook_defs::input::{InputFault, Key};
+use nook_defs::scenario::{Scenario, ScheduleSpec};
 use serde_json::Value;
 use std::alloc::Global;
 

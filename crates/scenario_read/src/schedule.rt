@@ -10,9 +10,9 @@ use crate::fields::{check_keys, check_object, field, number_at};
 use crate::keys::{schedule_keys, schedule_named};
 use crate::lists::{PickReader, read_list};
 use crate::stop::{ScenarioFault, at, bad_here};
-use nook_defs::data::ScheduleSpec;
 use nook_defs::input::{InputFault, Key, ScheduleName};
 use nook_defs::lists::Picks;
+use nook_defs::scenario::ScheduleSpec;
 use serde_json::Value;
 use std::alloc::Global;
 

@@ -10,8 +10,9 @@ use crate::lists::{ItemReader, read_list};
 use crate::names::thread_name;
 use crate::ops::ops_of;
 use crate::stop::{ScenarioFault, at};
-use nook_defs::data::{ThreadSpec, ThreadSpecs};
 use nook_defs::input::Key;
+use nook_defs::limits::MOST_THREADS;
+use nook_defs::scenario::{ThreadSpec, ThreadSpecs};
 use serde_json::Value;
 use std::alloc::Global;
 
@@ -19,7 +20,7 @@ use std::alloc::Global;
 pub fn threads_of(alloc: Global, value: &Value, parts: u32) -> Result<ThreadSpecs, ScenarioFault>
     ensures { Gives result (threads_of parts (view value.now)) }
 {
-    read_list(alloc, &ThreadReader { parts }, value, 0, 16)
+    read_list(alloc, &ThreadReader { parts }, value, 0, MOST_THREADS)
 }
 
 /// Reads the threads of a scenario of so many parts.

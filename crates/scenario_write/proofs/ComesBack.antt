@@ -3,8 +3,8 @@ use Rattle.std.proofs.Common.{◌≡◌, Ok}
 use Rattle.serde_json.specs.Read.{max_depth}
 use Rattle.nook_defs.specs.ScenarioReading.{scenario_from}
 use Rattle.nook_defs.specs.Valid.{IsValidScenario}
-use Rattle.nook_defs.specs.declared.data.Scenario.{Scenario}
-use Rattle.image_laws.proofs.PlainData.{json_read, json_with_feed}
+use Rattle.nook_defs.specs.declared.scenario.Scenario.{Scenario}
+use Rattle.reading_laws.proofs.PlainData.{json_read, json_with_feed}
 use Rattle.scenario_write.proofs.PlainScenario.{scenario_plain}
 use Rattle.scenario_write.proofs.Sorted.{read_sorted, sorted}
 use Rattle.scenario_write.proofs.WholeBack.{scenario_back}

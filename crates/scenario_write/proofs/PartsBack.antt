@@ -15,15 +15,15 @@ use Rattle.nook_defs.specs.PartReading.{bad_block_of, fault_of, frame_of, is_amo
 use Rattle.nook_defs.specs.Reading.{list_of, numbers_of}
 use Rattle.nook_defs.specs.ScenarioReading.{op_of, thread_names, thread_of}
 use Rattle.nook_defs.specs.Valid.{IsValidBadBlock, IsValidFault, IsValidFrame, IsValidImage, IsValidPart, IsValidStep, IsValidThread, IsWord, are_distinct}
-use Rattle.nook_defs.specs.declared.data.BadBlock.{BadBlock}
-use Rattle.nook_defs.specs.declared.data.Class.{Class}
-use Rattle.nook_defs.specs.declared.data.Class.TheVariants as class
-use Rattle.nook_defs.specs.declared.data.Fault.{Fault}
-use Rattle.nook_defs.specs.declared.data.Image.{Image}
-use Rattle.nook_defs.specs.declared.data.Op.{Op}
-use Rattle.nook_defs.specs.declared.data.PartSpec.{PartSpec}
-use Rattle.nook_defs.specs.declared.data.ThreadSpec.{ThreadSpec}
-use Rattle.image_laws.proofs.ImageJson.{image_plain, image_read}
+use Rattle.nook_defs.specs.declared.scenario.BadBlock.{BadBlock}
+use Rattle.nook_defs.specs.declared.classes.Class.{Class}
+use Rattle.nook_defs.specs.declared.classes.Class.TheVariants as class
+use Rattle.nook_defs.specs.declared.scenario.Fault.{Fault}
+use Rattle.nook_defs.specs.declared.scenario.Image.{Image}
+use Rattle.nook_defs.specs.declared.calls.Op.{Op}
+use Rattle.nook_defs.specs.declared.scenario.PartSpec.{PartSpec}
+use Rattle.nook_defs.specs.declared.scenario.ThreadSpec.{ThreadSpec}
+use Rattle.reading_laws.proofs.ImageJson.{image_plain, image_read}
 use Rattle.scenario_write.proofs.ListsBack.{Reads, list_back, no_less, numbers_back, reads_all, word_within}
 use Rattle.scenario_write.proofs.NamesApart.{apart}
 use Rattle.scenario_write.proofs.PiecesBack.{bad_block_back, fault_back, step_back}

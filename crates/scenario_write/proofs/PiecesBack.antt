@@ -3,15 +3,16 @@ use Rattle.std.proofs.Common.{◌≡◌, ℕ, ◌-◌, ◌<◌, ◌≤◌, Ok, r
 use Rattle.std.proofs.lemmas.Bool.{le-ltb}
 use Rattle.nook_defs.specs.PartReading.{bad_block_of, fault_kind, fault_named, fault_of}
 use Rattle.nook_defs.specs.ScenarioReading.{op_by, op_named, op_of, schedule_by, schedule_named, schedule_of}
-use Rattle.nook_defs.specs.Valid.{IsPick, IsValidBadBlock, IsValidFault, IsValidKind, IsValidOp, IsValidSchedule, IsValidStep, IsWord}
-use Rattle.nook_defs.specs.declared.data.BadBlock.{BadBlock}
-use Rattle.nook_defs.specs.declared.data.Fault.{Fault}
-use Rattle.nook_defs.specs.declared.data.FaultKind.{FaultKind}
-use Rattle.nook_defs.specs.declared.data.FaultKind.TheVariants as strikes
-use Rattle.nook_defs.specs.declared.data.Op.{Op}
-use Rattle.nook_defs.specs.declared.data.Op.TheVariants as op
-use Rattle.nook_defs.specs.declared.data.ScheduleSpec.{ScheduleSpec}
-use Rattle.nook_defs.specs.declared.data.ScheduleSpec.TheVariants as schedule
+use Rattle.nook_defs.specs.Valid.{IsValidBadBlock, IsValidFault, IsValidKind, IsValidOp, IsValidSchedule, IsValidStep, IsWord}
+use Rattle.nook_defs.proofs.Changes.{IsPick}
+use Rattle.nook_defs.specs.declared.scenario.BadBlock.{BadBlock}
+use Rattle.nook_defs.specs.declared.scenario.Fault.{Fault}
+use Rattle.nook_defs.specs.declared.scenario.FaultKind.{FaultKind}
+use Rattle.nook_defs.specs.declared.scenario.FaultKind.TheVariants as strikes
+use Rattle.nook_defs.specs.declared.calls.Op.{Op}
+use Rattle.nook_defs.specs.declared.calls.Op.TheVariants as op
+use Rattle.nook_defs.specs.declared.scenario.ScheduleSpec.{ScheduleSpec}
+use Rattle.nook_defs.specs.declared.scenario.ScheduleSpec.TheVariants as schedule
 use Rattle.scenario_write.specs.ScenarioText.{bad_block_data, fault_data, schedule_data, step_data}
 use Rattle.scenario_write.proofs.ListsBack.{no_less, numbers_back, word_within, words_back}
 use Rattle.scenario_write.proofs.Sorted.{sorted}

@@ -4,7 +4,7 @@ use Rattle.serde_json.specs.Data.{Num, unsigned, negative, float, Data, null, bo
 use Rattle.serde_json.specs.Read.{of_json, of_items, of_members}
 use Rattle.serde_json.specs.Written.{outline, items_outline, members_outline}
 use Rattle.serde_json.proofs.Numbers.{number_of-decimal}
-use Rattle.image_laws.proofs.PlainData.{IsPlain, ArePlain, ArePlainMembers, IsPlainNumber}
+use Rattle.reading_laws.proofs.PlainData.{IsPlain, ArePlain, ArePlainMembers, IsPlainNumber}
 
 abbrev mutual
   pub sorted : Data → Data

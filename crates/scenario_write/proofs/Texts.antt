@@ -4,10 +4,10 @@ use Rattle.json.specs.Print.{escape_byte, quoted}
 use Rattle.serde_json.specs.Written.{compact_text, members_text}
 use Rattle.nook_defs.specs.ImageText.{image_data}
 use Rattle.nook_defs.specs.Keys.{class_text}
-use Rattle.nook_defs.specs.declared.data.PartSpec.{PartSpec}
-use Rattle.nook_defs.specs.declared.data.Fault.{Fault}
-use Rattle.nook_defs.specs.declared.data.Scenario.{Scenario}
-use Rattle.nook_defs.specs.declared.data.ThreadSpec.{ThreadSpec}
+use Rattle.nook_defs.specs.declared.scenario.PartSpec.{PartSpec}
+use Rattle.nook_defs.specs.declared.scenario.Fault.{Fault}
+use Rattle.nook_defs.specs.declared.scenario.Scenario.{Scenario}
+use Rattle.nook_defs.specs.declared.scenario.ThreadSpec.{ThreadSpec}
 use Rattle.scenario_write.specs.ScenarioText.{arrival_members, disk_members, fault_data, list_data, part_data, part_members, scenario_data, schedule_data, thread_data, version_of}
 
 nine : (old a b c d e f g h i : List ℕ) → old ++ (a ++ b) ++ c ++ d ++ e ++ f ++ g ++ h ++ i ≡ old ++ (a ++ (b ++ (c ++ (d ++ (e ++ (f ++ (g ++ (h ++ i))))))))

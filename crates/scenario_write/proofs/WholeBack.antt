@@ -6,9 +6,9 @@ use Rattle.std.proofs.lemmas.List.Elements.{All-cons, All-nil}
 use Rattle.nook_defs.specs.ScenarioReading.{scenario_of, thread_of}
 use Rattle.nook_defs.specs.PartReading.{part_of}
 use Rattle.nook_defs.specs.Valid.{IsValidScenario}
-use Rattle.nook_defs.specs.declared.data.BadBlock.{BadBlock}
-use Rattle.nook_defs.specs.declared.data.PartSpec.{PartSpec}
-use Rattle.nook_defs.specs.declared.data.Scenario.{Scenario}
+use Rattle.nook_defs.specs.declared.scenario.BadBlock.{BadBlock}
+use Rattle.nook_defs.specs.declared.scenario.PartSpec.{PartSpec}
+use Rattle.nook_defs.specs.declared.scenario.Scenario.{Scenario}
 use Rattle.scenario_write.proofs.ListsBack.{list_back}
 use Rattle.scenario_write.proofs.PartsBack.{FitsVersion, IsEmpty, parts_back, threads_back}
 use Rattle.scenario_write.proofs.PiecesBack.{schedule_back}

@@ -10,8 +10,9 @@ ghost use Rattle.scenario_write.specs.ScenarioText.{arrival_members, bad_block_d
 
 use crate::lists::{Written, push_list, push_name, push_number};
 use driver_asm::image_value;
-use nook_defs::data::{BadBlock, Class, Fault, FaultKind, Image, PartSpec};
+use nook_defs::classes::Class;
 use nook_defs::memory::NoMemory;
+use nook_defs::scenario::{BadBlock, Fault, FaultKind, Image, PartSpec};
 use std::alloc::Global;
 
 impl Written for BadBlock {

@@ -7,9 +7,9 @@ ghost use Rattle.serde_json.specs.Written.{compact_text};
 ghost use Rattle.scenario_write.specs.ScenarioText.{has_bad, scenario_data, scenario_json, scenario_line, version_of};
 
 use crate::lists::{Written, push_list, push_number};
-use nook_defs::data::{PartSpec, Scenario};
 use nook_defs::lists::Words8;
 use nook_defs::memory::NoMemory;
+use nook_defs::scenario::{PartSpec, Scenario};
 use std::alloc::Global;
 
 /// A scenario as JSON in compact form on one line, without the line's end. The keys stand in the order in which the

@@ -2,11 +2,13 @@
 
 use crate::{write_scenario, write_scenario_line};
 use driver_asm::assemble;
-use nook_defs::data::{
-    BadBlock, Class, Fault, FaultKind, Image, Op, PartSpec, Scenario, ScheduleSpec, ThreadSpec,
-};
+use nook_defs::calls::Op;
+use nook_defs::classes::Class;
 use nook_defs::lists::{Items, Words};
 use nook_defs::name::Name;
+use nook_defs::scenario::{
+    BadBlock, Fault, FaultKind, Image, PartSpec, Scenario, ScheduleSpec, ThreadSpec,
+};
 use std::alloc::Global;
 use std::test::Fail;
 

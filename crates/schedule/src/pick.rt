@@ -4,8 +4,8 @@ ghost use Rattle.std.specs.Prelude.{◌≡◌, ◌+◌, ◌<◌, ◌≤◌, IfSo
 ghost use Rattle.nook_defs.specs.Schedules.{listed, listed_pick, opening_order, picked, place_from, round_pick};
 ghost use Rattle.schedule.specs.Standings.{IsNext, cursor_after};
 
-use nook_defs::data::ScheduleSpec;
 use nook_defs::lists::Picks;
+use nook_defs::scenario::ScheduleSpec;
 use rand_core::SeedableRng;
 use rand_core::utils::NextWord;
 use rand_pcg::Pcg32;

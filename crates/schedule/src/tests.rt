@@ -1,9 +1,9 @@
 //! The picks of the three schedules.
 
 use crate::Schedule;
-use nook_defs::data::ScheduleSpec;
 use nook_defs::lists::Picks;
 use nook_defs::memory::NoMemory;
+use nook_defs::scenario::ScheduleSpec;
 use std::alloc::Global;
 use std::fmt::Write;
 use std::test::Fail;

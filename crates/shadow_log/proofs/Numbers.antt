@@ -1,13 +1,13 @@
 -- Open calls whose numbers rise.
-use Rattle.std.proofs.Common.{◌≡◌, ℕ, zero, suc, ◌+◌, ◌≤◌, ◌<◌, ◌==◌, Bool, true, false, not, cond, Option, Some, None, List, [], ◌∷◌, ◌++◌, filter, map, length, slice_get, slice_set, slice_index_or, refl, sym, ap, ◌∙◌, inl, inr, arith}
+use Rattle.std.proofs.Common.{◌≡◌, ℕ, suc, ◌+◌, ◌≤◌, ◌<◌, Bool, true, false, cond, Option, Some, None, List, [], ◌∷◌, ◌++◌, filter, map, length, slice_set, slice_index_or, refl, sym, ap, ◌∙◌, inl, inr, arith}
 use Rattle.std.specs.List.{find, position, position_or_len}
 use Rattle.std.specs.Option.{MatchOption, IfSome, option_map}
 use Rattle.std.proofs.lemmas.Bool.{cases_Bool, cases_lt, eq-eqb, eqb-true, ne_eqb, lt-ltb, le-ltb}
 use Rattle.std.proofs.lemmas.Option.{slice_get_past}
 use Rattle.std.proofs.lemmas.List.{get_or_read}
 use Rattle.std.proofs.lemmas.List.Folds.{find_at}
-use Rattle.nook_defs.specs.declared.data.CallEntry.{CallEntry}
-use Rattle.nook_defs.specs.Log.{IsNumbered, is_call, is_of_thread, change_call, open_call, call_of_thread}
+use Rattle.nook_defs.specs.declared.calls.CallEntry.{CallEntry}
+use Rattle.nook_defs.specs.Log.{IsNumbered, is_call, is_of_thread, change_entry, open_call, call_of_thread}
 use Rattle.shadow_log.specs.Places.{IsPlace}
 
 pub numbered_more : (low count : ℕ) (xs : List CallEntry) → IsNumbered low count xs → IsNumbered low (count + 1) xs
@@ -58,7 +58,7 @@ pub place_is : (call : ℕ) (xs : List CallEntry) (r : Option ℕ) → r ≡ pos
 place_is call xs r e = rw e (place_cases call (position_or_len (is_call call) xs) xs refl)
 
 none_above : (call low count : ℕ) (f : CallEntry → CallEntry) (xs : List CallEntry) → call ≤ low → IsNumbered low count xs
-    → map (change_call call f) xs ≡ xs
+    → map (change_entry call f) xs ≡ xs
 none_above call low count f [] l h = refl
 none_above call low count f (x ∷ xs) l h =
     rw (ne_eqb x.call call (λ e. omega (arith, e, l, h.0)), none_above call x.call count f xs (omega (arith, l, h.0)) h.1) refl
@@ -69,7 +69,7 @@ later p x xs e = rw e (omega arith)
 -- a change at the place of a call is the change of the call
 set_at : (call low count : ℕ) (f : CallEntry → CallEntry) (xs : List CallEntry) (place : ℕ) (y : CallEntry) → IsNumbered low count xs
     → place ≡ position_or_len (is_call call) xs → place < length xs → ((d : CallEntry) → y ≡ f (slice_index_or xs place d))
-    → slice_set xs place y ≡ map (change_call call f) xs
+    → slice_set xs place y ≡ map (change_entry call f) xs
 set_at call low count f [] place y n e l h = absurd (omega (arith, l))
 set_at call low count f (x ∷ xs) place y n e l h = elim (cases_Bool (is_call call x)) [
   | inl t ↦
@@ -83,7 +83,7 @@ set_at call low count f (x ∷ xs) place y n e l h = elim (cases_Bool (is_call c
 ]
 
 pub changed_at : (call count : ℕ) (f : CallEntry → CallEntry) (xs : List CallEntry) (place : ℕ) (x : CallEntry) → IsNumbered 0 count xs
-    → IsPlace call place xs → x ≡ slice_index_or xs place x → slice_set xs place (f x) ≡ map (change_call call f) xs
+    → IsPlace call place xs → x ≡ slice_index_or xs place x → slice_set xs place (f x) ≡ map (change_entry call f) xs
 changed_at call count f xs place x n p e =
     set_at call 0 count f xs place (f x) n p.first p.within (λ d. ap f (get_or_read xs place x p.within e d))
 
@@ -94,10 +94,10 @@ change_keeps call f x false e = refl
 pub numbered_set : (call count : ℕ) (f : CallEntry → CallEntry) (xs : List CallEntry) (place : ℕ) (x : CallEntry) → ((c : CallEntry) → (f c).call ≡ c.call)
     → IsNumbered 0 count xs → IsPlace call place xs → x ≡ slice_index_or xs place x → IsNumbered 0 count (slice_set xs place (f x))
 numbered_set call count f xs place x k n p e = rw (changed_at call count f xs place x n p e)
-    (numbered_map 0 count (change_call call f) xs (λ c. change_keeps call f c (is_call call c) (k c)) n)
+    (numbered_map 0 count (change_entry call f) xs (λ c. change_keeps call f c (is_call call c) (k c)) n)
 
 -- no call has the number
-pub changed_nowhere : (call : ℕ) (f : CallEntry → CallEntry) (xs : List CallEntry) → open_call call xs ≡ None → map (change_call call f) xs ≡ xs
+pub changed_nowhere : (call : ℕ) (f : CallEntry → CallEntry) (xs : List CallEntry) → open_call call xs ≡ None → map (change_entry call f) xs ≡ xs
 changed_nowhere call f [] e = refl
 changed_nowhere call f (x ∷ xs) e = elim (cases_Bool (is_call call x)) [
   | inl t ↦ let k : Some x ≡ None = rw (← e) (rw t refl) in absurd (cc)

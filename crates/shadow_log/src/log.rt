@@ -1,12 +1,15 @@
 //! The shadow's log.
 
 ghost use Rattle.std.specs.Prelude.{◌≡◌, ◌+◌, ◌-◌, ◌<◌, ◌≤◌, true, None, Some, MatchOption, length, map, option_map, slice_get, slice_index, slice_set, IfSome, IfOk, OnOk, OnErr};
-ghost use Rattle.nook_defs.specs.Log.{IsNumbered, acknowledged_call, answered, call_of_thread, entered, held, held_by_shadow, held_call, is_kept, is_touched, next_replay, no_call_open, numbered, open_call, opening_log, replay_after, with_call};
+ghost use Rattle.nook_defs.specs.Log.{IsNumbered, acknowledged_call, after_answering, call_of_thread, after_entering, after_holding, held_call, is_touched, next_replay, no_call_open, with_answered_call, open_call, opening_log, replay_after, with_call};
 ghost use Rattle.shadow_log.specs.Places.{IsPlace};
+ghost use Rattle.shadow_log.specs.Stopped.{after_answers};
 
-use nook_defs::data::{CallEntry, Op, Stage};
+use nook_defs::answers::answer_among;
+use nook_defs::calls::{Answer, CallEntry, Op};
 use nook_defs::lists::Word;
 use nook_defs::memory::NoMemory;
+use nook_defs::steps::Stage;
 use std::alloc::Global;
 use std::marker::Model;
 
@@ -73,10 +76,10 @@ impl ShadowLog {
     }
 
     /// A call that is answered at once: only its number is given.
-    #[tactic(auto, unfolding(nook_defs::specs::Log::numbered))]
+    #[tactic(auto, unfolding(nook_defs::specs::Log::with_answered_call))]
     pub fn number(&mut self) -> u32
         requires { self.old.count < 100000 }
-        ensures log { self.new ≡ numbered self.old }
+        ensures log { self.new ≡ with_answered_call self.old }
         ensures number { result ≡ self.old.count + 1 }
     {
         self.count += 1;
@@ -84,10 +87,10 @@ impl ShadowLog {
     }
 
     /// The call goes Inside, as one attempt more.
-    #[tactic(auto, unfolding(nook_defs::specs::Log::entered))]
+    #[tactic(auto, unfolding(nook_defs::specs::Log::after_entering))]
     pub fn entered(&mut self, call: u32)
         requires { IfSome (open_call call self.old.pending) (λ c. c.attempts < 4294967295) }
-        ensures { self.new ≡ entered call self.old }
+        ensures { self.new ≡ after_entering call self.old }
     {
         if let Some(place) = place_of(&self.pending, call) {
             let entry = &mut self.pending[place];
@@ -97,9 +100,9 @@ impl ShadowLog {
     }
 
     /// The call is Held. It keeps its number and its attempts.
-    #[tactic(auto, unfolding(nook_defs::specs::Log::held))]
+    #[tactic(auto, unfolding(nook_defs::specs::Log::after_holding))]
     pub fn held(&mut self, call: u32)
-        ensures { self.new ≡ held call self.old }
+        ensures { self.new ≡ after_holding call self.old }
     {
         if let Some(place) = place_of(&self.pending, call) {
             self.pending[place].inside = false;
@@ -108,7 +111,7 @@ impl ShadowLog {
 
     /// The driver's reply to the call was accepted. A Set goes into the record, an Open makes the call's thread
     /// the holder, a Close leaves none. The call stays open.
-    #[tactic(auto, unfolding(nook_defs::specs::Log::acknowledged_call, nook_defs::specs::Log::acknowledged))]
+    #[tactic(auto, unfolding(nook_defs::specs::Log::acknowledged_call, nook_defs::specs::Log::after_acknowledging))]
     pub fn acknowledge(&mut self, call: u32)
         ensures { self.new ≡ acknowledged_call call self.old }
     {
@@ -124,25 +127,25 @@ impl ShadowLog {
     }
 
     /// The call is open no more.
-    #[tactic(auto, unfolding(nook_defs::specs::Log::answered))]
+    #[tactic(auto, unfolding(nook_defs::specs::Log::after_answering))]
     pub fn answered(&mut self, call: u32)
-        ensures { self.new ≡ answered call self.old }
+        ensures { self.new ≡ after_answering call self.old }
     {
         self.pending.retain(|entry| entry.call != call);
     }
 
-    /// The driver was stopped: the calls that the shadow's table holds stay open, all Held; the others are
-    /// open no more.
-    #[tactic(auto, unfolding(nook_defs::specs::Log::held_by_shadow))]
-    pub fn stopped(&mut self)
-        ensures { self.new ≡ held_by_shadow self.old }
+    /// The driver was stopped, and these are the answers to open calls: the calls that have none stay open, all Held; the
+    /// others are open no more.
+    pub fn stopped(&mut self, answers: &[(u32, Answer)])
+        ensures log { self.new ≡ after_answers answers.now self.old }
+        ensures rising { IsNumbered 0 self.old.count self.old.pending }
     {
-        self.pending.retain(|entry| is_kept(&entry.op));
+        self.pending
+            .retain(|entry| answer_among(answers, entry.call).is_none());
         hold_all(&mut self.pending);
     }
 
     /// The part is given up: no call is open any more.
-    #[tactic(auto, unfolding(nook_defs::specs::Log::no_call_open))]
     pub fn given_up(&mut self)
         ensures { self.new ≡ no_call_open self.old }
     {
@@ -262,16 +265,6 @@ fn set_word(config: &mut [Word; 4], key: u32, value: Word)
     if key < 4 {
         config[key as usize] = value;
     }
-}
-
-/// Whether the shadow's table holds the operation.
-fn is_kept(op: &Op) -> bool
-    ensures { result ≡ is_kept op.now }
-{
-    matches!(
-        op,
-        Op::Read { .. } | Op::Write { .. } | Op::Close | Op::Set { .. }
-    )
 }
 
 /// Every call is Held.

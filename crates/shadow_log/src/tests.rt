@@ -1,7 +1,8 @@
 //! The log call by call: replays, attempts, and many calls.
 
 use crate::ShadowLog;
-use nook_defs::data::{Op, Stage};
+use nook_defs::calls::Op;
+use nook_defs::steps::Stage;
 use std::alloc::Global;
 use std::fmt::Write;
 use std::test::Fail;

@@ -1,6 +1,6 @@
 //! The shadow's decision on an operation.
 
-use nook_defs::data::Answer;
+use nook_defs::calls::Answer;
 
 /// What the shadow does with an operation in the driver's place.
 #[derive(Drop)]

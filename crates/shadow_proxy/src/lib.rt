@@ -7,4 +7,4 @@ mod table;
 mod tests;
 
 pub use decision::Proxy;
-pub use table::proxy;
+pub use table::{front_for, proxy};

@@ -1,12 +1,15 @@
 //! The table, a case for each operation.
 
 ghost use Rattle.std.specs.Prelude.{◌≡◌};
-ghost use Rattle.nook_defs.specs.Log.{shadow_answer};
+ghost use Rattle.nook_defs.specs.Log.{queue_after, shadow_answer};
+ghost use Rattle.shadow_proxy.specs.Front.{front_for};
 ghost use Rattle.shadow_proxy.specs.Table.{answer_of, queue_of};
 
 use crate::decision::Proxy;
-use nook_defs::data::{Answer, Op, Stage};
+use nook_defs::calls::{Answer, Op};
 use nook_defs::lists::Words;
+use nook_defs::outside::RxFront;
+use nook_defs::steps::Stage;
 use shadow_log::ShadowLog;
 
 /// The shadow's table. `front` is the frame that the caller took from the kernel's queue for a Recv. It takes
@@ -33,5 +36,17 @@ pub fn proxy(op: &Op, thread: u8, log: &ShadowLog, stage: &Stage, front: Option<
             }
         }
         Op::Get { key } => Proxy::Answer(Answer::Value(log.config(*key))),
+    }
+}
+
+/// The frame that the shadow may answer the operation with: the front of the kernel's queue, which leaves it, for a
+/// Recv; none for any other.
+pub fn front_for<Q: RxFront>(op: &Op, queue: &mut Q) -> Option<Words>
+    ensures front { result ≡ front_for op.now (Q.frames queue.old) }
+    ensures left { Q.frames queue.new ≡ queue_after op.now (Q.frames queue.old) }
+{
+    match op {
+        Op::Recv => queue.take_front(),
+        _ => None,
     }
 }

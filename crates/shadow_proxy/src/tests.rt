@@ -1,9 +1,10 @@
 //! The shadow's table, row by row.
 
 use crate::{Proxy, proxy};
-use nook_defs::data::{Answer, Op, Stage};
+use nook_defs::calls::{Answer, Op};
 use nook_defs::lists::{Items, Words};
 use nook_defs::memory::NoMemory;
+use nook_defs::steps::Stage;
 use shadow_log::ShadowLog;
 use std::alloc::Global;
 use std::test::Fail;

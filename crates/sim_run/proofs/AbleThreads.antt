@@ -3,10 +3,10 @@ use Rattle.std.proofs.Math.ListN.{drop_of_length-le}
 use Rattle.std.proofs.lemmas.Bool.{eqb-false, eqb-true}
 use Rattle.std.proofs.lemmas.List.{length-append, length-set}
 use Rattle.std.proofs.lemmas.Option.{slice_get-get_or, slice_get_within}
-use Rattle.nook_defs.specs.declared.data.Event.{Event}
-use Rattle.nook_defs.specs.declared.data.Op.{Op}
-use Rattle.nook_defs.specs.declared.data.Step.{Step}
-use Rattle.nook_defs.specs.Simulation.{PartSeat, ThreadState, Waiting, seat_after}
+use Rattle.nook_defs.specs.declared.steps.Event.{Event}
+use Rattle.nook_defs.specs.declared.calls.Op.{Op}
+use Rattle.nook_defs.specs.declared.steps.Step.{Step}
+use Rattle.nook_defs.specs.Simulation.{RunningPart, ThreadState, Waiting, part_after}
 use Rattle.part_laws.proofs.Places.{get_keep, get_mid, get_set, get_set_other, get_set_same, split}
 use Rattle.sim_run.proofs.Choosing.{drop_at}
 use Rattle.sim_run.specs.Able.{AreAble, AreAbleUpTo, able_actors, concerns, is_invocation, looks_at, looks_when}
@@ -15,7 +15,7 @@ use Rattle.sim_run.specs.Advanced.{IsSteppedSeat}
 
 -- Right flags name the threads that have a step.
 
-named_by_flags : (first : ℕ) (parts : List PartSeat) (threads : List ThreadState) (able : List Bool) → length able ≡ length threads
+named_by_flags : (first : ℕ) (parts : List RunningPart) (threads : List ThreadState) (able : List Bool) → length able ≡ length threads
     → ((k : ℕ) (t : ThreadState) → slice_get threads k ≡ Some t → slice_get able k ≡ Some (has_step (first + k) parts t))
     → able_actors first able ≡ actors_of_threads first parts threads
 unfolding able_actors actors_of_threads
@@ -40,7 +40,7 @@ named_by_flags first parts (t ∷ threads) (flag ∷ able) count each =
     plus : (n k : ℕ) → n + suc k ≡ n + 1 + k
     plus n k = omega arith
 
-pub named_as_able : (parts : List PartSeat) (threads : List ThreadState) (able : List Bool) → AreAble parts threads able
+pub named_as_able : (parts : List RunningPart) (threads : List ThreadState) (able : List Bool) → AreAble parts threads able
     → able_actors 0 able ≡ actors_of_threads 0 parts threads
 named_as_able parts threads able a =
     named_by_flags 0 parts threads able a.count (λ k t h. a.each k t h ∙ ap {B = Option Bool} (λ (n : ℕ). Some (has_step n parts t)) (plus k))
@@ -48,7 +48,7 @@ named_as_able parts threads able a =
     plus : (n : ℕ) → n ≡ 0 + n
     plus n = omega arith
 
-pub ready_named : (parts : List PartSeat) (threads : List ThreadState) (able : List Bool) (ready : List ℕ) → AreAble parts threads able
+pub ready_named : (parts : List RunningPart) (threads : List ThreadState) (able : List Bool) (ready : List ℕ) → AreAble parts threads able
     → ready ≡ able_actors 0 able ++ actors_of_seats (length able) parts → ready ≡ actors_in parts threads
 ready_named parts threads able ready a h =
     h ∙ ap (λ xs. xs ++ actors_of_seats (length able) parts) (named_as_able parts threads able a)
@@ -73,14 +73,14 @@ flags_end able i made whole l h =
 -- Flags that are found one after another.
 
 -- so many flags are there, each of its thread
-pub record HasFlags (count : ℕ) (parts : List PartSeat) (threads : List ThreadState) (able : List Bool) : Type 0 where
+pub record HasFlags (count : ℕ) (parts : List RunningPart) (threads : List ThreadState) (able : List Bool) : Type 0 where
   pub size : length able ≡ count
   pub each : (thread : ℕ) (t : ThreadState) → thread < count → slice_get threads thread ≡ Some t → slice_get able thread ≡ Some (has_step thread parts t)
 
-pub no_flags : (parts : List PartSeat) (threads : List ThreadState) → HasFlags 0 parts threads []
+pub no_flags : (parts : List RunningPart) (threads : List ThreadState) → HasFlags 0 parts threads []
 no_flags parts threads = record { size = refl; each = λ thread t l h. absurd (omega arith) }
 
-pub one_flag_more : (i : ℕ) (parts : List PartSeat) (threads : List ThreadState) (able : List Bool) (t : ThreadState) (flag : Bool)
+pub one_flag_more : (i : ℕ) (parts : List RunningPart) (threads : List ThreadState) (able : List Bool) (t : ThreadState) (flag : Bool)
     → slice_get threads i ≡ Some t → flag ≡ has_step i parts t → HasFlags i parts threads able → HasFlags (i + 1) parts threads (able ++ flag ∷ [])
 one_flag_more i parts threads able t flag at e has = record {
   size = length-append able (flag ∷ []) ∙ ap (λ (n : ℕ). n + 1) has.size;
@@ -104,7 +104,7 @@ one_flag_more i parts threads able t flag at e has = record {
         inner : {a b : ThreadState} → Some a ≡ Some b → a ≡ b
         inner h = cc
 
-pub all_flags : (i : ℕ) (parts : List PartSeat) (threads : List ThreadState) (able : List Bool) → i ≡ length threads
+pub all_flags : (i : ℕ) (parts : List RunningPart) (threads : List ThreadState) (able : List Bool) → i ≡ length threads
     → HasFlags i parts threads able → AreAble parts threads able
 all_flags i parts threads able e has = record {
   count = has.size ∙ e;
@@ -113,7 +113,7 @@ all_flags i parts threads able e has = record {
 
 -- A part's step leaves the flags of the threads that it does not concern.
 
-elsewhere : (thread part : ℕ) (parts : List PartSeat) (seat : PartSeat) (t : ThreadState) → looks_at part t ≡ false
+elsewhere : (thread part : ℕ) (parts : List RunningPart) (seat : RunningPart) (t : ThreadState) → looks_at part t ≡ false
     → has_step thread parts t ≡ has_step thread (slice_set parts part seat) t
 elsewhere thread part parts seat t h = by_open t.waiting t.rest h
   where
@@ -130,7 +130,7 @@ not_either : (a b : Bool) → (a || b) ≡ false → a ≡ false
 not_either true b h = h
 not_either false b h = refl
 
-pub able_elsewhere : (part : ℕ) (e : Event) (parts : List PartSeat) (seat : PartSeat) (threads : List ThreadState) (able : List Bool)
+pub able_elsewhere : (part : ℕ) (e : Event) (parts : List RunningPart) (seat : RunningPart) (threads : List ThreadState) (able : List Bool)
     → AreAble parts threads able → AreAbleUpTo 0 part e (slice_set parts part seat) threads able
 able_elsewhere part e parts seat threads able a = record {
   count = a.count;
@@ -139,16 +139,16 @@ able_elsewhere part e parts seat threads able a = record {
       ∙ ap {B = Option Bool} (λ (b : Bool). Some b) (elsewhere k part parts seat t (not_either (looks_at part t) (is_invocation k e) not));
 }
 
-pub able_stepped : (q : Option PartSeat) (place part : ℕ) (s : Step) (e : Event) (parts new : List PartSeat) (threads : List ThreadState) (able : List Bool)
+pub able_stepped : (q : Option RunningPart) (place part : ℕ) (s : Step) (e : Event) (parts new : List RunningPart) (threads : List ThreadState) (able : List Bool)
     → place ≡ part → IsSteppedSeat q parts place s new → AreAble parts threads able → AreAbleUpTo 0 part e new threads able
 able_stepped None place part s e parts new threads able same h a = absurd h
 able_stepped (Some seat) place part s e parts new threads able same h a =
-    subst (λ xs. AreAbleUpTo 0 part e xs threads able) (ap (λ (n : ℕ). slice_set parts n (seat_after s seat)) (sym same) ∙ sym h.0)
-    (able_elsewhere part e parts (seat_after s seat) threads able a)
+    subst (λ xs. AreAbleUpTo 0 part e xs threads able) (ap (λ (n : ℕ). slice_set parts n (part_after s seat)) (sym same) ∙ sym h.0)
+    (able_elsewhere part e parts (part_after s seat) threads able a)
 
 -- One thread more has heard the event.
 
-pub one_more_heard : (i part : ℕ) (e : Event) (parts : List PartSeat) (threads : List ThreadState) (able : List Bool) (t : ThreadState) (flag : Bool)
+pub one_more_heard : (i part : ℕ) (e : Event) (parts : List RunningPart) (threads : List ThreadState) (able : List Bool) (t : ThreadState) (flag : Bool)
     → i < length threads → flag ≡ has_step i parts t → AreAbleUpTo i part e parts threads able
     → AreAbleUpTo (i + 1) part e parts (slice_set threads i t) (slice_set able i flag)
 one_more_heard i part e parts threads able t flag l h a = record {
@@ -171,7 +171,7 @@ one_more_heard i part e parts threads able t flag l h a = record {
     by_later k x m not (inl same) = absurd (omega (arith, same.0))
     by_later k x m not (inr other) = get_set_other able k i flag other.0 ∙ a.later k x (omega arith) other.1 not
 
-pub all_heard : (i part : ℕ) (e : Event) (parts : List PartSeat) (threads : List ThreadState) (able : List Bool) → length threads ≤ i
+pub all_heard : (i part : ℕ) (e : Event) (parts : List RunningPart) (threads : List ThreadState) (able : List Bool) → length threads ≤ i
     → AreAbleUpTo i part e parts threads able → AreAble parts threads able
 all_heard i part e parts threads able l a = record {
   count = a.count;

@@ -2,10 +2,10 @@ use Rattle.std.proofs.Common.{◌≡◌, ℕ, zero, suc, ◌+◌, ◌<◌, ◌�
 use Rattle.std.proofs.lemmas.Option.{get_or_from_slice_get}
 use Rattle.std.proofs.Math.Seq.{get_or-append_seam, set-append_seam}
 use Rattle.std.proofs.lemmas.List.{drop_more, get_or_default, take_more}
-use Rattle.nook_defs.specs.declared.data.Event.{Event}
+use Rattle.nook_defs.specs.declared.steps.Event.{Event}
 use Rattle.nook_defs.specs.declared.memory.NoMemory.{NoMemory}
 use Rattle.nook_defs.specs.Schedules.{Order, picked}
-use Rattle.nook_defs.specs.Simulation.{Choice, PartSeat, Simulation, ThreadState, actor_of, choices_of, started, stepped_by, threads_after, told}
+use Rattle.nook_defs.specs.Simulation.{Choice, RunningPart, Simulation, ThreadState, actor_of, choices_of, started, stepped_by, threads_after, told}
 use Rattle.part_laws.proofs.Places.{length_map}
 use Rattle.sim_run.proofs.Choosing.{actors_named, choices_found, choices_open}
 use Rattle.sim_run.proofs.Picking.{picked_within}
@@ -37,7 +37,7 @@ map_at (x ∷ xs) zero c h = ap {B = Option ℕ} (λ (y : Choice). Some y.actor)
     inner h = cc
 map_at (x ∷ xs) (suc i) c h = map_at xs i c h
 
-pick_by : (s : Simulation) (actors : List ℕ) (place : ℕ) (order : Order) (o : Option Choice) (c : Choice) (seat : PartSeat)
+pick_by : (s : Simulation) (actors : List ℕ) (place : ℕ) (order : Order) (o : Option Choice) (c : Choice) (seat : RunningPart)
     → actors ≡ map actor_of (choices_of s) → 0 < length (choices_of s) → place ≡ (picked s.order actors).place → order ≡ (picked s.order actors).order
     → o ≡ choice_at s.parts s.threads (slice_index actors place) → IsPicked s (choices_of s) c seat → IsPick s o (record s { order = order })
 unfolding made
@@ -57,7 +57,7 @@ pick_by s actors place order o c seat a l p r h one =
       sym (ap (made_by s.parts) one.found),
     )
 
-pub pick_is : (order order' : Order) (parts : List PartSeat) (threads : List ThreadState) (actors : List ℕ) (place : ℕ) (o : Option Choice)
+pub pick_is : (order order' : Order) (parts : List RunningPart) (threads : List ThreadState) (actors : List ℕ) (place : ℕ) (o : Option Choice)
     → actors ≡ actors_in parts threads → 0 < length actors → place ≡ (picked order actors).place → order' ≡ (picked order actors).order
     → o ≡ choice_at parts threads (slice_index actors place) → IsPick (standing order parts threads) o (standing order' parts threads)
 pick_is order order' parts threads actors place o a l p r h =
@@ -117,7 +117,7 @@ heard_more part e threads now i d new l h n =
 
 -- What is said of a choice, said of a result.
 
-pub pick_result : (r : Result (Option Choice) NoMemory) (order order' : Order) (parts : List PartSeat) (threads : List ThreadState)
+pub pick_result : (r : Result (Option Choice) NoMemory) (order order' : Order) (parts : List RunningPart) (threads : List ThreadState)
     (ready listed : List ℕ) (place actor : ℕ) → ready ≡ actors_in parts threads → listed ≡ ready
     → place ≡ (picked order listed).place → order' ≡ (picked order listed).order → place < length listed → actor ≡ get_or ready place actor
     → IfOk r (λ o. o ≡ choice_at parts threads actor) → IfOk r (λ o. IsPick (standing order parts threads) o (standing order' parts threads))

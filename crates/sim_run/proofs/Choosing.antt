@@ -3,11 +3,12 @@ use Rattle.std.proofs.Math.ListN.{drop_of_length-le}
 use Rattle.std.proofs.lemmas.Option.{slice_get_read}
 use Rattle.std.specs.List.{AllByRecursion}
 use Rattle.std.proofs.lemmas.Bool.{false≢true, le-ltb, lt-ltb}
-use Rattle.nook_defs.specs.declared.data.Op.{Op}
-use Rattle.nook_defs.specs.declared.data.Step.{Step}
-use Rattle.nook_defs.specs.declared.data.Step.TheVariants as step
+use Rattle.nook_defs.specs.declared.calls.Op.{Op}
+use Rattle.nook_defs.specs.declared.steps.Step.{Step}
+use Rattle.nook_defs.specs.declared.steps.Step.TheVariants as step
 use Rattle.nook_defs.specs.Runs.{if_enabled, next_for, next_recovery}
-use Rattle.nook_defs.specs.Simulation.{actor_of, Choice, PartSeat, Simulation, ThreadState, Waiting, arrival, going_on, invocation, with_choice, with_invocation, with_thread, thread_choices, part_choices, choices_of}
+use Rattle.nook_defs.specs.Simulation.{actor_of, Choice, RunningPart, Simulation, ThreadState, Waiting, arrival, going_on, invocation, choices_of}
+use Rattle.nook_defs.proofs.ChoicesInOrder.{with_choice, with_invocation, with_thread, thread_choices, part_choices, choices_in_order}
 use Rattle.nook_defs.specs.State.{PartState}
 use Rattle.nook_defs.specs.Steps.{enabled}
 use Rattle.nook_defs.proofs.NextSteps.{next_for_case}
@@ -24,21 +25,21 @@ all_with P actor part (Some s) choices here more = (here (record { actor = actor
 
 -- what holds of each actor's choice holds of all choices
 
-all_invocation : (P : Choice → Type 0) (thread : ℕ) (parts : List PartSeat) (rest : List (ℕ × Op)) (choices : List Choice)
+all_invocation : (P : Choice → Type 0) (thread : ℕ) (parts : List RunningPart) (rest : List (ℕ × Op)) (choices : List Choice)
     → ((c : Choice) → invocation_of thread parts rest ≡ Some c → P c) → AllByRecursion P choices
     → AllByRecursion P (with_invocation thread parts rest choices)
 all_invocation P thread parts [] choices here more = more
 all_invocation P thread parts ((part, o) ∷ rest) choices here more =
     all_with P thread part (invocation thread o (slice_get parts part)) choices here more
 
-all_thread : (P : Choice → Type 0) (thread : ℕ) (parts : List PartSeat) (t : ThreadState) (w : Option Waiting) (choices : List Choice)
+all_thread : (P : Choice → Type 0) (thread : ℕ) (parts : List RunningPart) (t : ThreadState) (w : Option Waiting) (choices : List Choice)
     → ((c : Choice) → choice_when thread parts t w ≡ Some c → P c) → AllByRecursion P choices
     → AllByRecursion P (with_thread thread parts t w choices)
 all_thread P thread parts t None choices here more = all_invocation P thread parts t.rest choices here more
 all_thread P thread parts t (Some w) choices here more =
     all_with P thread w.part (going_on thread (slice_get parts w.part)) choices here more
 
-all_threads : (P : Choice → Type 0) (thread : ℕ) (parts : List PartSeat) (threads : List ThreadState) (choices : List Choice)
+all_threads : (P : Choice → Type 0) (thread : ℕ) (parts : List RunningPart) (threads : List ThreadState) (choices : List Choice)
     → ((k : ℕ) (c : Choice) → k < length threads → choice_of_thread (thread + k) parts (slice_get threads k) ≡ Some c → P c)
     → AllByRecursion P choices → AllByRecursion P (thread_choices thread parts threads choices)
 all_threads P thread parts [] choices each more = more
@@ -55,7 +56,7 @@ all_threads P thread parts (t ∷ threads) choices each more =
     plus_one : (n k : ℕ) → n + 1 + k ≡ n + suc k
     plus_one n k = omega arith
 
-all_parts : (P : Choice → Type 0) (actor part : ℕ) (parts : List PartSeat)
+all_parts : (P : Choice → Type 0) (actor part : ℕ) (parts : List RunningPart)
     → ((k which : ℕ) (c : Choice) → which < 2 → choice_of_seat (actor + (2 * k + which)) (part + k) which (slice_get parts k) ≡ Some c → P c)
     → AllByRecursion P (part_choices actor part parts)
 all_parts P actor part [] each = tt
@@ -98,7 +99,7 @@ actor_named actor part (Some s) c h = same h
         inner : {x y : Choice} → Some x ≡ Some y → x ≡ y
         inner h = cc
 
-thread_named : (thread : ℕ) (parts : List PartSeat) (o : Option ThreadState) (c : Choice) → choice_of_thread thread parts o ≡ Some c → thread ≡ c.actor
+thread_named : (thread : ℕ) (parts : List RunningPart) (o : Option ThreadState) (c : Choice) → choice_of_thread thread parts o ≡ Some c → thread ≡ c.actor
 thread_named thread parts None c h = cc
 thread_named thread parts (Some t) c h = by_open t.waiting t.rest h
   where
@@ -107,7 +108,7 @@ thread_named thread parts (Some t) c h = by_open t.waiting t.rest h
     by_open None [] h = cc
     by_open None ((part, o) ∷ rest) h = actor_named thread part (invocation thread o (slice_get parts part)) c h
 
-seat_named : (actor part which : ℕ) (o : Option PartSeat) (c : Choice) → choice_of_seat actor part which o ≡ Some c → actor ≡ c.actor
+seat_named : (actor part which : ℕ) (o : Option RunningPart) (c : Choice) → choice_of_seat actor part which o ≡ Some c → actor ≡ c.actor
 seat_named actor part which None c h = cc
 seat_named actor part which (Some seat) c h = actor_named actor part (step_of_seat which seat) c h
 
@@ -151,12 +152,13 @@ found_seat s actor part k which c p l e h =
     (at_seat s actor k which c l e (subst (λ (x : ℕ). choice_of_seat actor x which (slice_get s.parts k) ≡ Some c) p h))
 
 pub choices_found : (s : Simulation) → AllByRecursion (λ c. choice_at s.parts s.threads c.actor ≡ Some c) (choices_of s)
-unfolding choices_of IsFound
+unfolding IsFound
 choices_found s =
-    all_threads (IsFound s) 0 s.parts s.threads (part_choices (length s.threads) 0 s.parts)
+    subst (AllByRecursion (IsFound s)) (sym (choices_in_order s))
+    (all_threads (IsFound s) 0 s.parts s.threads (part_choices (length s.threads) 0 s.parts)
     (λ k c l h. found_thread s (0 + k) k c (omega arith) l h)
     (all_parts (IsFound s) (length s.threads) 0 s.parts
-    (λ k which c l h. found_seat s (length s.threads + (2 * k + which)) (0 + k) k which c (omega arith) l refl h))
+    (λ k which c l h. found_seat s (length s.threads + (2 * k + which)) (0 + k) k which c (omega arith) l refl h)))
 
 -- Each choice may be taken.
 
@@ -172,11 +174,11 @@ if_ok p s s' others ok h = split (enabled p s)
 none_ok : (p : PartState) (s : Step) → None ≡ Some s → enabled p s ≡ true
 none_ok p s h = cc
 
-may_invoke : (thread : ℕ) (o : Op) (q : Option PartSeat) (s : Step) → invocation thread o q ≡ Some s → MayTake q s
+may_invoke : (thread : ℕ) (o : Op) (q : Option RunningPart) (s : Step) → invocation thread o q ≡ Some s → MayTake q s
 may_invoke thread o None s h = cc
 may_invoke thread o (Some seat) s h = if_ok seat.run.state (step.Invoke thread o) s None (none_ok seat.run.state s) h
 
-may_go_on : (thread : ℕ) (q : Option PartSeat) (s : Step) → going_on thread q ≡ Some s → MayTake q s
+may_go_on : (thread : ℕ) (q : Option RunningPart) (s : Step) → going_on thread q ≡ Some s → MayTake q s
 may_go_on thread None s h = cc
 may_go_on thread (Some seat) s h =
     next_for_case (λ x. enabled seat.run.state x ≡ true) seat.run.state thread s (λ e. e) (λ e. e) h
@@ -186,11 +188,11 @@ unfolding next_recovery
 may_recover p s h =
     if_ok p step.Stage s (if_enabled p (step.Burst 16) None) (if_ok p (step.Burst 16) s None (none_ok p s)) h
 
-may_arrive : (seat : PartSeat) (coming : List (List ℕ)) (s : Step) → arrival seat.run coming ≡ Some s → enabled seat.run.state s ≡ true
+may_arrive : (seat : RunningPart) (coming : List (List ℕ)) (s : Step) → arrival seat.run coming ≡ Some s → enabled seat.run.state s ≡ true
 may_arrive seat [] s h = cc
 may_arrive seat (frame ∷ coming) s h = if_ok seat.run.state (step.Arrive frame) s None (none_ok seat.run.state s) h
 
-open_by : (parts : List PartSeat) (actor part : ℕ) (o : Option Step) (c : Choice) → ((s : Step) → o ≡ Some s → MayTake (slice_get parts part) s)
+open_by : (parts : List RunningPart) (actor part : ℕ) (o : Option Step) (c : Choice) → ((s : Step) → o ≡ Some s → MayTake (slice_get parts part) s)
     → choice_by actor part o ≡ Some c → IsOpenChoice parts c
 open_by parts actor part None c ok h = cc
 open_by parts actor part (Some s) c ok h = subst (IsOpenChoice parts) (inner h) (ok s refl)
@@ -198,39 +200,39 @@ open_by parts actor part (Some s) c ok h = subst (IsOpenChoice parts) (inner h) 
     inner : {x y : Choice} → Some x ≡ Some y → x ≡ y
     inner h = cc
 
-open_invocation : (parts : List PartSeat) (thread : ℕ) (rest : List (ℕ × Op)) (c : Choice) → invocation_of thread parts rest ≡ Some c → IsOpenChoice parts c
+open_invocation : (parts : List RunningPart) (thread : ℕ) (rest : List (ℕ × Op)) (c : Choice) → invocation_of thread parts rest ≡ Some c → IsOpenChoice parts c
 open_invocation parts thread [] c h = cc
 open_invocation parts thread ((part, o) ∷ rest) c h =
     open_by parts thread part (invocation thread o (slice_get parts part)) c (may_invoke thread o (slice_get parts part)) h
 
-open_when : (parts : List PartSeat) (thread : ℕ) (t : ThreadState) (w : Option Waiting) (c : Choice) → choice_when thread parts t w ≡ Some c → IsOpenChoice parts c
+open_when : (parts : List RunningPart) (thread : ℕ) (t : ThreadState) (w : Option Waiting) (c : Choice) → choice_when thread parts t w ≡ Some c → IsOpenChoice parts c
 open_when parts thread t None c h = open_invocation parts thread t.rest c h
 open_when parts thread t (Some w) c h =
     open_by parts thread w.part (going_on thread (slice_get parts w.part)) c (may_go_on thread (slice_get parts w.part)) h
 
-open_thread : (parts : List PartSeat) (thread : ℕ) (o : Option ThreadState) (c : Choice) → choice_of_thread thread parts o ≡ Some c → IsOpenChoice parts c
+open_thread : (parts : List RunningPart) (thread : ℕ) (o : Option ThreadState) (c : Choice) → choice_of_thread thread parts o ≡ Some c → IsOpenChoice parts c
 open_thread parts thread None c h = cc
 open_thread parts thread (Some t) c h = open_when parts thread t t.waiting c h
 
-may_step : (which : ℕ) (seat : PartSeat) (s : Step) → step_of_seat which seat ≡ Some s → enabled seat.run.state s ≡ true
+may_step : (which : ℕ) (seat : RunningPart) (s : Step) → step_of_seat which seat ≡ Some s → enabled seat.run.state s ≡ true
 may_step which seat s h = split (which == 0)
     (λ e. may_recover seat.run.state s (rw e at h))
     (λ e. may_arrive seat seat.coming s (rw e at h))
 
-open_seat : (parts : List PartSeat) (actor part which : ℕ) (o : Option PartSeat) (c : Choice) → slice_get parts part ≡ o
+open_seat : (parts : List RunningPart) (actor part which : ℕ) (o : Option RunningPart) (c : Choice) → slice_get parts part ≡ o
     → choice_of_seat actor part which o ≡ Some c → IsOpenChoice parts c
 open_seat parts actor part which None c e h = cc
 open_seat parts actor part which (Some seat) c e h =
     open_by parts actor part (step_of_seat which seat) c (λ s g. rw e (may_step which seat s g)) h
 
 pub choices_open : (s : Simulation) → AllByRecursion (IsOpenChoice s.parts) (choices_of s)
-unfolding choices_of
 choices_open s =
-    all_threads (IsOpenChoice s.parts) 0 s.parts s.threads (part_choices (length s.threads) 0 s.parts)
+    subst (AllByRecursion (IsOpenChoice s.parts)) (sym (choices_in_order s))
+    (all_threads (IsOpenChoice s.parts) 0 s.parts s.threads (part_choices (length s.threads) 0 s.parts)
     (λ k c l h. open_thread s.parts (0 + k) (slice_get s.threads k) c h)
     (all_parts (IsOpenChoice s.parts) (length s.threads) 0 s.parts
     (λ k which c l h. open_seat s.parts (length s.threads + (2 * k + which)) (0 + k) which (slice_get s.parts k) c
-    (ap (slice_get s.parts) (zero-add k)) h))
+    (ap (slice_get s.parts) (zero-add k)) h)))
 
 -- The actors that have a choice.
 
@@ -248,18 +250,18 @@ named_choice : (actor part : ℕ) (o : Option Step) (choices : List Choice)
 named_choice actor part o choices =
     named_with actor part o choices ∙ ap (λ b. named_if b actor ++ map actor_of choices) (sym (some_choice actor part o))
 
-named_invocation : (thread : ℕ) (parts : List PartSeat) (rest : List (ℕ × Op)) (choices : List Choice)
+named_invocation : (thread : ℕ) (parts : List RunningPart) (rest : List (ℕ × Op)) (choices : List Choice)
     → map actor_of (with_invocation thread parts rest choices)
     ≡ named_if (is_some (invocation_of thread parts rest)) thread ++ map actor_of choices
 named_invocation thread parts [] choices = refl
 named_invocation thread parts ((part, o) ∷ rest) choices = named_choice thread part (invocation thread o (slice_get parts part)) choices
 
-named_thread : (thread : ℕ) (parts : List PartSeat) (t : ThreadState) (w : Option Waiting) (choices : List Choice)
+named_thread : (thread : ℕ) (parts : List RunningPart) (t : ThreadState) (w : Option Waiting) (choices : List Choice)
     → map actor_of (with_thread thread parts t w choices) ≡ named_if (is_some (choice_when thread parts t w)) thread ++ map actor_of choices
 named_thread thread parts t None choices = named_invocation thread parts t.rest choices
 named_thread thread parts t (Some w) choices = named_choice thread w.part (going_on thread (slice_get parts w.part)) choices
 
-named_threads : (thread : ℕ) (parts : List PartSeat) (threads : List ThreadState) (choices : List Choice)
+named_threads : (thread : ℕ) (parts : List RunningPart) (threads : List ThreadState) (choices : List Choice)
     → map actor_of (thread_choices thread parts threads choices) ≡ actors_of_threads thread parts threads ++ map actor_of choices
 unfolding actors_of_threads
 named_threads thread parts [] choices = refl
@@ -268,7 +270,7 @@ named_threads thread parts (t ∷ threads) choices =
     ∙ ap (λ xs. actor_of_thread thread parts t ++ xs) (named_threads (thread + 1) parts threads choices)
     ∙ sym (append_assoc (actor_of_thread thread parts t) (actors_of_threads (thread + 1) parts threads) (map actor_of choices))
 
-named_seats : (actor part : ℕ) (parts : List PartSeat) → map actor_of (part_choices actor part parts) ≡ actors_of_seats actor parts
+named_seats : (actor part : ℕ) (parts : List RunningPart) → map actor_of (part_choices actor part parts) ≡ actors_of_seats actor parts
 unfolding actors_of_seats
 named_seats actor part [] = refl
 named_seats actor part (seat ∷ parts) =
@@ -283,21 +285,21 @@ named_seats actor part (seat ∷ parts) =
 
 pub actors_named : (s : Simulation)
     → map actor_of (choices_of s) ≡ actors_of_threads 0 s.parts s.threads ++ actors_of_seats (length s.threads) s.parts
-unfolding choices_of
 actors_named s =
-    named_threads 0 s.parts s.threads (part_choices (length s.threads) 0 s.parts)
+    ap (map actor_of) (choices_in_order s)
+    ∙ named_threads 0 s.parts s.threads (part_choices (length s.threads) 0 s.parts)
     ∙ ap (λ xs. actors_of_threads 0 s.parts s.threads ++ xs) (named_seats (length s.threads) 0 s.parts)
 
 -- whether there is an invocation tells which one
 
-pub some_invocation : (thread : ℕ) (o : Op) (q : Option PartSeat) → is_some (invocation thread o q) ≡ true
+pub some_invocation : (thread : ℕ) (o : Op) (q : Option RunningPart) → is_some (invocation thread o q) ≡ true
     → invocation thread o q ≡ Some (step.Invoke thread o)
 some_invocation thread o None h = cc
 some_invocation thread o (Some seat) h = split (enabled seat.run.state (step.Invoke thread o))
     (λ e. rw e)
     (λ e. absurd (false≢true (rw e at h)))
 
-pub no_invocation : (thread : ℕ) (o : Op) (q : Option PartSeat) → is_some (invocation thread o q) ≡ false → invocation thread o q ≡ None
+pub no_invocation : (thread : ℕ) (o : Op) (q : Option RunningPart) → is_some (invocation thread o q) ≡ false → invocation thread o q ≡ None
 no_invocation thread o None h = refl
 no_invocation thread o (Some seat) h = split (enabled seat.run.state (step.Invoke thread o))
     (λ e. absurd (true≢false (rw e at h)))
@@ -311,7 +313,7 @@ drop_at (y ∷ xs) zero n x h e = rw e (cc)
 drop_at (y ∷ xs) (suc i) n x h e =
     rw e (drop_at xs i (suc i) x h refl)
 
-pub seats_more : (first : ℕ) (seats : List PartSeat) (i : ℕ) (seat : PartSeat) (made : List ℕ) → slice_get seats i ≡ Some seat
+pub seats_more : (first : ℕ) (seats : List RunningPart) (i : ℕ) (seat : RunningPart) (made : List ℕ) → slice_get seats i ≡ Some seat
     → (made ++ actors_of_seat (first + 2 * i) seat) ++ actors_of_seats (first + 2 * (i + 1)) (drop (i + 1) seats)
     ≡ made ++ actors_of_seats (first + 2 * i) (drop i seats)
 unfolding actors_of_seats
@@ -323,7 +325,7 @@ seats_more first seats i seat made h =
     plus : (n k : ℕ) → n + 2 * (k + 1) ≡ n + 2 * k + 2
     plus n k = omega arith
 
-pub seats_step : (first : ℕ) (seats : List PartSeat) (i : ℕ) (seat : PartSeat) (made now whole : List ℕ)
+pub seats_step : (first : ℕ) (seats : List RunningPart) (i : ℕ) (seat : RunningPart) (made now whole : List ℕ)
     → i < length seats → seat ≡ get_or seats i seat → now ≡ made ++ actors_of_seat (first + 2 * i) seat
     → made ++ actors_of_seats (first + 2 * i) (drop i seats) ≡ whole
     → now ++ actors_of_seats (first + 2 * (i + 1)) (drop (i + 1) seats) ≡ whole
@@ -331,7 +333,7 @@ seats_step first seats i seat made now whole l r e h =
     ap (λ xs. xs ++ actors_of_seats (first + 2 * (i + 1)) (drop (i + 1) seats)) e
     ∙ seats_more first seats i seat made (slice_get_read seats (length seats) i seat refl l r) ∙ h
 
-pub seats_end : (first : ℕ) (seats : List PartSeat) (i : ℕ) (made old : List ℕ) → length seats ≤ i
+pub seats_end : (first : ℕ) (seats : List RunningPart) (i : ℕ) (made old : List ℕ) → length seats ≤ i
     → made ++ actors_of_seats (first + 2 * i) (drop i seats) ≡ old ++ actors_of_seats (first + 2 * 0) seats
     → made ≡ old ++ actors_of_seats first seats
 unfolding actors_of_seats

@@ -1,16 +1,16 @@
 -- What each part of a whole run ends in is what its journal leads to.
 use Rattle.std.proofs.Common.{◌≡◌, IfOk, map, Result, Ok, Err, List, [], ◌∷◌, sym, ap, ◌∙◌, subst}
-use Rattle.nook_defs.specs.declared.data.Event.{Event}
-use Rattle.nook_defs.specs.declared.data.PartSpec.{PartSpec}
-use Rattle.nook_defs.specs.declared.data.Scenario.{Scenario}
+use Rattle.nook_defs.specs.declared.steps.Event.{Event}
+use Rattle.nook_defs.specs.declared.scenario.PartSpec.{PartSpec}
+use Rattle.nook_defs.specs.declared.scenario.Scenario.{Scenario}
 use Rattle.nook_defs.specs.declared.memory.NoMemory.{NoMemory}
 use Rattle.nook_defs.specs.Devices.{medium_of}
 use Rattle.nook_defs.specs.Views.Room.{Kept}
 use Rattle.nook_defs.specs.Runs.{state_of}
-use Rattle.nook_defs.specs.Simulation.{IsScheduledRun, PartSeat, Simulation, journal_of, journals_of}
+use Rattle.nook_defs.specs.Simulation.{IsScheduledRun, RunningPart, Simulation, journal_of, journals_of}
 use Rattle.nook_defs.specs.State.{PartState}
 use Rattle.nook_defs.specs.Steps.{opening}
-use Rattle.device_laws.proofs.DeviceStays.{opening_spec, spec_from}
+use Rattle.part_laws.proofs.DeviceStays.{opening_spec, spec_from}
 use Rattle.report_text.specs.Whole.{HaveEnds, ShowsState, objects_from}
 use Rattle.sim_run.proofs.Reaching.{seats_of_runs}
 use Rattle.run_ends.specs.declared.whole_run.WholeRun.{WholeRun}
@@ -19,7 +19,7 @@ use Rattle.sim_run.specs.Ends.{ends_of}
 use Rattle.sim_run.specs.Reached.{AreSeatsOf, IsSeatOf}
 use Rattle.run_ends.specs.Journals.{events_in}
 
-shows : (spec : PartSpec) (seat : PartSeat) (events : List Event) → IsSeatOf spec seat → events ≡ seat.run.journal
+shows : (spec : PartSpec) (seat : RunningPart) (events : List Event) → IsSeatOf spec seat → events ≡ seat.run.journal
     → ShowsState spec (state_of spec events) (end_of seat.run.state)
 unfolding end_of objects_in
 shows spec seat events s e =
@@ -31,7 +31,7 @@ shows spec seat events s e =
       limit = ap (λ (x : PartSpec). x.limit) (spec_from (opening spec) events ∙ opening_spec spec);
     }
 
-have_ends : (specs : List PartSpec) (seats : List PartSeat) (journals : List (Kept Event)) → AreSeatsOf specs seats
+have_ends : (specs : List PartSpec) (seats : List RunningPart) (journals : List (Kept Event)) → AreSeatsOf specs seats
     → map events_in journals ≡ map journal_of seats → HaveEnds specs journals (ends_of seats)
 have_ends [] [] journals a j = tt
 have_ends [] (seat ∷ seats) journals a j = absurd a
@@ -42,7 +42,7 @@ have_ends (spec ∷ specs) (seat ∷ seats) (journal ∷ journals) a j =
     let rest : map events_in journals ≡ map journal_of seats = cc in
     (shows spec seat journal.list a.0 first, have_ends specs seats journals a.1 rest)
 
-ends_at : (specs : List PartSpec) (seats : List PartSeat) (x : WholeRun) → AreSeatsOf specs seats
+ends_at : (specs : List PartSpec) (seats : List RunningPart) (x : WholeRun) → AreSeatsOf specs seats
     → map events_in x.run.journals ≡ map journal_of seats → x.ends ≡ ends_of seats → HaveEnds specs x.run.journals x.ends
 ends_at specs seats x a j e = rw e (have_ends specs seats x.run.journals a j)
 

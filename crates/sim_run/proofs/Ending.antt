@@ -1,6 +1,6 @@
-use Rattle.std.proofs.Common.{◌≡◌, ℕ, suc, ◌+◌, ◌<◌, ◌≤◌, ◌^◌, true, false, IfOk, OnErr, map, Result, Ok, Err, List, [], ◌∷◌, ◌++◌, length, ◌⊎◌, inl, inr, Bool, refl, sym, ap, ◌∙◌, subst, arith, add-one, zero-add, suc-add, zero}
-use Rattle.nook_defs.specs.declared.data.Event.{Event}
-use Rattle.nook_defs.specs.declared.data.Scenario.{Scenario}
+use Rattle.std.proofs.Common.{◌≡◌, ℕ, suc, ◌+◌, ◌<◌, ◌≤◌, ◌^◌, true, false, IfOk, map, Result, Ok, Err, List, [], ◌∷◌, ◌++◌, length, ◌⊎◌, inl, inr, Bool, refl, sym, ap, ◌∙◌, subst, arith, add-one, zero-add, suc-add, zero}
+use Rattle.nook_defs.specs.declared.steps.Event.{Event}
+use Rattle.nook_defs.specs.declared.scenario.Scenario.{Scenario}
 use Rattle.nook_defs.specs.declared.memory.NoMemory.{NoMemory}
 use Rattle.nook_defs.specs.Listening.{Listening}
 use Rattle.nook_defs.specs.ReportText.{events_count}
@@ -116,13 +116,13 @@ simulated_told (Ok x) scenario s totals old new w j a t m = record {
 
 -- The scheduled run is one, and there is one.
 
-runs_add : (n k : ℕ) (s : Simulation) → runs (n + k) s ≡ runs k (runs n s)
+pub runs_add : (n k : ℕ) (s : Simulation) → runs (n + k) s ≡ runs k (runs n s)
 unfolding runs
 runs_add zero k s = ap (λ (m : ℕ). runs m s) (zero-add k)
 runs_add (suc n) k s =
     ap (λ (m : ℕ). runs m s) (suc-add n k) ∙ runs_front (n + k) s ∙ runs_add n k (moved s (choices_of s)) ∙ ap (runs k) (sym (runs_front n s))
 
-stays : (scenario : Scenario) (s : Simulation) (h : IsScheduledRun scenario s) (k : ℕ) → runs (h.steps + k) (begins scenario) ≡ s
+pub stays : (scenario : Scenario) (s : Simulation) (h : IsScheduledRun scenario s) (k : ℕ) → runs (h.steps + k) (begins scenario) ≡ s
 stays scenario s h k =
     runs_add h.steps k (begins scenario) ∙ ap (runs k) h.reached ∙ runs_still k s h.ended
 

@@ -6,4 +6,5 @@ pub mod EndStates
 pub mod Picking
 pub mod Publishing
 pub mod Reaching
+pub mod Seeking
 pub mod Taking

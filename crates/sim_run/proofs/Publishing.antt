@@ -2,17 +2,15 @@ use Rattle.std.proofs.Common.{◌≡◌, ℕ, zero, suc, ◌+◌, ◌==◌, Opti
 use Rattle.std.specs.List.{AllByRecursion}
 use Rattle.std.proofs.lemmas.Option.{slice_get-map}
 use Rattle.std.proofs.lemmas.Bool.{both_ways, eq-eqb}
-use Rattle.nook_defs.specs.declared.data.Event.{Event}
-use Rattle.nook_defs.specs.declared.data.PartSpec.{PartSpec}
-use Rattle.nook_defs.specs.declared.data.Scenario.{Scenario}
+use Rattle.nook_defs.specs.declared.steps.Event.{Event}
+use Rattle.nook_defs.specs.declared.scenario.PartSpec.{PartSpec}
+use Rattle.nook_defs.specs.declared.scenario.Scenario.{Scenario}
 use Rattle.nook_defs.specs.Listening.{Listening, count_if, hears}
 use Rattle.nook_defs.specs.Runs.{event_of}
-use Rattle.nook_defs.specs.Simulation.{Choice, PartSeat, Simulation, begins, choices_of, journal_of, journals_of, opening_seat, runs, seat_after, taken}
+use Rattle.nook_defs.specs.Simulation.{Choice, RunningPart, Simulation, begins, choices_of, journal_of, journals_of, opening_part, runs, part_after, taken}
 use Rattle.nook_defs.specs.Taps.{heard_events}
 use Rattle.part_laws.proofs.BurstKeeps.{split}
 use Rattle.part_laws.proofs.Places.{get_set_other}
-use Rattle.request_taps.specs.Bus.{told, told_all}
-use Rattle.request_taps.specs.declared.tap.Tap.{Tap}
 use Rattle.sim_run.proofs.Choosing.{choices_open}
 use Rattle.sim_run.proofs.Reaching.{IsPicked, picked_one, runs_front}
 use Rattle.run_ends.specs.Journals.{with_part}
@@ -32,7 +30,7 @@ published_back (suc n) s =
 
 -- what one step makes
 
-made_picked : (s : Simulation) (choices : List Choice) (c : Choice) (seat : PartSeat) → IsPicked s choices c seat
+made_picked : (s : Simulation) (choices : List Choice) (c : Choice) (seat : RunningPart) → IsPicked s choices c seat
     → made s choices ≡ (c.part, event_of seat.run.state c.step) ∷ []
 unfolding made
 made_picked s choices c seat p = ap (made_by s.parts) p.found ∙ ap (made_of c) p.at_part
@@ -66,7 +64,7 @@ get_set_same [] k x y e = cc
 get_set_same (z ∷ xs) zero x y e = refl
 get_set_same (z ∷ xs) (suc k) x y e = get_set_same xs k x y e
 
-set_more : (seats : List PartSeat) (at p : ℕ) (seat new : PartSeat) (event : Event) → slice_get seats at ≡ Some seat
+set_more : (seats : List RunningPart) (at p : ℕ) (seat new : RunningPart) (event : Event) → slice_get seats at ≡ Some seat
     → new.run.journal ≡ seat.run.journal ++ event ∷ []
     → slice_get (map journal_of (slice_set seats at new)) p ≡ option_map (more_of_part p ((at, event) ∷ [])) (slice_get (map journal_of seats) p)
 unfolding more_of_part
@@ -80,7 +78,7 @@ set_more seats at p seat new event e j = split (at == p)
     ∙ ap (option_map journal_of) (get_set_same seats at seat new e)
     ∙ ap {B = Option (List Event)} (λ xs. Some xs) j
     ∙ ap {B = Option (List Event)} (λ xs. Some (seat.run.journal ++ xs)) (sym one)
-    ∙ ap (λ (o : Option PartSeat). option_map (λ journal. journal ++ events_of_part p ((at, event) ∷ [])) (option_map journal_of o)) (sym e)
+    ∙ ap (λ (o : Option RunningPart). option_map (λ journal. journal ++ events_of_part p ((at, event) ∷ [])) (option_map journal_of o)) (sym e)
     ∙ ap (option_map (λ journal. journal ++ events_of_part p ((at, event) ∷ []))) (sym (slice_get-map journal_of seats at))))
     (λ h.
     let none : events_of_part p ((at, event) ∷ []) ≡ [] = rw h in
@@ -89,11 +87,11 @@ set_more seats at p seat new event e j = split (at == p)
     ∙ sym (slice_get-map journal_of seats p)
     ∙ sym (more_none p ((at, event) ∷ []) (slice_get (map journal_of seats) p) none))
 
-picked_more : (s : Simulation) (choices : List Choice) (c : Choice) (seat : PartSeat) (p : ℕ) → IsPicked s choices c seat
+picked_more : (s : Simulation) (choices : List Choice) (c : Choice) (seat : RunningPart) (p : ℕ) → IsPicked s choices c seat
     → slice_get (journals_of (taken s choices)) p ≡ option_map (more_of_part p (made s choices)) (slice_get (journals_of s) p)
 picked_more s choices c seat p one =
     ap (λ (x : Simulation). slice_get (journals_of x) p) one.step
-    ∙ set_more s.parts c.part p seat (seat_after c.step seat) (event_of seat.run.state c.step) one.at_part refl
+    ∙ set_more s.parts c.part p seat (part_after c.step seat) (event_of seat.run.state c.step) one.at_part refl
     ∙ ap (λ xs. option_map (more_of_part p xs) (slice_get (journals_of s) p)) (sym (made_picked s choices c seat one))
 
 made_none : (s : Simulation) → made s [] ≡ []
@@ -118,7 +116,7 @@ runs_more (suc n) s p =
     ∙ more_append p (made s (choices_of s)) (published n (moved s (choices_of s))) (slice_get (journals_of s) p)
 
 empty_at_first : (specs : List PartSpec) (p : ℕ) (f : List Event → List Event) (journal : List Event)
-    → option_map f (slice_get (map journal_of (map opening_seat specs)) p) ≡ Some journal → f [] ≡ journal
+    → option_map f (slice_get (map journal_of (map opening_part specs)) p) ≡ Some journal → f [] ≡ journal
 empty_at_first [] p f journal e = cc
 empty_at_first (spec ∷ specs) zero f journal e = inner e
   where
@@ -147,13 +145,13 @@ part_push : (part : ℕ) (journal : List Event) (event : Event) → with_part pa
 part_push part [] event = refl
 part_push part (e ∷ journal) event = ap (λ xs. (part, e) ∷ xs) (part_push part journal event)
 
-heard_set : (l : Listening) (first : ℕ) (seats : List PartSeat) (at : ℕ) (seat new : PartSeat) (event : Event) → slice_get seats at ≡ Some seat
+heard_set : (l : Listening) (first : ℕ) (seats : List RunningPart) (at : ℕ) (seat new : RunningPart) (event : Event) → slice_get seats at ≡ Some seat
     → new.run.journal ≡ seat.run.journal ++ event ∷ []
     → heard_in_journals l first (map journal_of (slice_set seats at new))
     ≡ heard_in_journals l first (map journal_of seats) + heard_events l ((first + at, event) ∷ [])
 heard_set l first [] at seat new event e j = cc
 heard_set l first (x ∷ seats) zero seat new event e j =
-    let same : x.run.journal ≡ seat.run.journal = ap (λ (y : PartSeat). y.run.journal) (inner e) in
+    let same : x.run.journal ≡ seat.run.journal = ap (λ (y : RunningPart). y.run.journal) (inner e) in
     let here : heard_events l (with_part first new.run.journal) ≡ heard_events l (with_part first x.run.journal) + heard_events l ((first, event) ∷ []) =
     ap (λ xs. heard_events l (with_part first xs)) (j ∙ ap (λ xs. xs ++ event ∷ []) (sym same))
     ∙ ap (heard_events l) (part_push first x.run.journal event) ∙ heard_append l (with_part first x.run.journal) ((first, event) ∷ []) in
@@ -161,7 +159,7 @@ heard_set l first (x ∷ seats) zero seat new event e j =
     sum (heard_events l (with_part first new.run.journal)) (heard_events l (with_part first x.run.journal)) (heard_events l ((first, event) ∷ []))
     (heard_events l ((first + 0, event) ∷ [])) (heard_in_journals l (first + 1) (map journal_of seats)) here at'
   where
-    inner : {a b : PartSeat} → Some a ≡ Some b → a ≡ b
+    inner : {a b : RunningPart} → Some a ≡ Some b → a ≡ b
     inner h = cc
 
     plus : (n : ℕ) → n ≡ n + 0
@@ -179,11 +177,11 @@ heard_set l first (x ∷ seats) (suc at) seat new event e j =
     sum : (k a b c : ℕ) → a ≡ b + c → k + a ≡ k + b + c
     sum k a b c e = omega arith
 
-picked_heard : (l : Listening) (s : Simulation) (choices : List Choice) (c : Choice) (seat : PartSeat) → IsPicked s choices c seat
+picked_heard : (l : Listening) (s : Simulation) (choices : List Choice) (c : Choice) (seat : RunningPart) → IsPicked s choices c seat
     → heard_in_journals l 0 (journals_of (taken s choices)) ≡ heard_in_journals l 0 (journals_of s) + heard_events l (made s choices)
 picked_heard l s choices c seat one =
     ap (λ (x : Simulation). heard_in_journals l 0 (journals_of x)) one.step
-    ∙ heard_set l 0 s.parts c.part seat (seat_after c.step seat) (event_of seat.run.state c.step) one.at_part refl
+    ∙ heard_set l 0 s.parts c.part seat (part_after c.step seat) (event_of seat.run.state c.step) one.at_part refl
     ∙ ap (λ (n : ℕ). heard_in_journals l 0 (journals_of s) + heard_events l ((n, event_of seat.run.state c.step) ∷ [])) (zero-add c.part)
     ∙ ap (λ xs. heard_in_journals l 0 (journals_of s) + heard_events l xs) (sym (made_picked s choices c seat one))
 
@@ -206,10 +204,10 @@ runs_heard l (suc n) s =
     ∙ add_assoc (heard_in_journals l 0 (journals_of s)) (heard_events l (made s (choices_of s))) (heard_events l (published n (moved s (choices_of s))))
     ∙ ap (λ k. heard_in_journals l 0 (journals_of s) + k) (sym (heard_append l (made s (choices_of s)) (published n (moved s (choices_of s)))))
 
-silent_at_first : (l : Listening) (part : ℕ) (specs : List PartSpec) → heard_in_journals l part (map journal_of (map opening_seat specs)) ≡ 0
+silent_at_first : (l : Listening) (part : ℕ) (specs : List PartSpec) → heard_in_journals l part (map journal_of (map opening_part specs)) ≡ 0
 unfolding heard_events
 silent_at_first l part [] = refl
-silent_at_first l part (spec ∷ specs) = sum (heard_in_journals l (part + 1) (map journal_of (map opening_seat specs))) (silent_at_first l (part + 1) specs)
+silent_at_first l part (spec ∷ specs) = sum (heard_in_journals l (part + 1) (map journal_of (map opening_part specs))) (silent_at_first l (part + 1) specs)
   where
     sum : (n : ℕ) → n ≡ 0 → 0 + n ≡ 0
     sum n e = omega arith

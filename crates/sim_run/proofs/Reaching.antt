@@ -1,13 +1,14 @@
 use Rattle.std.proofs.Common.{◌≡◌, ℕ, zero, suc, ◌+◌, ◌*◌, ◌^◌, ◌<◌, ◌≤◌, true, Option, Some, None, List, [], ◌∷◌, ◌++◌, map, length, slice_get, slice_set, refl, sym, ap, ◌∙◌, subst, arith, length-append}
 use Rattle.std.specs.List.{AllByRecursion}
 use Rattle.std.proofs.lemmas.List.Elements.{recursion_from_All}
-use Rattle.nook_defs.specs.declared.data.PartSpec.{PartSpec}
-use Rattle.nook_defs.specs.declared.data.Scenario.{Scenario}
-use Rattle.nook_defs.specs.declared.data.Step.{Step}
+use Rattle.nook_defs.specs.declared.scenario.PartSpec.{PartSpec}
+use Rattle.nook_defs.specs.declared.scenario.Scenario.{Scenario}
+use Rattle.nook_defs.specs.declared.steps.Step.{Step}
 use Rattle.nook_defs.specs.ReportText.{events_count}
 use Rattle.nook_defs.specs.Runs.{IsRun, IsRunFrom, state_of, state_from, event_of, state_after}
 use Rattle.nook_defs.specs.Schedules.{picked}
-use Rattle.nook_defs.specs.Simulation.{Choice, PartSeat, Simulation, actor_of, begins, choices_of, journal_of, journals_of, opening_seat, runs, seat_after, stepped_by, taken, taken_by}
+use Rattle.nook_defs.specs.Simulation.{Choice, RunningPart, Simulation, actor_of, begins, choices_of, journal_of, journals_of, opening_part, runs, part_after, stepped_by, taken}
+use Rattle.nook_defs.proofs.Changes.{taken_by}
 use Rattle.nook_defs.specs.Steps.{enabled, opening}
 use Rattle.nook_defs.specs.Valid.{IsValidPart, IsValidScenario}
 use Rattle.part_laws.proofs.Places.{length_map}
@@ -36,15 +37,15 @@ some_at (x ∷ xs) zero l = (x, refl)
 some_at (x ∷ xs) (suc i) l = some_at xs i (omega arith)
 
 -- the choice that is picked, and its part
-pub record IsPicked (s : Simulation) (choices : List Choice) (c : Choice) (seat : PartSeat) : Type 0 where
+pub record IsPicked (s : Simulation) (choices : List Choice) (c : Choice) (seat : RunningPart) : Type 0 where
   pub found : slice_get choices (picked s.order (map actor_of choices)).place ≡ Some c
   pub at_part : slice_get s.parts c.part ≡ Some seat
   pub may : enabled seat.run.state c.step ≡ true
   pub step : taken s choices ≡ stepped_by s (picked s.order (map actor_of choices)).order c (Some seat)
 
-picked_part : (s : Simulation) (choices : List Choice) (c : Choice) (o : Option PartSeat)
+picked_part : (s : Simulation) (choices : List Choice) (c : Choice) (o : Option RunningPart)
     → slice_get choices (picked s.order (map actor_of choices)).place ≡ Some c → slice_get s.parts c.part ≡ o → MayTake o c.step
-    → (seat : PartSeat) × IsPicked s choices c seat
+    → (seat : RunningPart) × IsPicked s choices c seat
 unfolding taken
 picked_part s choices c None h e may = absurd may
 picked_part s choices c (Some seat) h e may = (
@@ -59,7 +60,7 @@ picked_part s choices c (Some seat) h e may = (
 )
 
 pub picked_one : (s : Simulation) (choices : List Choice) → AllByRecursion (IsOpenChoice s.parts) choices → 0 < length choices
-    → (c : Choice) × ((seat : PartSeat) × IsPicked s choices c seat)
+    → (c : Choice) × ((seat : RunningPart) × IsPicked s choices c seat)
 picked_one s choices all l =
     let n : length (map actor_of choices) ≡ length choices = length_map actor_of choices in
     let w : (picked s.order (map actor_of choices)).place < length (map actor_of choices) = picked_within s.order (map actor_of choices) (omega arith) in
@@ -71,7 +72,7 @@ picked_one s choices all l =
 
 -- Each part stays what its journal leads to.
 
-seat_more : (spec : PartSpec) (seat : PartSeat) (s : Step) → IsSeatOf spec seat → enabled seat.run.state s ≡ true → IsSeatOf spec (seat_after s seat)
+seat_more : (spec : PartSpec) (seat : RunningPart) (s : Step) → IsSeatOf spec seat → enabled seat.run.state s ≡ true → IsSeatOf spec (part_after s seat)
 seat_more spec seat s is may =
     let to : state_of spec seat.run.journal ≡ seat.run.state = sym is.state in
     record {
@@ -81,34 +82,34 @@ seat_more spec seat s is may =
           ∙ ap (λ p. state_of spec (seat.run.journal ++ event_of p s ∷ [])) to;
     }
 
-seats_set : (specs : List PartSpec) (seats : List PartSeat) (i : ℕ) (seat new : PartSeat) → slice_get seats i ≡ Some seat
+seats_set : (specs : List PartSpec) (seats : List RunningPart) (i : ℕ) (seat new : RunningPart) → slice_get seats i ≡ Some seat
     → ((spec : PartSpec) → IsSeatOf spec seat → IsSeatOf spec new) → AreSeatsOf specs seats → AreSeatsOf specs (slice_set seats i new)
 seats_set [] [] i seat new e keep are = are
 seats_set [] (x ∷ seats) i seat new e keep are = absurd are
 seats_set (spec ∷ specs) [] i seat new e keep are = absurd are
 seats_set (spec ∷ specs) (x ∷ seats) zero seat new e keep are = (keep spec (subst (IsSeatOf spec) (inner e) are.0), are.1)
   where
-    inner : {a b : PartSeat} → Some a ≡ Some b → a ≡ b
+    inner : {a b : RunningPart} → Some a ≡ Some b → a ≡ b
     inner h = cc
 seats_set (spec ∷ specs) (x ∷ seats) (suc i) seat new e keep are = (are.0, seats_set specs seats i seat new e keep are.1)
 
-seats_picked : (specs : List PartSpec) (s : Simulation) (choices : List Choice) (c : Choice) (seat : PartSeat) → IsPicked s choices c seat
+seats_picked : (specs : List PartSpec) (s : Simulation) (choices : List Choice) (c : Choice) (seat : RunningPart) → IsPicked s choices c seat
     → AreSeatsOf specs s.parts → AreSeatsOf specs (taken s choices).parts
 seats_picked specs s choices c seat p are =
     subst (λ (x : Simulation). AreSeatsOf specs x.parts) (sym p.step)
-    (seats_set specs s.parts c.part seat (seat_after c.step seat) p.at_part (λ spec is. seat_more spec seat c.step is p.may) are)
+    (seats_set specs s.parts c.part seat (part_after c.step seat) p.at_part (λ spec is. seat_more spec seat c.step is p.may) are)
 
 -- Each step adds one event.
 
-count_set : (seats : List PartSeat) (i : ℕ) (seat new : PartSeat) → slice_get seats i ≡ Some seat
+count_set : (seats : List RunningPart) (i : ℕ) (seat new : RunningPart) → slice_get seats i ≡ Some seat
     → length new.run.journal ≡ length seat.run.journal + 1
     → events_count (map journal_of (slice_set seats i new)) ≡ events_count (map journal_of seats) + 1
 count_set [] i seat new e l = cc
 count_set (x ∷ seats) zero seat new e l =
-    let same : length x.run.journal ≡ length seat.run.journal = ap (λ (y : PartSeat). length y.run.journal) (inner e) in
+    let same : length x.run.journal ≡ length seat.run.journal = ap (λ (y : RunningPart). length y.run.journal) (inner e) in
     sum (length new.run.journal) (length x.run.journal) (events_count (map journal_of seats)) (l ∙ ap (λ n. n + 1) (sym same))
   where
-    inner : {a b : PartSeat} → Some a ≡ Some b → a ≡ b
+    inner : {a b : RunningPart} → Some a ≡ Some b → a ≡ b
     inner h = cc
 
     sum : (n m k : ℕ) → n ≡ m + 1 → n + k ≡ m + k + 1
@@ -119,11 +120,11 @@ count_set (x ∷ seats) (suc i) seat new e l =
     sum : (k n m : ℕ) → n ≡ m + 1 → k + n ≡ k + m + 1
     sum k n m e = omega arith
 
-count_picked : (s : Simulation) (choices : List Choice) (c : Choice) (seat : PartSeat) → IsPicked s choices c seat
+count_picked : (s : Simulation) (choices : List Choice) (c : Choice) (seat : RunningPart) → IsPicked s choices c seat
     → events_count (journals_of (taken s choices)) ≡ events_count (journals_of s) + 1
 count_picked s choices c seat p =
     ap (λ (x : Simulation). events_count (journals_of x)) p.step
-    ∙ count_set s.parts c.part seat (seat_after c.step seat) p.at_part (length-append seat.run.journal (event_of seat.run.state c.step ∷ []))
+    ∙ count_set s.parts c.part seat (part_after c.step seat) p.at_part (length-append seat.run.journal (event_of seat.run.state c.step ∷ []))
 
 pub one_event_more : (s : Simulation) → 0 < length (choices_of s)
     → events_count (journals_of (taken s (choices_of s))) ≡ events_count (journals_of s) + 1
@@ -169,7 +170,7 @@ runs_seats specs (suc n) s are =
     subst (λ (x : Simulation). AreSeatsOf specs x.parts) (sym (runs_front n s))
     (runs_seats specs n (moved s (choices_of s)) (moved_seats specs s (choices_of s) (choices_open s) are))
 
-opening_seats : (specs : List PartSpec) → AreSeatsOf specs (map opening_seat specs)
+opening_seats : (specs : List PartSpec) → AreSeatsOf specs (map opening_part specs)
 unfolding IsRunFrom state_from
 opening_seats [] = tt
 opening_seats (spec ∷ specs) = (record { run = tt; state = refl }, opening_seats specs)
@@ -179,7 +180,7 @@ unfolding begins
 seats_of_runs scenario n = runs_seats scenario.parts n (begins scenario) (opening_seats scenario.parts)
 
 -- every journal is a run of its part
-pub runs_of_seats : (specs : List PartSpec) (seats : List PartSeat) → AreSeatsOf specs seats → AreRuns specs (map journal_of seats)
+pub runs_of_seats : (specs : List PartSpec) (seats : List RunningPart) → AreSeatsOf specs seats → AreRuns specs (map journal_of seats)
 runs_of_seats [] [] are = tt
 runs_of_seats [] (seat ∷ seats) are = absurd are
 runs_of_seats (spec ∷ specs) [] are = absurd are
@@ -187,7 +188,7 @@ runs_of_seats (spec ∷ specs) (seat ∷ seats) are = (are.0.run, runs_of_seats 
 
 -- Runs are short.
 
-count_low : (specs : List PartSpec) (seats : List PartSeat) → AllByRecursion IsValidPart specs → AreSeatsOf specs seats
+count_low : (specs : List PartSpec) (seats : List RunningPart) → AllByRecursion IsValidPart specs → AreSeatsOf specs seats
     → events_count (map journal_of seats) + length specs ≤ length specs * 2 ^ 23
 count_low [] [] valid are = omega arith
 count_low [] (seat ∷ seats) valid are = absurd are
@@ -212,9 +213,9 @@ pub none_at_first : (scenario : Scenario) → events_count (journals_of (begins 
 unfolding begins
 none_at_first scenario = none_of scenario.parts
   where
-    none_of : (specs : List PartSpec) → events_count (map journal_of (map opening_seat specs)) ≡ 0
+    none_of : (specs : List PartSpec) → events_count (map journal_of (map opening_part specs)) ≡ 0
     none_of [] = refl
-    none_of (spec ∷ specs) = sum (events_count (map journal_of (map opening_seat specs))) (none_of specs)
+    none_of (spec ∷ specs) = sum (events_count (map journal_of (map opening_part specs))) (none_of specs)
       where
         sum : (n : ℕ) → n ≡ 0 → 0 + n ≡ 0
         sum n e = omega arith

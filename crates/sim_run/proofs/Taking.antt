@@ -1,12 +1,12 @@
 use Rattle.std.proofs.Common.{◌≡◌, ℕ, ◌+◌, ◌-◌, Option, Some, None, List, [], ◌∷◌, ◌++◌, length, map, slice_get, slice_set, get_or, refl, sym, ap, ◌∙◌, subst, inr, arith, OnOk, Result, Ok, Err}
 use Rattle.std.proofs.lemmas.List.{length-append}
 use Rattle.std.proofs.lemmas.Option.{get_or_from_slice_get}
-use Rattle.nook_defs.specs.declared.data.Event.{Event}
-use Rattle.nook_defs.specs.declared.data.Step.{Step}
+use Rattle.nook_defs.specs.declared.steps.Event.{Event}
+use Rattle.nook_defs.specs.declared.steps.Step.{Step}
 use Rattle.nook_defs.specs.declared.memory.NoMemory.{NoMemory}
 use Rattle.nook_defs.specs.Listening.{Listening}
 use Rattle.nook_defs.specs.Runs.{event_of}
-use Rattle.nook_defs.specs.Simulation.{Choice, PartSeat, ThreadState, seat_after, threads_after}
+use Rattle.nook_defs.specs.Simulation.{Choice, RunningPart, ThreadState, part_after, threads_after}
 use Rattle.part_laws.proofs.Places.{get_mid, some_same}
 use Rattle.request_taps.specs.Bus.{told, told_all}
 use Rattle.request_taps.specs.declared.tap.Tap.{Tap}
@@ -16,13 +16,13 @@ use Rattle.sim_run.specs.Published.{HearsChoice, made_of}
 -- A part's step, and its event, which is the newest one of the part.
 
 -- the part at a place took the step, and its newest event is this one
-pub record HasTaken (q : Option PartSeat) (parts : List PartSeat) (place : ℕ) (s : Step) (new : List PartSeat) (e : Event) : Type 0 where
-  pub seat : PartSeat
+pub record HasTaken (q : Option RunningPart) (parts : List RunningPart) (place : ℕ) (s : Step) (new : List RunningPart) (e : Event) : Type 0 where
+  pub seat : RunningPart
   pub was : q ≡ Some seat
-  pub left : new ≡ slice_set parts place (seat_after s seat)
+  pub left : new ≡ slice_set parts place (part_after s seat)
   pub event : e ≡ event_of seat.run.state s
 
-last_of : (events : List Event) (e x : Event) → slice_get (events ++ e ∷ []) (length (events ++ e ∷ []) - 1) ≡ Some x → x ≡ e
+pub last_of : (events : List Event) (e x : Event) → slice_get (events ++ e ∷ []) (length (events ++ e ∷ []) - 1) ≡ Some x → x ≡ e
 last_of events e x h =
     let size : length (events ++ e ∷ []) - 1 ≡ length events = less (length (events ++ e ∷ [])) (length events) (length-append events (e ∷ [])) in
     some_same x e (sym h ∙ ap (slice_get (events ++ e ∷ [])) size ∙ get_mid events [] e)
@@ -30,20 +30,20 @@ last_of events e x h =
     less : (n m : ℕ) → n ≡ m + 1 → n - 1 ≡ m
     less n m e = omega arith
 
-has_taken_at : (q : Option PartSeat) (parts new : List PartSeat) (place : ℕ) (s : Step) (now : PartSeat) (e : Event) → IsSteppedSeat q parts place s new
+has_taken_at : (q : Option RunningPart) (parts new : List RunningPart) (place : ℕ) (s : Step) (now : RunningPart) (e : Event) → IsSteppedSeat q parts place s new
     → now ≡ get_or new place now → slice_get now.run.journal (length now.run.journal - 1) ≡ Some e → HasTaken q parts place s new e
 has_taken_at None parts new place s now e h at newest = absurd h
 has_taken_at (Some seat) parts new place s now e h at newest =
-    let is : now ≡ seat_after s seat = at ∙ get_or_from_slice_get new place (seat_after s seat) now h.1 in
+    let is : now ≡ part_after s seat = at ∙ get_or_from_slice_get new place (part_after s seat) now h.1 in
     record {
       seat = seat;
       was = refl;
       left = h.0;
       event = last_of seat.run.journal (event_of seat.run.state s) e
-          (subst (λ (x : PartSeat). slice_get x.run.journal (length x.run.journal - 1) ≡ Some e) is newest);
+          (subst (λ (x : RunningPart). slice_get x.run.journal (length x.run.journal - 1) ≡ Some e) is newest);
     }
 
-pub has_taken : (c : Choice) (parts new : List PartSeat) (place : ℕ) (s : Step) (now : PartSeat) (e : Event) → place ≡ c.part → s ≡ c.step
+pub has_taken : (c : Choice) (parts new : List RunningPart) (place : ℕ) (s : Step) (now : RunningPart) (e : Event) → place ≡ c.part → s ≡ c.step
     → IsSteppedSeat (slice_get parts place) parts place s new → now ≡ get_or new place now
     → slice_get now.run.journal (length now.run.journal - 1) ≡ Some e → HasTaken (slice_get parts c.part) parts c.part c.step new e
 has_taken c parts new place s now e part step h at newest =
@@ -51,7 +51,7 @@ has_taken c parts new place s now e part step h at newest =
     (subst (λ s. HasTaken (slice_get parts place) parts place s new e) step
     (has_taken_at (slice_get parts place) parts new place s now e h at newest))
 
-pub is_heard : {T : Type 0} (r : Result T NoMemory) (c : Choice) (q : Option PartSeat) (parts new : List PartSeat) (e : Event) (old after : List (Tap Listening))
+pub is_heard : {T : Type 0} (r : Result T NoMemory) (c : Choice) (q : Option RunningPart) (parts new : List RunningPart) (e : Event) (old after : List (Tap Listening))
     → HasTaken q parts c.part c.step new e → after ≡ map (told c.part e) old → HearsChoice (made_of c q) r old after
 unfolding told_all
 is_heard r c q parts new e old after h heard =
@@ -64,7 +64,7 @@ is_heard r c q parts new e old after h heard =
     by_result (Ok x) = all
     by_result (Err x) = inr all
 
-pub is_taken : {T E : Type 0} (r : Result T E) (c : Choice) (part : ℕ) (q : Option PartSeat) (parts new : List PartSeat) (e : Event)
+pub is_taken : {T E : Type 0} (r : Result T E) (c : Choice) (part : ℕ) (q : Option RunningPart) (parts new : List RunningPart) (e : Event)
     (threads noted : List ThreadState) → part ≡ c.part → HasTaken q parts c.part c.step new e → OnOk r (noted ≡ threads_after 0 part e threads)
     → OnOk r (IsTaken q c parts threads new noted)
 is_taken (Err x) c part q parts new e threads noted same h told = tt

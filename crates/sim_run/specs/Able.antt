@@ -1,14 +1,14 @@
 use Rattle.std.specs.Prelude.{◌≡◌, ℕ, ◌+◌, ◌<◌, ◌≤◌, ◌==◌, ◌||◌, Bool, false, Option, Some, None, List, [], ◌∷◌, ◌++◌, length, slice_get}
-use Rattle.nook_defs.specs.declared.data.Event.{Event}
-use Rattle.nook_defs.specs.declared.data.Event.TheVariants as event
-use Rattle.nook_defs.specs.declared.data.Op.{Op}
-use Rattle.nook_defs.specs.Simulation.{PartSeat, ThreadState, Waiting}
+use Rattle.nook_defs.specs.declared.steps.Event.{Event}
+use Rattle.nook_defs.specs.declared.steps.Event.TheVariants as event
+use Rattle.nook_defs.specs.declared.calls.Op.{Op}
+use Rattle.nook_defs.specs.Simulation.{RunningPart, ThreadState, Waiting}
 use Rattle.sim_run.specs.Actors.{has_step, named_if}
 
 -- Which threads have a step, kept from one step of the run to the next.
 
 -- each flag tells whether its thread has a step
-pub record AreAble (parts : List PartSeat) (threads : List ThreadState) (able : List Bool) : Type 0 where
+pub record AreAble (parts : List RunningPart) (threads : List ThreadState) (able : List Bool) : Type 0 where
   pub count : length able ≡ length threads
   pub each : (thread : ℕ) (t : ThreadState) → slice_get threads thread ≡ Some t → slice_get able thread ≡ Some (has_step thread parts t)
 
@@ -38,7 +38,7 @@ abbrev pub concerns : ℕ → ℕ → Event → ThreadState → Bool
 concerns thread part e t = looks_at part t || is_invocation thread e
 
 -- the flags are right of the first threads, and of every later one that the event does not concern
-pub record AreAbleUpTo (first part : ℕ) (e : Event) (parts : List PartSeat) (threads : List ThreadState) (able : List Bool) : Type 0 where
+pub record AreAbleUpTo (first part : ℕ) (e : Event) (parts : List RunningPart) (threads : List ThreadState) (able : List Bool) : Type 0 where
   pub count : length able ≡ length threads
   pub heard : (thread : ℕ) (t : ThreadState) → thread < first → slice_get threads thread ≡ Some t
       → slice_get able thread ≡ Some (has_step thread parts t)

@@ -1,8 +1,8 @@
 use Rattle.std.specs.Prelude.{ℕ, Bool, is_some, ◌++◌, ◌+◌, ◌-◌, ◌/◌, ◌%◌, ◌==◌, nat_lt, if◌then◌else◌, Option, Some, None, List, [], ◌∷◌, length, slice_get}
-use Rattle.nook_defs.specs.declared.data.Op.{Op}
-use Rattle.nook_defs.specs.declared.data.Step.{Step}
+use Rattle.nook_defs.specs.declared.calls.Op.{Op}
+use Rattle.nook_defs.specs.declared.steps.Step.{Step}
 use Rattle.nook_defs.specs.Runs.{next_recovery}
-use Rattle.nook_defs.specs.Simulation.{Choice, PartSeat, ThreadState, Waiting, arrival, going_on, invocation}
+use Rattle.nook_defs.specs.Simulation.{Choice, RunningPart, ThreadState, Waiting, arrival, going_on, invocation}
 
 -- The step of one actor, by its number.
 
@@ -11,33 +11,33 @@ choice_by actor part None = None
 choice_by actor part (Some s) = Some (record { actor = actor; part = part; step = s })
 
 -- a thread invokes its next operation
-abbrev pub invocation_of : ℕ → List PartSeat → List (ℕ × Op) → Option Choice
+abbrev pub invocation_of : ℕ → List RunningPart → List (ℕ × Op) → Option Choice
 invocation_of thread parts [] = None
 invocation_of thread parts ((part, o) ∷ rest) = choice_by thread part (invocation thread o (slice_get parts part))
 
 -- a thread with an open call goes on with it, else it invokes
-abbrev pub choice_when : ℕ → List PartSeat → ThreadState → Option Waiting → Option Choice
+abbrev pub choice_when : ℕ → List RunningPart → ThreadState → Option Waiting → Option Choice
 choice_when thread parts t None = invocation_of thread parts t.rest
 choice_when thread parts t (Some w) = choice_by thread w.part (going_on thread (slice_get parts w.part))
 
-abbrev pub choice_of_thread : ℕ → List PartSeat → Option ThreadState → Option Choice
+abbrev pub choice_of_thread : ℕ → List RunningPart → Option ThreadState → Option Choice
 choice_of_thread thread parts None = None
 choice_of_thread thread parts (Some t) = choice_when thread parts t t.waiting
 
 -- the first of a part's two actors is its recovery, the other its arrivals
-abbrev pub step_of_seat : ℕ → PartSeat → Option Step
+abbrev pub step_of_seat : ℕ → RunningPart → Option Step
 step_of_seat which seat = if which == 0 then next_recovery seat.run.state else arrival seat.run seat.coming
 
-abbrev pub choice_of_seat : ℕ → ℕ → ℕ → Option PartSeat → Option Choice
+abbrev pub choice_of_seat : ℕ → ℕ → ℕ → Option RunningPart → Option Choice
 choice_of_seat actor part which None = None
 choice_of_seat actor part which (Some seat) = choice_by actor part (step_of_seat which seat)
 
 -- an actor behind the threads
-abbrev pub choice_behind : ℕ → ℕ → List PartSeat → Option Choice
+abbrev pub choice_behind : ℕ → ℕ → List RunningPart → Option Choice
 choice_behind actor behind parts = choice_of_seat actor (behind / 2) (behind % 2) (slice_get parts (behind / 2))
 
 -- the choice of an actor, where it has a step
-unfoldable pub choice_at : List PartSeat → List ThreadState → ℕ → Option Choice
+unfoldable pub choice_at : List RunningPart → List ThreadState → ℕ → Option Choice
 choice_at parts threads actor =
     if nat_lt actor (length threads)
     then choice_of_thread actor parts (slice_get threads actor)
@@ -48,26 +48,26 @@ choice_at parts threads actor =
 abbrev pub named_if : Bool → ℕ → List ℕ
 named_if test actor = if test then actor ∷ [] else []
 
-abbrev pub actors_of_seat : ℕ → PartSeat → List ℕ
+abbrev pub actors_of_seat : ℕ → RunningPart → List ℕ
 actors_of_seat actor seat =
     named_if (is_some (next_recovery seat.run.state)) actor ++ named_if (is_some (arrival seat.run seat.coming)) (actor + 1)
 
 -- the actors of the parts that have a step, of which the first part's first actor is given
-unfoldable pub actors_of_seats : ℕ → List PartSeat → List ℕ
+unfoldable pub actors_of_seats : ℕ → List RunningPart → List ℕ
 actors_of_seats actor [] = []
 actors_of_seats actor (seat ∷ seats) = actors_of_seat actor seat ++ actors_of_seats (actor + 2) seats
 
-abbrev pub has_step : ℕ → List PartSeat → ThreadState → Bool
+abbrev pub has_step : ℕ → List RunningPart → ThreadState → Bool
 has_step thread parts t = is_some (choice_when thread parts t t.waiting)
 
-abbrev pub actor_of_thread : ℕ → List PartSeat → ThreadState → List ℕ
+abbrev pub actor_of_thread : ℕ → List RunningPart → ThreadState → List ℕ
 actor_of_thread thread parts t = named_if (has_step thread parts t) thread
 
 -- the threads that have a step, of which the first is given
-unfoldable pub actors_of_threads : ℕ → List PartSeat → List ThreadState → List ℕ
+unfoldable pub actors_of_threads : ℕ → List RunningPart → List ThreadState → List ℕ
 actors_of_threads thread parts [] = []
 actors_of_threads thread parts (t ∷ threads) = actor_of_thread thread parts t ++ actors_of_threads (thread + 1) parts threads
 
 -- the actors that have a step, in rising order
-abbrev pub actors_in : List PartSeat → List ThreadState → List ℕ
+abbrev pub actors_in : List RunningPart → List ThreadState → List ℕ
 actors_in parts threads = actors_of_threads 0 parts threads ++ actors_of_seats (length threads) parts

@@ -1,14 +1,14 @@
 use Rattle.std.specs.Prelude.{◌≡◌, ℕ, ◌<◌, slice_set, Bool, true, false, Option, Some, None, List, [], length, slice_get}
 use Rattle.nook_defs.specs.Runs.{event_of}
 use Rattle.nook_defs.specs.Schedules.{Order}
-use Rattle.nook_defs.specs.Simulation.{Choice, PartSeat, Simulation, ThreadState, choices_of, seat_after, stepped_by, taken, threads_after}
-use Rattle.nook_defs.specs.declared.data.Step.{Step}
+use Rattle.nook_defs.specs.Simulation.{Choice, RunningPart, Simulation, ThreadState, choices_of, part_after, stepped_by, taken, threads_after}
+use Rattle.nook_defs.specs.declared.steps.Step.{Step}
 use Rattle.sim_run.specs.Published.{made, made_of}
 use Rattle.sim_run.specs.Reached.{IsOpenChoice}
 
 -- How a method's result stands to the definition of a run.
 
-abbrev pub standing : Order → List PartSeat → List ThreadState → Simulation
+abbrev pub standing : Order → List RunningPart → List ThreadState → Simulation
 standing order parts threads = record { order = order; parts = parts; threads = threads }
 
 -- the choice that the schedule picks, and the simulation before that choice is taken; or there is none
@@ -25,14 +25,14 @@ IsAdvanced s true t = (0 < length (choices_of s)) × (t ≡ taken s (choices_of 
 IsAdvanced s false t = (choices_of s ≡ []) × (t ≡ s)
 
 -- the part at a place took the step, and its newest event is that of the step
-abbrev pub IsSteppedSeat : Option PartSeat → List PartSeat → ℕ → Step → List PartSeat → Type 0
+abbrev pub IsSteppedSeat : Option RunningPart → List RunningPart → ℕ → Step → List RunningPart → Type 0
 IsSteppedSeat None seats place s new = ⊥
 IsSteppedSeat (Some seat) seats place s new =
-    (new ≡ slice_set seats place (seat_after s seat)) × (slice_get new place ≡ Some (seat_after s seat))
+    (new ≡ slice_set seats place (part_after s seat)) × (slice_get new place ≡ Some (part_after s seat))
 
 -- the choice's part took its step, and each thread noted the event
-abbrev pub IsTaken : Option PartSeat → Choice → List PartSeat → List ThreadState → List PartSeat → List ThreadState → Type 0
+abbrev pub IsTaken : Option RunningPart → Choice → List RunningPart → List ThreadState → List RunningPart → List ThreadState → Type 0
 IsTaken None c seats threads new noted = ⊥
 IsTaken (Some seat) c seats threads new noted =
-    (new ≡ slice_set seats c.part (seat_after c.step seat))
+    (new ≡ slice_set seats c.part (part_after c.step seat))
     × (noted ≡ threads_after 0 c.part (event_of seat.run.state c.step) threads)

@@ -1,6 +1,7 @@
 pub mod Able
 pub mod Actors
 pub mod Advanced
+pub mod Bursts
 pub mod Ends
 pub mod Opened
 pub mod Published

@@ -1,10 +1,10 @@
 use Rattle.std.specs.Prelude.{◌≡◌, ℕ, zero, suc, ◌+◌, ◌==◌, if◌then◌else◌, Bool, true, false, Option, Some, None, Result, Ok, Err, List, [], ◌∷◌, ◌++◌, map, slice_get, ◌⊎◌}
-use Rattle.nook_defs.specs.declared.data.Event.{Event}
+use Rattle.nook_defs.specs.declared.steps.Event.{Event}
 use Rattle.nook_defs.specs.declared.memory.NoMemory.{NoMemory}
 use Rattle.nook_defs.specs.Listening.{Listening}
 use Rattle.nook_defs.specs.Runs.{event_of}
 use Rattle.nook_defs.specs.Schedules.{picked}
-use Rattle.nook_defs.specs.Simulation.{Choice, PartSeat, Simulation, actor_of, choices_of, taken}
+use Rattle.nook_defs.specs.Simulation.{Choice, RunningPart, Simulation, actor_of, choices_of, taken}
 use Rattle.nook_defs.specs.Taps.{heard_events}
 use Rattle.request_taps.specs.Bus.{told_all}
 use Rattle.request_taps.specs.declared.tap.Tap.{Tap}
@@ -13,11 +13,11 @@ use Rattle.run_ends.specs.Journals.{with_part}
 -- The events of a run in the order in which they are made, each with its part.
 
 -- the event of a choice
-abbrev pub made_of : Choice → Option PartSeat → List (ℕ × Event)
+abbrev pub made_of : Choice → Option RunningPart → List (ℕ × Event)
 made_of c None = []
 made_of c (Some seat) = (c.part, event_of seat.run.state c.step) ∷ []
 
-abbrev pub made_by : List PartSeat → Option Choice → List (ℕ × Event)
+abbrev pub made_by : List RunningPart → Option Choice → List (ℕ × Event)
 made_by parts None = []
 made_by parts (Some c) = made_of c (slice_get parts c.part)
 

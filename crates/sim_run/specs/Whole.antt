@@ -1,7 +1,7 @@
 use Rattle.std.specs.Prelude.{◌≡◌, ℕ, Bool, List, map}
-use Rattle.nook_defs.specs.declared.data.Answer.{Answer}
-use Rattle.nook_defs.specs.declared.data.Event.{Event}
-use Rattle.nook_defs.specs.declared.data.Scenario.{Scenario}
+use Rattle.nook_defs.specs.declared.calls.Answer.{Answer}
+use Rattle.nook_defs.specs.declared.steps.Event.{Event}
+use Rattle.nook_defs.specs.declared.scenario.Scenario.{Scenario}
 use Rattle.nook_defs.specs.Listening.{Listening}
 use Rattle.nook_defs.specs.Views.Room.{Kept}
 use Rattle.nook_defs.specs.Simulation.{IsScheduledRun, Simulation, answer_table, begins, journals_of}

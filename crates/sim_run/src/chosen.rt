@@ -3,7 +3,7 @@
 ghost use Rattle.std.specs.Prelude.{◌≡◌};
 ghost use Rattle.sim_run.specs.Actors.{choice_by};
 
-use nook_defs::data::Step;
+use nook_defs::steps::Step;
 use std::marker::Model;
 
 /// A step that an actor can take, and the part that takes it.
@@ -41,6 +41,13 @@ impl Chosen {
     }
 
     /// The step.
+    pub fn step(&self) -> &Step
+        ensures { result.now ≡ self.now.step }
+    {
+        &self.step
+    }
+
+    /// The step, of its own.
     pub fn into_step(self) -> Step
         ensures { result ≡ self.step }
     {

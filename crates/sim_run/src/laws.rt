@@ -5,8 +5,8 @@ ghost use Rattle.nook_defs.specs.Listening.{Listening};
 ghost use Rattle.nook_defs.specs.Simulation.{IsScheduledRun, Simulation, begins, journals_of, runs};
 ghost use Rattle.nook_defs.specs.Taps.{heard_events};
 ghost use Rattle.nook_defs.specs.Valid.{IsValidScenario};
-ghost use Rattle.nook_defs.specs.declared.data.Event.{Event};
-ghost use Rattle.nook_defs.specs.declared.data.Scenario.{Scenario};
+ghost use Rattle.nook_defs.specs.declared.steps.Event.{Event};
+ghost use Rattle.nook_defs.specs.declared.scenario.Scenario.{Scenario};
 ghost use Rattle.sim_run.specs.Published.{events_of_part, heard_in_journals, published};
 ghost use Rattle.run_ends.specs.Journals.{AreRuns};
 

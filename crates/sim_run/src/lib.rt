@@ -1,4 +1,5 @@
-//! Whole runs: the actors of a scenario take their steps under its schedule until none has a step left.
+//! Whole runs: the actors of a scenario take their steps under its schedule until none has a step left, or until a
+//! burst that is sought.
 #![tactic(auto)]
 
 mod actors;
@@ -11,4 +12,4 @@ mod simulating;
 mod tests;
 mod whole_run;
 
-pub use whole_run::simulate;
+pub use whole_run::{FoundBurst, run_to_burst, simulate};

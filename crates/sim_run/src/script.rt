@@ -1,16 +1,18 @@
 //! A thread of a run: its script, its open call and its answers.
 
-ghost use Rattle.std.specs.Prelude.{◌≡◌, is_some, slice_get, IfOk, None, OnOk, if◌then◌else◌};
+ghost use Rattle.std.specs.Prelude.{drop, ◌≡◌, is_some, slice_get, IfOk, None, OnOk, if◌then◌else◌};
 ghost use Rattle.nook_defs.specs.Runs.{answer_among, answer_at};
 ghost use Rattle.sim_run.specs.Able.{concerns, is_invocation, looks_at};
 ghost use Rattle.sim_run.specs.Actors.{choice_when, has_step};
-ghost use Rattle.nook_defs.specs.Simulation.{going_on, invocation, opening_thread, started, tail_ops, told};
+ghost use Rattle.nook_defs.specs.Simulation.{going_on, invocation, opening_thread, started, told};
 
 use crate::chosen::Chosen;
 use crate::seat::Seat;
-use nook_defs::data::{Answer, Event, Op, PartAnswers, Step, ThreadSpec};
+use nook_defs::calls::{Op, PartAnswers};
 use nook_defs::lists::{Items, TryCopy};
 use nook_defs::memory::NoMemory;
+use nook_defs::scenario::ThreadSpec;
+use nook_defs::steps::{Event, Step};
 use std::alloc::Global;
 use std::marker::Model;
 
@@ -147,7 +149,7 @@ impl<'a> Script<'a> {
         if call.part != part {
             return Ok(());
         }
-        if let Some(answer) = answer_to(alloc, call.call, event)? {
+        if let Some(answer) = event.copy_of_answer(alloc, call.call)? {
             self.answers.push((part, answer))?;
             self.waiting = None;
         }
@@ -212,61 +214,10 @@ fn invoked(
 
 /// The operations behind the first one.
 fn rest_of<'a>(ops: &'a [(u32, Op)]) -> &'a [(u32, Op)]
-    ensures { result.now ≡ tail_ops ops.now }
+    ensures { result.now ≡ drop 1 ops.now }
 {
     match ops.split_first() {
         Some((_, rest)) => rest,
         None => ops,
     }
-}
-
-/// The answer that an event gives to a call.
-fn answer_to(alloc: Global, call: u32, event: &Event) -> Result<Option<Answer>, NoMemory>
-    ensures { IfOk result (λ answer. answer ≡ answer_at call event.now) }
-{
-    match event {
-        Event::Invoke {
-            call: number,
-            answer,
-            ..
-        }
-        | Event::Enter {
-            call: number,
-            answer,
-            ..
-        }
-        | Event::Burst {
-            call: number,
-            answer,
-            ..
-        } => copy_if(alloc, *number == call, answer),
-        Event::Stage { answers, .. } => answer_in(alloc, call, answers.as_slice()),
-        Event::Arrive { .. } => Ok(None),
-    }
-}
-
-/// The answer where the test holds.
-fn copy_if(alloc: Global, test: bool, answer: &Option<Answer>) -> Result<Option<Answer>, NoMemory>
-    ensures { IfOk result (λ made. made ≡ (if test then answer.now else None)) }
-{
-    match answer {
-        Some(answer) if test => Ok(Some(answer.copy(alloc)?)),
-        _ => Ok(None),
-    }
-}
-
-/// The first answer to a call among the answers of a stage.
-fn answer_in(
-    alloc: Global,
-    call: u32,
-    answers: &[(u32, Answer)],
-) -> Result<Option<Answer>, NoMemory>
-    ensures { IfOk result (λ made. made ≡ answer_among call answers.now) }
-{
-    for (number, answer) in answers {
-        if *number == call {
-            return Ok(Some(answer.copy(alloc)?));
-        }
-    }
-    Ok(None)
 }

@@ -1,16 +1,20 @@
 //! A part of a run with the frames that have not arrived.
 
 ghost use Rattle.std.specs.Prelude.{◌≡◌, ◌-◌, ◌<◌, true, is_some, Some, length, slice_get, IfOk, OnErr, OnOk};
-ghost use Rattle.nook_defs.specs.Runs.{next_for, next_recovery};
-ghost use Rattle.nook_defs.specs.Simulation.{arrival, coming_after, invocation, opening_seat, seat_after};
+ghost use Rattle.nook_defs.specs.Runs.{event_of, next_for, next_recovery};
+ghost use Rattle.nook_defs.specs.Simulation.{arrival, coming_after, invocation, opening_part, part_after};
+ghost use Rattle.sim_run.specs.Bursts.{is_burst, shown_burst, shown_step};
 ghost use Rattle.sim_run.specs.Ends.{end_of_seat};
 ghost use Rattle.nook_defs.specs.Steps.{enabled};
 ghost use Rattle.nook_defs.specs.Valid.{IsValidPart};
 
-use nook_defs::data::{Event, Op, PartSpec, Step};
+use crate::whole_run::FoundBurst;
+use nook_defs::calls::Op;
 use nook_defs::journal::Journal;
 use nook_defs::lists::{TryCopy, Words};
 use nook_defs::memory::NoMemory;
+use nook_defs::scenario::PartSpec;
+use nook_defs::steps::{Event, Step};
 use part_core::Part;
 use report_text::whole_report::PartEnd;
 use run_ends::end_of;
@@ -29,9 +33,9 @@ pub struct Seat<'a> {
 impl<'a> Model for Seat<'a> {
     ghost use Rattle.std.specs.Prelude.{◌≡◌, is_some};
     ghost use Rattle.nook_defs.specs.Runs.{next_recovery};
-    ghost use Rattle.nook_defs.specs.Simulation.{PartSeat, arrival};
+    ghost use Rattle.nook_defs.specs.Simulation.{RunningPart, arrival};
 
-    ghost Value = { PartSeat };
+    ghost Value = { RunningPart };
 
     ghost view = { λ s. record { run = s.part; coming = s.coming.now } };
 
@@ -42,7 +46,7 @@ impl<'a> Seat<'a> {
     /// A valid part at the start of its boot; none of its frames has arrived.
     pub fn new(alloc: Global, spec: &'a PartSpec) -> Result<Seat<'a>, NoMemory>
         requires { IsValidPart spec.now }
-        ensures { IfOk result (λ seat. seat ≡ opening_seat spec.now) }
+        ensures { IfOk result (λ seat. seat ≡ opening_part spec.now) }
     {
         let part = Part::new(alloc, spec.copy(alloc)?)?;
         let coming = spec.arrivals.as_slice();
@@ -118,7 +122,7 @@ impl<'a> Seat<'a> {
     /// Takes a step that may be taken now. An arrival is the next frame's.
     pub fn take(&mut self, step: Step) -> Result<(), NoMemory>
         requires { enabled self.old.run.state step ≡ true }
-        ensures ok { OnOk result (self.new ≡ seat_after step self.old) }
+        ensures ok { OnOk result (self.new ≡ part_after step self.old) }
         ensures err { OnErr result (self.new ≡ self.old) }
     {
         let coming = frames_after(&step, self.coming);
@@ -138,6 +142,28 @@ impl<'a> Seat<'a> {
     {
         let journal = self.part.journal();
         journal.get(journal.len() - 1)
+    }
+
+    /// Whether a step of the part is its burst of a number.
+    #[tactic(auto, using(crate::proofs::Seeking::burst_numbered, crate::proofs::Seeking::none_numbered))]
+    pub fn is_burst(&self, step: &Step, number: u32) -> bool
+        ensures { result ≡ is_burst number (event_of self.now.run.state step.now) }
+    {
+        match step {
+            Step::Burst { .. } => self.part.bursts() + 1 == number,
+            _ => false,
+        }
+    }
+
+    /// Takes a step that may be taken now, as the part's last one: the domain as it stood before, and the step's event.
+    pub fn take_last(&mut self, alloc: Global, step: Step) -> Result<FoundBurst, NoMemory>
+        requires { enabled self.old.run.state step ≡ true }
+        ensures { IfOk result (λ found. shown_burst found ≡ shown_step self.old.run.state step) }
+    {
+        let domain = self.part.domain().copy(alloc)?;
+        self.take(step)?;
+        let event = self.newest().copy(alloc)?;
+        Ok(FoundBurst { domain, event })
     }
 
     /// The journal.

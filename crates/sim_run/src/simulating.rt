@@ -1,12 +1,13 @@
 //! A run as it stands: its schedule, its parts and its threads.
 
-ghost use Rattle.std.specs.Prelude.{◌≡◌, ◌≤◌, ◌<◌, false, All, IfOk, OnOk, length, map, slice_get};
+ghost use Rattle.std.specs.Prelude.{◌≡◌, ◌≤◌, ◌<◌, false, All, IfOk, IfSome, OnOk, length, map, slice_get};
 ghost use Rattle.nook_defs.specs.Schedules.{picked};
-ghost use Rattle.nook_defs.specs.Simulation.{answer_table, answers_of, begins, journal_of, journals_of, opening_seat, opening_thread, started, stepped_by, threads_after, told};
+ghost use Rattle.nook_defs.specs.Simulation.{answer_table, answers_of, begins, journal_of, journals_of, opening_part, opening_thread, started, stepped_by, threads_after, told};
 ghost use Rattle.nook_defs.specs.Valid.{IsValidPart, IsValidScenario};
 ghost use Rattle.sim_run.specs.Able.{AreAble, AreAbleUpTo, concerns};
 ghost use Rattle.sim_run.specs.Actors.{has_step};
 ghost use Rattle.sim_run.specs.Advanced.{IsAdvanced, IsPick, IsSteppedSeat, IsTaken, standing};
+ghost use Rattle.sim_run.specs.Bursts.{IsFoundIn, is_burst_at};
 ghost use Rattle.sim_run.specs.Ends.{ends_of};
 ghost use Rattle.sim_run.specs.Published.{HearsChoice, HearsStep, made_of};
 ghost use Rattle.request_taps.specs.Bus.{seen};
@@ -17,10 +18,14 @@ use crate::actors::{able_threads, choice_of, list_ready};
 use crate::chosen::Chosen;
 use crate::script::Script;
 use crate::seat::Seat;
-use nook_defs::data::{AnswerTable, Event, PartSpec, Scenario, Step, TapTotals, ThreadSpec};
+use crate::whole_run::FoundBurst;
+use nook_defs::calls::AnswerTable;
+use nook_defs::listeners::TapTotals;
 use nook_defs::lists::{Items, TryCopy};
 use nook_defs::memory::NoMemory;
 use nook_defs::outside::Listener;
+use nook_defs::scenario::{PartSpec, Scenario, ThreadSpec};
+use nook_defs::steps::{Event, Step};
 use report_text::report::{Journals, Run};
 use report_text::whole_report::PartEnds;
 use request_taps::Bus;
@@ -81,10 +86,21 @@ impl<'a> Simulating<'a> {
         ensures advanced { IfOk result (λ some. IsAdvanced self.old some self.new) }
         ensures heard { HearsStep self.old result (map (seen L.listening) taps.old) (map (seen L.listening) taps.new) }
     {
-        let mut able = match self.able.take() {
-            Some(able) => able,
-            None => able_threads(self.alloc, &self.threads, &self.seats)?,
-        };
+        match self.choose()? {
+            Some(chosen) => {
+                self.take(taps, chosen)?;
+                Ok(true)
+            }
+            None => Ok(false),
+        }
+    }
+
+    /// The choice that the schedule picks, where any actor has a step. Its step is not taken.
+    pub fn choose(&mut self) -> Result<Option<Chosen>, NoMemory>
+        ensures picked { IfOk result (λ choice. IsPick self.old choice self.new) }
+        ensures parts { OnOk result (self.new.parts ≡ self.old.parts) }
+    {
+        let able = kept_or_found(self.alloc, self.able.take(), &self.threads, &self.seats)?;
         let chosen = pick(
             self.alloc,
             &mut self.schedule,
@@ -93,19 +109,51 @@ impl<'a> Simulating<'a> {
             &able,
             &mut self.ready,
         )?;
-        let has_step = chosen.is_some();
-        if let Some(chosen) = chosen {
-            take(
-                self.alloc,
-                &mut self.seats,
-                &mut self.threads,
-                &mut able,
-                taps,
-                chosen,
-            )?;
-        }
         self.able = Some(able);
-        Ok(has_step)
+        Ok(chosen)
+    }
+
+    /// Takes a choice that may be taken. The taps have then heard its event; after `NoMemory` they have heard it or
+    /// nothing.
+    pub fn take<L: Listener>(&mut self, taps: &mut Bus<L>, chosen: Chosen) -> Result<(), NoMemory>
+        requires { IsOpenChoice self.old.parts chosen }
+        ensures taken { OnOk result
+            (self.new ≡ stepped_by self.old self.old.order chosen (slice_get self.old.parts chosen.part)) }
+        ensures heard { HearsChoice (made_of chosen (slice_get self.old.parts chosen.part)) result
+            (map (seen L.listening) taps.old) (map (seen L.listening) taps.new) }
+    {
+        let mut able = kept_or_found(self.alloc, self.able.take(), &self.threads, &self.seats)?;
+        take(
+            self.alloc,
+            &mut self.seats,
+            &mut self.threads,
+            &mut able,
+            taps,
+            chosen,
+        )?;
+        self.able = Some(able);
+        Ok(())
+    }
+
+    /// Whether a choice is the burst of a number of the part at a place.
+    pub fn is_burst(&self, chosen: &Chosen, place: u32, number: u32) -> bool
+        ensures { result ≡ is_burst_at place number chosen.now (slice_get self.now.parts chosen.now.part) }
+    {
+        match self.seats.get(chosen.part() as usize) {
+            Some(seat) => chosen.part() == place && seat.is_burst(chosen.step(), number),
+            None => false,
+        }
+    }
+
+    /// Takes a choice that may be taken, as the last of the run: the domain of its part as it stood before, and its
+    /// event. The rest of the run is dropped.
+    pub fn into_last(self, chosen: Chosen) -> Result<FoundBurst, NoMemory>
+        requires { IsOpenChoice self.parts chosen }
+        ensures { IfOk result (IsFoundIn (slice_get self.entry.parts chosen.part) chosen.step) }
+    {
+        let mut seats = self.seats;
+        let place = chosen.part() as usize;
+        seats[place].take_last(self.alloc, chosen.into_step())
     }
 
     /// What the run left: one journal a part and what the part ends in, each thread's answers, and the totals of its
@@ -133,6 +181,23 @@ impl<'a> Simulating<'a> {
             },
             ends,
         })
+    }
+}
+
+/// Whether each thread has a step, as it was kept, or found anew where it was not.
+fn kept_or_found(
+    alloc: Global,
+    kept: Option<Vec<bool>>,
+    threads: &[Script],
+    seats: &[Seat],
+) -> Result<Vec<bool>, NoMemory>
+    requires kept { IfSome kept (λ able. AreAble seats.now threads.now able.items) }
+    requires threads { length threads.now ≤ 16 }
+    ensures { IfOk result (λ able. AreAble seats.now threads.now able.items) }
+{
+    match kept {
+        Some(able) => Ok(able),
+        None => able_threads(alloc, threads, seats),
     }
 }
 
@@ -212,7 +277,7 @@ fn take<L: Listener>(
 /// Each part at the start of its boot.
 fn make_seats<'a>(alloc: Global, specs: &'a [PartSpec]) -> Result<Vec<Seat<'a>>, NoMemory>
     requires { All IsValidPart specs.now }
-    ensures { IfOk result (λ made. made.items ≡ map opening_seat specs.now) }
+    ensures { IfOk result (λ made. made.items ≡ map opening_part specs.now) }
 {
     let mut made = Vec::with_capacity(alloc, specs.len())?;
     for spec in specs {

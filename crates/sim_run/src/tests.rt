@@ -1,12 +1,14 @@
-//! A run publishes each event as it is made, and not when it ends.
+//! A run publishes each event as it is made, and not when it ends; and it leads to a burst by its number.
 
 ghost use Rattle.std.specs.Prelude.{IfOk};
 ghost use Rattle.nook_defs.specs.Valid.{IsValidScenario};
 
 use crate::simulating::Simulating;
-use nook_defs::data::{Scenario, TapTotals};
-use nook_defs::listeners::CountListener;
+use crate::{FoundBurst, run_to_burst};
+use nook_defs::listeners::{CountListener, TapTotals};
 use nook_defs::memory::NoMemory;
+use nook_defs::scenario::Scenario;
+use nook_defs::steps::Event;
 use report_text::report::Journals;
 use request_taps::Bus;
 use scenario_gen::generate;
@@ -97,6 +99,33 @@ fn a_run_that_is_left_was_heard_so_far(rt: HostRuntime) -> Result<(), Fail> {
         assert_eq!(rt; front.heard.len() as u64, most);
         assert_eq!(rt; front.heard.last().copied().unwrap_or(0), most);
         assert_eq!(rt; front.events, most);
+    }
+    Ok(())
+}
+
+/// The number of the burst that was found.
+fn number_of(found: &Option<FoundBurst>) -> Option<u32> {
+    let found = found.as_ref()?;
+    match &found.event {
+        Event::Burst { burst, .. } => Some(*burst),
+        _ => None,
+    }
+}
+
+/// A burst of each part is found by its number; none is where there is no such part, or the part has no such burst.
+#[test]
+fn bursts_are_found_by_their_numbers(rt: HostRuntime) -> Result<(), Fail> {
+    let scenario = scenario_of_12(rt.alloc())?;
+    for (place, number, found) in [
+        (0, 1, Some(1)),
+        (1, 3, Some(3)),
+        (2, 2, Some(2)),
+        (3, 1, None),
+        (0, 0, None),
+        (0, 10_000, None),
+    ] {
+        let burst = run_to_burst(rt.alloc(), &scenario, place, number)?;
+        assert_eq!(rt; number_of(&burst), found, "burst {number} of part {place}");
     }
     Ok(())
 }

@@ -5,12 +5,16 @@ ghost use Rattle.nook_defs.specs.Valid.{IsValidScenario};
 ghost use Rattle.request_taps.specs.Bus.{seen};
 ghost use Rattle.report_text.specs.Whole.{HaveEnds};
 ghost use Rattle.run_ends.specs.Journals.{AreRuns, events_in};
+ghost use Rattle.sim_run.specs.Bursts.{LeadsToBurst};
 ghost use Rattle.sim_run.specs.Whole.{HeardSteps, IsSimulated, IsWhole};
 
 use crate::simulating::Simulating;
-use nook_defs::data::Scenario;
+use domain_call::Domain;
+use nook_defs::listeners::CountListener;
 use nook_defs::memory::NoMemory;
 use nook_defs::outside::Listener;
+use nook_defs::scenario::Scenario;
+use nook_defs::steps::Event;
 use request_taps::Bus;
 use run_ends::WholeRun;
 use std::alloc::Global;
@@ -57,6 +61,43 @@ fn run_whole<'a, L: Listener>(
         if !simulation.advance(taps)? {
             return Ok(simulation);
         }
+    }
+    unreachable!()
+}
+
+/// A burst of a run: its event, and the part's domain as it stood before the burst's step.
+#[derive(Drop)]
+pub struct FoundBurst {
+    pub domain: Domain,
+    pub event: Event,
+}
+
+/// Runs a valid scenario up to the burst of a number of the part at a place, both as the report counts them, and no
+/// further: its actors take their steps under its schedule until that burst is made. `None` where the scenario's run
+/// has no such burst. The domain alone is copied, and where the burst is chosen; no step is taken twice.
+///
+/// # Errors
+///
+/// Want of memory.
+pub fn run_to_burst(
+    alloc: Global,
+    scenario: &Scenario,
+    place: u32,
+    number: u32,
+) -> Result<Option<FoundBurst>, NoMemory>
+    requires { IsValidScenario scenario.now }
+    ensures { IfOk result (LeadsToBurst scenario.now place number) }
+{
+    let mut unheard: Bus<CountListener> = Bus::of(alloc, Vec::new(alloc))?;
+    let mut simulation = Simulating::new(alloc, scenario)?;
+    for _step in 0..MOST_STEPS {
+        let Some(chosen) = simulation.choose()? else {
+            return Ok(None);
+        };
+        if simulation.is_burst(&chosen, place, number) {
+            return Ok(Some(simulation.into_last(chosen)?));
+        }
+        simulation.take(&mut unheard, chosen)?;
     }
     unreachable!()
 }

@@ -1,7 +1,6 @@
 //! The one line of a generated scenario.
 #![tactic(auto)]
 
-pub mod laws;
 mod lines;
 mod summary;
 

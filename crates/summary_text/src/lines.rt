@@ -1,7 +1,7 @@
 //! The line, added to a text.
 
 ghost use Rattle.std.specs.Prelude.{◌≡◌, ◌++◌, OnOk};
-ghost use Rattle.nook_defs.specs.Generated.{gen_line};
+ghost use Rattle.nook_defs.specs.ReportText.{gen_line};
 
 use crate::summary::Summary;
 use nook_defs::memory::NoMemory;

@@ -1,6 +1,6 @@
 //! What is told of a generated scenario, and its writing.
 
-ghost use Rattle.nook_defs.specs.Generated.{gen_line};
+ghost use Rattle.nook_defs.specs.ReportText.{gen_line};
 ghost use Rattle.report_text.specs.Writing.{Wrote};
 
 use crate::lines::push_summary;

@@ -6,8 +6,8 @@ use Rattle.std.specs.List.{AllByRecursion}
 use mathlib.Core.List.{map-append}
 use Rattle.app_threads.specs.Workers.{AreSeats}
 use Rattle.desk_like.specs.Desks.{DeskView, IsAlone, IsAt, IsOther, Waits}
-use Rattle.nook_defs.specs.declared.data.Event.{Event}
-use Rattle.nook_defs.specs.declared.data.PartSpec.{PartSpec}
+use Rattle.nook_defs.specs.declared.steps.Event.{Event}
+use Rattle.nook_defs.specs.declared.scenario.PartSpec.{PartSpec}
 use Rattle.nook_defs.specs.Places.{at_number}
 use Rattle.nook_defs.specs.Views.Room.{Kept}
 use Rattle.nook_defs.specs.Runs.{IsRun, PartRun, next_any, state_of}

@@ -6,18 +6,19 @@ use Rattle.std.proofs.lemmas.Option.{slice_get_within}
 use Rattle.app_threads.specs.Workers.{frame_of, frames_at, invokes_at, is_invoke}
 use Rattle.app_threads.specs.Workers.{invokes_of, invokes_of_all}
 use Rattle.desk_like.specs.Desks.{Accounts, DeskView, IsAlone, IsAt, IsArrive, IsInvoke, IsRisingFrom}
-use Rattle.nook_defs.specs.declared.data.Event.{Event}
-use Rattle.nook_defs.specs.declared.data.Event.TheVariants as event
-use Rattle.nook_defs.specs.declared.data.Op.{Op}
-use Rattle.nook_defs.specs.declared.data.PartSpec.{PartSpec}
-use Rattle.nook_defs.specs.declared.data.Receipt.{Receipt}
-use Rattle.nook_defs.specs.declared.data.ThreadSpec.{ThreadSpec}
+use Rattle.nook_defs.specs.declared.steps.Event.{Event}
+use Rattle.nook_defs.specs.declared.steps.Event.TheVariants as event
+use Rattle.nook_defs.specs.declared.calls.Op.{Op}
+use Rattle.nook_defs.specs.declared.scenario.PartSpec.{PartSpec}
+use Rattle.nook_defs.specs.declared.desks.Receipt.{Receipt}
+use Rattle.nook_defs.specs.declared.scenario.ThreadSpec.{ThreadSpec}
 use Rattle.nook_defs.specs.Places.{at_number}
 use Rattle.part_laws.proofs.Places.{some_same, split}
 use Rattle.threaded_run.proofs.Placed.{Has, IsPlaced, all_behind, has_append, has_contained, has_filter, has_held, kept_here, left_out, places_all, places_few}
 use Rattle.threaded_run.specs.Leaving.{HaveRows}
 use Rattle.threaded_run.specs.Others.{HasNoOthers, HaveNoOthers, is_arrival, is_invocation_by, operations_on}
 use Rattle.threaded_run.specs.Threaded.{ArriveAt, HasArrivals, HaveReceipts, invoked_on, journal_at}
+use Rattle.nook_defs.proofs.Options.{none_is_some}
 
 -- ---- one event
 
@@ -152,12 +153,9 @@ first_row seens n t threads row rows h = record {
     plus : (n : ℕ) → n ≡ n + 0
     plus n = omega arith
 
-no_some : {X G : Type 0} {x : X} → None ≡ Some x → G
-no_some h = cc
-
 row_from : (seens : List (List Event)) (n : ℕ) (threads : List ThreadSpec) (rows : List (List Receipt)) (k : ℕ) (t : ThreadSpec) → HaveRows seens n threads rows
     → slice_get threads k ≡ Some t → HasRowFrom seens n threads rows k
-row_from seens n [] [] k t h at = no_some at
+row_from seens n [] [] k t h at = none_is_some at
 row_from seens n [] (row ∷ rows) k t h at = absurd h
 row_from seens n (x ∷ threads) [] k t h at = absurd h
 row_from seens n (x ∷ threads) (row ∷ rows) zero t h at = first_row seens n x threads row rows h.0
@@ -296,7 +294,7 @@ module _ (view : DeskView) (places : List ℕ) (whole : AddedAll view places) wh
             → length (filter (is_invocation_by thread) view.seen) ≡ operations_on part (slice_get threads thread)
         by_thread thread None e =
             none_counted (length (filter (is_invocation_by thread) view.seen))
-            (places_all (is_invocation_by thread) view.seen [] (λ place low at. no_some (sym e ∙ (thread_has thread place low at).of_row.script_there)))
+            (places_all (is_invocation_by thread) view.seen [] (λ place low at. none_is_some (sym e ∙ (thread_has thread place low at).of_row.script_there)))
             ∙ sym (ap (operations_on part) e)
         by_thread thread (Some t) e = thread_counted thread t e ∙ sym (ap (operations_on part) e)
 

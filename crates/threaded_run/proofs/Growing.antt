@@ -2,9 +2,9 @@
 use Rattle.std.proofs.Common.{◌≡◌, ℕ, zero, suc, Some, List, [], ◌∷◌, ◌++◌, slice_get, subst}
 use mathlib.Core.List.{IsPrefix}
 use Rattle.desk_like.specs.Desks.{IsAt, IsReceipt}
-use Rattle.nook_defs.specs.declared.data.Event.{Event}
-use Rattle.nook_defs.specs.declared.data.Op.{Op}
-use Rattle.nook_defs.specs.declared.data.Receipt.{Receipt}
+use Rattle.nook_defs.specs.declared.steps.Event.{Event}
+use Rattle.nook_defs.specs.declared.calls.Op.{Op}
+use Rattle.nook_defs.specs.declared.desks.Receipt.{Receipt}
 use Rattle.nook_defs.specs.Places.{at_number}
 use Rattle.threaded_run.specs.Threaded.{ArriveAt, HasArrivals, HaveReceipts, journal_at}
 

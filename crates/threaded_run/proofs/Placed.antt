@@ -4,8 +4,9 @@ use Rattle.std.proofs.lemmas.Bool.{eqb-false, lt-ltb, ltb-true}
 use Rattle.std.specs.List.{AllByRecursion}
 use Rattle.desk_like.specs.Desks.{IsAt, IsRisingFrom}
 use Rattle.nook_defs.specs.Places.{at_number}
-use Rattle.nook_defs.specs.declared.data.Event.{Event}
+use Rattle.nook_defs.specs.declared.steps.Event.{Event}
 use Rattle.part_laws.proofs.Places.{some_same, split}
+use Rattle.nook_defs.proofs.Options.{none_is_some}
 
 -- ---- lists and what is in them
 
@@ -125,9 +126,6 @@ rest_behind journal n e events are = λ k. are (suc k) ∙ ap (slice_get journal
     next : (n k : ℕ) → n + suc k ≡ suc n + k
     next n k = omega arith
 
-no_some : {X G : Type 0} {x : X} → None ≡ Some x → G
-no_some h = cc
-
 module _ (test : Event → Bool) (journal : List Event) where
   -- an event that passes stands at the place
   abbrev pub IsPlaced : ℕ → Type 0
@@ -138,7 +136,7 @@ module _ (test : Event → Bool) (journal : List Event) where
   none_placed n zero are l at = absurd (omega arith)
   none_placed n (suc m) are l at =
       let there : n + (m - n) ≡ m = omega arith in
-      no_some (are (m - n) ∙ ap (slice_get journal) there ∙ at.there)
+      none_is_some (are (m - n) ∙ ap (slice_get journal) there ∙ at.there)
 
   -- the event at the first of these places
   pub passes_here : (n : ℕ) (e : Event) (place : ℕ) → slice_get journal n ≡ Some e → place ≡ suc n → IsPlaced place → test e ≡ true

@@ -9,17 +9,18 @@ use Rattle.std.proofs.lemmas.Option.{get_or_from_slice_get}
 use mathlib.Core.List.{IsPrefix}
 use Rattle.app_threads.specs.declared.stop.WorkerStop.{WorkerStop}
 use Rattle.app_threads.specs.declared.stop.WorkerStop.TheVariants as stop
+use Rattle.app_threads.specs.declared.work.Work.TheVariants as work
 use Rattle.app_threads.specs.Ends.{AtMost, IsPartRefused, IsThreadRefused, WorkersEnd, count_on_all}
 use Rattle.app_threads.specs.Workers.{AreArrivals, AreRuns, AreScripts, IsNoInvoke, KeepAccounts, NameDesks, StayAlone, count_on, frame_of, frames_at, invokes_at, is_invoke}
 use Rattle.app_threads.specs.Works.{all_works, arrival_works, script_works}
 use Rattle.desk_like.specs.Desks.{DeskView, HasOpen, IsAt}
-use Rattle.nook_defs.specs.declared.data.DeskRefused.{DeskRefused}
-use Rattle.nook_defs.specs.declared.data.DeskRefused.TheVariants as refused
-use Rattle.nook_defs.specs.declared.data.Event.{Event}
-use Rattle.nook_defs.specs.declared.data.Event.TheVariants as event
-use Rattle.nook_defs.specs.declared.data.Op.{Op}
-use Rattle.nook_defs.specs.declared.data.PartSpec.{PartSpec}
-use Rattle.nook_defs.specs.declared.data.ThreadSpec.{ThreadSpec}
+use Rattle.nook_defs.specs.declared.desks.DeskRefused.{DeskRefused}
+use Rattle.nook_defs.specs.declared.desks.DeskRefused.TheVariants as refused
+use Rattle.nook_defs.specs.declared.steps.Event.{Event}
+use Rattle.nook_defs.specs.declared.steps.Event.TheVariants as event
+use Rattle.nook_defs.specs.declared.calls.Op.{Op}
+use Rattle.nook_defs.specs.declared.scenario.PartSpec.{PartSpec}
+use Rattle.nook_defs.specs.declared.scenario.ThreadSpec.{ThreadSpec}
 use Rattle.nook_defs.specs.Places.{at_number}
 use Rattle.nook_defs.specs.Runs.{IsRun, IsRunFrom, state_after, state_of, step_of}
 use Rattle.nook_defs.specs.State.{PartState}
@@ -182,7 +183,7 @@ module _ (specs : List PartSpec) (scripts : List ThreadSpec) (arrivals : List (L
       added_all v w places (ap (λ (x : DeskView). x.made) (new_at olds d v new at_old)) made did.accounts did.alone
 
   thread_refused : (thread place part : ℕ) (why : DeskRefused) → AreRuns specs news → IsThreadRefused specs scripts arrivals olds news thread place part why
-      → IsForMemory (stop.Refused thread place part why)
+      → IsForMemory (stop.Refused (work.Script thread) place part why)
   thread_refused thread place part (refused.NoMemory call) runs h = tt
   thread_refused thread place part refused.TooManyCalls runs h =
       let r = h.refusal_is.cause in
@@ -198,13 +199,13 @@ module _ (specs : List PartSpec) (scripts : List ThreadSpec) (arrivals : List (L
   thread_refused thread place part refused.NoOpenCall runs h = h.refusal_is.cause.cause
   thread_refused thread place part refused.TooManyArrivals runs h = h.refusal_is.cause.cause
 
-  part_refused : (thread place part : ℕ) (why : DeskRefused) → AreRuns specs news → IsPartRefused specs scripts arrivals olds news thread place part why
-      → IsForMemory (stop.Refused thread place part why)
-  part_refused thread place part (refused.NoMemory call) runs h = tt
-  part_refused thread place part refused.TooManyCalls runs h = h.refusal_is.cause.cause
-  part_refused thread place part (refused.OpenCall call) runs h = h.refusal_is.cause.cause
-  part_refused thread place part refused.NoOpenCall runs h = h.refusal_is.cause.cause
-  part_refused thread place part refused.TooManyArrivals runs h =
+  part_refused : (p place part : ℕ) (why : DeskRefused) → AreRuns specs news → IsPartRefused specs scripts arrivals olds news place part why
+      → IsForMemory (stop.Refused (work.Arrivals p) place part why)
+  part_refused p place part (refused.NoMemory call) runs h = tt
+  part_refused p place part refused.TooManyCalls runs h = h.refusal_is.cause.cause
+  part_refused p place part (refused.OpenCall call) runs h = h.refusal_is.cause.cause
+  part_refused p place part refused.NoOpenCall runs h = h.refusal_is.cause.cause
+  part_refused p place part refused.TooManyArrivals runs h =
       let r = h.refusal_is.cause in
       let m = most part r.old r.new r.old_there r.new_there in
       let frames : slice_index_or arrivals part [] ≡ h.frames = get_or_from_slice_get arrivals part h.frames [] h.there in
@@ -218,10 +219,11 @@ pub only_for_memory : (specs : List PartSpec) (scripts : List ThreadSpec) (arriv
     → All IsValidPart specs → AreScripts count scripts → AreArrivals specs arrivals → AreNew olds → KeepAccounts olds news
     → WorkersEnd specs scripts arrivals olds news (Err why) → IsForMemory why
 only_for_memory specs scripts arrivals olds news count stop.NoMemory valid few fit new keep h = tt
-only_for_memory specs scripts arrivals olds news count (stop.Refused thread place part why) valid few fit new keep h =
-    elim h.1 [
-      | inl a ↦ thread_refused specs scripts arrivals olds news count valid few fit new keep h.3 h.0.1 thread place part why
-          (h.2 (some_script scripts arrivals thread a.script a.there)) a
-      | inr b ↦ part_refused specs scripts arrivals olds news count valid few fit new keep h.3 h.0.1 thread place part why
-          (h.2 (some_arrival scripts arrivals part b.frames b.there (let within : place < length b.frames = b.refusal_is.frame in omega arith))) b
-    ]
+only_for_memory specs scripts arrivals olds news count (stop.Refused (work.Script thread) place part why) valid few fit new keep h =
+    let a = h.1 in
+    thread_refused specs scripts arrivals olds news count valid few fit new keep h.3 h.0.1 thread place part why
+    (h.2 (some_script scripts arrivals thread a.script a.there)) a
+only_for_memory specs scripts arrivals olds news count (stop.Refused (work.Arrivals p) place part why) valid few fit new keep h =
+    let b = h.1.1 in
+    part_refused specs scripts arrivals olds news count valid few fit new keep h.3 h.0.1 p place part why
+    (h.2 (some_arrival scripts arrivals part b.frames b.there (let within : place < length b.frames = b.refusal_is.frame in omega arith))) b

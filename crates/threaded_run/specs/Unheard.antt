@@ -2,8 +2,8 @@
 use Rattle.std.specs.Prelude.{map}
 use Rattle.app_threads.specs.declared.stop.WorkerStop.{WorkerStop}
 use Rattle.app_threads.specs.declared.stop.WorkerStop.TheVariants as stop
-use Rattle.nook_defs.specs.declared.data.DeskRefused.TheVariants as refused
-use Rattle.nook_defs.specs.declared.data.Scenario.{Scenario}
+use Rattle.nook_defs.specs.declared.desks.DeskRefused.TheVariants as refused
+use Rattle.nook_defs.specs.declared.scenario.Scenario.{Scenario}
 use Rattle.report_text.specs.Whole.{HaveEnds}
 use Rattle.run_ends.specs.Journals.{AreRuns, events_in}
 use Rattle.threaded_run.specs.declared.running.Unheard.{Unheard}
@@ -17,6 +17,6 @@ pub record IsWholeRun (scenario : Scenario) (left : Unheard) : Type 0 where
 
 -- a worker stopped since memory was wanting
 abbrev pub IsForMemory : WorkerStop → Type 0
-IsForMemory (stop.Refused thread place part (refused.NoMemory call)) = Unit {0}
-IsForMemory (stop.Refused thread place part refusal) = ⊥
+IsForMemory (stop.Refused work place part (refused.NoMemory call)) = Unit {0}
+IsForMemory (stop.Refused work place part refusal) = ⊥
 IsForMemory stop.NoMemory = Unit {0}

@@ -54,7 +54,12 @@ pub fn leave_all<R: Wait>(rt: &R, alloc: Global, opened: Opened) -> Result<AllLe
 }
 
 /// Closes a desk by its only seat, behind which its part takes the steps that it has left.
-fn leave<R: Wait>(rt: &R, alloc: Global, desk: PartDesk, seat: DeskSeat) -> Result<Left, NoMemory>
+pub fn leave<R: Wait>(
+    rt: &R,
+    alloc: Global,
+    desk: PartDesk,
+    seat: DeskSeat,
+) -> Result<Left, NoMemory>
     requires seat { IsDeskSeat desk seat }
     requires alone { IsAlone (desk_view seat) }
     ensures { IfOk result (λ left. IsLeft (desk_spec desk) (desk_view seat).seen left.journal left.end) }

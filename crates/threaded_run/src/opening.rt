@@ -7,9 +7,9 @@ ghost use Rattle.part_server.specs.Desk.{IsDeskSeat, desk_spec, desk_view};
 ghost use Rattle.part_server.specs.Turns.{opening_view};
 ghost use Rattle.threaded_run.specs.Leaving.{AreNew};
 
-use nook_defs::data::PartSpec;
 use nook_defs::lists::{Frames, TryCopy};
 use nook_defs::memory::NoMemory;
+use nook_defs::scenario::PartSpec;
 use part_core::Part;
 use part_server::{DeskSeat, PartDesk};
 use std::alloc::Global;

@@ -1,10 +1,11 @@
 use Rattle.std.specs.Prelude.{ℕ, zero, suc, ◌+◌, ◌-◌, ◌==◌, nat_le, Bool, true, false, Option, Some, None, List, [], ◌∷◌, ◌++◌, length, map}
-use Rattle.nook_defs.specs.declared.data.Entry.{Entry}
-use Rattle.nook_defs.specs.declared.data.Fault.{Fault}
-use Rattle.nook_defs.specs.declared.data.TrapCause.{TrapCause}
-use Rattle.nook_defs.specs.declared.data.TrapCause.TheVariants as trap
+use Rattle.nook_defs.specs.declared.entries.Entry.{Entry}
+use Rattle.nook_defs.specs.declared.scenario.Fault.{Fault}
+use Rattle.nook_defs.specs.declared.machine.TrapCause.{TrapCause}
+use Rattle.nook_defs.specs.declared.machine.TrapCause.TheVariants as trap
 use Rattle.nook_defs.specs.declared.machine.BurstEnd.{BurstEnd}
 use Rattle.nook_defs.specs.declared.machine.BurstEnd.TheVariants as ends
+use Rattle.nook_defs.specs.declared.limits.TheConstants.{MOST_ACTS, MOST_TURNS}
 use Rattle.nook_defs.specs.Burst.{Struck, acts_of, strikes_at, trap_of}
 use Rattle.nook_defs.specs.Turn.{Machine, Turn, turn}
 use Rattle.turn_trace.specs.Turns.{traced}
@@ -45,14 +46,14 @@ struck_at place (f ∷ faults) =
       | false ↦ []
     ]
 
--- the 64th act ends a burst
+-- the last act that a burst may do ends it
 abbrev pub behind_acts : (Machine → ℕ → TracedBurst) → List Fault → Machine → ℕ → Bool → TracedBurst
 behind_acts go_on rest m acts true = finished rest m ends.Pause
 behind_acts go_on rest m acts false = go_on m acts
 
 -- a crossing ends a burst
 abbrev pub behind_crossing : (Machine → ℕ → TracedBurst) → List Fault → Machine → ℕ → Option BurstEnd → TracedBurst
-behind_crossing go_on rest m acts None = behind_acts go_on rest m acts (nat_le 64 acts)
+behind_crossing go_on rest m acts None = behind_acts go_on rest m acts (nat_le MOST_ACTS acts)
 behind_crossing go_on rest m acts (Some crossing) = finished rest m crossing
 
 -- a turn with its number, and what comes behind it
@@ -73,11 +74,11 @@ behind_strikes go_on s = behind_stop go_on s.machine s.rest s.stopped
 unfoldable pub trace_from : ℕ → List Entry → List Fault → Machine → ℕ → TracedBurst
 trace_from zero entries faults m acts = finished faults m (ends.Trap trap.Hang)
 trace_from (suc left) entries faults m acts =
-    behind (map strike (struck_at (4096 - suc left) faults))
+    behind (map strike (struck_at (MOST_TURNS - suc left) faults))
     (behind_strikes
-    (λ rest struck. behind_turn (λ m' acts'. trace_from left entries rest m' acts') rest (4096 - left) struck acts (turn entries struck))
-    (strikes_at (4096 - suc left) entries faults m))
+    (λ rest struck. behind_turn (λ m' acts'. trace_from left entries rest m' acts') rest (MOST_TURNS - left) struck acts (turn entries struck))
+    (strikes_at (MOST_TURNS - suc left) entries faults m))
 
 -- one burst up to its crossing, with the faults of the burst in rising order of their places
 unfoldable pub burst_trace : List Entry → List Fault → Machine → TracedBurst
-burst_trace entries faults m = trace_from 4096 entries faults m 0
+burst_trace entries faults m = trace_from MOST_TURNS entries faults m 0

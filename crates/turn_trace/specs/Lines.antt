@@ -1,9 +1,10 @@
 use Rattle.std.specs.Prelude.{ℕ, suc, ◌++◌, ◌==◌, nat_lt, not, if◌then◌else◌, Bool, true, false, Option, Some, None, List, [], ◌∷◌, codes, decimal, flat_map}
-use Rattle.nook_defs.specs.declared.data.Entry.{Entry}
-use Rattle.nook_defs.specs.declared.data.Fault.{Fault}
-use Rattle.nook_defs.specs.declared.data.FaultKind.{FaultKind}
-use Rattle.nook_defs.specs.declared.data.FaultKind.TheVariants as fault
+use Rattle.nook_defs.specs.declared.entries.Entry.{Entry}
+use Rattle.nook_defs.specs.declared.scenario.Fault.{Fault}
+use Rattle.nook_defs.specs.declared.scenario.FaultKind.{FaultKind}
+use Rattle.nook_defs.specs.declared.scenario.FaultKind.TheVariants as fault
 use Rattle.nook_defs.specs.declared.machine.Cpu.{Cpu}
+use Rattle.nook_defs.specs.declared.memory_map.TheConstants.{TEXT_WORDS}
 use Rattle.nook_defs.specs.Disassembler.{line_body, text_tokens}
 use Rattle.nook_defs.specs.Pages.{may_write}
 use Rattle.nook_defs.specs.ReportLines.{acts_tail, line_feed, spaced, with_number}
@@ -30,7 +31,7 @@ abbrev pub is_refused : List Entry → FaultKind → Bool
 is_refused entries fault.Trap = false
 is_refused entries fault.Hang = false
 is_refused entries (fault.Poke address value) = not (may_write entries address)
-is_refused entries (fault.Code address value) = not (nat_lt address 2048)
+is_refused entries (fault.Code address value) = not (nat_lt address TEXT_WORDS)
 is_refused entries (fault.Reg register value) = false
 
 abbrev pub refusal_text : Bool → List ℕ

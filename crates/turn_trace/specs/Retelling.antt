@@ -1,9 +1,10 @@
 use Rattle.std.specs.Prelude.{◌≡◌, ℕ, ◌+◌, ◌≤◌, List, [], ◌∷◌, ◌++◌, length, flat_map}
-use Rattle.nook_defs.specs.declared.data.Act.{Act}
-use Rattle.nook_defs.specs.declared.data.Fault.{Fault}
-use Rattle.nook_defs.specs.declared.data.TrapCause.TheVariants as trap
+use Rattle.nook_defs.specs.declared.machine.Act.{Act}
+use Rattle.nook_defs.specs.declared.scenario.Fault.{Fault}
+use Rattle.nook_defs.specs.declared.machine.TrapCause.TheVariants as trap
 use Rattle.nook_defs.specs.declared.machine.BurstEnd.{BurstEnd}
 use Rattle.nook_defs.specs.declared.machine.BurstEnd.TheVariants as ends
+use Rattle.nook_defs.specs.declared.limits.TheConstants.{MOST_TURNS}
 use Rattle.nook_defs.specs.Burst.{Burst}
 use Rattle.turn_trace.specs.Bursts.{TracedBurst, TracedStep, strike, taken}
 use Rattle.turn_trace.specs.declared.traced.TracedTurn.{TracedTurn}
@@ -27,7 +28,7 @@ acts_of_turn t = t.acts
 
 -- the count of a burst with so many turns: a hang counts as a whole burst
 abbrev pub counted : ℕ → BurstEnd → ℕ
-counted turns (ends.Trap trap.Hang) = 4096
+counted turns (ends.Trap trap.Hang) = MOST_TURNS
 counted turns (ends.Trap cause) = turns
 counted turns ending = turns
 
@@ -42,7 +43,7 @@ pub record Retells (faults : List Fault) (t : TracedBurst) (b : Burst) : Type 0 
   pub machine : t.left ≡ b.machine
   pub ending : t.ending ≡ b.ending
   pub count : b.count ≡ counted (length (turns_of t.steps)) t.ending
-  pub few : length (turns_of t.steps) ≤ 4096
+  pub few : length (turns_of t.steps) ≤ MOST_TURNS
   pub numbers : AreNumbered 1 (turns_of t.steps)
   pub acts : flat_map acts_of_turn (turns_of t.steps) ≡ b.acts
   pub each : strikes_of t.steps ++ t.unstruck ≡ faults

@@ -3,8 +3,8 @@
 ghost use Rattle.std.specs.Prelude.{List};
 ghost use Rattle.nook_defs.specs.Burst.{burst};
 ghost use Rattle.nook_defs.specs.Turn.{Machine};
-ghost use Rattle.nook_defs.specs.declared.data.Entry.{Entry};
-ghost use Rattle.nook_defs.specs.declared.data.Fault.{Fault};
+ghost use Rattle.nook_defs.specs.declared.entries.Entry.{Entry};
+ghost use Rattle.nook_defs.specs.declared.scenario.Fault.{Fault};
 ghost use Rattle.turn_trace.specs.Bursts.{burst_trace};
 ghost use Rattle.turn_trace.specs.Retelling.{Retells};
 

@@ -1,10 +1,13 @@
-//! What one burst of the driver machine did, turn by turn, over whatever memory and device a `Bus` lends; and its lines.
+//! What one burst of the driver machine did, turn by turn, over whatever memory and device a `Bus` lends; and the writing
+//! of its lines.
 #![tactic(auto)]
 
 pub mod laws;
-pub mod lines;
+mod lines;
 mod traced;
 mod tracing;
+mod writing;
 
 pub use traced::TracedTurn;
 pub use tracing::trace_burst;
+pub use writing::{write_start, write_unstruck};

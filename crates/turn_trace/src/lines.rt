@@ -1,15 +1,15 @@
 //! The lines of a burst's steps: each call adds to a line, which its maker drops after `NoMemory`.
 
 ghost use Rattle.std.specs.Prelude.{◌≡◌, ◌++◌, OnOk, codes};
-ghost use Rattle.turn_trace.specs.Lines.{effects_text, fault_text, fetch_text, jumped_text, kind_text, refusal_text, register_note, register_notes, set_text, start_line, stored_text, turn_line, unstruck_lines, word_text};
+ghost use Rattle.turn_trace.specs.Lines.{effects_text, fault_text, fetch_text, jumped_text, kind_text, refusal_text, register_note, register_notes, set_text, start_line, stored_text, turn_line, unstruck_line, word_text};
 ghost use Rattle.nook_defs.specs.ReportLines.{line_feed, spaced, with_number};
 
 use crate::traced::TracedTurn;
 use driver_asm::word_text;
-use nook_defs::data::{Fault, FaultKind};
 use nook_defs::lists::Word;
 use nook_defs::machine::Cpu;
 use nook_defs::memory::NoMemory;
+use nook_defs::scenario::{Fault, FaultKind};
 use report_text::line::Line;
 use report_text::pieces::{push_acts_tail, push_number};
 use std::alloc::Global;
@@ -127,15 +127,12 @@ pub fn push_strike(line: &mut Line, fault: &Fault, refused: bool) -> Result<(), 
     line.push("\n")
 }
 
-/// The lines of the faults that did not strike.
-pub fn push_unstruck(line: &mut Line, faults: &[Fault]) -> Result<(), NoMemory>
-    ensures { OnOk result (line.new ≡ line.old ++ unstruck_lines faults.now) }
+/// The line of a fault that did not strike.
+pub fn push_unstruck(line: &mut Line, fault: &Fault) -> Result<(), NoMemory>
+    ensures { OnOk result (line.new ≡ line.old ++ unstruck_line fault.now) }
 {
-    for fault in faults {
-        push_fault(line, "unstruck ", fault)?;
-        line.push("\n")?;
-    }
-    Ok(())
+    push_fault(line, "unstruck ", fault)?;
+    line.push("\n")
 }
 
 /// A word, the turns before a fault, and the fault's kind.

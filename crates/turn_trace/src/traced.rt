@@ -7,10 +7,9 @@ ghost use Rattle.nook_defs.specs.Turn.{turn as machine_turn};
 ghost use Rattle.turn_trace.specs.Turns.{instr_in, jumped_to, set_by, stored_by, target_of, traced, traced_of, with_word};
 
 use driver_isa::{Bus, decode, run_turn};
-use nook_defs::data::Acts;
 use nook_defs::journal::SpareRooms;
 use nook_defs::lists::Word;
-use nook_defs::machine::{BurstEnd, Cpu, Instr};
+use nook_defs::machine::{Acts, BurstEnd, Cpu, Instr};
 use nook_defs::memory::NoMemory;
 
 /// One turn of a burst, as it is told. A turn that traps, calls the kernel or replies shows no effect but its act.

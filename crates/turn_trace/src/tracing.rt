@@ -4,26 +4,21 @@ ghost use Rattle.std.specs.Prelude.{◌≡◌, ◌++◌, false, map, IfOk, None,
 ghost use Rattle.driver_isa.specs.Turns.{machine_of};
 ghost use Rattle.nook_defs.specs.Burst.{strikes_at, struck_machine, trap_of};
 ghost use Rattle.turn_trace.specs.Bursts.{burst_trace, strike as struck_step, struck_at};
+ghost use Rattle.report_text.specs.Writing.{Wrote};
 ghost use Rattle.turn_trace.specs.Lines.{is_refused, step_lines};
 
-use crate::lines::{push_strike, push_turn};
 use crate::traced::take_turn;
+use crate::writing::{write_strike, write_turn};
 use driver_isa::Bus;
-use nook_defs::data::{Fault, FaultKind, TrapCause};
 use nook_defs::journal::SpareRooms;
-use nook_defs::machine::Cpu;
-use nook_defs::memory::NoMemory;
+use nook_defs::limits::{MOST_ACTS, MOST_TURNS};
+use nook_defs::machine::{Cpu, TrapCause};
+use nook_defs::memory_map::TEXT_WORDS;
+use nook_defs::outside::Sink;
+use nook_defs::scenario::{Fault, FaultKind};
 use report_text::line::Line;
+use report_text::write::WriteStop;
 use std::alloc::Global;
-
-/// The turns after which a burst without a crossing is a hang.
-const MOST_TURNS: u32 = 4096;
-
-/// The acts after which a burst pauses.
-const MOST_ACTS: usize = 64;
-
-/// The words of text that a fault may write.
-const TEXT_WORDS: u32 = 2048;
 
 /// What the faults of one place left: the faults behind them, and the trap that one of them is.
 #[derive(Drop)]
@@ -39,18 +34,19 @@ struct Hit {
     stopped: Option<TrapCause>,
 }
 
-/// Runs one burst to its crossing and adds a line for each fault that strikes and each turn. `faults` are those of this
-/// burst in rising order of `after`, and those that did not strike are handed back. After `NoMemory` a front of the
-/// burst has happened.
+/// Runs one burst to its crossing and writes a line for each fault that strikes and each turn: each line is written
+/// before the next turn is taken. `faults` are those of this burst in rising order of `after`, and those that did not
+/// strike are handed back. After a fault of the sink or want of memory a front of the burst has happened, and the sink
+/// has gained a front of its lines.
 #[tactic(auto, unfolding(crate::specs::Bursts::burst_trace))]
-pub fn trace_burst<'a, B: Bus>(
+pub fn trace_burst<'a, B: Bus, K: Sink>(
     alloc: Global,
     cpu: &mut Cpu,
     bus: &mut B,
     faults: &'a [Fault],
-    line: &mut Line,
-) -> Result<&'a [Fault], NoMemory>
-    ensures lines { OnOk result (line.new ≡ line.old ++ step_lines (B.entries bus.old)
+    sink: &mut K,
+) -> Result<&'a [Fault], WriteStop>
+    ensures written { Wrote (K.held sink.old) (K.held sink.new) (K.count sink.old) (K.count sink.new) result (step_lines (B.entries bus.old)
         (burst_trace (B.entries bus.old) faults.now (machine_of cpu.old (B.words bus.old) (B.device bus.old))).steps) }
     ensures unstruck { IfOk result (λ rest. rest.now
         ≡ (burst_trace (B.entries bus.old) faults.now (machine_of cpu.old (B.words bus.old) (B.device bus.old))).unstruck) }
@@ -58,16 +54,17 @@ pub fn trace_burst<'a, B: Bus>(
         ≡ (burst_trace (B.entries bus.old) faults.now (machine_of cpu.old (B.words bus.old) (B.device bus.old))).left) }
 {
     let mut spare = SpareRooms::new(alloc);
+    let mut line = Line::new(alloc);
     let mut pending = faults;
     let mut acts = 0;
     for place in 0..MOST_TURNS {
-        let struck = strike_due(line, pending, place, cpu, bus)?;
+        let struck = strike_due(sink, &mut line, pending, place, cpu, bus)?;
         pending = struck.rest;
         if struck.stopped.is_some() {
             return Ok(pending);
         }
         let turned = take_turn(place + 1, cpu, bus, &mut spare)?;
-        push_turn(alloc, line, &turned.told)?;
+        write_turn(alloc, sink, &mut line, &turned.told)?;
         if turned.end.is_some() {
             return Ok(pending);
         }
@@ -79,33 +76,35 @@ pub fn trace_burst<'a, B: Bus>(
     Ok(pending)
 }
 
-/// Strikes the faults at the front that stand at this place, in their order, up to one that is a trap, and adds a line
-/// for each.
-fn strike_due<'a, B: Bus>(
+/// Strikes the faults at the front that stand at this place, in their order, up to one that is a trap, and writes the
+/// line of each when it has struck.
+fn strike_due<'a, B: Bus, K: Sink>(
+    sink: &mut K,
     line: &mut Line,
     faults: &'a [Fault],
     place: u32,
     cpu: &mut Cpu,
     bus: &mut B,
-) -> Result<Struck<'a>, NoMemory>
+) -> Result<Struck<'a>, WriteStop>
     ensures struck { IfOk result (λ struck. strikes_at place (B.entries bus.old) faults.now (machine_of cpu.old (B.words bus.old) (B.device bus.old))
         ≡ record {
           machine = machine_of cpu.new (B.words bus.new) (B.device bus.new);
           rest = struck.rest.now;
           stopped = struck.stopped;
         }) }
-    ensures lines { OnOk result (line.new ≡ line.old ++ step_lines (B.entries bus.old) (map struck_step (struck_at place faults.now))) }
+    ensures written { Wrote (K.held sink.old) (K.held sink.new) (K.count sink.old) (K.count sink.new) result
+        (step_lines (B.entries bus.old) (map struck_step (struck_at place faults.now))) }
     ensures entries { B.entries bus.new ≡ B.entries bus.old }
     ensures held { B.held bus.new ≡ B.held bus.old }
 {
     let mut rest = faults;
-    while let [fault, more @ ..] = rest {
+    while let Some((fault, more)) = rest.split_first() {
         if fault.after != place {
             break;
         }
         rest = more;
         let hit = strike(fault.kind, cpu, bus);
-        push_strike(line, fault, hit.refused)?;
+        write_strike(sink, line, fault, hit.refused)?;
         if hit.stopped.is_some() {
             return Ok(Struck {
                 rest,

@@ -1,7 +1,7 @@
 use Rattle.std.specs.Prelude.{◌≡◌, refl, false, Some}
 use Rattle.nook_defs.proofs.OnLiterals.{part_on_literals}
 use Rattle.nook_defs.proofs.TraceOnLiterals.{trace_on_literals}
-use Rattle.nook_defs.specs.declared.data.Class.TheVariants.{Block}
+use Rattle.nook_defs.specs.declared.classes.Class.TheVariants.{Block}
 use Rattle.nook_defs.specs.Contract.{first_break}
 use Rattle.nook_defs.specs.Ideal.{class_run}
 use Rattle.nook_defs.specs.Trace.{trace}

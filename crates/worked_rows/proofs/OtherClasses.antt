@@ -1,7 +1,7 @@
 use Rattle.std.specs.Prelude.{◌≡◌, ℕ, refl, true, false}
 use Rattle.nook_defs.proofs.TraceOnLiterals.{trace_on_literals}
-use Rattle.nook_defs.specs.declared.data.Answer.TheVariants.{BadClass, Done}
-use Rattle.nook_defs.specs.declared.data.Class.TheVariants.{Block, Net, Sound}
+use Rattle.nook_defs.specs.declared.calls.Answer.TheVariants.{BadClass, Done}
+use Rattle.nook_defs.specs.declared.classes.Class.TheVariants.{Block, Net, Sound}
 use Rattle.nook_defs.specs.Ideal.{class_run}
 use Rattle.worked_rows.specs.OtherClasses.{frame_arrives, frame_is_sent, sample_is_played}
 

@@ -1,18 +1,18 @@
 use Rattle.std.specs.Prelude.{◌≡◌, ℕ, suc, true, false, List, [], ◌∷◌, ◌++◌, length, Some, None, replicate}
-use Rattle.nook_defs.specs.declared.data.Act.{Act}
-use Rattle.nook_defs.specs.declared.data.Act.TheVariants as act
-use Rattle.nook_defs.specs.declared.data.Answer.{Answer}
-use Rattle.nook_defs.specs.declared.data.Answer.TheVariants as answer
-use Rattle.nook_defs.specs.declared.data.Class.{Class}
-use Rattle.nook_defs.specs.declared.data.Class.TheVariants.{Block, Net, Sound}
-use Rattle.nook_defs.specs.declared.data.End.TheVariants as end
-use Rattle.nook_defs.specs.declared.data.Event.{Event}
-use Rattle.nook_defs.specs.declared.data.Event.TheVariants as event
-use Rattle.nook_defs.specs.declared.data.Losses.{Losses}
-use Rattle.nook_defs.specs.declared.data.Op.{Op}
-use Rattle.nook_defs.specs.declared.data.Op.TheVariants as op
-use Rattle.nook_defs.specs.declared.data.Stage.{Stage}
-use Rattle.nook_defs.specs.declared.data.Stage.TheVariants as stage
+use Rattle.nook_defs.specs.declared.machine.Act.{Act}
+use Rattle.nook_defs.specs.declared.machine.Act.TheVariants as act
+use Rattle.nook_defs.specs.declared.calls.Answer.{Answer}
+use Rattle.nook_defs.specs.declared.calls.Answer.TheVariants as answer
+use Rattle.nook_defs.specs.declared.classes.Class.{Class}
+use Rattle.nook_defs.specs.declared.classes.Class.TheVariants.{Block, Net, Sound}
+use Rattle.nook_defs.specs.declared.steps.End.TheVariants as end
+use Rattle.nook_defs.specs.declared.steps.Event.{Event}
+use Rattle.nook_defs.specs.declared.steps.Event.TheVariants as event
+use Rattle.nook_defs.specs.declared.verdicts.Losses.{Losses}
+use Rattle.nook_defs.specs.declared.calls.Op.{Op}
+use Rattle.nook_defs.specs.declared.calls.Op.TheVariants as op
+use Rattle.nook_defs.specs.declared.steps.Stage.{Stage}
+use Rattle.nook_defs.specs.declared.steps.Stage.TheVariants as stage
 use Rattle.nook_defs.specs.declared.clause.Clause.{Clause}
 use Rattle.nook_defs.specs.declared.clause.Clause.TheVariants.{UnaskedStore, OtherStore, UnstoredWrite, OtherRead, UnaskedFrame, SecondFrame, UnsentSend, OutOfOrder, LeftInRing, OtherSample, UnplayedPlay, UnaskedRegister, UnmadeSet, OtherGet, UnseenFailure}
 use Rattle.nook_defs.specs.Contract.{first_break, number_of}

@@ -1,3 +1,4 @@
+pub mod Drivers
 pub mod Texts
 pub mod Scenarios
 pub mod FirstRun

@@ -1,18 +1,20 @@
 use Rattle.std.specs.Prelude.{ℕ, List, [], ◌∷◌, ◌++◌, take, replicate, codes, Result}
 use Rattle.serde_json.specs.Written.{compact_text}
+use Rattle.nook_defs.specs.Disassembler.{disassembled}
 use Rattle.nook_defs.specs.Faults.{told}
-use Rattle.nook_defs.specs.ImageReading.{image_from}
-use Rattle.nook_defs.specs.ImageText.{image_data}
-use Rattle.nook_defs.specs.References.{block_words, failing_block_image}
+use Rattle.nook_defs.specs.ImageReading.{image_from, image_from_asm}
+use Rattle.nook_defs.specs.ImageText.{image_data, image_text}
+use Rattle.nook_defs.specs.References.{block_words}
 use Rattle.nook_defs.specs.ScenarioReading.{scenario_from}
-use Rattle.nook_defs.specs.declared.data.BadBlock.{BadBlock}
-use Rattle.nook_defs.specs.declared.data.Class.TheVariants as class
-use Rattle.nook_defs.specs.declared.data.Image.{Image}
-use Rattle.nook_defs.specs.declared.data.Op.TheVariants as op
-use Rattle.nook_defs.specs.declared.data.PartSpec.{PartSpec}
-use Rattle.nook_defs.specs.declared.data.Scenario.{Scenario}
-use Rattle.nook_defs.specs.declared.data.ScheduleSpec.TheVariants as schedule
+use Rattle.nook_defs.specs.declared.scenario.BadBlock.{BadBlock}
+use Rattle.nook_defs.specs.declared.classes.Class.TheVariants as class
+use Rattle.nook_defs.specs.declared.scenario.Image.{Image}
+use Rattle.nook_defs.specs.declared.calls.Op.TheVariants as op
+use Rattle.nook_defs.specs.declared.scenario.PartSpec.{PartSpec}
+use Rattle.nook_defs.specs.declared.scenario.Scenario.{Scenario}
+use Rattle.nook_defs.specs.declared.scenario.ScheduleSpec.TheVariants as schedule
 use Rattle.nook_defs.specs.declared.input.Refusal.{Refusal}
+use Rattle.worked_rows.specs.Drivers.{failing_block_image}
 
 -- what is told of an input: nothing where it is right, else its first fault
 abbrev pub told_fault : {T : Type 0} → Result T Refusal → List ℕ
@@ -23,6 +25,14 @@ scenario_fault bytes = told_fault (scenario_from bytes)
 
 abbrev pub image_fault : List ℕ → List ℕ
 image_fault bytes = told_fault (image_from bytes)
+
+-- what `asm` writes for the bytes that it reads
+abbrev pub asm_output : List ℕ → List ℕ
+asm_output bytes = told image_text (image_from_asm bytes)
+
+-- what `dis` writes for the bytes that it reads
+abbrev pub dis_output : List ℕ → List ℕ
+dis_output bytes = told disassembled (image_from bytes)
 
 -- ---- a small driver, which answers every read with a word of its own
 

@@ -1,13 +1,13 @@
 use Rattle.std.specs.Prelude.{ℕ, Bool, true, false, is_none, List, [], ◌∷◌, length, replicate, codes}
-use Rattle.nook_defs.specs.declared.data.Event.{Event}
-use Rattle.nook_defs.specs.declared.data.FaultKind.TheVariants as fault
-use Rattle.nook_defs.specs.declared.data.Op.TheVariants as op
-use Rattle.nook_defs.specs.declared.data.PartSpec.{PartSpec}
-use Rattle.nook_defs.specs.declared.data.Scenario.{Scenario}
-use Rattle.nook_defs.specs.declared.data.ScheduleSpec.TheVariants as schedule
+use Rattle.nook_defs.specs.declared.steps.Event.{Event}
+use Rattle.nook_defs.specs.declared.scenario.FaultKind.TheVariants as fault
+use Rattle.nook_defs.specs.declared.calls.Op.TheVariants as op
+use Rattle.nook_defs.specs.declared.scenario.PartSpec.{PartSpec}
+use Rattle.nook_defs.specs.declared.scenario.Scenario.{Scenario}
+use Rattle.nook_defs.specs.declared.scenario.ScheduleSpec.TheVariants as schedule
 use Rattle.nook_defs.specs.Contract.{first_break}
 use Rattle.nook_defs.specs.Ideal.{class_run}
-use Rattle.nook_defs.specs.Licence.{licensed}
+use Rattle.nook_defs.specs.Licence.{is_licensed}
 use Rattle.nook_defs.specs.References.{block_image, net_image, sound_image}
 use Rattle.nook_defs.specs.Runs.{state_of}
 use Rattle.nook_defs.specs.Simulation.{Simulation, Choice, begins, runs, choices_of, journals_of}
@@ -30,7 +30,7 @@ verdict_of spec journal = record {
   failures = (state_of spec journal).failures;
   kept = is_none (first_break spec.class spec.blocks journal);
   one_run = class_run spec.class spec.blocks (trace journal);
-  licensed = licensed spec journal;
+  licensed = is_licensed spec journal;
 }
 
 abbrev pub verdicts_from : List PartSpec → List (List Event) → List Verdict

@@ -5,27 +5,18 @@ ghost use Rattle.std.specs.Prelude.{ℕ, ◌<◌, ◌^◌, ◌≡◌, ◌∷◌,
 ghost use Rattle.nook_defs.specs.AsmLines.{no_labels};
 ghost use Rattle.nook_defs.specs.Assembler.{first_draft, draft_after, assembled};
 ghost use Rattle.nook_defs.specs.Disassembler.{disassembled};
-ghost use Rattle.nook_defs.specs.ImageReading.{asm_output, dis_output};
 ghost use Rattle.nook_defs.specs.Machine.{decode_of, encode_of};
 ghost use Rattle.nook_defs.specs.Mnemonics.{mnemonic_named, mnemonic_text, fields_of, instr_with};
-ghost use Rattle.nook_defs.specs.References.{
-  block_text,
-  block_image,
-  failing_block_text,
-  failing_block_image,
-  net_text,
-  net_image,
-  sound_text,
-  sound_image,
-};
+ghost use Rattle.nook_defs.specs.References.{block_image, net_image, sound_image};
 ghost use Rattle.nook_defs.specs.Valid.{IsValidImage};
 ghost use Rattle.nook_defs.specs.declared.assembler.AsmKind.TheVariants as fault;
 ghost use Rattle.nook_defs.specs.declared.assembler.Mnemonic.{Mnemonic};
 ghost use Rattle.nook_defs.specs.declared.assembler.Section.TheVariants as section;
 ghost use Rattle.nook_defs.specs.declared.machine.Instr.{Instr};
-ghost use Rattle.worked_rows.specs.Texts.{lying_text, lying_json, lying_numbers};
+ghost use Rattle.worked_rows.specs.Drivers.{block_text, failing_block_text, failing_block_image, net_text, sound_text};
+ghost use Rattle.worked_rows.specs.Texts.{asm_output, dis_output, lying_text, lying_json, lying_numbers};
 
-use nook_defs::data::Image;
+use nook_defs::scenario::Image;
 
 /// The text of the block driver is its image.
 pub fn block_driver_assembles()

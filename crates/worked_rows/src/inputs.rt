@@ -4,9 +4,10 @@
 ghost use Rattle.std.specs.Prelude.{◌≡◌, ◌∷◌, ◌++◌, [], Ok, codes, true, false};
 ghost use Rattle.nook_defs.specs.ImageReading.{image_of, image_from};
 ghost use Rattle.nook_defs.specs.ImageText.{image_data, image_text};
-ghost use Rattle.nook_defs.specs.References.{failing_block_image, sound_image};
+ghost use Rattle.nook_defs.specs.References.{sound_image};
 ghost use Rattle.nook_defs.specs.ScenarioReading.{scenario_from};
 ghost use Rattle.nook_defs.specs.Valid.{IsValidImage};
+ghost use Rattle.worked_rows.specs.Drivers.{failing_block_image};
 ghost use Rattle.worked_rows.specs.Texts.{
   scenario_fault,
   image_fault,
@@ -17,7 +18,7 @@ ghost use Rattle.worked_rows.specs.Texts.{
   bad_block,
 };
 
-use nook_defs::data::Image;
+use nook_defs::scenario::Image;
 
 /// The text of a scenario that writes a block and reads it back.
 pub fn write_and_read_is_read()

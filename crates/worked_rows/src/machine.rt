@@ -1,8 +1,8 @@
 //! Small laws of the driver machine: bursts are bounded, and what a driver may write is what the table of pages says.
 
 ghost use Rattle.std.specs.Prelude.{List};
-ghost use Rattle.nook_defs.specs.declared.data.Entry.{Entry};
-ghost use Rattle.nook_defs.specs.declared.data.Fault.{Fault};
+ghost use Rattle.nook_defs.specs.declared.entries.Entry.{Entry};
+ghost use Rattle.nook_defs.specs.declared.scenario.Fault.{Fault};
 ghost use Rattle.nook_defs.specs.Burst.{burst};
 ghost use Rattle.nook_defs.specs.Turn.{Machine};
 ghost use Rattle.worked_rows.specs.MachineLaws.{IsBounded, IsLentBuffer, IsPageTable};

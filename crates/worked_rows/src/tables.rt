@@ -5,7 +5,8 @@ ghost use Rattle.nook_defs.specs.Classes.{conflicts, is_of_class, entry_count, e
 ghost use Rattle.nook_defs.specs.declared.classes.Accept.TheVariants.{IoError};
 ghost use Rattle.worked_rows.specs.EntryNames.{entry_name, entry_names};
 
-use nook_defs::data::{Class, Op};
+use nook_defs::calls::Op;
+use nook_defs::classes::Class;
 
 /// Two operations conflict in both orders or in none.
 #[tactic(auto, using(crate::proofs::ClassLaws::conflicts_symmetric))]

@@ -7,10 +7,12 @@ ghost use Rattle.nook_defs.specs.Entries.{is_buffer_of};
 ghost use Rattle.param_wrappers.specs.Crossing.{arguments};
 
 use super::Domain;
-use nook_defs::data::Op;
+use nook_defs::calls::Op;
+use nook_defs::limits::CONTEXTS;
 use nook_defs::lists::{Word, Words};
 use nook_defs::machine::{Context, Cpu};
 use nook_defs::memory::Room;
+use nook_defs::memory_map::{BUFFER_WORDS, stack_end};
 use param_wrappers::{Args, copy_in, copy_out};
 
 impl Domain {
@@ -19,9 +21,9 @@ impl Domain {
     /// most 128 words. It takes no memory.
     #[tactic(auto, unfolding(nook_defs::specs::Domain::entered_domain), using(crate::proofs::Loans::lent_entered))]
     pub fn enter(&mut self, context: u8, place: u32, op: &Op)
-        requires context { context < 17 }
+        requires context { context < CONTEXTS }
         requires free { list_any (is_buffer_of context) self.old.state.entries ≡ false }
-        requires few { IfSome (buffer_of op.now) (λ l. length l.words ≤ 128) }
+        requires few { IfSome (buffer_of op.now) (λ l. length l.words ≤ BUFFER_WORDS) }
         ensures { self.new ≡ record self.old { state = entered_domain context place op.now self.old.state } }
     {
         let arguments = copy_in(&mut self.pages, &mut self.tracker, context, op);
@@ -33,7 +35,7 @@ impl Domain {
     /// for Init and for ReplayOpen. The context is at most 16. It takes no memory.
     #[tactic(auto, unfolding(nook_defs::specs::Domain::plainly_entered))]
     pub fn enter_plain(&mut self, context: u8, place: u32)
-        requires { context < 17 }
+        requires { context < CONTEXTS }
         ensures { self.new ≡ record self.old { state = plainly_entered context place self.old.state } }
     {
         let none = Args {
@@ -47,14 +49,14 @@ impl Domain {
 
     /// A context that stands at an entry: r1 to r3 have its arguments, r14 the end of the context's stack.
     fn at_entry(&self, context: u8, place: u32, args: Args) -> Context
-        requires { context < 17 }
+        requires { context < CONTEXTS }
         ensures { result ≡ entry_context (slice_index self.now.state.starts place) context (arguments args) }
     {
         let mut registers = [0; 16];
         registers[1] = args.r1;
         registers[2] = args.r2;
         registers[3] = args.r3;
-        registers[14] = (65 + u32::from(context)) * 64;
+        registers[14] = stack_end(context);
         let counter = self
             .starts
             .as_slice()
@@ -70,7 +72,7 @@ impl Domain {
     /// Puts a word into r1 of a context that is Inside; of a free one it does nothing. The context is at most 16.
     #[tactic(auto, unfolding(nook_defs::specs::Domain::result_set))]
     pub fn set_result(&mut self, context: u8, word: Word)
-        requires { context < 17 }
+        requires { context < CONTEXTS }
         ensures { self.new ≡ record self.old { state = result_set context word self.old.state } }
     {
         if let Some(inside) = &mut self.contexts[context as usize] {
@@ -81,7 +83,7 @@ impl Domain {
     /// One context is free from now on, and its buffer is lent no more. The context is at most 16.
     #[tactic(auto, unfolding(nook_defs::specs::Domain::left_domain), using(crate::proofs::Loans::lent_left))]
     pub fn leave(&mut self, context: u8)
-        requires { context < 17 }
+        requires { context < CONTEXTS }
         ensures { self.new ≡ record self.old { state = left_domain context self.old.state } }
     {
         self.pages.revoke(context);
@@ -93,8 +95,8 @@ impl Domain {
     /// memory of `room`, which has room for them. The context is at most 16. It takes no memory.
     #[tactic(auto, unfolding(nook_defs::specs::Domain::left_domain), using(crate::proofs::Loans::lent_left))]
     pub fn copy_out(&mut self, context: u8, count: u32, room: Room<Word>) -> Words
-        requires context { context < 17 }
-        requires few { count ≤ 128 }
+        requires context { context < CONTEXTS }
+        requires few { count ≤ BUFFER_WORDS }
         requires room { count ≤ room }
         ensures words { result ≡ buffer_words context count self.old.state }
         ensures left { self.new ≡ record self.old { state = left_domain context self.old.state } }

@@ -11,18 +11,22 @@ ghost use Rattle.domain_call.specs.Standing.{with_device};
 
 use super::Domain;
 use domain_pages::PageMap;
-use nook_defs::data::{Class, Image, Released};
+use nook_defs::classes::Class;
+use nook_defs::entries::Released;
+use nook_defs::limits::{CONTEXTS, MOST_FRAME_WORDS};
 use nook_defs::lists::Words;
 use nook_defs::memory::NoMemory;
+use nook_defs::memory_map::{DATA_WORDS, TEXT_WORDS};
+use nook_defs::scenario::Image;
 
 impl Domain {
     /// Every context is free from now on, and the driver is not registered.
-    #[tactic(auto, unfolding(nook_defs::specs::Domain::stopped_domain), using(crate::proofs::Loans::lent_registered))]
+    #[tactic(auto, unfolding(nook_defs::specs::Domain::stopped_domain))]
     pub fn unwind(&mut self)
         ensures { self.new ≡ record self.old { state = stopped_domain self.old.state } }
     {
         self.tracker.unregister();
-        self.contexts = [None; 17];
+        self.contexts = [None; CONTEXTS];
     }
 
     /// Everything that the driver holds but its registration ends; what ended, in order. Where memory is wanting the
@@ -49,8 +53,8 @@ impl Domain {
     /// 2,048 words of each. Where memory is wanting the domain is as before.
     #[tactic(auto, unfolding(nook_defs::specs::Domain::loaded_domain))]
     pub fn load(&mut self, image: &Image) -> Result<(), NoMemory>
-        requires text { length image.now.text ≤ 2048 }
-        requires initial { length image.now.initial ≤ 2048 }
+        requires text { length image.now.text ≤ TEXT_WORDS }
+        requires initial { length image.now.initial ≤ DATA_WORDS }
         ensures ok { OnOk result (self.new ≡ record self.old { state = loaded_domain image.now self.old.state }) }
         ensures err { OnErr result (self.new ≡ self.old) }
     {
@@ -62,7 +66,7 @@ impl Domain {
     pub fn arrive(&mut self, frame: Words) -> bool
         requires net { self.old.class ≡ Class.Net }
         requires some { 1 ≤ length frame }
-        requires most { length frame ≤ 64 }
+        requires most { length frame ≤ MOST_FRAME_WORDS }
         ensures kept { result ≡ has_room self.old.state.device }
         ensures device { self.new ≡ record self.old { state = with_device (with_arrival frame self.old.state.device) self.old.state } }
     {
@@ -72,7 +76,7 @@ impl Domain {
 
 /// No context's buffer may be written from now on.
 fn revoke_all(pages: &mut PageMap)
-    requires { length pages.old.lent ≡ 17 }
+    requires { length pages.old.lent ≡ CONTEXTS }
     ensures { pages.new ≡ record pages.old { lent = none_lent } }
 {
     for context in 0..17_u8 {

@@ -7,21 +7,20 @@ ghost use Rattle.nook_defs.specs.Services.{checked};
 ghost use Rattle.param_wrappers.specs.Crossing.{can_serve};
 ghost use Rattle.domain_call.specs.Standing.{served_in, with_served};
 
-use super::{Domain, FIRST_OBJECT};
+use super::Domain;
 use kernel_services::{RxQueue, Served, serve};
+use nook_defs::limits::{CONTEXTS, MOST_FRAME_WORDS, SHADOW};
 use nook_defs::lists::Word;
 use nook_defs::machine::{BadParam, Service};
 use nook_defs::memory::Room;
+use nook_defs::memory_map::{OBJECT_WORDS, object_start};
 use param_wrappers::check_service;
-
-/// The context of the shadow.
-const SHADOW: usize = 16;
 
 impl Domain {
     /// The service of a context's kernel call by its number, its arguments being r1 and r2 of the context. The error
     /// names the smallest argument that fails; 0 is the service itself. The context is at most 16.
     pub fn check(&self, context: u8, number: u32) -> Result<Service, BadParam>
-        requires { context < 17 }
+        requires { context < CONTEXTS }
         ensures checked { result ≡ checked number (first_argument context self.now.state) (second_argument context self.now.state) self.now.class self.now.state.entries }
         ensures can { IfOk result (λ service. can_serve service ≡ true) }
     {
@@ -40,10 +39,10 @@ impl Domain {
         moved: Room<Word>,
         frame: Room<Word>,
     ) -> Served
-        requires context { context < 17 }
+        requires context { context < CONTEXTS }
         requires passed { can_serve service ≡ true }
-        requires moved { 64 ≤ moved }
-        requires frame { 64 ≤ frame }
+        requires moved { MOST_FRAME_WORDS ≤ moved }
+        requires frame { MOST_FRAME_WORDS ≤ frame }
         ensures domain { self.new ≡ record self.old { state = result_set context result.answer (with_served (served_in self.old service queue.old) self.old.state) } }
         ensures queue { queue.new ≡ (served_in self.old service queue.old).queue }
         ensures answer { result.answer ≡ (served_in self.old service queue.old).answer }
@@ -64,8 +63,8 @@ impl Domain {
         frame: Room<Word>,
     ) -> Served
         requires passed { can_serve service ≡ true }
-        requires moved { 64 ≤ moved }
-        requires frame { 64 ≤ frame }
+        requires moved { MOST_FRAME_WORDS ≤ moved }
+        requires frame { MOST_FRAME_WORDS ≤ frame }
         ensures domain { self.new ≡ record self.old { state = with_served (served_in self.old service queue.old) self.old.state } }
         ensures queue { queue.new ≡ (served_in self.old service queue.old).queue }
         ensures answer { result.answer ≡ (served_in self.old service queue.old).answer }
@@ -84,17 +83,17 @@ impl Domain {
     /// The kernel writes a word of object 0, whose places are 0 to 63.
     #[tactic(auto, unfolding(nook_defs::specs::Domain::noted))]
     pub fn note(&mut self, place: u32, word: Word)
-        requires { place < 64 }
+        requires { place < OBJECT_WORDS }
         ensures { self.new ≡ record self.old { state = noted place word self.old.state } }
     {
-        self.pages.kernel_write(FIRST_OBJECT + place, word);
+        self.pages.kernel_write(object_start(0) + place, word);
     }
 
     /// The driver failed: the number of failures stands in object 0, and the shadow's context is free.
     pub fn fail(&mut self, failures: u32)
         ensures { self.new ≡ record self.old { state = noted 4 failures (without_shadow self.old.state) } }
     {
-        self.contexts[SHADOW] = None;
+        self.contexts[SHADOW as usize] = None;
         self.note(4, failures);
     }
 }

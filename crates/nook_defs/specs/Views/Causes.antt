@@ -1,5 +1,6 @@
 -- What the outside tells of its faults, and what a whole read or write leaves.
-use Rattle.std.specs.Prelude.{◌≡◌, ℕ, ◌+◌, ◌-◌, ◌^◌, ◌<◌, ◌≤◌, min, List, [], ◌++◌, length, Option, Some, None, Result, OnErr, MatchResult}
+use Rattle.std.specs.Prelude.{◌≡◌, ℕ, ◌+◌, ◌-◌, ◌^◌, ◌<◌, ◌≤◌, min, List, [], ◌++◌, length, Option, Some, None, Result}
+use Rattle.std.specs.Prelude.{OnErr, MatchResult}
 use Rattle.std.specs.Io.KnownBytes.{Appends, Consumes}
 
 -- a count of faults rose, or it stands at the end of its type

@@ -1,8 +1,10 @@
-use Rattle.std.specs.Prelude.{ℕ, ◌-◌, ◌/◌, ◌&&◌, ◌||◌, nat_le, nat_lt, if◌then◌else◌, Bool, true, false, List, [], map, replicate, slice_index_or, slice_set}
+use Rattle.std.specs.Prelude.{ℕ, ◌/◌, if◌then◌else◌, Bool, true, false, List, [], map, replicate, slice_index_or}
+use Rattle.std.specs.Prelude.{slice_set}
 use Rattle.std.specs.List.{range_with_len}
-use Rattle.nook_defs.specs.declared.data.Entry.{Entry}
-use Rattle.nook_defs.specs.declared.data.Image.{Image}
-use Rattle.nook_defs.specs.Pages.{is_lent, opening_memory, loaded_memory}
+use Rattle.nook_defs.specs.Types.{Entry, Image}
+use Rattle.nook_defs.specs.declared.limits.TheConstants.{CONTEXTS}
+use Rattle.nook_defs.specs.declared.memory_map.TheConstants.{PAGE_WORDS, OWN_PAGES}
+use Rattle.nook_defs.specs.Pages.{is_lent, may_write_where, opening_memory, loaded_memory}
 
 -- The words of a domain as its page map keeps them, and what the map knows beside.
 
@@ -15,11 +17,11 @@ pub record PageMap : Type 0 where
 
 -- no context's buffer is lent
 unfoldable pub none_lent : List Bool
-none_lent = replicate 17 false
+none_lent = replicate CONTEXTS false
 
 -- no page has had a word written
 unfoldable pub none_written : List Bool
-none_written = replicate 115 false
+none_written = replicate OWN_PAGES false
 
 -- zeros but for the numbers of the objects, nothing lent, nothing written
 abbrev pub opening_pages : PageMap
@@ -27,18 +29,16 @@ opening_pages = record { words = opening_memory []; lent = none_lent; own = none
 
 -- a driver may write the address, where the buffers of these contexts are lent for writing
 abbrev pub may_change : List Bool → ℕ → Bool
-may_change lent address =
-    nat_le 2048 address && nat_lt address 5184
-    || (nat_le 5184 address && nat_lt address 7360) && slice_index_or lent ((address - 5184) / 128) false
+may_change lent address = may_write_where (λ context. slice_index_or lent context false) address
 
 -- the contexts whose buffers the entry list lends for writing
 abbrev pub lent_contexts : List Entry → List Bool
-lent_contexts entries = map (is_lent entries) (range_with_len 0 17)
+lent_contexts entries = map (is_lent entries) (range_with_len 0 CONTEXTS)
 
 -- one word is written, and its page has a copy of its own from now on
 abbrev pub page_written : PageMap → ℕ → ℕ → PageMap
 page_written p address word =
-    record p { words = slice_set p.words address word; own = slice_set p.own (address / 64) true }
+    record p { words = slice_set p.words address word; own = slice_set p.own (address / PAGE_WORDS) true }
 
 -- a driver's write: as before where it may not write there
 abbrev pub driver_written : PageMap → ℕ → ℕ → PageMap

@@ -2,12 +2,9 @@ use Rattle.std.specs.Prelude.{◌≡◌, ◌++◌, ℕ, Bool, List, Option, Some
 use Rattle.nook_defs.specs.Burst.{acts_of}
 use Rattle.nook_defs.specs.Classes.{defaults_of}
 use Rattle.nook_defs.specs.Devices.{Given, Taken}
-use Rattle.nook_defs.specs.declared.data.Act.{Act}
-use Rattle.nook_defs.specs.declared.data.Class.{Class}
-use Rattle.nook_defs.specs.declared.data.Class.TheVariants as class
-use Rattle.nook_defs.specs.declared.data.DeviceKind.{DeviceKind}
-use Rattle.nook_defs.specs.declared.data.DeviceKind.TheVariants as kind
-use Rattle.nook_defs.specs.declared.data.DeviceState.{DeviceState}
+use Rattle.nook_defs.specs.Types.{Act, Class, DeviceKind, DeviceState}
+use Rattle.nook_defs.specs.declared.classes.Class.TheVariants as class
+use Rattle.nook_defs.specs.declared.devices.DeviceKind.TheVariants as kind
 
 -- How code that reaches a device's ports relates to the definition of the ports.
 
@@ -32,7 +29,8 @@ act_of None = None
 act_of (Some taken) = taken.act
 
 -- how an OUT relates what it found to what it left: whether there is such a port, the acts, the device
-pub record IsTaken (taken : Option Taken) (allowed : Bool) (before after : List Act) (old new : DeviceState) : Type 0 where
+pub record IsTaken (taken : Option Taken) (allowed : Bool) (before after : List Act)
+    (old new : DeviceState) : Type 0 where
   pub port : allowed ≡ is_some taken
   pub acts : after ≡ before ++ acts_of (act_of taken)
   pub device : new ≡ device_after taken old

@@ -1,7 +1,7 @@
 -- What a list with a spare is to contracts, and the words of what is copied into a room.
 use Rattle.std.specs.Prelude.{ℕ, List, []}
-use Rattle.nook_defs.specs.declared.data.Answer.{Answer}
-use Rattle.nook_defs.specs.declared.data.Answer.TheVariants.{Blocks, Frame}
+use Rattle.nook_defs.specs.Types.{Answer}
+use Rattle.nook_defs.specs.declared.calls.Answer.TheVariants.{Blocks, Frame}
 
 -- a list, and for how many more items there is room
 pub record Kept (T : Type 0) : Type 0 where

@@ -1,8 +1,10 @@
 -- Sources and sinks in memory, whose faults are listed.
-use Rattle.std.specs.Prelude.{◌≡◌, ℕ, ◌+◌, ◌-◌, ◌^◌, ◌==◌, ◌||◌, min, nat_le, Bool, true, false, List, length, Result, Ok, IsErr}
+use Rattle.std.specs.Prelude.{◌≡◌, ℕ, ◌+◌, ◌-◌, ◌^◌, ◌==◌, ◌||◌, min, nat_le, Bool, true, false, List, length, Result}
+use Rattle.std.specs.Prelude.{Ok, IsErr}
 use Rattle.std.specs.List.{list_any}
 
--- a source: the bytes left, how many one read gives at most, the numbers of the calls that fail, its calls and faults so far
+-- a source: the bytes left, how many one read gives at most, the numbers of the calls that fail, its calls and faults
+-- so far
 pub record ListedSource : Type 0 where
   pub left : List ℕ
   pub per_read : ℕ

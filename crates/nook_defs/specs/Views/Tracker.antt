@@ -1,5 +1,5 @@
 use Rattle.std.specs.Prelude.{ℕ, List}
-use Rattle.nook_defs.specs.declared.data.Entry.{Entry}
+use Rattle.nook_defs.specs.Types.{Entry}
 
 -- what a tracker is: where the heap begins, and what the driver holds, in Collect's order
 pub record Tracker : Type 0 where

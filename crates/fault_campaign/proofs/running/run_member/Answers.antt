@@ -2,7 +2,7 @@ use Rattle.std.proofs.Common.{subst, sym}
 use Rattle.std.specs.Prelude.{IfOk}
 use Rattle.nook_defs.specs.Campaigns.{IsRowOf}
 use Rattle.nook_defs.specs.Valid.{IsValidScenario}
-use Rattle.scenario_laws.proofs.Members.{member_is_valid}
+use Rattle.reading_laws.proofs.Members.{member_is_valid}
 use Rattle.fault_campaign.proofs.running.run_member.Goals as goal
 
 pub run_scenario-requires : goal.run_scenario-requires

@@ -1,5 +1,5 @@
 use Rattle.std.proofs.Common.{drop, take}
-use Rattle.audit_laws.specs.Audit.{opening_audit}
+use Rattle.run_laws.specs.Audit.{opening_audit}
 use Rattle.journal_audit.proofs.auditing.check_parts.Given as goal
 use Rattle.journal_audit.specs.Found.{ArePast, found_from}
 

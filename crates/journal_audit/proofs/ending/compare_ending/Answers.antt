@@ -1,5 +1,5 @@
 use Rattle.std.proofs.Common.{Some, ap, subst, ◌∙◌}
-use Rattle.audit_laws.specs.Audit.{section_end}
+use Rattle.run_laws.specs.Audit.{section_end}
 use Rattle.report_text.specs.Writing.{Wrote}
 use Rattle.journal_audit.specs.Comparisons.{Comparison, held_in, untouched}
 use Rattle.journal_audit.proofs.Taken.{Held, text_kept}

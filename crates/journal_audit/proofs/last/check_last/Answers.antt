@@ -1,11 +1,11 @@
 use Rattle.std.proofs.Common.{Some, ◌++◌, [], ap, sym, subst, ◌∙◌}
-use Rattle.audit_laws.specs.Audit.{last_lines}
+use Rattle.run_laws.specs.Audit.{last_lines}
 use Rattle.nook_defs.specs.ReportText.{status_line, taps_text, threads_text}
 use Rattle.report_text.specs.Writing.{Wrote}
 use Rattle.journal_audit.specs.Comparisons.{Comparison, held_in, untouched}
 use Rattle.journal_audit.specs.Found.{at_last, found_from}
 use Rattle.journal_audit.specs.Stopping.{Checks}
-use Rattle.audit_laws.proofs.Wholes.{last_lines_ended}
+use Rattle.run_laws.proofs.Wholes.{last_lines_ended}
 use Rattle.journal_audit.proofs.Taken.{Held, text_kept}
 use Rattle.journal_audit.proofs.Endings.{due_checked, last_due, last_text, settled_ok, settled_unfit}
 use Rattle.journal_audit.proofs.last.check_last.Goals as goal

@@ -1,4 +1,4 @@
-use Rattle.audit_laws.specs.Audit.{in_script_order}
+use Rattle.run_laws.specs.Audit.{in_script_order}
 use Rattle.journal_audit.proofs.Scripts.{script_done, script_next, script_over}
 use Rattle.journal_audit.proofs.last.in_script_order.Goals as goal
 

@@ -1,5 +1,5 @@
 use Rattle.std.proofs.Common.{◌≡◌, ◌++◌, drop}
-use Rattle.audit_laws.specs.Audit.{in_script_order}
+use Rattle.run_laws.specs.Audit.{in_script_order}
 use Rattle.journal_audit.proofs.last.in_script_order.Given as goal
 
 abbrev pub invariant-loop-op : goal.invariant-loop-op

@@ -1,5 +1,5 @@
 use Rattle.std.proofs.Common.{◌≡◌, drop, filter}
-use Rattle.audit_laws.specs.Audit.{is_on}
+use Rattle.run_laws.specs.Audit.{is_on}
 use Rattle.journal_audit.proofs.script.from_part.Given as goal
 
 abbrev pub invariant-loop-place : goal.invariant-loop-place

@@ -1,7 +1,7 @@
 use Rattle.std.proofs.Common.{◌∙◌, rules, tests}
 use Rattle.std.proofs.lemmas.Iterator.{YieldsList-from_slice}
 use Rattle.std.proofs.lemmas.Iterator.Search.{all_from_yields_List}
-use Rattle.audit_laws.specs.Audit.{is_through}
+use Rattle.run_laws.specs.Audit.{is_through}
 use Rattle.journal_audit.specs.Sections.{OnPart}
 use Rattle.journal_audit.proofs.Hearing.{all_through}
 use Rattle.journal_audit.proofs.section.are_through.Goals as goal

@@ -1,5 +1,5 @@
 use Rattle.std.proofs.Common.{◌≡◌, map, take}
-use Rattle.audit_laws.specs.Audit.{thread_on}
+use Rattle.run_laws.specs.Audit.{thread_on}
 use Rattle.journal_audit.specs.Sections.{AreOn, state_in}
 use Rattle.journal_audit.proofs.section.threads_on.Given as goal
 

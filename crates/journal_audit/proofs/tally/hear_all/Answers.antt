@@ -1,5 +1,5 @@
 use Rattle.std.proofs.Common.{◌+◌, ap, ◌∙◌, sym, drop, map}
-use Rattle.audit_laws.specs.Audit.{each_of_part}
+use Rattle.run_laws.specs.Audit.{each_of_part}
 use Rattle.request_taps.specs.Bus.{seen, told_all}
 use Rattle.journal_audit.proofs.Kept.{told_next, told_none}
 use Rattle.journal_audit.proofs.tally.hear_all.Goals as goal

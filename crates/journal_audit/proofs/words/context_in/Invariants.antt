@@ -1,5 +1,5 @@
 use Rattle.std.proofs.Common.{◌≡◌, ◌-◌, ◌∷◌, []}
-use Rattle.audit_laws.specs.Audit.{context_among, context_in}
+use Rattle.run_laws.specs.Audit.{context_among, context_in}
 use Rattle.journal_audit.proofs.words.context_in.Given as goal
 
 abbrev pub invariant-loop-context : goal.invariant-loop-context

@@ -1,6 +1,6 @@
 use Rattle.std.proofs.Common.{◌≡◌, ◌∙◌, IfOk, ap, subst}
-use Rattle.device_laws.proofs.DeviceStays.{opening_spec}
-use Rattle.nook_defs.specs.declared.data.PartSpec.{PartSpec}
+use Rattle.part_laws.proofs.DeviceStays.{opening_spec}
+use Rattle.nook_defs.specs.declared.scenario.PartSpec.{PartSpec}
 use Rattle.nook_defs.specs.Runs.{PartRun}
 use Rattle.part_server.specs.Desk.{desk_spec}
 use Rattle.mirrored_run.proofs.running.open.Goals as goal

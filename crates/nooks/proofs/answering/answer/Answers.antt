@@ -26,3 +26,6 @@ returns-in-Campaign-clause-ends g c = rw (c.in-Campaign.is) (c.run_campaign.ensu
 
 pub returns-in-List-clause-ends : goal.returns-in-List-clause-ends
 returns-in-List-clause-ends g c = rw (c.in-List.is) (c.run_list.ensures.ends [])
+
+pub returns-in-Trace-clause-ends : goal.returns-in-Trace-clause-ends
+returns-in-Trace-clause-ends g c = rw (c.in-Trace.is) (c.trace_bytes.ensures.ends [])

@@ -1,7 +1,7 @@
 use Rattle.std.proofs.Common.{ap, ◌∙◌}
 use Rattle.nook_defs.specs.Runs.{PartRun}
-use Rattle.nook_defs.specs.declared.data.PartSpec.{PartSpec}
-use Rattle.device_laws.proofs.DeviceStays.{opening_spec}
+use Rattle.nook_defs.specs.declared.scenario.PartSpec.{PartSpec}
+use Rattle.part_laws.proofs.DeviceStays.{opening_spec}
 use Rattle.part_server.proofs.tests.desk_of.Goals as goal
 
 pub returns-in-Ok-new-clause-class : goal.returns-in-Ok-new-clause-class

@@ -1,6 +1,7 @@
 use Rattle.std.proofs.Common.{◌≡◌, ◌++◌, drop}
-use Rattle.nook_defs.specs.ReportText.{played_lines}
+use Rattle.std.specs.List.{flat_map}
+use Rattle.nook_defs.specs.ReportText.{played_line}
 use Rattle.report_text.proofs.whole_text.push_samples.Given as goal
 
 abbrev pub invariant-loop-act : goal.invariant-loop-act
-invariant-loop-act l = l.line ++ played_lines (drop l.act-index l.acts) ≡ l.initial.line ++ played_lines l.acts
+invariant-loop-act l = l.line ++ flat_map played_line (drop l.act-index l.acts) ≡ l.initial.line ++ flat_map played_line l.acts

@@ -2,7 +2,7 @@ use Rattle.std.proofs.Common.{◌≡◌, ◌∙◌, ap, length, ◌++◌, map, s
 use Rattle.std.specs.Prelude.{All}
 use Rattle.std.proofs.lemmas.List.{length-map}
 use Rattle.app_threads.specs.Workers.{AreArrivals, AreSeats}
-use Rattle.nook_defs.specs.declared.data.PartSpec.{PartSpec}
+use Rattle.nook_defs.specs.declared.scenario.PartSpec.{PartSpec}
 use Rattle.part_server.specs.Desk.{IsDeskSeat, desk_spec, desk_view}
 use Rattle.nook_defs.specs.Valid.{IsValidPart}
 use Rattle.threaded_run.proofs.Closed.{lent_whole}

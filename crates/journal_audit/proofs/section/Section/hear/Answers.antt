@@ -1,5 +1,5 @@
 use Rattle.std.proofs.Common.{◌≡◌, ◌≤◌, List, ◌++◌, take, drop, ap, length, map, sym, arith}
-use Rattle.audit_laws.specs.Audit.{Section}
+use Rattle.run_laws.specs.Audit.{Section}
 use Rattle.journal_audit.specs.Sections.{OnPart, state_in, with_threads}
 use Rattle.journal_audit.proofs.Hearing.{put_back}
 use Rattle.journal_audit.proofs.SectionSteps.{note_newest, parts_noted, threads_noted}

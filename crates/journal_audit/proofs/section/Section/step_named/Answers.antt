@@ -1,5 +1,5 @@
 use Rattle.std.proofs.Common.{sym, ap, ◌∙◌, codes}
-use Rattle.audit_laws.specs.Audit.{arrival_of, context_in, if_burst, if_entered, if_invoked, step_named}
+use Rattle.run_laws.specs.Audit.{arrival_of, context_in, if_burst, if_entered, if_invoked, step_named}
 use Rattle.journal_audit.proofs.Naming.{found_named, named_arrival, named_burst, named_entry, named_invocation, named_nothing, named_stage, same_words}
 use Rattle.journal_audit.proofs.section.Section.step_named.Goals as goal
 

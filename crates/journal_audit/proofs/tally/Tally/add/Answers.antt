@@ -1,5 +1,5 @@
 use Rattle.std.proofs.Common.{is_some, ◌∷◌, ◌++◌, [], ap, ◌∙◌}
-use Rattle.audit_laws.specs.Audit.{each_of_part}
+use Rattle.run_laws.specs.Audit.{each_of_part}
 use Rattle.report_text.specs.declared.whole_report.PartReport.{PartReport}
 use Rattle.request_taps.specs.Bus.{told_all}
 use Rattle.journal_audit.specs.Tallies.{Tallied}

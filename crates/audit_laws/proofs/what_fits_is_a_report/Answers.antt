@@ -1,5 +1,0 @@
-use Rattle.audit_laws.proofs.Reading.{report_read}
-use Rattle.audit_laws.proofs.what_fits_is_a_report.Goals as goal
-
-pub returns : goal.returns
-returns c = report_read

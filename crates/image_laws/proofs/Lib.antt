@@ -1,3 +1,0 @@
-pub mod LineFeed
-pub mod PlainData
-pub mod ImageJson

@@ -1,5 +1,0 @@
-use Rattle.image_laws.proofs.ImageJson.{text_comes_back}
-use Rattle.image_laws.proofs.image_text_comes_back.Goals as goal
-
-pub returns : goal.returns
-returns c = text_comes_back

@@ -1,3 +1,0 @@
-pub mod LentEntries
-pub mod InsideCalls
-pub mod StepLoans

@@ -1,0 +1,10 @@
+-- What equal options say.
+use Rattle.std.proofs.Common.{◌≡◌, Some, None}
+
+-- options that are equal have the same inside
+pub same_inside : {X : Type 0} {x y : X} → Some x ≡ Some y → x ≡ y
+same_inside h = cc
+
+-- an option is not both
+pub none_is_some : {X G : Type 0} {x : X} → None ≡ Some x → G
+none_is_some h = cc

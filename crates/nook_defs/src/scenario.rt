@@ -1,0 +1,94 @@
+//! What a scenario says: its parts with their drivers and faults, its threads, and its schedule.
+
+use crate::calls::PartOps;
+use crate::classes::Class;
+use crate::lists::{Frames, Items, Picks, Words};
+use crate::name::Name;
+
+/// What an injected fault does.
+#[derive(Clone, Copy)]
+pub enum FaultKind {
+    /// The burst ends with the trap Injected.
+    Trap,
+    /// The burst ends with the trap Hang.
+    Hang,
+    /// A word is written where the driver may write, else nothing.
+    Poke { address: u32, value: u32 },
+    /// A text word is written at an address below 2,048, else nothing.
+    Code { address: u32, value: u32 },
+    /// A register is set, number 0 to 15, else nothing.
+    Reg { register: u8, value: u32 },
+}
+
+/// A fault that strikes in burst `burst` before its turn `after + 1`.
+#[derive(Clone, Copy)]
+pub struct Fault {
+    pub burst: u32,
+    pub after: u32,
+    pub kind: FaultKind,
+}
+
+/// A driver program: the entries of its class in the class's order, text words and initial words.
+#[derive(Drop)]
+pub struct Image {
+    pub class: Class,
+    pub entries: Words,
+    pub text: Words,
+    pub initial: Words,
+}
+
+/// Commands on `block` fail from its command number `after + 1` on.
+#[derive(Clone, Copy)]
+pub struct BadBlock {
+    pub block: u32,
+    pub after: u32,
+}
+
+/// A part as a scenario gives it. `blocks` is 0 and `bad` is empty for other classes than block; `arrivals`
+/// is empty for other classes than net.
+#[derive(Drop)]
+pub struct PartSpec {
+    pub name: Name,
+    pub class: Class,
+    pub blocks: u32,
+    pub bad: BadBlocks,
+    pub limit: u32,
+    pub image: Image,
+    pub faults: Faults,
+    pub arrivals: Frames,
+}
+
+/// An application thread and its script, a list of a part and an operation.
+#[derive(Drop)]
+pub struct ThreadSpec {
+    pub name: Name,
+    pub ops: PartOps,
+}
+
+/// The order in which the actors of a run take their steps.
+#[derive(Drop)]
+pub enum ScheduleSpec {
+    RoundRobin,
+    Drawn { start: u64 },
+    Listed { picks: Picks },
+}
+
+/// Everything that a run is determined by.
+#[derive(Drop)]
+pub struct Scenario {
+    pub schedule: ScheduleSpec,
+    pub parts: Parts,
+    pub threads: ThreadSpecs,
+}
+
+/// A list of faults.
+pub type Faults = Items<Fault>;
+
+/// A list of bad blocks.
+pub type BadBlocks = Items<BadBlock>;
+
+/// The parts of a scenario.
+pub type Parts = Items<PartSpec>;
+
+/// The threads of a scenario.
+pub type ThreadSpecs = Items<ThreadSpec>;

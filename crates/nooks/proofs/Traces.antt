@@ -1,0 +1,70 @@
+-- What a trace leaves.
+use Rattle.std.proofs.Common.{◌≡◌, ℕ, List, [], Bool, true, false, is_some, Option, Result, Ok, Err, Some, None, inl, inr, refl, sym, true≢false}
+use Rattle.nook_defs.specs.Listening.{Listening}
+use Rattle.nook_defs.specs.ScenarioReading.{scenario_from}
+use Rattle.nook_defs.specs.declared.scenario.Scenario.{Scenario}
+use Rattle.burst_trace.specs.Text.{IsTraceText}
+use Rattle.burst_trace.specs.Writing.{Traces, text_in}
+use Rattle.report_text.proofs.WroteLemmas.{prefix_longer}
+use Rattle.report_text.specs.declared.write.WriteStop.{WriteStop}
+use Rattle.nooks.specs.Answers.{AnswersInput, Says}
+use Rattle.nooks.specs.Endings.{IsBegun, IsWritten, Writes}
+use Rattle.nooks.specs.Streams.{Change, Gains, GainsFront, Whole}
+use Rattle.nooks.specs.Texts.{no_such_burst_text}
+use Rattle.nooks.specs.declared.program.Status.{Status}
+use Rattle.nooks.specs.declared.program.Status.TheVariants as ended
+use Rattle.nooks.specs.declared.words.Form.TheVariants as form
+use Rattle.nooks.proofs.Written.{writes_more}
+
+whole_by : (bytes : List ℕ) (scenario : Scenario) (part burst : ℕ) (sink : Change) (hearing : List Listening) (trace : Option (List ℕ))
+    → scenario_from bytes ≡ Ok scenario → IsTraceText scenario part burst trace → true ≡ is_some trace → Gains sink (text_in trace)
+    → IsWritten (AnswersInput (form.Trace part burst) (Whole bytes) hearing) sink ended.Done
+whole_by bytes scenario part burst sink hearing None reading is there gained = absurd (true≢false there)
+whole_by bytes scenario part burst sink hearing (Some text) reading is there gained =
+    record { text = text; answer = inr (record { scenario = scenario; reading = reading; trace = is }, refl); gained = gained }
+
+front_by : (bytes : List ℕ) (scenario : Scenario) (part burst : ℕ) (sink : Change) (hearing : List Listening) (trace : Option (List ℕ))
+    → scenario_from bytes ≡ Ok scenario → IsTraceText scenario part burst trace → GainsFront sink (text_in trace)
+    → IsBegun (AnswersInput (form.Trace part burst) (Whole bytes) hearing) sink
+front_by bytes scenario part burst sink hearing None reading is front = record {
+  text = no_such_burst_text;
+  status = ended.BadInput;
+  answer = inl (inr (record { scenario = scenario; reading = reading; none = is; text_is = refl }), refl);
+  gained = prefix_longer sink.before.told sink.after.told [] no_such_burst_text front;
+}
+front_by bytes scenario part burst sink hearing (Some text) reading is front = record {
+  text = text;
+  status = ended.Done;
+  answer = inr (record { scenario = scenario; reading = reading; trace = is }, refl);
+  gained = front;
+}
+
+none_by : (bytes : List ℕ) (scenario : Scenario) (part burst : ℕ) (sink : Change) (hearing : List Listening) (trace : Option (List ℕ)) (status : Status)
+    → scenario_from bytes ≡ Ok scenario → IsTraceText scenario part burst trace → false ≡ is_some trace
+    → Writes (Says no_such_burst_text ended.BadInput) sink status → Writes (AnswersInput (form.Trace part burst) (Whole bytes) hearing) sink status
+none_by bytes scenario part burst sink hearing (Some text) status reading is there ends = absurd (true≢false (sym there))
+none_by bytes scenario part burst sink hearing None status reading is there ends =
+    writes_more (Says no_such_burst_text ended.BadInput) (AnswersInput (form.Trace part burst) (Whole bytes) hearing) sink status
+    (λ text s says. inl (inr (record { scenario = scenario; reading = reading; none = is; text_is = says.0 }), says.1)) ends
+
+-- a trace was written whole, or a front of it
+pub trace_written : (bytes : List ℕ) (scenario : Scenario) (part burst : ℕ) (sink : Change) (hearing : List Listening)
+    → scenario_from bytes ≡ Ok scenario
+    → Traces scenario part burst sink.before.told sink.after.told sink.before.faults sink.after.faults (Ok true)
+    → IsWritten (AnswersInput (form.Trace part burst) (Whole bytes) hearing) sink ended.Done
+trace_written bytes scenario part burst sink hearing reading t =
+    whole_by bytes scenario part burst sink hearing t.trace reading t.is t.wrote.there t.wrote.wrote.ok
+
+pub trace_begun : (bytes : List ℕ) (scenario : Scenario) (part burst : ℕ) (sink : Change) (hearing : List Listening) (stop : WriteStop)
+    → scenario_from bytes ≡ Ok scenario
+    → Traces scenario part burst sink.before.told sink.after.told sink.before.faults sink.after.faults (Err stop)
+    → IsBegun (AnswersInput (form.Trace part burst) (Whole bytes) hearing) sink
+trace_begun bytes scenario part burst sink hearing stop reading t =
+    front_by bytes scenario part burst sink hearing t.trace reading t.is t.wrote.wrote.err
+
+-- there is no such burst
+pub none_answers : (bytes : List ℕ) (scenario : Scenario) (part burst : ℕ) (told after : Option (List ℕ)) (faults later : ℕ) (sink : Change) (hearing : List Listening)
+    (status : Status) → scenario_from bytes ≡ Ok scenario → Traces scenario part burst told after faults later (Ok false)
+    → Writes (Says no_such_burst_text ended.BadInput) sink status → Writes (AnswersInput (form.Trace part burst) (Whole bytes) hearing) sink status
+none_answers bytes scenario part burst told after faults later sink hearing status reading t ends =
+    none_by bytes scenario part burst sink hearing t.trace status reading t.is t.wrote.there ends

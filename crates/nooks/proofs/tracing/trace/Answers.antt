@@ -1,0 +1,13 @@
+use Rattle.std.proofs.Common.{Err, ap, inr}
+use Rattle.nooks.proofs.Traces.{trace_begun}
+use Rattle.nooks.proofs.tracing.trace.Goals as goal
+
+pub returns-in-Err-Fault-clause-ends : goal.returns-in-Err-Fault-clause-ends
+returns-in-Err-Fault-clause-ends g c bytes hearing reading = (
+  c.in-Err-Fault.ensures.written.wrote.wrote.fault (ap Err c.in-Err-Fault.field-0-is),
+  trace_begun bytes c.args.scenario.now c.args.part c.args.burst _ hearing _ reading c.in-Err-Fault.ensures.written,
+)
+
+pub returns-in-Err-NoMemory-clause-ends : goal.returns-in-Err-NoMemory-clause-ends
+returns-in-Err-NoMemory-clause-ends g c bytes hearing reading =
+    inr (trace_begun bytes c.args.scenario.now c.args.part c.args.burst _ hearing _ reading c.in-Err-NoMemory.ensures.written)

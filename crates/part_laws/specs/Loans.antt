@@ -1,0 +1,39 @@
+use Rattle.std.specs.Prelude.{◌≡◌, ℕ, Bool, true, false, List}
+use Rattle.std.specs.List.{list_any}
+use Rattle.nook_defs.specs.declared.calls.CallEntry.{CallEntry}
+use Rattle.nook_defs.specs.declared.entries.Entry.{Entry}
+use Rattle.nook_defs.specs.declared.steps.Mode.{Mode}
+use Rattle.nook_defs.specs.declared.steps.Mode.TheVariants as mode
+use Rattle.nook_defs.specs.declared.steps.Stage.{Stage}
+use Rattle.nook_defs.specs.declared.steps.Stage.TheVariants as stage
+use Rattle.nook_defs.specs.Entries.{is_buffer_of}
+use Rattle.nook_defs.specs.Log.{call_of_thread}
+use Rattle.nook_defs.specs.State.{PartState}
+use Rattle.nook_defs.specs.Steps.{is_inside}
+
+-- Whose buffers are lent.
+
+-- no context's buffer is lent
+abbrev pub IsWithoutLoans : List Entry → Type 0
+IsWithoutLoans entries = (context : ℕ) → list_any (is_buffer_of context) entries ≡ false
+
+-- a lent buffer is that of a thread whose call is Inside
+abbrev pub AreForInside : List CallEntry → List Entry → Type 0
+AreForInside pending entries =
+    (context : ℕ) → list_any (is_buffer_of context) entries ≡ true → is_inside (call_of_thread context pending) ≡ true
+
+-- the stages before Collect is done, in which loans of ended calls still stand
+abbrev pub is_unsettled : Stage → Bool
+is_unsettled stage.Stop = true
+is_unsettled stage.Collect = true
+is_unsettled _ = false
+
+abbrev pub AreLoansIn : Mode → List CallEntry → List Entry → Type 0
+AreLoansIn (mode.Boot s) pending entries = IsWithoutLoans entries
+AreLoansIn mode.Running pending entries = AreForInside pending entries
+AreLoansIn (mode.Recovering s) pending entries = is_unsettled s ≡ false → IsWithoutLoans entries
+AreLoansIn (mode.Dead collected) pending entries = Unit {0}
+
+-- while the driver runs, only calls that are Inside have a buffer; from Collect on until it runs again, none has
+abbrev pub HasLoans : PartState → Type 0
+HasLoans p = AreLoansIn p.mode p.log.pending p.domain.entries

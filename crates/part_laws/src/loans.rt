@@ -1,0 +1,23 @@
+//! Laws on whose buffers are lent.
+
+ghost use Rattle.part_laws.specs.Loans.{HasLoans};
+ghost use Rattle.nook_defs.specs.Runs.{IsRun, state_of};
+ghost use Rattle.nook_defs.specs.State.{PartState};
+ghost use Rattle.nook_defs.specs.Steps.{enabled, stepped};
+ghost use Rattle.nook_defs.specs.declared.steps.Event.{Event};
+ghost use Rattle.nook_defs.specs.declared.scenario.PartSpec.{PartSpec};
+ghost use Rattle.nook_defs.specs.declared.steps.Step.{Step};
+ghost use Rattle.part_laws.specs.Fit.{IsFit, IsFitSpec};
+ghost use Rattle.part_laws.specs.Tied.{IsTied};
+ghost use Rattle.std.specs.Prelude.{List, true, ◌≡◌};
+
+/// Each step that may be taken keeps whose buffers are lent: while the driver runs only calls that are Inside have
+/// one, and from Collect on until it runs again none has.
+pub fn each_step_keeps_loans()
+    ensures { (p : PartState) (s : Step) → IsFit p → IsTied p → HasLoans p → enabled p s ≡ true → HasLoans (stepped p s).state }
+{}
+
+/// So it is after every journal that is a run.
+pub fn every_run_keeps_loans()
+    ensures { (spec : PartSpec) (journal : List Event) → IsFitSpec spec → IsRun spec journal → HasLoans (state_of spec journal) }
+{}

@@ -1,0 +1,117 @@
+-- The image of a JSON text keeps the limits of images.
+use Rattle.std.proofs.Common.{◌≡◌, ◌∙◌, refl, sym, subst, ap, ℕ, ◌+◌, ◌<◌, ◌≤◌, ◌^◌, ◌==◌, ◌&&◌, Bool, true, false, List, [], ◌∷◌, ◌++◌, length, arith, length-append, if◌then◌else◌}
+use Rattle.std.specs.Prelude.{Result, Ok, Err, IfOk, All}
+use Rattle.std.specs.List.{list_all}
+use Rattle.std.specs.Char.{digit_value}
+use Rattle.std.specs.Str.Parse.{AllDigits, digits_value}
+use Rattle.std.proofs.lemmas.Bool.{ltb-true, eqb-true, and_parts}
+use Rattle.std.proofs.lemmas.Int.Digits.{digits_value-lt}
+use Rattle.std.proofs.lemmas.List.Elements.{All-nil, All-push}
+use Rattle.serde_json.specs.Data.{Data}
+use Rattle.nook_defs.specs.Classes.{entry_count}
+use Rattle.nook_defs.specs.ImageReading.{class_of, is_hex_digit, hex_word, word_of, words_of, places_from, entries_of, image_of}
+use Rattle.nook_defs.specs.Keys.{entry_keys}
+use Rattle.nook_defs.specs.Reading.{bad, text_of, object_with, required, number_at}
+use Rattle.nook_defs.specs.Results.{◌>>=◌}
+use Rattle.nook_defs.specs.Valid.{AreWords, IsTextPlace, IsValidImage, IsWord}
+use Rattle.nook_defs.specs.declared.classes.Class.{Class}
+use Rattle.nook_defs.specs.declared.classes.Class.TheVariants as class
+use Rattle.nook_defs.specs.declared.scenario.Image.{Image}
+use Rattle.nook_defs.specs.declared.input.InputFault.TheVariants as fault
+use Rattle.nook_defs.specs.declared.input.Key.{Key}
+use Rattle.nook_defs.specs.declared.input.Key.TheVariants as key
+use Rattle.nook_defs.specs.declared.input.Refusal.{Refusal}
+use Rattle.reading_laws.proofs.Readings.{any, chained, passed, less, required_holds, number_at_holds, IsBetween, Listed, each_holds}
+
+all_digits : (digits : List ℕ) → list_all is_hex_digit digits ≡ true → AllDigits 16 digits
+all_digits [] h = tt
+all_digits (c ∷ cs) h = (
+  ltb-true (digit_value c) 16 (and_parts (is_hex_digit c) (list_all is_hex_digit cs) h).0,
+  all_digits cs (and_parts (is_hex_digit c) (list_all is_hex_digit cs) h).1,
+)
+
+hex_by : (digits : List ℕ) (test : Bool) → (length digits == 8 && list_all is_hex_digit digits) ≡ test
+    → let read : Result ℕ Refusal = if test then Ok (digits_value 16 digits) else bad fault.BadImage in IfOk read IsWord
+hex_by digits false e = tt
+hex_by digits true e = let parts = and_parts (length digits == 8) (list_all is_hex_digit digits) e in
+    subst (λ n. digits_value 16 digits < 16 ^ n) (eqb-true (length digits) 8 parts.0) (digits_value-lt 16 digits (all_digits digits parts.1))
+
+hex_holds : (digits : List ℕ) → IfOk (hex_word digits) IsWord
+unfolding hex_word
+hex_holds digits = hex_by digits (length digits == 8 && list_all is_hex_digit digits) refl
+
+word_holds : (earlier : List ℕ) (d : Data) → IfOk (word_of earlier d) IsWord
+word_holds earlier d = passed IsWord (text_of d) hex_word (λ digits. hex_holds digits)
+
+words_hold : (d : Data) → IfOk (words_of d) (AreWords 2048)
+words_hold d = less (Listed (All IsWord) 0 2048) (AreWords 2048) (words_of d) (each_holds IsWord word_of 0 2048 word_holds d) (λ ws h. (h.2, h.0))
+
+-- ---- entries
+
+abbrev Placed : ℕ → List ℕ → Type 0
+Placed n places = (length places ≡ n) × All IsTextPlace places
+
+places_hold : (keys : List Key) (earlier : List ℕ) (d : Data) → All IsTextPlace earlier
+    → IfOk (places_from keys earlier d) (Placed (length earlier + length keys))
+places_hold [] earlier d h = (omega arith, h)
+places_hold (entry ∷ more) earlier d h =
+    chained (IsBetween 0 2047) (Placed (length earlier + length (entry ∷ more))) (number_at entry 0 2047 d) (λ place. places_from more (earlier ++ place ∷ []) d)
+    (number_at_holds entry 0 2047 d)
+    (λ place b. less (Placed (length (earlier ++ place ∷ []) + length more)) (Placed (length earlier + length (entry ∷ more))) (places_from more (earlier ++ place ∷ []) d)
+    (places_hold more (earlier ++ place ∷ []) d (All-push IsTextPlace earlier place h b.1))
+    (λ places p. (omega (arith, p.0, length-append earlier (place ∷ [])), p.1)))
+
+count_keys : (c : Class) → length (entry_keys c) ≡ entry_count c
+count_keys class.Block = refl
+count_keys class.Net = refl
+count_keys class.Sound = refl
+
+entries_hold : (c : Class) (d : Data) → IfOk (entries_of c d) (Placed (entry_count c))
+entries_hold c d =
+    passed (Placed (entry_count c)) (object_with (entry_keys c) d) (λ known. places_from (entry_keys c) [] d)
+    (λ known. less (Placed (0 + length (entry_keys c))) (Placed (entry_count c)) (places_from (entry_keys c) [] d)
+    (places_hold (entry_keys c) [] d (All-nil IsTextPlace))
+    (λ places p. (omega (arith, p.0, count_keys c), p.1)))
+
+-- ---- images
+
+valid_image : (c : Class) (entries text initial : List ℕ) → Placed (entry_count c) entries → AreWords 2048 text → AreWords 2048 initial
+    → IsValidImage (record { class = c; entries = entries; text = text; initial = initial })
+valid_image c entries text initial he ht hi = record { entries = he.0; places = he.1; text = ht; initial = hi }
+
+-- the steps of the reading, from the last to the first
+
+abbrev reads_text : Data → Class → List ℕ → List ℕ → Result Image Refusal
+reads_text d c initial entries =
+    required key.Text words_of d >>= λ text. let read : Result Image Refusal = Ok (record { class = c; entries = entries; text = text; initial = initial }) in read
+
+abbrev reads_entries : Data → Class → List ℕ → Result Image Refusal
+reads_entries d c initial = required key.Entries (entries_of c) d >>= reads_text d c initial
+
+abbrev reads_initial : Data → Class → Result Image Refusal
+reads_initial d c = required key.Data words_of d >>= reads_entries d c
+
+text_holds : (d : Data) (c : Class) (initial entries : List ℕ) → AreWords 2048 initial → Placed (entry_count c) entries → IfOk (reads_text d c initial entries) IsValidImage
+text_holds d c initial entries hi he =
+    chained (AreWords 2048) IsValidImage (required key.Text words_of d)
+    (λ text. let read : Result Image Refusal = Ok (record { class = c; entries = entries; text = text; initial = initial }) in read)
+    (required_holds (AreWords 2048) key.Text words_of d words_hold)
+    (λ text ht. valid_image c entries text initial he ht hi)
+
+entries_then : (d : Data) (c : Class) (initial : List ℕ) → AreWords 2048 initial → IfOk (reads_entries d c initial) IsValidImage
+entries_then d c initial hi =
+    chained (Placed (entry_count c)) IsValidImage (required key.Entries (entries_of c) d) (reads_text d c initial)
+    (required_holds (Placed (entry_count c)) key.Entries (entries_of c) d (entries_hold c))
+    (λ entries he. text_holds d c initial entries hi he)
+
+initial_then : (d : Data) (c : Class) → IfOk (reads_initial d c) IsValidImage
+initial_then d c =
+    chained (AreWords 2048) IsValidImage (required key.Data words_of d) (reads_entries d c)
+    (required_holds (AreWords 2048) key.Data words_of d words_hold)
+    (λ initial hi. entries_then d c initial hi)
+
+pub image_is_valid : (d : Data) → IfOk (image_of d) IsValidImage
+unfolding image_of
+image_is_valid d =
+    passed IsValidImage (object_with (key.Class ∷ key.Data ∷ key.Entries ∷ key.Text ∷ []) d) (λ known. required key.Class class_of d >>= reads_initial d)
+    (λ known. passed IsValidImage (required key.Class class_of d) (reads_initial d) (initial_then d))

@@ -1,0 +1,11 @@
+pub mod AssembledRead
+pub mod CampaignsRead
+pub mod ImagesRead
+pub mod Members
+pub mod Names
+pub mod PartsRead
+pub mod Readings
+pub mod ScenariosRead
+pub mod LineFeed
+pub mod PlainData
+pub mod ImageJson

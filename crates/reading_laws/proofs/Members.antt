@@ -1,0 +1,78 @@
+-- The scenario of a member of a valid campaign keeps every limit: the struck part has room for one more fault.
+use Rattle.std.proofs.Common.{◌≡◌, ◌∙◌, refl, sym, subst, ap, ℕ, zero, suc, ◌≤◌, true, List, [], ◌∷◌, ◌++◌, length, Option, Some, None, arith, length-append}
+use Rattle.std.specs.Prelude.{All, slice_get}
+use Rattle.std.proofs.lemmas.List.Elements.{All-cons, All-head, All-push, All-same, All-tail}
+use Rattle.nook_defs.specs.Campaigns.{IsValidCampaign, faults_at, member, struck_parts, with_fault, with_struck}
+use Rattle.nook_defs.specs.PartReading.{part_names}
+use Rattle.nook_defs.specs.Valid.{FitsClass, IsValidFault, IsValidPart, IsValidScenario, IsValidThread, are_distinct}
+use Rattle.nook_defs.specs.declared.campaign.Campaign.{Campaign}
+use Rattle.nook_defs.specs.declared.classes.Class.{Class}
+use Rattle.nook_defs.specs.declared.classes.Class.TheVariants as class
+use Rattle.nook_defs.specs.declared.scenario.Fault.{Fault}
+use Rattle.nook_defs.specs.declared.scenario.PartSpec.{PartSpec}
+
+-- ---- the struck part
+
+still_fits : (c : Class) (fault : Fault) (part : PartSpec) → FitsClass c part → FitsClass c (with_fault fault part)
+still_fits class.Block fault part h = h
+still_fits class.Net fault part h = h
+still_fits class.Sound fault part h = h
+
+still_valid : (fault : Fault) (part : PartSpec) → IsValidPart part → length part.faults ≤ 63 → IsValidFault fault → IsValidPart (with_fault fault part)
+still_valid fault part h few f = record {
+  name = h.name;
+  fits = still_fits part.class fault part h.fits;
+  bad_count = h.bad_count;
+  bad = h.bad;
+  limit = h.limit;
+  class = h.class;
+  image = h.image;
+  fault_count = omega (arith, few, length-append part.faults (fault ∷ []));
+  faults = All-push IsValidFault part.faults fault h.faults f;
+}
+
+-- ---- all parts
+
+struck_behind : (part : PartSpec) (more : List PartSpec) (place : ℕ) (fault : Fault) (o : Option PartSpec)
+    → with_struck (part ∷ more) (suc place) fault o ≡ part ∷ with_struck more place fault o
+struck_behind part more place fault None = refl
+struck_behind part more place fault (Some x) = refl
+
+parts_valid : (parts : List PartSpec) (place : ℕ) (fault : Fault) → All IsValidPart parts → length (faults_at parts place) ≤ 63 → IsValidFault fault
+    → All IsValidPart (struck_parts parts place fault)
+parts_valid [] place fault h few f = h
+parts_valid (part ∷ more) zero fault h few f =
+    All-cons IsValidPart (with_fault fault part) more (still_valid fault part (All-head IsValidPart part more h) few f) (All-tail IsValidPart part more h)
+parts_valid (part ∷ more) (suc place) fault h few f =
+    All-same IsValidPart (struck_parts (part ∷ more) (suc place) fault) (part ∷ struck_parts more place fault)
+    (struck_behind part more place fault (slice_get more place))
+    (All-cons IsValidPart part (struck_parts more place fault) (All-head IsValidPart part more h)
+    (parts_valid more place fault (All-tail IsValidPart part more h) few f))
+
+same_names : (parts : List PartSpec) (place : ℕ) (fault : Fault) → part_names (struck_parts parts place fault) ≡ part_names parts
+same_names [] place fault = refl
+same_names (part ∷ more) zero fault = refl
+same_names (part ∷ more) (suc place) fault =
+    ap part_names (struck_behind part more place fault (slice_get more place)) ∙ ap (λ names. part.name ∷ names) (same_names more place fault)
+
+pub same_count : (parts : List PartSpec) (place : ℕ) (fault : Fault) → length (struck_parts parts place fault) ≡ length parts
+same_count [] place fault = refl
+same_count (part ∷ more) zero fault = refl
+same_count (part ∷ more) (suc place) fault =
+    ap length (struck_behind part more place fault (slice_get more place)) ∙ ap suc (same_count more place fault)
+
+-- ---- the scenario
+
+pub member_is_valid : (campaign : Campaign) (fault : Fault) → IsValidCampaign campaign → IsValidFault fault → IsValidScenario (member campaign fault)
+member_is_valid campaign fault h f =
+    let parts = campaign.base.parts in
+    let count : length (struck_parts parts campaign.part fault) ≡ length parts = same_count parts campaign.part fault in
+    record {
+      schedule = h.base.schedule;
+      part_count = (omega (arith, count, h.base.part_count.0), omega (arith, count, h.base.part_count.1));
+      parts = parts_valid parts campaign.part fault h.base.parts h.room f;
+      part_names = ap are_distinct (same_names parts campaign.part fault) ∙ h.base.part_names;
+      thread_count = h.base.thread_count;
+      threads = subst (λ n. All (IsValidThread n) campaign.base.threads) (sym count) h.base.threads;
+      thread_names = h.base.thread_names;
+    }

@@ -1,0 +1,38 @@
+//! What is read keeps every limit.
+
+ghost use Rattle.std.specs.Prelude.{List, ℕ, IfOk};
+ghost use Rattle.serde_json.specs.Data.{Data};
+ghost use Rattle.nook_defs.specs.Valid.{IsValidFault, IsValidImage, IsValidScenario};
+ghost use Rattle.nook_defs.specs.Assembler.{assembled};
+ghost use Rattle.nook_defs.specs.CampaignReading.{campaign_from};
+ghost use Rattle.nook_defs.specs.Campaigns.{IsValidCampaign, member};
+ghost use Rattle.nook_defs.specs.ImageReading.{image_of};
+ghost use Rattle.nook_defs.specs.ScenarioReading.{scenario_from};
+ghost use Rattle.nook_defs.specs.declared.campaign.Campaign.{Campaign};
+ghost use Rattle.nook_defs.specs.declared.scenario.Fault.{Fault};
+
+/// The image that a JSON value is read as keeps the limits of images.
+pub fn images_are_valid()
+    ensures { (d : Data) → IfOk (image_of d) IsValidImage }
+{}
+
+/// The image that a text assembles to keeps the limits of images.
+pub fn assembled_images_are_valid()
+    ensures { (text : List ℕ) → IfOk (assembled text) IsValidImage }
+{}
+
+/// The scenario that some bytes are read as keeps every limit.
+pub fn scenarios_are_valid()
+    ensures { (bytes : List ℕ) → IfOk (scenario_from bytes) IsValidScenario }
+{}
+
+/// The campaign that some bytes are read as keeps its limits.
+pub fn campaigns_are_valid()
+    ensures { (bytes : List ℕ) → IfOk (campaign_from bytes) IsValidCampaign }
+{}
+
+/// The scenario of each member of a valid campaign keeps every limit.
+pub fn members_are_valid()
+    ensures { (campaign : Campaign) (fault : Fault) → IsValidCampaign campaign → IsValidFault fault
+        → IsValidScenario (member campaign fault) }
+{}

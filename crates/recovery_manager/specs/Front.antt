@@ -1,9 +1,0 @@
-use Rattle.std.specs.Prelude.{ℕ, Option, None, List}
-use Rattle.nook_defs.specs.declared.data.Op.{Op}
-use Rattle.nook_defs.specs.declared.data.Op.TheVariants as op
-use Rattle.nook_defs.specs.Log.{front_of}
-
--- the frame that the shadow's answer to an operation takes from the queue
-abbrev pub front_for : Op → List (List ℕ) → Option (List ℕ)
-front_for op.Recv queue = front_of queue
-front_for _ queue = None

@@ -1,0 +1,55 @@
+-- The runs that a report can be of: the invocations in each journal are the scripts', the arrivals the scenario's.
+use Rattle.std.specs.Prelude.{◌≡◌, ℕ, suc, true, Some, List, [], ◌∷◌, ◌++◌}
+use Rattle.nook_defs.specs.ReportText.{parts_text}
+use Rattle.nook_defs.specs.Runs.{event_of, step_of}
+use Rattle.nook_defs.specs.Steps.{enabled}
+use Rattle.nook_defs.specs.declared.steps.Event.{Event}
+use Rattle.nook_defs.specs.declared.scenario.PartSpec.{PartSpec}
+use Rattle.nook_defs.specs.declared.scenario.Scenario.{Scenario}
+use Rattle.nook_defs.specs.declared.steps.Step.{Step}
+use Rattle.nook_defs.specs.declared.steps.Step.TheVariants as step
+use Rattle.nook_defs.specs.declared.scenario.ThreadSpec.{ThreadSpec}
+use Rattle.std.specs.Prelude.{slice_get}
+use Rattle.run_laws.specs.Audit.{Done, Section, arrival_of, done_of, invocation_by, is_complete, last_lines, opening_section, section_after}
+
+-- an invocation is that of the thread's next operation on the part, and an arrival that of the next frame
+abbrev pub IsNext : Section → Step → Type 0
+IsNext s (step.Invoke thread o) = invocation_by thread (slice_get s.threads thread) ≡ Some (step.Invoke thread o)
+IsNext s (step.Arrive frame) = arrival_of s.seat.coming ≡ Some (step.Arrive frame)
+IsNext s taken = Unit {0}
+
+-- the section that the events lead to
+abbrev pub section_from : Section → List Event → Section
+section_from s [] = s
+section_from s (e ∷ events) = section_from (section_after s (step_of e)) events
+
+-- the events are made by their steps, each of which may be taken and is the next of its kind
+unfoldable pub FitsFrom : Section → List Event → Type 0
+FitsFrom s [] = is_complete s ≡ true
+FitsFrom s (e ∷ events) =
+    (enabled s.seat.run.state (step_of e) ≡ true) × (event_of s.seat.run.state (step_of e) ≡ e)
+    × IsNext s (step_of e) × FitsFrom (section_after s (step_of e)) events
+
+-- a journal of the part at a place is a run of just what the threads ask of it and what arrives
+abbrev pub Fits : List ThreadSpec → ℕ → PartSpec → List Event → Type 0
+Fits threads place spec journal = FitsFrom (opening_section threads place spec) journal
+
+-- so is each journal, the first of them that of part `place`
+unfoldable pub AllFit : List ThreadSpec → ℕ → List PartSpec → List (List Event) → Type 0
+AllFit threads place [] [] = Unit {0}
+AllFit threads place [] (journal ∷ journals) = ⊥
+AllFit threads place (spec ∷ specs) [] = ⊥
+AllFit threads place (spec ∷ specs) (journal ∷ journals) =
+    Fits threads place spec journal × AllFit threads (suc place) specs journals
+
+-- what the sections of some journals leave, the first of them that of part `place`
+unfoldable pub sections_of : List ThreadSpec → ℕ → List PartSpec → List (List Event) → List Done
+sections_of threads place [] journals = []
+sections_of threads place (spec ∷ specs) [] = []
+sections_of threads place (spec ∷ specs) (journal ∷ journals) =
+    done_of (section_from (opening_section threads place spec) journal) ∷ sections_of threads (suc place) specs journals
+
+-- the report of journals that fit: the parts' lines, and those behind them
+unfoldable pub fitting_text : Scenario → List (List Event) → List ℕ
+fitting_text scenario journals = parts_text 0 scenario.parts journals
+    ++ last_lines scenario (sections_of scenario.threads 0 scenario.parts journals)

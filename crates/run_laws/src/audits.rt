@@ -1,0 +1,23 @@
+//! Laws of reports and their auditing.
+
+ghost use Rattle.std.specs.Prelude.{◌≡◌, List, ℕ, None};
+ghost use Rattle.nook_defs.specs.declared.steps.Event.{Event};
+ghost use Rattle.nook_defs.specs.Valid.{IsValidScenario};
+ghost use Rattle.nook_defs.specs.declared.scenario.Scenario.{Scenario};
+ghost use Rattle.run_laws.specs.Audit.{audited};
+ghost use Rattle.run_laws.specs.Fitting.{AllFit, fitting_text};
+
+/// A report of which every line fits is the report of journals that fit the scenario.
+pub fn what_fits_is_a_report()
+    ensures { (scenario : Scenario) (report : List ℕ) → audited scenario report ≡ None
+        → (journals : List (List Event)) × AllFit scenario.threads 0 scenario.parts journals
+        × (report ≡ fitting_text scenario journals) }
+{}
+
+/// Of the report of journals that fit a valid scenario every line fits. A name with a line feed in it, which no valid
+/// scenario has, would cut a part's first line in two.
+pub fn every_report_fits()
+    ensures { (scenario : Scenario) (journals : List (List Event)) → IsValidScenario scenario
+        → AllFit scenario.threads 0 scenario.parts journals
+        → audited scenario (fitting_text scenario journals) ≡ None }
+{}

@@ -1,5 +1,0 @@
-use Rattle.scenario_laws.proofs.ImagesRead.{image_is_valid}
-use Rattle.scenario_laws.proofs.laws.images_are_valid.Goals as goal
-
-pub returns : goal.returns
-returns c = image_is_valid

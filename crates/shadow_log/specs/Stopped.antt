@@ -1,0 +1,14 @@
+use Rattle.std.specs.Prelude.{ℕ, Bool, is_none, List, map, filter}
+use Rattle.nook_defs.specs.declared.calls.Answer.{Answer}
+use Rattle.nook_defs.specs.declared.calls.CallEntry.{CallEntry}
+use Rattle.nook_defs.specs.Log.{held_call}
+use Rattle.nook_defs.specs.Runs.{answer_among}
+use Rattle.nook_defs.specs.State.{CallLog}
+
+-- a call without an answer among answers
+abbrev pub is_unanswered : List (ℕ × Answer) → CallEntry → Bool
+is_unanswered answers c = is_none (answer_among c.call answers)
+
+-- the log behind answers to open calls: those that have none stay open, all Held
+abbrev pub after_answers : List (ℕ × Answer) → CallLog → CallLog
+after_answers answers log = record log { pending = map held_call (filter (is_unanswered answers) log.pending) }

@@ -7,7 +7,8 @@ use Rattle.nook_defs.specs.declared.steps.Event.{Event}
 use Rattle.nook_defs.specs.declared.steps.Event.TheVariants as event
 use Rattle.nook_defs.specs.declared.scenario.PartSpec.{PartSpec}
 use Rattle.nook_defs.specs.declared.steps.Stage.{Stage}
-use Rattle.nook_defs.specs.Log.{IsNumbered, opening_log}
+use Rattle.nook_defs.specs.Log.{opening_log}
+use Rattle.nook_defs.specs.Views.CallLogs.{IsNumbered}
 use Rattle.nook_defs.specs.Runs.{IsRun, IsRunFrom, answer_at, state_after, state_from, state_of, step_of}
 use Rattle.nook_defs.specs.State.{PartState}
 use Rattle.nook_defs.specs.Steps.{opening}

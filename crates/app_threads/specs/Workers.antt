@@ -13,7 +13,7 @@ use Rattle.nook_defs.specs.declared.calls.Op.{Op}
 use Rattle.nook_defs.specs.declared.scenario.PartSpec.{PartSpec}
 use Rattle.nook_defs.specs.declared.desks.Receipt.{Receipt}
 use Rattle.nook_defs.specs.declared.scenario.ThreadSpec.{ThreadSpec}
-use Rattle.nook_defs.specs.declared.limits.TheConstants.{MOST_FRAME_WORDS}
+use Rattle.nook_defs.specs.declared.limits.TheConstants.{MOST_ARRIVALS, MOST_CALLS, MOST_FRAME_WORDS, MOST_OPS, MOST_THREADS}
 use Rattle.nook_defs.specs.Places.{at_number}
 use Rattle.nook_defs.specs.Runs.{IsRun, state_of}
 use Rattle.nook_defs.specs.State.{PartState}
@@ -166,7 +166,7 @@ NameDesks count ops = All (λ o. o.0 < count) ops
 
 -- at most 16 scripts of at most 256 operations, which name desks
 abbrev pub AreScripts : ℕ → List ThreadSpec → Type 0
-AreScripts count scripts = (length scripts ≤ 16) × All (λ (script : ThreadSpec). (length script.ops ≤ 256) × NameDesks count script.ops) scripts
+AreScripts count scripts = (length scripts ≤ MOST_THREADS) × All (λ (script : ThreadSpec). (length script.ops ≤ MOST_OPS) × NameDesks count script.ops) scripts
 
 -- frames of 1 to 64 words
 abbrev pub AreFrames : List (List ℕ) → Type 0
@@ -176,7 +176,7 @@ AreFrames frames = All (λ frame. (1 ≤ length frame) × (length frame ≤ MOST
 abbrev pub AreArrivals : List PartSpec → List (List (List ℕ)) → Type 0
 AreArrivals specs arrivals =
     (length arrivals ≡ length specs)
-    × ((d : ℕ) (frames : List (List ℕ)) → slice_get arrivals d ≡ Some frames → (length frames ≤ 256) × AreFrames frames × (0 < length frames → IsNetAt specs d))
+    × ((d : ℕ) (frames : List (List ℕ)) → slice_get arrivals d ≡ Some frames → (length frames ≤ MOST_ARRIVALS) × AreFrames frames × (0 < length frames → IsNetAt specs d))
 
 -- ---- receipts
 
@@ -233,13 +233,13 @@ pub record IsRefusedAt (specs : List PartSpec) (olds news : List DeskView) (part
 
 abbrev pub CallCause : ℕ → DeskRefused → PartState → Type 0
 CallCause thread (refused.OpenCall call) p = HasOpen p thread call
-CallCause thread refused.TooManyCalls p = HasNoneOpen p thread × (p.log.count ≡ 100000)
+CallCause thread refused.TooManyCalls p = HasNoneOpen p thread × (p.log.count ≡ MOST_CALLS)
 CallCause thread (refused.NoMemory None) p = Unit {0}
 CallCause thread (refused.NoMemory (Some call)) p = HasOpen p thread call
 CallCause thread _ p = ⊥
 
 abbrev pub ArriveCause : DeskRefused → PartState → Type 0
-ArriveCause refused.TooManyArrivals p = p.arrived ≡ 100000
+ArriveCause refused.TooManyArrivals p = p.arrived ≡ MOST_CALLS
 ArriveCause (refused.NoMemory None) p = Unit {0}
 ArriveCause _ p = ⊥
 
@@ -290,14 +290,18 @@ ScriptEnds specs olds news thread ops (Err (stop.Refused t place part refusal)) 
     × KnowsOpen specs olds news thread part refusal
 ScriptEnds specs olds news thread ops (Err stop.NoMemory) = AtDesks (λ d v w. GrewBy thread (count_on d ops) 0 v w) olds news
 
+-- a number that no thread has: a worker of arrivals makes no thread's calls
+abbrev pub no_thread : ℕ
+no_thread = 255
+
 -- the worker of a desk's arrivals handed these frames in, and did nothing at the other desks
 abbrev pub DoesFrames : List DeskView → List DeskView → ℕ → List (List ℕ) → Type 0
 DoesFrames olds news part frames = AtDesks (λ d v w. Does v w [] (if part == d then frames else [])) olds news
 
 abbrev pub ArrivalsEnd : List PartSpec → List DeskView → List DeskView → ℕ → List (List ℕ) → Result (List Receipt) WorkerStop → Type 0
 ArrivalsEnd specs olds news part frames (Ok receipts) =
-    (receipts ≡ []) × DoesFrames olds news part frames × AtDesks (λ d v w. MadeBy 255 v w) olds news
+    (receipts ≡ []) × DoesFrames olds news part frames × AtDesks (λ d v w. MadeBy no_thread v w) olds news
 ArrivalsEnd specs olds news part frames (Err (stop.Refused t place p refusal)) =
-    AtDesks (λ d v w. GrewBy 255 0 (length (if part == d then frames else [])) v w) olds news × (t ≡ work.Arrivals part) × (p ≡ part) × IsArrivalRefused specs olds news frames place part refusal
+    AtDesks (λ d v w. GrewBy no_thread 0 (length (if part == d then frames else [])) v w) olds news × (t ≡ work.Arrivals part) × (p ≡ part) × IsArrivalRefused specs olds news frames place part refusal
 ArrivalsEnd specs olds news part frames (Err stop.NoMemory) =
-    AtDesks (λ d v w. GrewBy 255 0 (length (if part == d then frames else [])) v w) olds news
+    AtDesks (λ d v w. GrewBy no_thread 0 (length (if part == d then frames else [])) v w) olds news

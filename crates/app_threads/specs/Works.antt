@@ -10,7 +10,7 @@ use Rattle.app_threads.specs.declared.stop.WorkerStop.{WorkerStop}
 use Rattle.app_threads.specs.declared.stop.WorkerStop.TheVariants as stop
 use Rattle.app_threads.specs.declared.work.Work.{Work}
 use Rattle.app_threads.specs.declared.work.Work.TheVariants as work
-use Rattle.app_threads.specs.Workers.{AreReceipts, AtDesks, Does, GrewBy, IsArrivalRefused, IsCallRefused, KnowsOpen, MadeBy, count_on, invokes_of}
+use Rattle.app_threads.specs.Workers.{AreReceipts, AtDesks, Does, GrewBy, IsArrivalRefused, IsCallRefused, KnowsOpen, MadeBy, count_on, invokes_of, no_thread}
 
 -- a work for each script, from the thread with this number on
 abbrev pub script_works : ℕ → List ThreadSpec → List Work
@@ -29,10 +29,10 @@ arrival_works part (frames ∷ arrivals) = add_arrivals part frames (arrival_wor
 abbrev pub all_works : List ThreadSpec → List (List (List ℕ)) → List Work
 all_works scripts arrivals = script_works 0 scripts ++ arrival_works 0 arrivals
 
--- what a work is about
+-- the thread whose calls a work makes
 abbrev pub thread_of : Work → ℕ
 thread_of (work.Script thread) = thread
-thread_of (work.Arrivals part) = 255
+thread_of (work.Arrivals part) = no_thread
 
 abbrev pub ops_of : Option ThreadSpec → List (ℕ × Op)
 ops_of None = []

@@ -9,7 +9,7 @@ use crate::stop::WorkerStop;
 use crate::work::Work;
 use desk_like::DeskLike;
 use nook_defs::desks::Receipts;
-use nook_defs::limits::MOST_FRAME_WORDS;
+use nook_defs::limits::{MOST_ARRIVALS, MOST_FRAME_WORDS};
 use nook_defs::lists::{Frames, Words};
 use std::alloc::Global;
 use std::sync::Wait;
@@ -54,7 +54,7 @@ pub fn run_arrivals<R: Wait, D: DeskLike>(
 ) -> Result<Receipts, WorkerStop>
     requires seats { AreSeats D.is_seat desks.now seats.old }
     requires part { part < length desks.now }
-    requires short { length frames.now ≤ 256 }
+    requires short { length frames.now ≤ MOST_ARRIVALS }
     requires frames { AreFrames frames.now }
     requires net { 0 < length frames.now → IsNetAt (map D.spec desks.now) part }
     ensures seats { AreSeats D.is_seat desks.now seats.new }

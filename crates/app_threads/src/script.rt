@@ -10,6 +10,7 @@ use crate::work::Work;
 use desk_like::DeskLike;
 use nook_defs::calls::{Op, PartOps};
 use nook_defs::desks::{Receipt, Receipts};
+use nook_defs::limits::{MOST_OPS, MOST_THREADS};
 use nook_defs::outside::Gate;
 use std::alloc::Global;
 use std::sync::Wait;
@@ -26,7 +27,7 @@ fn call_next<R: Wait, D: DeskLike>(
     op: &Op,
 ) -> Result<Receipt, WorkerStop>
     requires seats { AreSeats D.is_seat desks.now seats.old }
-    requires thread { thread < 16 }
+    requires thread { thread < MOST_THREADS }
     requires part { part < length desks.now }
     ensures seats { AreSeats D.is_seat desks.now seats.new }
     ensures ends { IsStepAt (map D.spec desks.now) (map D.view seats.old) (map D.view seats.new) part (λ spec old new. NextCallEnds spec old new thread place part op.now result) }
@@ -53,8 +54,8 @@ pub fn run_script<R: Wait, D: DeskLike, G: Gate>(
     gate: &G,
 ) -> Result<Receipts, WorkerStop>
     requires seats { AreSeats D.is_seat desks.now seats.old }
-    requires thread { thread < 16 }
-    requires short { length ops.now ≤ 256 }
+    requires thread { thread < MOST_THREADS }
+    requires short { length ops.now ≤ MOST_OPS }
     requires parts { NameDesks (length desks.now) ops.now }
     ensures seats { AreSeats D.is_seat desks.now seats.new }
     ensures ends { ScriptEnds (map D.spec desks.now) (map D.view seats.old) (map D.view seats.new) thread ops.now result }

@@ -8,7 +8,7 @@ ghost use Rattle.app_threads.specs.Steps.{Halve, IsStepAt, Same, Splits, Starts,
 use desk_like::DeskLike;
 use nook_defs::calls::Op;
 use nook_defs::desks::{DeskRefused, Receipt};
-use nook_defs::limits::MOST_FRAME_WORDS;
+use nook_defs::limits::{MOST_FRAME_WORDS, MOST_THREADS};
 use nook_defs::lists::{Frames, Words};
 use nook_defs::memory::NoMemory;
 use std::alloc::Global;
@@ -25,7 +25,7 @@ pub fn call_at<R: Wait, D: DeskLike>(
     op: &Op,
 ) -> Result<Receipt, DeskRefused>
     requires seats { AreSeats D.is_seat desks.now seats.old }
-    requires thread { thread < 16 }
+    requires thread { thread < MOST_THREADS }
     requires part { part < length desks.now }
     ensures seats { AreSeats D.is_seat desks.now seats.new }
     ensures ends { IsStepAt (map D.spec desks.now) (map D.view seats.old) (map D.view seats.new) part (λ spec old new. CallEnds spec old new thread op.now result) }

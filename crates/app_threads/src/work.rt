@@ -5,6 +5,7 @@ ghost use Rattle.app_threads.specs.Works.{all_works, arrival_works, script_works
 
 use crate::stop::WorkerStop;
 use nook_defs::desks::Receipts;
+use nook_defs::limits::{MOST_PARTS, MOST_THREADS};
 use nook_defs::lists::Frames;
 use nook_defs::memory::NoMemory;
 use nook_defs::scenario::ThreadSpecs;
@@ -35,7 +36,7 @@ pub struct Done<S> {
 
 // A work for each script.
 fn script_works(alloc: Global, scripts: &ThreadSpecs) -> Result<Vec<Work>, NoMemory>
-    requires { length scripts.now ≤ 16 }
+    requires { length scripts.now ≤ MOST_THREADS }
     ensures { IfOk result (λ works. works.items ≡ script_works 0 scripts.now) }
 {
     let mut works = Vec::new(alloc);
@@ -49,11 +50,11 @@ fn script_works(alloc: Global, scripts: &ThreadSpecs) -> Result<Vec<Work>, NoMem
 
 // Adds a work for each list that is not empty.
 fn add_arrivals(works: &mut Vec<Work>, arrivals: &[Frames]) -> Result<(), NoMemory>
-    requires { length arrivals.now ≤ 8 }
+    requires { length arrivals.now ≤ MOST_PARTS }
     ensures { OnOk result (works.new.items ≡ works.old.items ++ arrival_works 0 arrivals.now) }
 {
     for part in 0..arrivals.len() {
-        if arrivals[part].len() > 0 {
+        if !arrivals[part].is_empty() {
             works.push(Work::Arrivals { part: part as u32 })?;
         }
     }
@@ -66,8 +67,8 @@ pub fn works_of(
     scripts: &ThreadSpecs,
     arrivals: &[Frames],
 ) -> Result<Vec<Work>, NoMemory>
-    requires scripts { length scripts.now ≤ 16 }
-    requires arrivals { length arrivals.now ≤ 8 }
+    requires scripts { length scripts.now ≤ MOST_THREADS }
+    requires arrivals { length arrivals.now ≤ MOST_PARTS }
     ensures { IfOk result (λ works. works.items ≡ all_works scripts.now arrivals.now) }
 {
     let mut works = script_works(alloc, scripts)?;

@@ -14,6 +14,7 @@ use crate::stop::WorkerStop;
 use crate::work::{Done, Work, Worker, works_of};
 use desk_like::DeskLike;
 use nook_defs::desks::{Receipts, WorkerTable};
+use nook_defs::limits::MOST_PARTS;
 use nook_defs::lists::Frames;
 use nook_defs::memory::NoMemory;
 use nook_defs::outside::Gate;
@@ -181,7 +182,7 @@ pub fn run_workers<R: Threads + Wait + Sync, D: DeskLike, G: Gate>(
     arrivals: &[Frames],
     gate: &G,
 ) -> Result<WorkerTable, WorkerStop>
-    requires desks { length desks.now ≤ 8 }
+    requires desks { length desks.now ≤ MOST_PARTS }
     requires seats { AreSeats D.is_seat desks.now seats.old }
     requires scripts { AreScripts (length desks.now) scripts.now }
     requires arrivals { AreArrivals (map D.spec desks.now) arrivals.now }

@@ -2,8 +2,9 @@
 use Rattle.std.proofs.Common.{◌≡◌, ℕ, zero, suc, ◌+◌, ◌<◌, Some, List, [], ◌∷◌, length, map, filter, slice_get, slice_index_or, slice_set, refl, sym, ap, ap₂, ◌∙◌, arith, eq-eqb, ne_eqb}
 use Rattle.std.specs.List.{AllByRecursion}
 use Rattle.std.proofs.lemmas.List.Elements.{recursion_from_All}
-use Rattle.nook_defs.specs.Simulation.{RunningPart, ThreadState, answers_of}
-use Rattle.nook_defs.specs.Valid.{IsValidStep, IsValidThread}
+use Rattle.nook_defs.specs.Simulation.{RunningPart, ThreadState, answers_of_thread}
+use Rattle.nook_defs.specs.Valid.{IsValidThread}
+use Rattle.nook_defs.specs.Views.Limits.{IsValidStep}
 use Rattle.nook_defs.specs.declared.calls.Answer.{Answer}
 use Rattle.nook_defs.specs.declared.calls.Op.{Op}
 use Rattle.nook_defs.specs.declared.scenario.ThreadSpec.{ThreadSpec}
@@ -86,10 +87,10 @@ in_order_again n (o ∷ ops) (a ∷ answers) same low =
 abbrev pub left_by : ℕ → List RunningPart → List ThreadState → List Done
 left_by place [] threads = []
 left_by place (seat ∷ seats) threads =
-    record { journal = seat.run.journal; answers = map answers_of (map (share_of place) threads) } ∷ left_by (suc place) seats threads
+    record { journal = seat.run.journal; answers = map answers_of_thread (map (share_of place) threads) } ∷ left_by (suc place) seats threads
 
 answers_shared : (place i : ℕ) (threads : List ThreadState) (t : ThreadState) → slice_get threads i ≡ Some t
-    → slice_index_or (map answers_of (map (share_of place) threads)) i [] ≡ filter (is_from place) t.answers
+    → slice_index_or (map answers_of_thread (map (share_of place) threads)) i [] ≡ filter (is_from place) t.answers
 answers_shared place i [] t h = none_is_some h
 answers_shared place zero (x ∷ threads) t h = ap (λ (y : ThreadState). filter (is_from place) y.answers) (same_inside h)
 answers_shared place (suc i) (x ∷ threads) t h = answers_shared place i threads t h
@@ -106,14 +107,14 @@ low_ops n (o ∷ ops) h = (h.0.0, low_ops n ops h.1)
 
 pub answers_again : (n : ℕ) (seats : List RunningPart) (whole : List ThreadState) (specs : List ThreadSpec) (threads : List ThreadState)
     → ((k : ℕ) → slice_get threads k ≡ slice_get whole (n + k)) → AllByRecursion (IsValidThread (length seats)) specs
-    → map (λ own. map (λ a. a.0) own) (map answers_of threads) ≡ map (λ (t : ThreadSpec). map (λ o. o.0) t.ops) specs
-    → answers_in_order n specs (left_by 0 seats whole) ≡ map answers_of threads
+    → map (λ own. map (λ a. a.0) own) (map answers_of_thread threads) ≡ map (λ (t : ThreadSpec). map (λ o. o.0) t.ops) specs
+    → answers_in_order n specs (left_by 0 seats whole) ≡ map answers_of_thread threads
 answers_again n seats whole [] [] same valid parts = refl
 answers_again n seats whole [] (t ∷ threads) same valid parts = cc
 answers_again n seats whole (spec ∷ specs) [] same valid parts = cc
 answers_again n seats whole (spec ∷ specs) (t ∷ threads) same valid parts =
     let here : map (λ a. a.0) t.answers ≡ map (λ o. o.0) spec.ops = cc in
-    let others : map (λ own. map (λ a. a.0) own) (map answers_of threads) ≡ map (λ (x : ThreadSpec). map (λ o. o.0) x.ops) specs = cc in
+    let others : map (λ own. map (λ a. a.0) own) (map answers_of_thread threads) ≡ map (λ (x : ThreadSpec). map (λ o. o.0) x.ops) specs = cc in
     let at : slice_get whole n ≡ Some t = ap (slice_get whole) (first n) ∙ sym (same 0) in
     ap₂ (λ (x : List (ℕ × Answer)) xs. x ∷ xs)
     (ap (in_script_order spec.ops) (left_apart 0 n seats whole t at)

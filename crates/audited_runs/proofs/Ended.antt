@@ -12,10 +12,11 @@ use Rattle.nook_defs.specs.declared.steps.Step.{Step}
 use Rattle.nook_defs.specs.declared.steps.Step.TheVariants as step
 use Rattle.nook_defs.specs.declared.scenario.ThreadSpec.{ThreadSpec}
 use Rattle.nook_defs.specs.Runs.{next_any, step_of}
-use Rattle.nook_defs.specs.Simulation.{IsScheduledRun, RunningPart, Simulation, ThreadState, Waiting, answers_of, arrival, coming_after, journal_of, journals_of, opening_part, part_after}
+use Rattle.nook_defs.specs.Simulation.{IsScheduledRun, RunningPart, Simulation, ThreadState, Waiting, answers_of_thread, arrival, coming_after, journal_of, journals_of, opening_part, part_after}
 use Rattle.nook_defs.specs.State.{PartState}
 use Rattle.nook_defs.specs.Steps.{enabled, opening, stepped}
-use Rattle.nook_defs.specs.Valid.{FitsClass, IsValidFrame, IsValidPart, IsValidScenario}
+use Rattle.nook_defs.specs.Valid.{FitsClass, IsValidPart, IsValidScenario}
+use Rattle.nook_defs.specs.Views.Limits.{IsValidFrame}
 use Rattle.part_laws.proofs.Counts.{step_counted}
 use Rattle.part_laws.proofs.RunsDetermined.{step_named}
 use Rattle.part_laws.specs.Bound.{is_arrival}
@@ -42,13 +43,13 @@ no_wait None h = refl
 no_wait (Some w) h = absurd (omega arith)
 
 all_done : (specs : List ThreadSpec) (threads : List ThreadState) → AreCounted specs threads
-    → map length (map answers_of threads) ≡ map (λ (t : ThreadSpec). length t.ops) specs → AllByRecursion IsDone threads
+    → map length (map answers_of_thread threads) ≡ map (λ (t : ThreadSpec). length t.ops) specs → AllByRecursion IsDone threads
 all_done [] [] are same = tt
 all_done [] (t ∷ threads) are same = absurd are
 all_done (spec ∷ specs) [] are same = absurd are
 all_done (spec ∷ specs) (t ∷ threads) are same =
     let here : length t.answers ≡ length spec.ops = cc in
-    let others : map length (map answers_of threads) ≡ map (λ (x : ThreadSpec). length x.ops) specs = cc in
+    let others : map length (map answers_of_thread threads) ≡ map (λ (x : ThreadSpec). length x.ops) specs = cc in
     ((no_length t.rest (nothing _ _ _ _ are.0 here).1, no_wait t.waiting (nothing _ _ _ _ are.0 here).0), all_done specs threads are.1 others)
   where
     nothing : (answers waits rest ops : ℕ) → answers + waits + rest ≡ ops → answers ≡ ops → (waits ≡ 0) × (rest ≡ 0)

@@ -4,7 +4,7 @@ use Rattle.std.proofs.lemmas.Bool.{and_from}
 use Rattle.desk_like.specs.Desks.{IsArrive, IsAt}
 use Rattle.nook_defs.specs.Places.{at_number}
 use Rattle.nook_defs.specs.Runs.{IsRunFrom, next_any, state_after, state_from, step_of}
-use Rattle.nook_defs.specs.Simulation.{ThreadState, Waiting, coming_after, started, threads_after, told}
+use Rattle.nook_defs.specs.Simulation.{ThreadState, Waiting, coming_after, started, threads_after, thread_after}
 use Rattle.nook_defs.proofs.Changes.{settled, settled_by}
 use Rattle.nook_defs.specs.Runs.{answer_at}
 use Rattle.nook_defs.specs.State.{PartState}
@@ -100,7 +100,7 @@ module _ (journal : List Event) where
       )
 
   left_after : (i place n : ℕ) (e : Event) (events : List Event) (t : ThreadState) → AreBehind journal n (e ∷ events) → HasLeft i n (e ∷ events) t.rest
-      → HasLeft i (suc n) events (told place e (started i place e t)).rest
+      → HasLeft i (suc n) events (thread_after place e (started i place e t)).rest
   left_after i place n e events t are h =
       let s : ThreadState = started i place e t in
       subst (HasLeft i (suc n) events) (sym (told_rest place e s s.waiting)) (split (is_invocation_by i e)
@@ -182,15 +182,15 @@ module _ (journal : List Event) where
 
   -- the threads before an event, by those after it
   thread_before : (n place : ℕ) (e : Event) (threads : List ThreadState) (k : ℕ) (t' : ThreadState) → slice_get (threads_after n place e threads) k ≡ Some t'
-      → (t : ThreadState) × (slice_get threads k ≡ Some t) × (told place e (started (n + k) place e t) ≡ t')
+      → (t : ThreadState) × (slice_get threads k ≡ Some t) × (thread_after place e (started (n + k) place e t) ≡ t')
   thread_before n place e [] k t' h = none_is_some h
-  thread_before n place e (x ∷ threads) zero t' h = (x, refl, ap (λ (m : ℕ). told place e (started m place e x)) (plus n) ∙ same_inside h)
+  thread_before n place e (x ∷ threads) zero t' h = (x, refl, ap (λ (m : ℕ). thread_after place e (started m place e x)) (plus n) ∙ same_inside h)
     where
       plus : (n : ℕ) → n + 0 ≡ n
       plus n = omega arith
   thread_before n place e (x ∷ threads) (suc k) t' h =
       let b = thread_before (n + 1) place e threads k t' h in
-      (b.0, b.1, ap (λ (m : ℕ). told place e (started m place e b.0)) (next n k) ∙ b.2)
+      (b.0, b.1, ap (λ (m : ℕ). thread_after place e (started m place e b.0)) (next n k) ∙ b.2)
     where
       next : (n k : ℕ) → n + suc k ≡ n + 1 + k
       next n k = omega arith
@@ -224,7 +224,7 @@ module _ (journal : List Event) where
     each = λ i t' h.
         let b = thread_before 0 place e threads i t' h in
         let old : HasThread place i n p (e ∷ events) b.0 = x.each i b.0 b.1 in
-        let is : told place e (started i place e b.0) ≡ t' = ap (λ (m : ℕ). told place e (started m place e b.0)) (none i) ∙ b.2 in
+        let is : thread_after place e (started i place e b.0) ≡ t' = ap (λ (m : ℕ). thread_after place e (started m place e b.0)) (none i) ∙ b.2 in
         subst (HasThread place i (suc n) (state_after p (step_of e)) events) is (record {
           left = left_after i place n e events b.0 are old.left;
           here = here_after i place e b.0 old.here;

@@ -4,7 +4,7 @@ use Rattle.std.proofs.lemmas.Bool.{eqb-false}
 use Rattle.std.proofs.lemmas.List.{get_or-set_other, get_or-set_same}
 use Rattle.std.specs.List.{AllByRecursion}
 use Rattle.desk_like.specs.Desks.{IsReceipt, IsRisingFrom}
-use Rattle.nook_defs.specs.Simulation.{answers_of}
+use Rattle.nook_defs.specs.Simulation.{answers_of_thread}
 use Rattle.nook_defs.specs.Valid.{IsValidPart}
 use Rattle.nook_defs.specs.declared.calls.Answer.{Answer}
 use Rattle.nook_defs.specs.declared.steps.Event.{Event}
@@ -164,7 +164,7 @@ module _ (i : ℕ) where
   served_in_parts threads t place [] (journal ∷ journals) at v h = absurd h
   served_in_parts threads t place (spec ∷ parts) [] at v h = absurd h
   served_in_parts threads t place (spec ∷ parts) (journal ∷ journals) at v h =
-      let own : List (ℕ × Answer) = slice_index_or (map answers_of (section_from (opening_section threads place spec) journal).threads) i [] in
+      let own : List (ℕ × Answer) = slice_index_or (map answers_of_thread (section_from (opening_section threads place spec) journal).threads) i [] in
       let s : Serves place i journal 0 (thread_on place t) own = part_serves threads place spec journal i t v.0 h.0 at in
       let more : IsServedInParts t.ops (suc place) journals (map (answers_to i) (sections_of threads (suc place) parts journals)) =
       served_in_parts threads t (suc place) parts journals at v.1 h.1 in

@@ -2,7 +2,7 @@
 use Rattle.std.proofs.Common.{drop, ◌≡◌, ℕ, zero, suc, ◌+◌, is_none, Bool, true, false, Option, Some, None, List, [], ◌∷◌, filter, length, map, slice_get, refl, sym, ap, ◌∙◌, subst, arith, eqb-true, true≢false}
 use Rattle.std.proofs.lemmas.Bool.{and_parts}
 use Rattle.nook_defs.specs.Runs.{next_any, step_of}
-use Rattle.nook_defs.specs.Simulation.{ThreadState, coming_after, started, threads_after, told}
+use Rattle.nook_defs.specs.Simulation.{ThreadState, coming_after, started, threads_after, thread_after}
 use Rattle.nook_defs.specs.declared.steps.Event.{Event}
 use Rattle.nook_defs.specs.declared.steps.Event.TheVariants as event
 use Rattle.nook_defs.specs.declared.calls.Op.{Op}
@@ -51,17 +51,17 @@ after_none n place e (t ∷ threads) zero h = absurd (some_none h)
 after_none n place e (t ∷ threads) (suc k) h = after_none (n + 1) place e threads k h
 
 after_some : (n place : ℕ) (e : Event) (threads : List ThreadState) (k : ℕ) (t : ThreadState) → slice_get threads k ≡ Some t
-    → slice_get (threads_after n place e threads) k ≡ Some (told place e (started (n + k) place e t))
+    → slice_get (threads_after n place e threads) k ≡ Some (thread_after place e (started (n + k) place e t))
 after_some n place e [] k t h = none_is_some h
 after_some n place e (x ∷ threads) zero t h = same (plus n) h
   where
     plus : (n : ℕ) → n ≡ n + 0
     plus n = omega arith
 
-    same : {m : ℕ} → n ≡ m → Some x ≡ Some t → Some (told place e (started n place e x)) ≡ Some (told place e (started m place e t))
+    same : {m : ℕ} → n ≡ m → Some x ≡ Some t → Some (thread_after place e (started n place e x)) ≡ Some (thread_after place e (started m place e t))
     same f g = cc
 after_some n place e (x ∷ threads) (suc k) t h =
-    after_some (n + 1) place e threads k t h ∙ ap {B = Option ThreadState} (λ (m : ℕ). Some (told place e (started m place e t))) (next n k)
+    after_some (n + 1) place e threads k t h ∙ ap {B = Option ThreadState} (λ (m : ℕ). Some (thread_after place e (started m place e t))) (next n k)
   where
     next : (n k : ℕ) → n + 1 + k ≡ n + suc k
     next n k = omega arith
@@ -89,9 +89,9 @@ module _ (i : ℕ) (s : Section) (e : Event) (events : List Event) (next : IsNex
       (λ is. let asked = asked_by i s e is next in none_is_some (sym (ap (invocation_by i) at) ∙ asked.1))
       (λ not. ap length (filter_none (is_invocation_by i) e events not) ∙ more ∙ ap left_to (after_none 0 s.place e s.threads i at))
   left_before (Some t) at more =
-      let after : length (filter (is_invocation_by i) events) ≡ length (told s.place e (started i s.place e t)).rest =
-      more ∙ ap left_to (after_some 0 s.place e s.threads i t at) ∙ ap (λ (k : ℕ). length (told s.place e (started k s.place e t)).rest) (plus i) in
-      let rest : (told s.place e (started i s.place e t)).rest ≡ (started i s.place e t).rest =
+      let after : length (filter (is_invocation_by i) events) ≡ length (thread_after s.place e (started i s.place e t)).rest =
+      more ∙ ap left_to (after_some 0 s.place e s.threads i t at) ∙ ap (λ (k : ℕ). length (thread_after s.place e (started k s.place e t)).rest) (plus i) in
+      let rest : (thread_after s.place e (started i s.place e t)).rest ≡ (started i s.place e t).rest =
       told_rest s.place e (started i s.place e t) (started i s.place e t).waiting in
       split (is_invocation_by i e)
       (λ is.

@@ -3,16 +3,18 @@ use Rattle.std.proofs.Common.{◌≡◌, ℕ, zero, suc, ◌+◌, ◌<◌, ◌==
 use Rattle.std.specs.List.{find}
 use Rattle.std.proofs.lemmas.Bool.{and_left, and_right, cases_order, lt-leb}
 use Rattle.desk_like.specs.Desks.{Answers, IsAt}
-use Rattle.nook_defs.specs.Calls.{after_admit, answer_in, entered_by, after_enter, after_invoke, invoked_by}
+use Rattle.nook_defs.specs.Calls.{after_admit, answer_in, after_enter, after_invoke}
 use Rattle.nook_defs.specs.Classes.{admit, static_check}
 use Rattle.nook_defs.specs.Crossing.{Crossed, after_crossing}
 use Rattle.nook_defs.specs.Domain.{domain_burst}
-use Rattle.nook_defs.specs.Log.{call_of_thread, gone_answers, is_call, is_of_thread, open_call, queue_after, shadow_answer, stop_answers, with_answer}
+use Rattle.nook_defs.specs.Log.{call_of_thread, gone_answers, is_call, open_call, queue_after, shadow_answer, stop_answers, with_answer}
+use Rattle.nook_defs.proofs.Cases.{entered_by, invoked_by, is_of_thread, stage_by, with_burst}
 use Rattle.nook_defs.specs.Answers.{one_answer}
-use Rattle.nook_defs.specs.Runs.{IsRun, IsRunFrom, answer_among, answer_at, answered_at, answered_from, event_of, state_after, state_from, state_of, step_of}
-use Rattle.nook_defs.specs.Stages.{collects, gives_up_part, inits, is_given_up, loads_image, replays_open, replays_set, resets, resumes, stage_by, stage_done, stage_due, stage_stepped, stops}
+use Rattle.nook_defs.specs.Runs.{IsRun, IsRunFrom, answer_among, answer_at, event_of, state_after, state_from, state_of, step_of}
+use Rattle.nook_defs.specs.Views.CallLogs.{answered_at, answered_from}
+use Rattle.nook_defs.specs.Stages.{collects, gives_up_part, inits, is_given_up, loads_image, replays_open, replays_set, resets, resumes, stage_done, stage_due, stage_stepped, stops}
 use Rattle.nook_defs.specs.State.{CallLog, PartState}
-use Rattle.nook_defs.specs.Steps.{after_arrival, burst_stepped, faults_of_burst, opening, served_number, stepped, with_burst}
+use Rattle.nook_defs.specs.Steps.{after_arrival, burst_stepped, faults_of_burst, opening, served_number, stepped}
 use Rattle.nook_defs.specs.declared.classes.Admit.{Admit}
 use Rattle.nook_defs.specs.declared.classes.Admit.TheVariants as admits
 use Rattle.nook_defs.specs.declared.calls.Answer.{Answer}

@@ -5,7 +5,7 @@ use Rattle.std.proofs.lemmas.Option.{slice_get-map}
 use Rattle.std.specs.Option.{option_map}
 use Rattle.nook_defs.specs.Log.{call_of_thread, opening_log}
 use Rattle.nook_defs.specs.Runs.{answer_at, event_of, state_after, step_of}
-use Rattle.nook_defs.specs.Simulation.{ThreadState, Waiting, answers_of, started, threads_after, told}
+use Rattle.nook_defs.specs.Simulation.{ThreadState, Waiting, answers_of_thread, started, threads_after, thread_after}
 use Rattle.nook_defs.proofs.Changes.{settled, settled_by}
 use Rattle.nook_defs.specs.State.{PartState}
 use Rattle.nook_defs.specs.Steps.{enabled, opening}
@@ -79,11 +79,11 @@ told_here place e t None h = h
 told_here place e t (Some w) h = settled_here place t (if w.part == place then answer_at w.call e else None) h
 
 -- both hold after an event
-pub here_after : (i place : ℕ) (e : Event) (t : ThreadState) → IsHere place t.waiting → IsHere place (told place e (started i place e t)).waiting
+pub here_after : (i place : ℕ) (e : Event) (t : ThreadState) → IsHere place t.waiting → IsHere place (thread_after place e (started i place e t)).waiting
 here_after i place e t here = told_here place e (started i place e t) (started i place e t).waiting (started_here i place e t here)
 
 pub open_after : (i place : ℕ) (p : PartState) (e : Event) (t : ThreadState) → IsTied p → enabled p (step_of e) ≡ true → event_of p (step_of e) ≡ e
-    → IsHere place t.waiting → IsOpen i p t.waiting → IsOpen i (state_after p (step_of e)) (told place e (started i place e t)).waiting
+    → IsHere place t.waiting → IsOpen i p t.waiting → IsOpen i (state_after p (step_of e)) (thread_after place e (started i place e t)).waiting
 open_after i place p e t tied may is here opened =
     let begun : ThreadState = started i place e t in
     step_says p (step_of e) i tied may
@@ -95,16 +95,16 @@ open_after i place p e t tied may is here opened =
 -- ---- the threads of a section
 
 pub after_at : (n place : ℕ) (e : Event) (threads : List ThreadState) (k : ℕ) (t : ThreadState) → slice_get threads k ≡ Some t
-    → slice_get (threads_after n place e threads) k ≡ Some (told place e (started (n + k) place e t))
+    → slice_get (threads_after n place e threads) k ≡ Some (thread_after place e (started (n + k) place e t))
 after_at n place e [] k t h = none_is_some h
 after_at n place e (x ∷ threads) zero t h =
-    ap {B = Option ThreadState} (λ (y : ThreadState). Some (told place e (started n place e y))) (same_inside h)
-    ∙ ap {B = Option ThreadState} (λ (m : ℕ). Some (told place e (started m place e t))) (plus n)
+    ap {B = Option ThreadState} (λ (y : ThreadState). Some (thread_after place e (started n place e y))) (same_inside h)
+    ∙ ap {B = Option ThreadState} (λ (m : ℕ). Some (thread_after place e (started m place e t))) (plus n)
   where
     plus : (n : ℕ) → n ≡ n + 0
     plus n = omega arith
 after_at n place e (x ∷ threads) (suc k) t h =
-    after_at (n + 1) place e threads k t h ∙ ap {B = Option ThreadState} (λ (m : ℕ). Some (told place e (started m place e t))) (next n k)
+    after_at (n + 1) place e threads k t h ∙ ap {B = Option ThreadState} (λ (m : ℕ). Some (thread_after place e (started m place e t))) (next n k)
   where
     next : (n k : ℕ) → n + 1 + k ≡ n + suc k
     next n k = omega arith
@@ -148,7 +148,7 @@ through_at [] i t h k = none_is_some h
 through_at (x ∷ threads) zero t h k = subst (λ y. is_through y ≡ true) (same_inside h) (and_parts (is_through x) (are_through threads) k).0
 through_at (x ∷ threads) (suc i) t h k = through_at threads i t h (and_parts (is_through x) (are_through threads) k).1
 
-answers_at : (threads : List ThreadState) (i : ℕ) (t : ThreadState) → slice_get threads i ≡ Some t → slice_index_or (map answers_of threads) i [] ≡ t.answers
+answers_at : (threads : List ThreadState) (i : ℕ) (t : ThreadState) → slice_get threads i ≡ Some t → slice_index_or (map answers_of_thread threads) i [] ≡ t.answers
 answers_at [] i t h = none_is_some h
 answers_at (x ∷ threads) zero t h = ap (λ (y : ThreadState). y.answers) (same_inside h)
 answers_at (x ∷ threads) (suc i) t h = answers_at threads i t h
@@ -166,21 +166,21 @@ serves_through place i n journal t (o ∷ rest) w final r is h e = absurd (true�
 
 pub serves_from : (i n : ℕ) (journal : List Event) (s : Section) (events : List Event) (t : ThreadState) → IsFit s.seat.run.state → IsTied s.seat.run.state
     → FitsFrom s events → slice_get s.threads i ≡ Some t → IsHere s.place t.waiting → IsOpen i s.seat.run.state t.waiting → AreBehind journal n events
-    → Serves s.place i journal n t (slice_index_or (map answers_of (section_from s events).threads) i [])
+    → Serves s.place i journal n t (slice_index_or (map answers_of_thread (section_from s events).threads) i [])
 unfolding FitsFrom section_after is_complete
 serves_from i n journal s [] t f tied h at here opened are =
-    serves_through s.place i n journal t t.rest t.waiting (slice_index_or (map answers_of s.threads) i []) refl refl
+    serves_through s.place i n journal t t.rest t.waiting (slice_index_or (map answers_of_thread s.threads) i []) refl refl
     (through_at s.threads i t at (and_parts (are_through s.threads) _ h).0) (answers_at s.threads i t at)
 serves_from i n journal s (e ∷ events) t f tied h at here opened are =
     let p : PartState = s.seat.run.state in
     let x : Step = step_of e in
-    let t' : ThreadState = told s.place e (started i s.place e t) in
+    let t' : ThreadState = thread_after s.place e (started i s.place e t) in
     let first : slice_get journal n ≡ Some e = ap (slice_get journal) (plus n) ∙ sym (are 0) in
     let at' : slice_get (threads_after 0 s.place (event_of p x) s.threads) i ≡ Some t' =
     ap (λ y. slice_get (threads_after 0 s.place y s.threads) i) h.1 ∙ after_at 0 s.place e s.threads i t at
-    ∙ ap {B = Option ThreadState} (λ (m : ℕ). Some (told s.place e (started m s.place e t))) (none i) in
+    ∙ ap {B = Option ThreadState} (λ (m : ℕ). Some (thread_after s.place e (started m s.place e t))) (none i) in
     let opened' : IsOpen i (section_after s x).seat.run.state t'.waiting = open_after i s.place p e t tied h.0 h.1 here opened in
-    serves_before s.place i journal n e t (slice_index_or (map answers_of (section_from (section_after s x) events).threads) i []) first here
+    serves_before s.place i journal n e t (slice_index_or (map answers_of_thread (section_from (section_after s x) events).threads) i []) first here
     (starts_own i s e t at h.0 h.2 opened)
     (serves_from i (suc n) journal (section_after s x) events t' (fit_after p x f h.0) (tied_after p x f tied h.0) h.3 at'
     (here_after i s.place e t here) opened' (λ k. are (suc k) ∙ ap (slice_get journal) (next n k)))
@@ -197,7 +197,7 @@ serves_from i n journal s (e ∷ events) t f tied h at here opened are =
 -- the whole journal of a part serves a thread
 pub part_serves : (threads : List ThreadSpec) (place : ℕ) (spec : PartSpec) (journal : List Event) (i : ℕ) (t : ThreadSpec) → IsValidPart spec
     → FitsFrom (opening_section threads place spec) journal → slice_get threads i ≡ Some t
-    → Serves place i journal 0 (thread_on place t) (slice_index_or (map answers_of (section_from (opening_section threads place spec) journal).threads) i [])
+    → Serves place i journal 0 (thread_on place t) (slice_index_or (map answers_of_thread (section_from (opening_section threads place spec) journal).threads) i [])
 unfolding opening opening_log
 part_serves threads place spec journal i t v h at =
     serves_from i 0 journal (opening_section threads place spec) journal (thread_on place t) (opening_fit spec (valid_fits spec v)) (opening_tied spec) h

@@ -2,7 +2,7 @@
 use Rattle.std.proofs.Common.{ap, drop, ◌≡◌, ℕ, suc, ◌<◌, ◌==◌, if◌then◌else◌, Bool, true, Option, Some, None, List, [], ◌∷◌, ◌++◌, map, slice_get, refl, sym, ◌∙◌, subst, arith, append_assoc, eqb-true, eq-eqb}
 use Rattle.desk_like.specs.Desks.{Answers, IsAt, IsReceipt, IsRisingFrom}
 use Rattle.nook_defs.specs.Runs.{answer_at}
-use Rattle.nook_defs.specs.Simulation.{ThreadState, Waiting, started, told}
+use Rattle.nook_defs.specs.Simulation.{ThreadState, Waiting, started, thread_after}
 use Rattle.nook_defs.proofs.Changes.{settled, settled_by}
 use Rattle.nook_defs.specs.declared.calls.Answer.{Answer}
 use Rattle.nook_defs.specs.declared.steps.Event.{Event}
@@ -112,9 +112,9 @@ module _ (place i : ℕ) (journal : List Event) where
   begun t call (Some a) = record { rest = drop 1 t.rest; waiting = None; answers = t.answers ++ (place, a) ∷ [] }
 
   begun_is : (call thread : ℕ) (o : Op) (a : Option Answer) (t : ThreadState) → thread ≡ i
-      → told place (event.Invoke call thread o a) (started i place (event.Invoke call thread o a) t) ≡ begun t call a
+      → thread_after place (event.Invoke call thread o a) (started i place (event.Invoke call thread o a) t) ≡ begun t call a
   begun_is call thread o a t same =
-      ap (told place (event.Invoke call thread o a)) (waits_here (thread == i) (eq-eqb thread i same))
+      ap (thread_after place (event.Invoke call thread o a)) (waits_here (thread == i) (eq-eqb thread i same))
       ∙ ap (λ b. settled_by place waits (if b then answer_at call (event.Invoke call thread o a) else None)) (eq-eqb place place refl)
       ∙ by_answer a
     where
@@ -171,7 +171,7 @@ module _ (place i : ℕ) (journal : List Event) where
   -- ---- each event
 
   pub serves_before : (n : ℕ) (e : Event) (t : ThreadState) (final : List (ℕ × Answer)) → slice_get journal n ≡ Some e → IsHere place t.waiting → Starts i e t
-      → Serves (suc n) (told place e (started i place e t)) final → Serves n t final
+      → Serves (suc n) (thread_after place e (started i place e t)) final → Serves n t final
   serves_before n (event.Invoke call thread o a) t final at here starts h = split (thread == i)
       (λ e.
       let same : thread ≡ i = eqb-true thread i e in

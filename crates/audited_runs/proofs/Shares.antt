@@ -6,7 +6,7 @@ use Rattle.nook_defs.specs.declared.steps.Event.TheVariants as event
 use Rattle.nook_defs.specs.declared.calls.Op.{Op}
 use Rattle.nook_defs.specs.declared.scenario.ThreadSpec.{ThreadSpec}
 use Rattle.nook_defs.specs.Runs.{answer_at, step_of}
-use Rattle.nook_defs.specs.Simulation.{ThreadState, Waiting, opening_thread, started, threads_after, told}
+use Rattle.nook_defs.specs.Simulation.{ThreadState, Waiting, opening_thread, started, threads_after, thread_after}
 use Rattle.nook_defs.proofs.Changes.{settled, settled_by}
 use Rattle.part_laws.proofs.Places.{split}
 use Rattle.run_laws.proofs.Choices.{IsOwn}
@@ -88,10 +88,10 @@ share_told_by part e t (Some w) = split (w.part == part)
     waits h = rw h refl
 
 pub share_own : (n part : ℕ) (e : Event) (t : ThreadState) → MayStart n part e t
-    → told part e (started n part e (share_of part t)) ≡ share_of part (told part e (started n part e t))
+    → thread_after part e (started n part e (share_of part t)) ≡ share_of part (thread_after part e (started n part e t))
 share_own n part e t may =
     let s : ThreadState = started n part e t in
-    ap (told part e) (sym (share_started n part e t may)) ∙ sym (share_told_by part e s s.waiting)
+    ap (thread_after part e) (sym (share_started n part e t may)) ∙ sym (share_told_by part e s s.waiting)
 
 -- ---- an event of another part
 
@@ -128,7 +128,7 @@ share_not_told part place e t (Some w) other h = split (w.part == part)
     (λ k. ap (λ b. share_of place (settled_by part t (if b then answer_at w.call e else None))) k)
 
 pub share_other : (n part place : ℕ) (e : Event) (t : ThreadState) → (part == place) ≡ false → MayStart n part e t
-    → share_of place (told part e (started n part e t)) ≡ share_of place t
+    → share_of place (thread_after part e (started n part e t)) ≡ share_of place t
 share_other n part place e t other may =
     let s : ThreadState = started n part e t in
     share_not_told part place e s s.waiting other refl ∙ share_not_started n part place e t other may

@@ -5,7 +5,7 @@ use Rattle.std.proofs.lemmas.List.Elements.{recursion_from_All}
 use Rattle.nook_defs.specs.Listening.{Listening, count_if, hears}
 use Rattle.nook_defs.specs.ReportText.{parts_text, report_text, status_line, status_of, taps_text, threads_text}
 use Rattle.nook_defs.specs.Simulation.{IsScheduledRun, RunningPart, Simulation, ThreadState, answer_table, begins, journal_of, journals_of}
-use Rattle.nook_defs.specs.Taps.{heard_events, tap_result}
+use Rattle.nook_defs.specs.Listening.{heard_events, tap_result}
 use Rattle.nook_defs.specs.Valid.{IsValidScenario, IsValidThread}
 use Rattle.nook_defs.specs.declared.steps.Event.{Event}
 use Rattle.nook_defs.specs.declared.scenario.PartSpec.{PartSpec}

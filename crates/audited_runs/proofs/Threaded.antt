@@ -6,7 +6,8 @@ use Rattle.std.specs.List.{AllByRecursion}
 use Rattle.desk_like.specs.Desks.{IsRisingFrom}
 use Rattle.nook_defs.specs.Runs.{next_any, state_of, step_of}
 use Rattle.nook_defs.specs.Simulation.{coming_after}
-use Rattle.nook_defs.specs.Valid.{IsValidPart, IsValidScenario, IsValidStep, IsValidThread}
+use Rattle.nook_defs.specs.Valid.{IsValidPart, IsValidScenario, IsValidThread}
+use Rattle.nook_defs.specs.Views.Limits.{IsValidStep}
 use Rattle.nook_defs.specs.declared.steps.Event.{Event}
 use Rattle.nook_defs.specs.declared.steps.Event.TheVariants as event
 use Rattle.nook_defs.specs.declared.scenario.PartSpec.{PartSpec}

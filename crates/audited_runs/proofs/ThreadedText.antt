@@ -3,7 +3,7 @@ use Rattle.std.proofs.Common.{◌≡◌, ℕ, suc, ◌+◌, List, [], ◌∷◌,
 use Rattle.std.proofs.lemmas.List.Elements.{recursion_from_All}
 use Rattle.nook_defs.specs.Listening.{Listening}
 use Rattle.nook_defs.specs.ReportText.{parts_text, report_text, status_line, status_of, taps_text, threads_text}
-use Rattle.nook_defs.specs.Taps.{heard_events, tap_result}
+use Rattle.nook_defs.specs.Listening.{heard_events, tap_result}
 use Rattle.nook_defs.specs.Valid.{IsValidPart, IsValidScenario}
 use Rattle.nook_defs.specs.declared.calls.Answer.{Answer}
 use Rattle.nook_defs.specs.declared.steps.Event.{Event}

@@ -9,7 +9,7 @@ ghost use Rattle.run_laws.specs.Audit.{answers_in_order, own_listeners};
 ghost use Rattle.run_laws.specs.Fitting.{AllFit, fitting_text, sections_of};
 ghost use Rattle.nook_defs.specs.ReportText.{report_text, status_of};
 ghost use Rattle.nook_defs.specs.Simulation.{IsScheduledRun, Simulation, answer_table, begins, journals_of};
-ghost use Rattle.nook_defs.specs.Taps.{tap_result};
+ghost use Rattle.nook_defs.specs.Listening.{tap_result};
 ghost use Rattle.nook_defs.specs.Valid.{IsValidScenario};
 ghost use Rattle.nook_defs.specs.declared.calls.Answer.{Answer};
 ghost use Rattle.nook_defs.specs.declared.steps.Event.{Event};

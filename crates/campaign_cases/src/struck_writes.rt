@@ -5,7 +5,7 @@ ghost use Rattle.nook_defs.specs.Campaigns.{IsValidCampaign};
 
 use driver_asm::write_image;
 use nook_defs::campaign::{Campaign, MemberRow};
-use scenario_gen::references::block_driver;
+use scenario_gen::block_driver;
 use scenario_read::read_campaign;
 use std::alloc::Global;
 use std::test::Fail;

@@ -7,7 +7,7 @@ use crate::struck_writes::{campaign_of, row_at};
 use fault_campaign::{run_campaign, write_campaign};
 use nook_defs::lists::Words;
 use nook_defs::streams_in_memory::ListSink;
-use report_text::write::WriteStop;
+use report_text::WriteStop;
 use std::alloc::Global;
 use std::fmt::Write;
 use std::test::Fail;

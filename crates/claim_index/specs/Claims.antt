@@ -8,7 +8,7 @@ use Rattle.nook_defs.specs.declared.classes.Class.{Class}
 use Rattle.nook_defs.specs.declared.classes.Class.TheVariants as class
 use Rattle.nook_defs.specs.declared.calls.Op.{Op}
 use Rattle.nook_defs.specs.declared.calls.Op.TheVariants as op
-use Rattle.nook_defs.specs.Log.{blocked_by}
+use Rattle.nook_defs.specs.Views.CallLogs.{blocked_by}
 
 -- What open calls claim.
 

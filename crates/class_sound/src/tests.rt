@@ -10,87 +10,69 @@ use nook_defs::lists::{Items, Words};
 use nook_defs::steps::FailCause;
 use std::test::Fail;
 
-/// An admission by its name and its number: the holder or the entry.
-fn told(admitted: Admit) -> (&'static str, u32) {
-    match admitted {
-        Admit::Reply(Answer::InUse { holder }) => ("in use", u32::from(holder)),
-        Admit::Reply(Answer::NotOpen) => ("not open", 0),
-        Admit::Reply(_) => ("reply", 0),
-        Admit::TakeFrame => ("take frame", 0),
-        Admit::Enter { entry } => ("enter", entry),
-    }
-}
+const NOT_OPEN: Admit = Admit::Reply(Answer::NotOpen);
+
+const GET: Admit = Admit::Enter { entry: 4 };
+
+const SET: Admit = Admit::Enter { entry: 5 };
 
 /// What becomes of each operation of thread 3: an Open, a Play, a Close, a Get and a Set.
-fn all_told(play: &Op, holder: Option<u8>) -> [(&'static str, u32); 5]
+fn all_admitted(play: &Op, holder: Option<u8>) -> [Admit; 5]
     requires { is_of_class Class.Sound play.now ≡ true }
 {
     let state = ClassState { holder, queued: 0 };
     [
-        told(admit(3, &Op::Open, &state)),
-        told(admit(3, play, &state)),
-        told(admit(3, &Op::Close, &state)),
-        told(admit(3, &Op::Get { key: 0 }, &state)),
-        told(admit(3, &Op::Set { key: 0, value: 1 }, &state)),
+        admit(3, &Op::Open, &state),
+        admit(3, play, &state),
+        admit(3, &Op::Close, &state),
+        admit(3, &Op::Get { key: 0 }, &state),
+        admit(3, &Op::Set { key: 0, value: 1 }, &state),
     ]
-}
-
-/// What was decided about a reply, as a text and a number.
-fn decided(accepted: Accept) -> (&'static str, u32) {
-    match accepted {
-        Accept::Take => ("take", 0),
-        Accept::IoError { block } => ("io error", block),
-        Accept::Fail(FailCause::BadReply { status }) => ("bad reply", status),
-        Accept::Fail(_) => ("another failure", 0),
-    }
 }
 
 #[test]
 fn admits_operations(rt: HostRuntime) -> Result<(), Fail> {
     let samples: Words = Items::from_vec(vec![in rt.alloc(); 1; 64]?);
     let play = Op::Play { samples };
-    let not_open = ("not open", 0);
     for (holder, want) in [
         (
             None,
-            [("enter", 1), not_open, not_open, ("enter", 4), ("enter", 5)],
+            [Admit::Enter { entry: 1 }, NOT_OPEN, NOT_OPEN, GET, SET],
         ),
         (
             Some(3),
             [
-                ("in use", 3),
-                ("enter", 2),
-                ("enter", 3),
-                ("enter", 4),
-                ("enter", 5),
+                Admit::Reply(Answer::InUse { holder: 3 }),
+                Admit::Enter { entry: 2 },
+                Admit::Enter { entry: 3 },
+                GET,
+                SET,
             ],
         ),
         (
             Some(4),
             [
-                ("in use", 4),
-                not_open,
-                not_open,
-                ("enter", 4),
-                ("enter", 5),
+                Admit::Reply(Answer::InUse { holder: 4 }),
+                NOT_OPEN,
+                NOT_OPEN,
+                GET,
+                SET,
             ],
         ),
     ] {
-        for (place, (found, wanted)) in all_told(&play, holder).into_iter().zip(want).enumerate() {
-            assert_eq!(rt; found, wanted, "operation {place} with {holder:?}");
-        }
+        let found = all_admitted(&play, holder);
+        assert_eq!(rt; found.as_slice(), want.as_slice(), "with {holder:?}");
     }
     Ok(())
 }
 
 #[test]
 fn accepts_replies(rt: HostRuntime) {
-    for (status, want) in [
-        (0, ("take", 0)),
-        (1, ("bad reply", 1)),
-        (256, ("bad reply", 256)),
-    ] {
-        assert_eq!(rt; decided(accept(&Op::Open, status)), want, "open {status}");
-        assert_eq!(rt; decided(accept(&Op::Close, status)), want, "close {status}");
+    for op in [&Op::Open, &Op::Close] {
+        assert_eq!(rt; accept(op, 0), Accept::Take, "{op:?}");
+        for status in [1, 256] {
+            let want = Accept::Fail(FailCause::BadReply { status });
+            assert_eq!(rt; accept(op, status), want, "{op:?}");
+        }
     }
 }

@@ -1,7 +1,7 @@
 //! Conflicts: of two open calls whose operations conflict, the later waits for the earlier.
 
 ghost use Rattle.std.specs.Prelude.{◌≡◌, ℕ, ◌+◌};
-ghost use Rattle.nook_defs.specs.Classes.{clash, conflicts, first_of_op, is_of_stream, is_recv, is_set, is_write, overlap};
+ghost use Rattle.nook_defs.specs.Classes.{clash, conflicts, first_of_op, is_of_stream, is_recv, is_set, is_write, share_block};
 ghost use Rattle.nook_defs.specs.declared.classes.Class.{Class};
 ghost use Rattle.nook_defs.specs.declared.calls.Op.{Op};
 
@@ -35,7 +35,7 @@ fn clash(class: Class, first: &Op, second: &Op) -> bool
 
 /// Whether two ranges of blocks have a block in common. Their sums do not wrap.
 fn overlap(first: &Op, second: &Op) -> bool
-    ensures { result ≡ overlap first.now second.now }
+    ensures { result ≡ share_block first.now second.now }
 {
     let (one, other) = (
         u64::from(first_of_op(first)),

@@ -1,31 +1,10 @@
-//! The entries of a driver: how many its class has, and at which place, from 0, each stands in the class's order.
+//! The entries of a driver: at which place, from 0, each stands in the class's order.
 
 ghost use Rattle.std.specs.Prelude.{◌≡◌};
-ghost use Rattle.nook_defs.specs.Classes.{class_code, entry_count, entry_place, get_place, init_place, open_place, set_place};
+ghost use Rattle.nook_defs.specs.Classes.{entry_place, get_place, init_place, open_place, set_place};
 
 use nook_defs::calls::Op;
 use nook_defs::classes::Class;
-
-/// The number by which a driver registers for its class.
-pub fn class_code(class: Class) -> u32
-    ensures { result ≡ class_code class }
-{
-    match class {
-        Class::Block => 0,
-        Class::Net => 1,
-        Class::Sound => 2,
-    }
-}
-
-/// How many entries a driver of the class has.
-pub fn entry_count(class: Class) -> u32
-    ensures { result ≡ entry_count class }
-{
-    match class {
-        Class::Block | Class::Net => 5,
-        Class::Sound => 6,
-    }
-}
 
 /// The place of the entry of an operation of the class.
 pub fn entry_place(class: Class, op: &Op) -> u32

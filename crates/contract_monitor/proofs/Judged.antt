@@ -10,7 +10,8 @@ use Rattle.nook_defs.specs.declared.calls.Op.{Op}
 use Rattle.nook_defs.specs.declared.calls.Op.TheVariants.{Read, Write, Send, Recv, Open, Play, Close, Get, Set}
 use Rattle.nook_defs.specs.declared.clause.Clause.{Clause}
 use Rattle.nook_defs.specs.declared.clause.Clause.TheVariants.{UnsentSend, OutOfOrder, LeftInRing, UnmadeSet}
-use Rattle.nook_defs.specs.Contract.{Deed, Known, OpenCall, acts, after_deed, all_clauses, breaks, call_of, hands_up, is_broken_by, is_empty, is_front, is_replayed, number_of, replays, replies}
+use Rattle.nook_defs.specs.Contract.{Deed, Known, OpenCall, acts, after_deed, all_clauses, breaks, call_of, hands_up, is_broken_by, is_front, is_replayed, clause_number, replays, replies}
+use Rattle.nook_defs.specs.Devices.{is_empty}
 use Rattle.nook_defs.proofs.Changes.{after_deeds}
 use Rattle.contract_monitor.specs.Judging.{act_broken, first_broken, least, reply_broken, reply_broken_of, smaller, unless}
 
@@ -18,11 +19,11 @@ use Rattle.contract_monitor.specs.Judging.{act_broken, first_broken, least, repl
 
 abbrev above : ℕ → List Clause → Bool
 above n [] = true
-above n (c ∷ cs) = nat_lt n (number_of c) && above n cs
+above n (c ∷ cs) = nat_lt n (clause_number c) && above n cs
 
 abbrev is_rising : List Clause → Bool
 is_rising [] = true
-is_rising (c ∷ cs) = above (number_of c) cs && is_rising cs
+is_rising (c ∷ cs) = above (clause_number c) cs && is_rising cs
 
 left_true : (a b : Bool) → a && b ≡ true → a ≡ true
 left_true true b h = refl
@@ -38,31 +39,31 @@ not_both m n h = grind (arith, nat_tests)
 not_self : (n : ℕ) → nat_lt n n ≡ false
 not_self n = grind (arith, nat_tests)
 
-before_one : (b : Bool) (c d : Clause) (y : Option Clause) → nat_lt (number_of c) (number_of d) ≡ true → smaller (Some c) y ≡ Some c
+before_one : (b : Bool) (c d : Clause) (y : Option Clause) → nat_lt (clause_number c) (clause_number d) ≡ true → smaller (Some c) y ≡ Some c
     → smaller (Some c) (cond b (Some d) y) ≡ Some c
-before_one true c d y h e = rw (not_both (number_of c) (number_of d) h) refl
+before_one true c d y h e = rw (not_both (clause_number c) (clause_number d) h) refl
 before_one false c d y h e = e
 
-before : (q : Clause → Bool) (c : Clause) (cs : List Clause) → above (number_of c) cs ≡ true → smaller (Some c) (find q cs) ≡ Some c
+before : (q : Clause → Bool) (c : Clause) (cs : List Clause) → above (clause_number c) cs ≡ true → smaller (Some c) (find q cs) ≡ Some c
 before q c [] h = refl
 before q c (d ∷ cs) h =
-    before_one (q d) c d (find q cs) (left_true (nat_lt (number_of c) (number_of d)) (above (number_of c) cs) h)
-    (before q c cs (right_true (nat_lt (number_of c) (number_of d)) (above (number_of c) cs) h))
+    before_one (q d) c d (find q cs) (left_true (nat_lt (clause_number c) (clause_number d)) (above (clause_number c) cs) h)
+    (before q c cs (right_true (nat_lt (clause_number c) (clause_number d)) (above (clause_number c) cs) h))
 
-beyond_one : (b : Bool) (c d : Clause) (x : Option Clause) → nat_lt (number_of c) (number_of d) ≡ true → smaller x (Some c) ≡ Some c
+beyond_one : (b : Bool) (c d : Clause) (x : Option Clause) → nat_lt (clause_number c) (clause_number d) ≡ true → smaller x (Some c) ≡ Some c
     → smaller (cond b (Some d) x) (Some c) ≡ Some c
 beyond_one true c d x h e = rw h refl
 beyond_one false c d x h e = e
 
-beyond : (p : Clause → Bool) (c : Clause) (cs : List Clause) → above (number_of c) cs ≡ true → smaller (find p cs) (Some c) ≡ Some c
+beyond : (p : Clause → Bool) (c : Clause) (cs : List Clause) → above (clause_number c) cs ≡ true → smaller (find p cs) (Some c) ≡ Some c
 beyond p c [] h = refl
 beyond p c (d ∷ cs) h =
-    beyond_one (p d) c d (find p cs) (left_true (nat_lt (number_of c) (number_of d)) (above (number_of c) cs) h)
-    (beyond p c cs (right_true (nat_lt (number_of c) (number_of d)) (above (number_of c) cs) h))
+    beyond_one (p d) c d (find p cs) (left_true (nat_lt (clause_number c) (clause_number d)) (above (clause_number c) cs) h)
+    (beyond p c cs (right_true (nat_lt (clause_number c) (clause_number d)) (above (clause_number c) cs) h))
 
 either : (a b : Bool) (c : Clause) (x y z : Option Clause) → z ≡ smaller x y → smaller (Some c) y ≡ Some c → smaller x (Some c) ≡ Some c
     → cond (a || b) (Some c) z ≡ smaller (cond a (Some c) x) (cond b (Some c) y)
-either true true c x y z e r l = rw (not_self (number_of c)) refl
+either true true c x y z e r l = rw (not_self (clause_number c)) refl
 either true false c x y z e r l = sym r
 either false true c x y z e r l = sym l
 either false false c x y z e r l = e
@@ -71,9 +72,9 @@ found_or : (p q : Clause → Bool) (cs : List Clause) → is_rising cs ≡ true
     → find (λ c. p c || q c) cs ≡ smaller (find p cs) (find q cs)
 found_or p q [] h = refl
 found_or p q (c ∷ cs) h =
-    let first = left_true (above (number_of c) cs) (is_rising cs) h in
+    let first = left_true (above (clause_number c) cs) (is_rising cs) h in
     either (p c) (q c) c (find p cs) (find q cs) (find (λ d. p d || q d) cs)
-    (found_or p q cs (right_true (above (number_of c) cs) (is_rising cs) h)) (before q c cs first) (beyond p c cs first)
+    (found_or p q cs (right_true (above (clause_number c) cs) (is_rising cs) h)) (before q c cs first) (beyond p c cs first)
 
 found_alike : (p q : Clause → Bool) → ((c : Clause) → p c ≡ q c) → (cs : List Clause) → find p cs ≡ find q cs
 found_alike p q same [] = refl

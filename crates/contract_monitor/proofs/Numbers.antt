@@ -11,7 +11,7 @@ use Rattle.nook_defs.specs.declared.steps.Event.{Event}
 use Rattle.nook_defs.specs.declared.steps.Event.TheVariants as event
 use Rattle.nook_defs.specs.declared.steps.Stage.TheVariants as stage
 use Rattle.nook_defs.specs.Answers.{answers_of}
-use Rattle.nook_defs.specs.Losses.{Places, Tally, all_answers, handed_result, is_arrival, is_busy, is_lost_arrival, is_popped, is_received, is_refused, is_taken, lost_by, lost_from, losses, no_places, one_if, places_after, tallies_after, tallies_during}
+use Rattle.nook_defs.specs.Losses.{FramePlaces, Tally, all_answers, handed_result, is_arrival, is_busy, is_lost_arrival, is_popped, is_received, is_refused, is_taken, lost_by, lost_from, losses, no_places, one_if, places_after, tallies_after, tallies_during}
 use Rattle.contract_monitor.specs.Keeping.{Counts, count_act, count_answer, count_handed, counts_after, counts_during, samples_lost, sends_lost, told}
 use Rattle.contract_monitor.specs.Monitors.{counts_of}
 
@@ -52,11 +52,11 @@ answered ts n (a ∷ answers) =
 
 -- ---- what an event counts beside its answers
 
-abbrev with_event : Counts → ℕ → ℕ → ℕ → ℕ → Places → Counts
+abbrev with_event : Counts → ℕ → ℕ → ℕ → ℕ → FramePlaces → Counts
 with_event n arrived taken refused lost places =
     record n { arrived = arrived; taken = taken; refused = refused; lost = lost; places = places }
 
-like_event : (n : Counts) (a a' b b' c c' d d' : ℕ) (p p' : Places) → a ≡ a' → b ≡ b' → c ≡ c' → d ≡ d' → p ≡ p'
+like_event : (n : Counts) (a a' b b' c c' d d' : ℕ) (p p' : FramePlaces) → a ≡ a' → b ≡ b' → c ≡ c' → d ≡ d' → p ≡ p'
     → with_event n a b c d p ≡ with_event n a' b' c' d' p'
 like_event n a a' b b' c c' d d' p p' e f g h i =
     ap₂ (λ x y. with_event n x y c d p) e f ∙ (ap₂ (λ x y. with_event n a' b' x y p) g h ∙ ap (with_event n a' b' c' d') i)
@@ -67,7 +67,7 @@ plus_none n = sym (add-zero n)
 suc_is : (n : ℕ) → suc n ≡ n + 1
 suc_is n = omega arith
 
-abbrev with_popped : Places → ℕ → ℕ → Places
+abbrev with_popped : FramePlaces → ℕ → ℕ → FramePlaces
 with_popped p popped since = record p { popped = popped; popped_since = since }
 
 suc_more : (n m k : ℕ) → k ≡ 1 + m → suc n + m ≡ n + k
@@ -76,21 +76,21 @@ suc_more n m k e = omega (arith, e)
 same_more : (n m k : ℕ) → k ≡ 0 + m → n + m ≡ n + k
 same_more n m k e = omega (arith, e)
 
-popped_more : (p : Places) (a : Act) (done : List Act) → is_popped a ≡ true →
+popped_more : (p : FramePlaces) (a : Act) (done : List Act) → is_popped a ≡ true →
     with_popped p (suc p.popped + count_by is_popped done) (suc p.popped_since + count_by is_popped done)
     ≡ with_popped p (p.popped + count_by is_popped (a ∷ done)) (p.popped_since + count_by is_popped (a ∷ done))
 popped_more p a done h =
     let e = sum_by-cons (λ x. cond (is_popped x) 1 0) a done ∙ ap (λ b. cond b 1 0 + count_by is_popped done) h in
     ap₂ (with_popped p) (suc_more p.popped _ _ e) (suc_more p.popped_since _ _ e)
 
-popped_same : (p : Places) (a : Act) (done : List Act) → is_popped a ≡ false →
+popped_same : (p : FramePlaces) (a : Act) (done : List Act) → is_popped a ≡ false →
     with_popped p (p.popped + count_by is_popped done) (p.popped_since + count_by is_popped done)
     ≡ with_popped p (p.popped + count_by is_popped (a ∷ done)) (p.popped_since + count_by is_popped (a ∷ done))
 popped_same p a done h =
     let e = sum_by-cons (λ x. cond (is_popped x) 1 0) a done ∙ ap (λ b. cond b 1 0 + count_by is_popped done) h in
     ap₂ (with_popped p) (same_more p.popped _ _ e) (same_more p.popped_since _ _ e)
 
-abbrev at_places : Counts → Places → Counts
+abbrev at_places : Counts → FramePlaces → Counts
 at_places n p = record n { places = p }
 
 acts_counted : (n : Counts) (done : List Act) → fold count_act n done
@@ -114,10 +114,10 @@ abbrev counted : Counts → Event → Counts
 counted n e = with_event n (n.arrived + cond (is_arrival e) 1 0) (n.taken + cond (is_taken e) 1 0) (n.refused + cond (is_refused e) 1 0)
     (n.lost + cond (is_lost_arrival e) 1 0) (places_after n.places e)
 
-idle : (n : Counts) (p : Places) → at_places n p ≡ with_event n (n.arrived + 0) (n.taken + 0) (n.refused + 0) (n.lost + 0) p
+idle : (n : Counts) (p : FramePlaces) → at_places n p ≡ with_event n (n.arrived + 0) (n.taken + 0) (n.refused + 0) (n.lost + 0) p
 idle n p = like_event n _ _ _ _ _ _ _ _ p p (plus_none n.arrived) (plus_none n.taken) (plus_none n.refused) (plus_none n.lost) refl
 
-abbrev places_handed : Places → ℕ → ℕ → ℕ → Places
+abbrev places_handed : FramePlaces → ℕ → ℕ → ℕ → FramePlaces
 places_handed p popped since handed = record p { popped = popped; popped_since = since; handed_since = handed }
 
 given : (result : Option ℕ) (n : Counts) (popped since : ℕ) →

@@ -7,7 +7,7 @@ use Rattle.nook_defs.specs.declared.classes.Class.{Class}
 use Rattle.nook_defs.specs.declared.steps.Event.{Event}
 use Rattle.nook_defs.specs.declared.steps.Event.TheVariants as event
 use Rattle.nook_defs.specs.declared.clause.Clause.{Clause}
-use Rattle.nook_defs.specs.Contract.{Known, after, all_clauses, break_from, broken, deeds_of, first_break, is_broken_by, known_first, number_of}
+use Rattle.nook_defs.specs.Contract.{Known, known_after, all_clauses, break_from, broken, deeds_of, first_break, is_broken_by, known_first, clause_number}
 use Rattle.nook_defs.proofs.Changes.{break_or}
 use Rattle.nook_defs.specs.Losses.{losses, tallies_after}
 use Rattle.contract_monitor.specs.Judging.{event_broken}
@@ -20,7 +20,7 @@ use Rattle.contract_monitor.proofs.Tracking.{clause_tracked, tracked}
 
 abbrev break_at : Option Clause → ℕ → Option Break → Option Break
 break_at None place later = later
-break_at (Some clause) place later = Some (record { event = place; clause = number_of clause })
+break_at (Some clause) place later = Some (record { event = place; clause = clause_number clause })
 
 first_one : (place : ℕ) (c : Clause) (cs : List Clause) (found : Option Clause) (later : Option Break) (b : Bool)
     → break_or place cs later ≡ break_at found place later
@@ -51,16 +51,16 @@ at_first None place a b = refl
 at_first (Some clause) place a b = refl
 
 break_more : (place : ℕ) (k : Known) (xs : List Event) (e : Event) →
-    break_from place k (xs ++ e ∷ []) ≡ or_break (break_from place k xs) (break_of (place + length xs) (event_broken (fold after k xs) e))
+    break_from place k (xs ++ e ∷ []) ≡ or_break (break_from place k xs) (break_of (place + length xs) (event_broken (fold known_after k xs) e))
 unfolding break_from
 break_more place k [] e =
     event_first place k e None
     ∙ (at_last (event_broken k e) place ∙ ap (λ n. break_of n (event_broken k e)) (sym (add-zero place)))
 break_more place k (x ∷ xs) e =
-    let later : Option Break = break_from (suc place) (after k x) xs in
-    let last : ℕ → Option Break = λ (n : ℕ). break_of n (event_broken (fold after (after k x) xs) e) in
+    let later : Option Break = break_from (suc place) (known_after k x) xs in
+    let last : ℕ → Option Break = λ (n : ℕ). break_of n (event_broken (fold known_after (known_after k x) xs) e) in
     let places : suc place + length xs ≡ place + suc (length xs) = omega arith in
-    ap (break_or place (broken k x)) (break_more (suc place) (after k x) xs e)
+    ap (break_or place (broken k x)) (break_more (suc place) (known_after k x) xs e)
     ∙ (event_first place k x (or_break later (last (suc place + length xs)))
     ∙ (at_first (event_broken k x) place later (last (suc place + length xs))
     ∙ (ap (λ b. or_break b (last (suc place + length xs))) (sym (event_first place k x later))
@@ -68,12 +68,12 @@ break_more place k (x ∷ xs) e =
 
 first_break_more : (class : Class) (size : ℕ) (xs : List Event) (e : Event) →
     first_break class size (xs ++ e ∷ [])
-    ≡ or_break (first_break class size xs) (break_of (length xs + 1) (event_broken (fold after (known_first class size) xs) e))
+    ≡ or_break (first_break class size xs) (break_of (length xs + 1) (event_broken (fold known_after (known_first class size) xs) e))
 unfolding first_break
 first_break_more class size xs e =
     let places : 1 + length xs ≡ length xs + 1 = omega arith in
     break_more 1 (known_first class size) xs e
-    ∙ ap (λ n. or_break (break_from 1 (known_first class size) xs) (break_of n (event_broken (fold after (known_first class size) xs) e))) places
+    ∙ ap (λ n. or_break (break_from 1 (known_first class size) xs) (break_of n (event_broken (fold known_after (known_first class size) xs) e))) places
 
 -- ---- the first break that a monitor keeps
 
@@ -114,15 +114,15 @@ is_after e m knew kept had seen was broken clause is k n c b = rw (← is, b, c,
 pub stands_more : (class : Class) (size : ℕ) (events : List Event) (e : Event) (m n : Monitored) → StandsFor class size events m
     → n ≡ after_event e m → StandsFor class size (events ++ e ∷ []) n
 stands_more class size events e m n s is = rw is record {
-  known = λ none. rw (fold-append after (known_first class size) events (e ∷ []))
-      (tracked e m.kept.known (fold after (known_first class size) events) (s.known (or_none m.broken _ none))
+  known = λ none. rw (fold-append known_after (known_first class size) events (e ∷ []))
+      (tracked e m.kept.known (fold known_after (known_first class size) events) (s.known (or_none m.broken _ none))
       (none_later m.broken (m.seen + 1) _ none));
   tallies = ap (λ ts. tallies_after ts e) s.tallies ∙ sym (fold-append tallies_after [] events (e ∷ []));
   counts = rw (s.counts, s.tallies) (counts_more events e);
   seen = omega (arith, s.seen, length-append events (e ∷ []));
   broken =
       or_same m.broken (m.seen + 1) _ _
-      (λ none. clause_tracked e m.kept.known (fold after (known_first class size) events) (s.known none))
+      (λ none. clause_tracked e m.kept.known (fold known_after (known_first class size) events) (s.known none))
       ∙ rw (s.broken, s.seen) (sym (first_break_more class size events e));
 }
 

@@ -19,10 +19,10 @@ use Rattle.nook_defs.specs.declared.steps.Stage.TheVariants as stage
 use Rattle.nook_defs.specs.Answers.{one_answer}
 use Rattle.nook_defs.specs.declared.clause.Clause.{Clause}
 use Rattle.nook_defs.specs.declared.clause.Clause.TheVariants.{OutOfOrder}
-use Rattle.nook_defs.specs.Contract.{Deed, Known, OpenCall, acts, after, after_deed, after_failure, after_stage, call_of, crossing_deeds, deeds_of, hands_up, is_answered_in, is_front, number_of, replays, replies}
+use Rattle.nook_defs.specs.Contract.{Deed, Known, OpenCall, acts, known_after, after_deed, after_failure, after_stage, call_of, crossing_deeds, deeds_of, hands_up, is_answered_in, is_front, clause_number, replays, replies}
 use Rattle.nook_defs.proofs.Changes.{after_deeds}
 use Rattle.contract_monitor.specs.Judging.{act_broken, event_broken, first_broken, least, reply_broken, reply_broken_of, smaller, unless}
-use Rattle.contract_monitor.specs.Keeping.{kept_deed, known_after, shorter}
+use Rattle.contract_monitor.specs.Keeping.{kept_deed, shorter, shorter_after}
 use Rattle.contract_monitor.specs.Monitors.{Tracks}
 use Rattle.contract_monitor.proofs.Bursts.{acts_kept}
 use Rattle.contract_monitor.proofs.Judged.{act_least, broken_first, broken_more, handed_first, replays_first, reply_first}
@@ -195,7 +195,7 @@ some_chosen false a b h = cc
 second_none : (a b : Option Clause) → smaller a b ≡ None → b ≡ None
 second_none None b h = h
 second_none (Some a) None h = refl
-second_none (Some a) (Some b) h = absurd (some_chosen (nat_lt (number_of b) (number_of a)) a b h)
+second_none (Some a) (Some b) h = absurd (some_chosen (nat_lt (clause_number b) (clause_number a)) a b h)
 
 -- the deeds of a burst
 burst_crossed : (call : ℕ) (done : List Act) (e : End) (a : Option Answer) (failure : Option FailCause) (w : Known)
@@ -222,8 +222,8 @@ burst_crossed call done e a failure w h =
 -- what is kept breaks what the whole breaks, and is kept of what the whole becomes
 record Together (e : Event) (w : Known) : Type 0 where
   broken : event_broken (shorter w) e ≡ event_broken w e
-  same : known_after (shorter w) e ≡ shorter (after w e)
-  front : event_broken w e ≡ None → is_front (after w e).handed (after w e).popped ≡ true
+  same : shorter_after (shorter w) e ≡ shorter (known_after w e)
+  front : event_broken w e ≡ None → is_front (known_after w e).handed (known_after w e).popped ≡ true
 
 abbrev closed : Option FailCause → List (ℕ × Answer) → Known → Known
 closed failure answers k =
@@ -280,8 +280,8 @@ event_together (event.Arrive frame kept) w h = record { broken = refl; same = re
 pub clause_tracked : (e : Event) (k w : Known) → Tracks k w → event_broken k e ≡ event_broken w e
 clause_tracked e k w t = ap (λ x. event_broken x e) t.same ∙ (event_together e w t.front).broken
 
-pub tracked : (e : Event) (k w : Known) → Tracks k w → event_broken k e ≡ None → Tracks (known_after k e) (after w e)
+pub tracked : (e : Event) (k w : Known) → Tracks k w → event_broken k e ≡ None → Tracks (shorter_after k e) (known_after w e)
 tracked e k w t none = record {
-  same = ap (λ x. known_after x e) t.same ∙ (event_together e w t.front).same;
+  same = ap (λ x. shorter_after x e) t.same ∙ (event_together e w t.front).same;
   front = (event_together e w t.front).front (sym (clause_tracked e k w t) ∙ none);
 }

@@ -11,13 +11,14 @@ use Rattle.nook_defs.specs.declared.calls.Op.TheVariants.{Read, Write, Send, Rec
 use Rattle.nook_defs.specs.Blocks.{get_blocks, has_block, holds_from}
 use Rattle.nook_defs.specs.declared.clause.Clause.{Clause}
 use Rattle.nook_defs.specs.declared.clause.Clause.TheVariants.{UnaskedStore, OtherStore, UnstoredWrite, OtherRead, UnaskedFrame, SecondFrame, UnsentSend, LeftInRing, OtherSample, UnplayedPlay, UnaskedRegister, UnmadeSet, OtherGet, UnseenFailure}
-use Rattle.nook_defs.specs.Contract.{Deed, Known, OpenCall, replies, replays, all_clauses, breaks, deeds_of, is_asked, is_broken_by, is_empty, is_next_of, is_send_of, number_of, play_inside, stores, stores_other}
+use Rattle.nook_defs.specs.Contract.{Deed, Known, OpenCall, replies, replays, all_clauses, breaks, deeds_of, is_asked, is_broken_by, is_next_of, is_send_of, clause_number, play_inside, may_store, stores_other}
+use Rattle.nook_defs.specs.Devices.{is_empty}
 
 -- the clause with the smaller number
 abbrev pub smaller : Option Clause → Option Clause → Option Clause
 smaller None b = b
 smaller (Some a) None = Some a
-smaller (Some a) (Some b) = if nat_lt (number_of b) (number_of a) then Some b else Some a
+smaller (Some a) (Some b) = if nat_lt (clause_number b) (clause_number a) then Some b else Some a
 
 -- the smallest clause that a deed breaks
 abbrev pub least : Known → Option OpenCall → Deed → Option Clause
@@ -44,7 +45,7 @@ had_frame (Some c) = nat_lt 0 c.sent
 
 abbrev pub store_broken : ℕ → List ℕ → Known → Option Clause
 store_broken block words k =
-    if not (list_any (stores block) k.calls) then Some UnaskedStore
+    if not (list_any (may_store block) k.calls) then Some UnaskedStore
     else if list_any (stores_other block words) k.calls then Some OtherStore else None
 
 abbrev pub sent_broken : List ℕ → Option OpenCall → Option Clause

@@ -15,7 +15,7 @@ use Rattle.nook_defs.specs.declared.steps.Stage.TheVariants as stage
 use Rattle.nook_defs.specs.Answers.{answers_of}
 use Rattle.nook_defs.specs.Contract.{Deed, Known, acts, after_deed, after_failure, after_stage, change_call, crossing_deeds, deeds_of, during, hands_up, is_answered_in, known_first, new_call, replays, replies}
 use Rattle.nook_defs.proofs.Changes.{enter_call, unplayed, unsent}
-use Rattle.nook_defs.specs.Losses.{Places, Tally, handed_result, in_driver, in_ring, is_busy, is_received, lost_by, new_tally, no_places, one_if, places_reset, tallies_after, tallies_during}
+use Rattle.nook_defs.specs.Losses.{FramePlaces, Tally, handed_result, in_driver, in_ring, is_busy, is_received, lost_by, new_tally, no_places, one_if, places_reset, tallies_after, tallies_during}
 use Rattle.contract_monitor.specs.Calls.{change_tally, tally_played, tally_sent}
 
 -- what is counted: Sends and samples that were lost, answers Busy; frames that arrived, that were answered, that the
@@ -29,7 +29,7 @@ pub record Counts : Type 0 where
   pub taken : ℕ
   pub refused : ℕ
   pub lost : ℕ
-  pub places : Places
+  pub places : FramePlaces
 
 -- what a monitor keeps of some events: what is known of them, but of the frames popped since the last Load only those
 -- after as many as were handed up; the open calls as the losses see them; and the counts
@@ -57,8 +57,9 @@ known_during k (event.Burst context call burst count e done a failure) =
     after_failure failure (fold (kept_deed call) k (deeds_of done e a failure))
 known_during k e = during k e
 
-abbrev pub known_after : Known → Event → Known
-known_after k e = record (known_during k e)
+-- what is kept after an event
+abbrev pub shorter_after : Known → Event → Known
+shorter_after k e = record (known_during k e)
     { calls = filter (λ c. not (is_answered_in (answers_of e) c)) (known_during k e).calls }
 
 -- ---- counts
@@ -192,7 +193,7 @@ kept_answered answers k = record {
 -- after an event
 abbrev pub kept_after : Kept → Event → Kept
 kept_after k e = record {
-  known = known_after k.known e;
+  known = shorter_after k.known e;
   tallies = tallies_after k.tallies e;
   counts = counts_after k.tallies k.counts e;
 }

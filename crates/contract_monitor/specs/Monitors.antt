@@ -3,7 +3,7 @@ use Rattle.nook_defs.specs.declared.verdicts.Break.{Break}
 use Rattle.nook_defs.specs.declared.classes.Class.{Class}
 use Rattle.nook_defs.specs.declared.steps.Event.{Event}
 use Rattle.nook_defs.specs.declared.clause.Clause.{Clause}
-use Rattle.nook_defs.specs.Contract.{Known, after, first_break, is_front, known_first, number_of}
+use Rattle.nook_defs.specs.Contract.{Known, known_after, first_break, is_front, known_first, clause_number}
 use Rattle.nook_defs.specs.Losses.{all_answers, is_arrival, is_busy, is_lost_arrival, is_received, is_refused, is_taken, lost_samples, lost_sends, no_places, places_after, tallies_after}
 use Rattle.contract_monitor.specs.Judging.{event_broken}
 use Rattle.contract_monitor.specs.Keeping.{Counts, Kept, kept_after, shorter}
@@ -16,7 +16,7 @@ pub record Monitored : Type 0 where
 
 abbrev pub break_of : ℕ → Option Clause → Option Break
 break_of event None = None
-break_of event (Some clause) = Some (record { event = event; clause = number_of clause })
+break_of event (Some clause) = Some (record { event = event; clause = clause_number clause })
 
 -- the first break, where an event may be it
 abbrev pub or_break : Option Break → Option Break → Option Break
@@ -53,7 +53,7 @@ counts_of events = record {
 -- the monitor has seen these events of a part of this class with a disk of so many blocks; what it keeps of them for
 -- the contract is told up to the first break
 pub record StandsFor (class : Class) (size : ℕ) (events : List Event) (m : Monitored) : Type 0 where
-  pub known : m.broken ≡ None → Tracks m.kept.known (fold after (known_first class size) events)
+  pub known : m.broken ≡ None → Tracks m.kept.known (fold known_after (known_first class size) events)
   pub tallies : m.kept.tallies ≡ fold tallies_after [] events
   pub counts : m.kept.counts ≡ counts_of events
   pub seen : m.seen ≡ length events

@@ -118,13 +118,6 @@ impl Monitor {
     {
         self.known.losses()
     }
-
-    /// The number of events seen.
-    pub fn seen(&self) -> u64
-        ensures { result ≡ self.now.seen }
-    {
-        self.seen
-    }
 }
 
 /// What is known once more: the spare, or a copy.

@@ -3,7 +3,7 @@
 ghost use Rattle.std.specs.Prelude.{◌≡◌, map, slice_index};
 ghost use Rattle.std.specs.List.{list_any};
 ghost use Rattle.nook_defs.specs.Classes.{is_next, sends};
-ghost use Rattle.nook_defs.specs.Contract.{call_of, is_next_of, is_replay_of, is_replayed, is_send_of, is_setting, play_inside, sets, stores, stores_other};
+ghost use Rattle.nook_defs.specs.Contract.{call_of, is_next_of, is_replay_of, is_replayed, is_send_of, is_setting, play_inside, sets, may_store, stores_other};
 ghost use Rattle.contract_monitor.specs.Calls.{open_of};
 ghost use Rattle.contract_monitor.specs.Judging.{had_frame};
 
@@ -13,14 +13,14 @@ use nook_defs::calls::Op;
 
 /// Whether a call is a Write that is Inside and covers the block.
 fn stores(block: u64, call: &Call) -> bool
-    ensures { result ≡ stores block (open_of call.now) }
+    ensures { result ≡ may_store block (open_of call.now) }
 {
     call.inside && matches!(call.op, Op::Write { .. }) && covers(&call.op, block)
 }
 
 /// Whether a Write that is Inside covers the block.
 pub fn is_asked_to_store(block: u64, calls: &[Call]) -> bool
-    ensures { result ≡ list_any (stores block) (map open_of calls.now) }
+    ensures { result ≡ list_any (may_store block) (map open_of calls.now) }
 {
     for call in calls {
         if stores(block, call) {

@@ -1,6 +1,7 @@
 -- What a caller of a desk knows of the desk's part, and what each call adds to it.
 use Rattle.std.specs.Prelude.{◌≡◌, ℕ, ◌<◌, ◌≤◌, Bool, true, false, List, [], ◌∷◌, ◌++◌, ◌⊎◌, length, All, Contains, Some, None, Result, Ok, Err}
 use mathlib.Core.List.{IsPrefix}
+use Rattle.nook_defs.specs.declared.limits.TheConstants.{MOST_CALLS}
 use Rattle.nook_defs.specs.declared.calls.Answer.{Answer}
 use Rattle.nook_defs.specs.declared.calls.CallEntry.{CallEntry}
 use Rattle.nook_defs.specs.declared.desks.DeskRefused.{DeskRefused}
@@ -124,7 +125,7 @@ CallEnds spec old new thread op (Ok receipt) =
     Invokes old new receipt.call thread op receipt.at_invoke × IsReceipt new.seen thread op receipt
 CallEnds spec old new thread op (Err (refused.OpenCall call)) = AddsNothing old new × HasOpen (state_seen spec new) thread call
 CallEnds spec old new thread op (Err refused.TooManyCalls) =
-    AddsNothing old new × HasNoneOpen (state_seen spec new) thread × ((state_seen spec new).log.count ≡ 100000)
+    AddsNothing old new × HasNoneOpen (state_seen spec new) thread × ((state_seen spec new).log.count ≡ MOST_CALLS)
 CallEnds spec old new thread op (Err (refused.NoMemory None)) = AddsNothing old new
 CallEnds spec old new thread op (Err (refused.NoMemory (Some call))) =
     HasOpen (state_seen spec new) thread call × ((at_invoke : ℕ) × Invokes old new call thread op at_invoke)
@@ -149,7 +150,7 @@ ResumeEnds spec old new thread (Err _) = ⊥
 abbrev pub ArriveEnds : PartSpec → DeskView → DeskView → List ℕ → Result Bool DeskRefused → Type 0
 ArriveEnds spec old new frame (Ok kept) =
     (place : ℕ) × Adds old new (place ∷ []) × IsAt new.seen place (IsArrive frame kept)
-ArriveEnds spec old new frame (Err refused.TooManyArrivals) = AddsNothing old new × ((state_seen spec new).arrived ≡ 100000)
+ArriveEnds spec old new frame (Err refused.TooManyArrivals) = AddsNothing old new × ((state_seen spec new).arrived ≡ MOST_CALLS)
 ArriveEnds spec old new frame (Err (refused.NoMemory None)) = AddsNothing old new
 ArriveEnds spec old new frame (Err _) = ⊥
 

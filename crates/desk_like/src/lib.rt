@@ -13,7 +13,7 @@ ghost use Rattle.std.specs.Prelude.{length, true, ◌<◌, ◌≡◌, ◌≤◌}
 
 use nook_defs::calls::Op;
 use nook_defs::desks::{DeskRefused, Receipt};
-use nook_defs::limits::MOST_FRAME_WORDS;
+use nook_defs::limits::{MOST_FRAME_WORDS, MOST_THREADS};
 use nook_defs::lists::Words;
 use std::alloc::Global;
 use std::sync::Wait;
@@ -47,7 +47,7 @@ pub trait DeskLike: Sync {
         op: &Op,
     ) -> Result<Receipt, DeskRefused>
         requires seat { is_seat self.now seat.old }
-        requires thread { thread < 16 }
+        requires thread { thread < MOST_THREADS }
         ensures seat { is_seat self.now seat.new }
         ensures run { IsRun (spec self.now) (view seat.new).seen }
         ensures accounts { Accounts (view seat.new) }

@@ -1,8 +1,8 @@
 //! A device of any class.
 
-ghost use Rattle.std.specs.Prelude.{◌≡◌, ◌<◌, ◌≤◌, ℕ, List, length, slice_index, IfOk, IsNone};
+ghost use Rattle.std.specs.Prelude.{◌≡◌, ◌<◌, ◌≤◌, ℕ, List, length, IfOk, IsNone};
 ghost use Rattle.nook_defs.specs.Classes.{defaults_of};
-ghost use Rattle.nook_defs.specs.Devices.{has_room, input_of, kind_output, medium_of, opening_device, output_of, reset_device, ring_of, speaker_output, with_arrival};
+ghost use Rattle.nook_defs.specs.Devices.{has_room, input_of, kind_output, medium_of, opening_device, output_of, reset_device, speaker_output, with_arrival};
 ghost use Rattle.nook_defs.specs.Views.Ports.{class_of, class_of_kind, defaults_for, device_of, given_by, IsTaken};
 ghost use Rattle.device_models.specs.Kept.{IsKept};
 ghost use Rattle.nook_defs.specs.declared.devices.DeviceKind.TheVariants as speaker;
@@ -190,14 +190,6 @@ impl Device {
         }
     }
 
-    /// The register of key 0 to 3.
-    pub fn register(&self, key: u32) -> Word
-        requires { key < 4 }
-        ensures { result ≡ slice_index self.now.registers key }
-    {
-        self.state.registers[key as usize]
-    }
-
     /// The blocks of a disk, 16 words each; none of any other device.
     pub fn medium(&self) -> &[[Word; BLOCK_WORDS]]
         ensures { result.now ≡ medium_of self.now }
@@ -205,17 +197,6 @@ impl Device {
         match &self.state.kind {
             DeviceKind::Disk(disk) => disk.medium.as_slice(),
             _ => &[],
-        }
-    }
-
-    /// The number of frames in the ring of a net device, at most 16; 0 of any other device.
-    pub fn ring_len(&self) -> usize
-        ensures count { result ≡ length (ring_of self.now) }
-        ensures most { result ≤ MOST_RING_FRAMES }
-    {
-        match &self.state.kind {
-            DeviceKind::Link(link) => link.ring.len(),
-            _ => 0,
         }
     }
 }

@@ -292,7 +292,6 @@ fn fills_a_ring(rt: HostRuntime) -> Result<(), Fail> {
         let came = came_of(rt.alloc(), &mut device, action, port, word)?;
         assert_eq!(rt; came, want, "{action} {port} {word}");
     }
-    assert_eq!(rt; device.ring_len(), 15);
     Ok(())
 }
 
@@ -309,10 +308,10 @@ fn plays_sound(rt: HostRuntime) -> Result<(), Fail> {
         ("in", 9, 0, ("word", 10, 0)),
         ("reset", 0, 0, ("reset", 0, 0)),
         ("in", 9, 0, ("word", 5, 0)),
+        ("in", 8, 0, ("word", 8000, 0)),
     ] {
         let came = came_of(rt.alloc(), &mut device, action, port, word)?;
         assert_eq!(rt; came, want, "{action} {port} {word}");
     }
-    assert_eq!(rt; device.register(0), 8000);
     Ok(())
 }

@@ -10,7 +10,8 @@ use Rattle.nook_defs.specs.declared.machine.Service.TheVariants as service
 use Rattle.nook_defs.specs.Domain.{Lent, lent_entries}
 use Rattle.nook_defs.specs.Entries.{comes_before, with_entry, with_live, registered, collected, without_heap, without_borrow, without_buffer, is_buffer_of, is_borrow_of, is_heap_at, is_registration, free_start, borrow_start}
 use Rattle.nook_defs.specs.Views.PageMap.{lent_contexts, none_lent}
-use Rattle.nook_defs.specs.Pages.{is_lent, lends}
+use Rattle.nook_defs.specs.Pages.{is_lent}
+use Rattle.nook_defs.proofs.Cases.{lends}
 use Rattle.nook_defs.specs.Services.{served, alloc_served, borrow_served, give_back_served}
 use Rattle.param_wrappers.specs.Crossing.{with_loan}
 

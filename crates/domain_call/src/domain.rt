@@ -158,26 +158,11 @@ impl Domain {
         self.pages.words(buffer_start(context), count, room)
     }
 
-    /// The class of the driver and its device.
-    pub fn class(&self) -> Class
-        ensures { result ≡ self.now.class }
-    {
-        self.class
-    }
-
     /// The pages.
     pub fn pages(&self) -> &PageMap
         ensures { result.now.words ≡ self.now.state.memory }
     {
         &self.pages
-    }
-
-    /// What the driver holds.
-    pub fn tracker(&self) -> &Tracker
-        ensures entries { result.now.entries ≡ self.now.state.entries }
-        ensures heap { result.now.heap_start ≡ self.now.heap_start }
-    {
-        &self.tracker
     }
 
     /// The device.

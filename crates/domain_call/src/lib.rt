@@ -8,8 +8,6 @@
 mod detached;
 mod domain;
 mod reach;
-#[cfg(test)]
-mod tests;
 
 pub use detached::Detached;
 pub use domain::Domain;

@@ -2,18 +2,19 @@
 use Rattle.std.proofs.Common.{◌≡◌, ◌≢◌, ◌⊎◌, inl, inr, ℕ, suc, ◌+◌, ◌-◌, ◌*◌, ◌/◌, ◌<◌, ◌≤◌, Bool, true, false, List, [], ◌∷◌, ◌++◌, length, get_or, set, take, drop, replicate, slice_index, slice_index_or, slice_range, arith, refl, sym, ap, ◌∙◌, append_assoc}
 use Rattle.std.proofs.lemmas.Bool.{cases_eq, cases_lt}
 use Rattle.std.proofs.lemmas.Grind.{common_steps}
-use Rattle.std.proofs.lemmas.List.{get_or-set_same, get_or-set_other, get_or-drop, get_or_append_left, get_or-append_right, get_or-replicate, get_or_past, length-set, length-replicate, take-set-le, length-take, set_past, length-append, length-drop}
+use Rattle.std.proofs.lemmas.List.{get_or-set_same, get_or-set_other, get_or-drop, get_or-take, get_or_append_left, get_or-append_right, get_or-replicate, get_or_past, length-set, length-replicate, take-set-le, length-take, set_past, length-append, length-drop, length-take-le}
 use Rattle.std.specs.Global.{Vec}
 use Rattle.std.specs.Vec.{with_items}
 use Rattle.std.proofs.lemmas.List.{with_items_is}
 use Rattle.std.proofs.Math.Seq.{paste, take-set-lt}
-use Rattle.std.proofs.lemmas.List.Edits.{fill_from_more, paste_more, paste_all, between_more}
+use Rattle.std.proofs.lemmas.List.Edits.{fill_from_more, paste_all, paste-paste, between_more}
 use Rattle.std.proofs.lemmas.List.FromFn.{fill_by_all, length-map-range_with_len, get_or-map-range_with_len}
 use Rattle.nook_defs.specs.declared.scenario.Image.{Image}
 use Rattle.nook_defs.specs.Pages.{opening_memory, opening_object, opening_objects, padded_words, loaded_memory, with_words}
 use Rattle.nook_defs.proofs.Padded.{length-padded_words}
 use Rattle.nook_defs.specs.Views.PageMap.{PageMap, none_written, none_lent, page_written}
 use Rattle.domain_pages.specs.Frames.{image_word, word_at, shown, opening_table, IsFramed}
+use Rattle.domain_pages.proofs.Own.{AreMarked, has_here}
 
 pub length-shown : (table : List Bool) (frames text initial : List ℕ) → length (shown table frames text initial) ≡ 8192
 unfolding shown
@@ -240,16 +241,75 @@ table_done = refl
 
 -- many words
 
-pub put_more : (d words : List ℕ) (start i count : ℕ) → length d ≡ 8192 → start + count ≤ 8192 → length words ≤ count → i < count → set (paste d start (padded_words count words) i) (start + i) (get_or words i 0) ≡ paste d start (padded_words count words) (i + 1)
-put_more d words start i count size within fits here =
-    ap (set (paste d start (padded_words count words) i) (start + i)) (sym (padded_at count words i here))
-    ∙ paste_more d start (padded_words count words) i 0 (omega arith) (omega (arith, length-padded_words count words fits))
+-- a word of memory in which words were put
+words_at : (start : ℕ) (words memory : List ℕ) (k : ℕ) → start + length words ≤ length memory → (k < start → get_or (with_words start words memory) k 0 ≡ get_or memory k 0) × (start ≤ k → k < start + length words → get_or (with_words start words memory) k 0 ≡ get_or words (k - start) 0) × (start + length words ≤ k → get_or (with_words start words memory) k 0 ≡ get_or memory k 0)
+words_at start words memory k within =
+    let front = take start memory in
+    let rest = drop (start + length words) memory in
+    let fronts : length front ≡ start = omega (arith, length-take start memory) in (
+      λ low. get_or_append_left front (words ++ rest) 0 k (omega (arith, fronts)) ∙ get_or-take start memory k 0 low,
+      λ low high.
+          get_or-append_right front (words ++ rest) start k 0 fronts low
+          ∙ get_or_append_left words rest 0 (k - start) (omega arith),
+      λ high.
+          get_or-append_right front (words ++ rest) start k 0 fronts (omega arith)
+          ∙ get_or-append_right words rest (length words) (k - start) 0 refl (omega arith)
+          ∙ get_or-drop (start + length words) memory (k - start - length words) 0
+          ∙ ap (λ i. get_or memory i 0) (omega arith),
+    )
 
-pub put_done : (d words : List ℕ) (start count : ℕ) → length words ≤ count → paste d start (padded_words count words) count ≡ with_words start (padded_words count words) d
-put_done d words start count fits =
-    let full = length-padded_words count words fits in
-    paste_all d start (padded_words count words) count (sym full)
-    ∙ ap (λ n. take start d ++ (padded_words count words ++ drop (start + n) d)) (sym full)
+length-with_words : (start : ℕ) (words memory : List ℕ) → start + length words ≤ length memory → length (with_words start words memory) ≡ length memory
+length-with_words start words memory within =
+    omega (
+      arith,
+      length-append (take start memory) (words ++ drop (start + length words) memory),
+      length-append words (drop (start + length words) memory),
+      length-take start memory,
+      length-drop (start + length words) memory,
+    )
+
+-- words that are written into frames, where each page of them has one
+pub shown_put_all : (old now : List Bool) (frames own text initial words : List ℕ) (start count : ℕ) → start + count ≤ 8192 → length own ≡ 8192 → length words ≤ count → AreMarked old now start count → ((k : ℕ) → k < 8192 → word_at now own text initial k ≡ word_at old frames text initial k) → shown now (with_words start (padded_words count words) own) text initial ≡ with_words start (padded_words count words) (shown old frames text initial)
+shown_put_all old now frames own text initial words start count within size fits marked same =
+    let padded = padded_words count words in
+    let before = shown old frames text initial in
+    let long : length before ≡ 8192 = length-shown old frames text initial in
+    let full : length padded ≡ count = length-padded_words count words fits in
+    let in_own : start + length padded ≤ length own = omega (arith, size, full) in
+    let in_before : start + length padded ≤ length before = omega (arith, long, full) in
+    let kept : (k : ℕ) → k < 8192 → get_or (with_words start padded own) k 0 ≡ get_or own k 0 → get_or (with_words start padded before) k 0 ≡ get_or before k 0 → get_or (with_words start padded before) k 0 ≡ word_at now (with_words start padded own) text initial k =
+    λ k lt at_own at_before. at_before ∙ shown_at old frames text initial k lt ∙ sym (same k lt) ∙ sym (rw at_own refl) in
+    shown_by now (with_words start padded own) text initial (with_words start padded before) (length-with_words start padded before in_before ∙ long) (λ k lt. elim (cases_lt k start) [
+      | inl low ↦ kept k lt ((words_at start padded own k in_own).0 low) ((words_at start padded before k in_before).0 low)
+      | inr here ↦ elim (cases_lt k (start + length padded)) [
+        | inl high ↦
+            (words_at start padded before k in_before).1 here high
+            ∙ sym (rw (marked (k / 64) (omega arith), has_here start count k here (omega (arith, full))) ((words_at start padded own k in_own).1 here high))
+        | inr past ↦ kept k lt ((words_at start padded own k in_own).2 past) ((words_at start padded before k in_before).2 past)
+      ]
+    ])
+
+-- the part behind the words that are written
+pub length_left : (memory words : List ℕ) (start count : ℕ) → start + count ≤ length memory → length words ≤ count → length (take (start + count - (start + length words)) (drop (start + length words) (paste memory start words (length words)))) ≡ count - length words
+length_left memory words start count within fits =
+    let n = length words in
+    let done = paste memory start words n in
+    let long : length done ≡ length memory =
+    ap length (paste_all memory start words n refl) ∙ length-with_words start words memory (omega arith) in
+    let rest = drop (start + n) done in
+    let left : length rest ≡ length done - (start + n) = length-drop (start + n) done in
+    length-take-le (start + count - (start + n)) rest (omega (arith, left, long)) ∙ omega arith
+
+-- the words and then the zeros are written
+pub written_all : (memory words : List ℕ) (start count : ℕ) → start + count ≤ length memory → length words ≤ count → paste (paste memory start words (length words)) (start + length words) (replicate (count - length words) 0) (count - length words) ≡ with_words start (padded_words count words) memory
+written_all memory words start count within fits =
+    let zeros : List ℕ = replicate (count - length words) 0 in
+    let full : length (padded_words count words) ≡ count = length-padded_words count words fits in
+    let more : length words + (count - length words) ≡ count = omega arith in
+    paste-paste memory start words zeros (length words) (count - length words) refl (sym (length-replicate (count - length words) 0)) (omega arith)
+    ∙ ap (paste memory start (padded_words count words)) more
+    ∙ paste_all memory start (padded_words count words) count (sym full)
+    ∙ ap (λ n. take start memory ++ (padded_words count words ++ drop (start + n) memory)) (sym full)
 
 -- one word more of a range
 pub range_more : (memory : List ℕ) (start i : ℕ) → start + i < length memory → slice_range memory start (start + i) ++ get_or memory (start + i) 0 ∷ [] ≡ slice_range memory start (start + (i + 1))

@@ -1,8 +1,8 @@
 //! Frames and the table that says which pages have one, as plain slices.
 
-ghost use Rattle.std.specs.Prelude.{◌≡◌, ◌+◌, ◌*◌, ◌/◌, ◌<◌, ◌≤◌, ◌⊎◌, ℕ, [], List, true, length, take, slice_index, slice_index_or, slice_set, IfOk};
+ghost use Rattle.std.specs.Prelude.{◌≡◌, ◌+◌, ◌*◌, ◌/◌, ◌<◌, ◌≤◌, ◌⊎◌, ◌&&◌, ◌||◌, nat_le, nat_lt, ℕ, [], List, true, false, length, take, slice_index, slice_index_or, slice_set, IfOk};
 ghost use Rattle.nook_defs.specs.Pages.{opening_memory, padded_words, with_words};
-ghost use Rattle.domain_pages.specs.Frames.{image_word, word_at, shown, opening_table, IsFramed, with_own};
+ghost use Rattle.domain_pages.specs.Frames.{has_some, image_word, word_at, shown, opening_table, IsFramed, with_own};
 
 use nook_defs::lists::Word;
 use nook_defs::memory::NoMemory;
@@ -103,7 +103,53 @@ pub fn put(
     frames[address] = word;
 }
 
-/// Writes `count` words from an address on: these words and then zeros.
+/// The page behind those that have one of `count` words from an address on.
+#[tactic(auto, using(crate::proofs::Own::has_between))]
+fn page_end(start: usize, count: usize) -> usize
+    requires within { start + count ≤ MEMORY_WORDS }
+    ensures least { start / PAGE_WORDS ≤ result }
+    ensures most { result ≤ PAGES }
+    ensures pages { (page : ℕ) → has_some start count page ≡ nat_le (start / PAGE_WORDS) page && nat_lt page result }
+{
+    if count == 0 {
+        start / PAGE_LEN
+    } else {
+        (start + count - 1) / PAGE_LEN + 1
+    }
+}
+
+/// Gives each page that has one of `count` words from an address on a frame of its own, which shows what the page showed.
+fn own_all(
+    table: &mut [bool; PAGES],
+    frames: &mut [Word],
+    text: &[Word],
+    initial: &[Word],
+    start: usize,
+    count: usize,
+)
+    requires within { start + count ≤ MEMORY_WORDS }
+    requires frames { length frames.old ≡ MEMORY_WORDS }
+    ensures table { (page : ℕ) → page < PAGES → slice_index_or table.new page false ≡ has_some start count page || slice_index_or table.old page false }
+    ensures size { length frames.new ≡ MEMORY_WORDS }
+    ensures same { (k : ℕ) → k < MEMORY_WORDS → word_at table.new frames.new text.now initial.now k ≡ word_at table.old frames.old text.now initial.now k }
+{
+    for page in start / PAGE_LEN..page_end(start, count) {
+        own(table, frames, text, initial, page);
+    }
+}
+
+/// Writes these words from an address on, and then zeros, `count` words in all.
+fn write_all(frames: &mut [Word], start: usize, words: &[Word], count: usize)
+    requires within { start + count ≤ length frames.old }
+    requires fits { length words.now ≤ count }
+    ensures { frames.new ≡ with_words start (padded_words count words.now) frames.old }
+{
+    let end = start + words.len();
+    frames[start..end].copy_from_slice(words);
+    frames[end..start + count].fill(0);
+}
+
+/// Writes `count` words from an address on: these words and then zeros. Each page is given its frame once.
 pub fn put_all(
     table: &mut [bool; PAGES],
     frames: &mut [Word],
@@ -120,16 +166,8 @@ pub fn put_all(
     ensures words { shown table.new frames.new text.now initial.now ≡ with_words start (padded_words count words.now) (shown table.old frames.old text.now initial.now) }
     ensures own { take OWN_PAGES table.new ≡ with_own start count (take OWN_PAGES table.old) }
 {
-    for i in 0..count {
-        put(
-            table,
-            frames,
-            text,
-            initial,
-            start + i,
-            word_or_zero(words, i),
-        );
-    }
+    own_all(table, frames, text, initial, start, count);
+    write_all(frames, start, words, count);
 }
 
 /// The table in which only the kernel objects have frames.

@@ -1,6 +1,6 @@
 pub mod Numerals
 pub mod LastPiece
-pub mod NamedLines
+pub mod EntryLines
 pub mod OneValue
 pub mod Short
 pub mod Lines

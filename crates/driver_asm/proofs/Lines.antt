@@ -4,9 +4,11 @@ use Rattle.std.specs.Prelude.{None, Result, Ok, Err}
 use Rattle.std.specs.Borrow.{Bor}
 use Rattle.std.specs.Result.{IsErrAnd}
 use Rattle.std.proofs.Math.Seq.{drop-cons}
-use Rattle.nook_defs.specs.AsmLines.{Labels, definition_of, first_of, line_says, no_labels}
+use Rattle.nook_defs.specs.AsmLines.{Labels, definition_of, first_of, line_says}
+use Rattle.nook_defs.specs.Views.Assembling.{no_labels}
 use Rattle.nook_defs.specs.AsmTokens.{tokens_of, lines_of}
-use Rattle.nook_defs.specs.Assembler.{Draft, Places, all_given, assembled, at_line, draft_after, draft_from, first_draft, first_places, image_with, label_of, labels_from, next_line, one_word, places_after}
+use Rattle.nook_defs.specs.Assembler.{Draft, Cursor, all_given, assembled, at_line, draft_after, draft_from, first_draft, first_cursor, image_with, label_of, labels_from, one_word, cursor_after}
+use Rattle.nook_defs.specs.Views.Assembling.{next_line}
 use Rattle.nook_defs.specs.declared.assembler.AsmFault.{AsmFault}
 use Rattle.nook_defs.specs.declared.assembler.AsmKind.{AsmKind}
 use Rattle.nook_defs.specs.declared.assembler.Label.{Label}
@@ -21,8 +23,8 @@ use Rattle.std.proofs.lemmas.List.{drop_all}
 
 -- ---- first pass
 
-labels_step : (old new : List Label) (at next : Places) (line : List ℕ) (more : List (List ℕ))
-    → next ≡ next_line (places_after (line_says no_labels None at.in_section (tokens_of line)) at)
+labels_step : (old new : List Label) (at next : Cursor) (line : List ℕ) (more : List (List ℕ))
+    → next ≡ next_line (cursor_after (line_says no_labels None at.in_section (tokens_of line)) at)
     → new ≡ old ++ label_of (definition_of (tokens_of line)) at
     → new ++ labels_from next more ≡ old ++ labels_from at (line ∷ more)
 unfolding labels_from
@@ -30,15 +32,15 @@ labels_step old new at next line more same defined =
     rw (
       defined,
       same,
-      append_assoc old (label_of (definition_of (tokens_of line)) at) (labels_from (next_line (places_after (line_says no_labels None at.in_section (tokens_of line)) at)) more),
+      append_assoc old (label_of (definition_of (tokens_of line)) at) (labels_from (next_line (cursor_after (line_says no_labels None at.in_section (tokens_of line)) at)) more),
     ) refl
 
-labels_end : (at : Places) → labels_from at [] ≡ []
+labels_end : (at : Cursor) → labels_from at [] ≡ []
 unfolding labels_from
 labels_end at = refl
 
 -- a line adds at most one word
-pub text_after : (says : Result Statement AsmKind) (at : Places) → (places_after says at).text ≤ at.text + 1
+pub text_after : (says : Result Statement AsmKind) (at : Cursor) → (cursor_after says at).text ≤ at.text + 1
 text_after (Err kind) at = omega arith
 text_after (Ok statement.Nothing) at = omega arith
 text_after (Ok (statement.Class class)) at = omega arith
@@ -47,7 +49,7 @@ text_after (Ok (statement.Section in_section)) at = omega arith
 text_after (Ok (statement.Word value)) at = elim at.in_section as (λ s. (one_word s at).text ≤ at.text + 1) [ section.Text ↦ omega arith | section.Data ↦ omega arith ]
 text_after (Ok (statement.Instr mnemonic operands)) at = elim at.in_section as (λ s. (one_word s at).text ≤ at.text + 1) [ section.Text ↦ omega arith | section.Data ↦ omega arith ]
 
-pub initial_after : (says : Result Statement AsmKind) (at : Places) → (places_after says at).initial ≤ at.initial + 1
+pub initial_after : (says : Result Statement AsmKind) (at : Cursor) → (cursor_after says at).initial ≤ at.initial + 1
 initial_after (Err kind) at = omega arith
 initial_after (Ok statement.Nothing) at = omega arith
 initial_after (Ok (statement.Class class)) at = omega arith
@@ -56,11 +58,11 @@ initial_after (Ok (statement.Section in_section)) at = omega arith
 initial_after (Ok (statement.Word value)) at = elim at.in_section as (λ s. (one_word s at).initial ≤ at.initial + 1) [ section.Text ↦ omega arith | section.Data ↦ omega arith ]
 initial_after (Ok (statement.Instr mnemonic operands)) at = elim at.in_section as (λ s. (one_word s at).initial ≤ at.initial + 1) [ section.Text ↦ omega arith | section.Data ↦ omega arith ]
 
-one_word_line : (s : Section) (at : Places) → (one_word s at).line ≡ at.line
+one_word_line : (s : Section) (at : Cursor) → (one_word s at).line ≡ at.line
 one_word_line section.Text at = refl
 one_word_line section.Data at = refl
 
-pub line_after : (says : Result Statement AsmKind) (at : Places) → (places_after says at).line ≡ at.line
+pub line_after : (says : Result Statement AsmKind) (at : Cursor) → (cursor_after says at).line ≡ at.line
 line_after (Err kind) at = refl
 line_after (Ok statement.Nothing) at = refl
 line_after (Ok (statement.Class class)) at = refl
@@ -89,17 +91,17 @@ lines_split lines i d inside = rw (drop-cons lines i d inside, add-one) refl
 
 -- ---- first pass, by the lines that are left
 
-pub line_next : (says : Result Statement AsmKind) (at next : Places) → next ≡ next_line (places_after says at) → next.line ≡ at.line + 1
+pub line_next : (says : Result Statement AsmKind) (at next : Cursor) → next ≡ next_line (cursor_after says at) → next.line ≡ at.line + 1
 line_next says at next h = ap (λ p. p.line) h ∙ ap (λ n. n + 1) (line_after says at)
 
-pub text_next : (says : Result Statement AsmKind) (at next : Places) → next ≡ next_line (places_after says at) → next.text ≤ at.text + 1
+pub text_next : (says : Result Statement AsmKind) (at next : Cursor) → next ≡ next_line (cursor_after says at) → next.text ≤ at.text + 1
 text_next says at next h = omega (arith, ap (λ p. p.text) h, text_after says at)
 
-pub initial_next : (says : Result Statement AsmKind) (at next : Places) → next ≡ next_line (places_after says at) → next.initial ≤ at.initial + 1
+pub initial_next : (says : Result Statement AsmKind) (at next : Cursor) → next ≡ next_line (cursor_after says at) → next.initial ≤ at.initial + 1
 initial_next says at next h = omega (arith, ap (λ p. p.initial) h, initial_after says at)
 
-pub labels_more : (old new : List Label) (at next : Places) (lines : List (Bor (List ℕ))) (i : ℕ) (d : Bor (List ℕ)) (whole : List Label) → i < length lines
-    → next ≡ next_line (places_after (line_says no_labels None at.in_section (tokens_of (get_or lines i d).now)) at)
+pub labels_more : (old new : List Label) (at next : Cursor) (lines : List (Bor (List ℕ))) (i : ℕ) (d : Bor (List ℕ)) (whole : List Label) → i < length lines
+    → next ≡ next_line (cursor_after (line_says no_labels None at.in_section (tokens_of (get_or lines i d).now)) at)
     → new ≡ old ++ label_of (definition_of (tokens_of (get_or lines i d).now)) at
     → old ++ labels_from at (map (λ line. line.now) (drop i lines)) ≡ whole
     → new ++ labels_from next (map (λ line. line.now) (drop (i + 1) lines)) ≡ whole
@@ -108,7 +110,7 @@ labels_more old new at next lines i d whole inside same defined before =
     ∙ ap (λ ls. old ++ labels_from at ls) (sym (lines_split lines i d inside))
     ∙ before
 
-pub labels_done : (labels : List Label) (at : Places) (lines : List (Bor (List ℕ))) (i : ℕ) (whole : List Label) → length lines ≤ i
+pub labels_done : (labels : List Label) (at : Cursor) (lines : List (Bor (List ℕ))) (i : ℕ) (whole : List Label) → length lines ≤ i
     → labels ++ labels_from at (map (λ line. line.now) (drop i lines)) ≡ whole → labels ≡ whole
 labels_done labels at lines i whole past h =
     sym (append-nil labels)
@@ -139,13 +141,13 @@ draft_fails labels n i lines d draft whole (errors.Bad kind line) inside fault b
 
 -- ---- the whole
 
-pub assembled_by : (text : List ℕ) (labels : List Label) (draft : Draft) → labels ≡ labels_from first_places (lines_of text)
+pub assembled_by : (text : List ℕ) (labels : List Label) (draft : Draft) → labels ≡ labels_from first_cursor (lines_of text)
     → draft_from (first_of labels) 1 (lines_of text) first_draft ≡ Ok draft
     → assembled text ≡ at_line (length (lines_of text) + 1) (image_with draft.class (all_given draft.entries) draft)
 unfolding assembled
 assembled_by text labels draft same drawn = rw (sym same, drawn) refl
 
-pub assembled_fails : (text : List ℕ) (labels : List Label) (why : AsmError) → labels ≡ labels_from first_places (lines_of text)
+pub assembled_fails : (text : List ℕ) (labels : List Label) (why : AsmError) → labels ≡ labels_from first_cursor (lines_of text)
     → Fails why (draft_from (first_of labels) 1 (lines_of text) first_draft) → Fails why (assembled text)
 unfolding assembled
 assembled_fails text labels errors.NoMemory same drawn = tt
@@ -163,12 +165,12 @@ abbrev bytes_of : List (Bor (List ℕ)) → List (List ℕ)
 bytes_of lines = map (λ line. line.now) lines
 
 same_labels : (text : List ℕ) (lines : List (Bor (List ℕ))) (labels : List Label) → bytes_of lines ≡ lines_of text
-    → labels ≡ labels_from first_places (bytes_of lines) → labels ≡ labels_from first_places (lines_of text)
-same_labels text lines labels cut same = same ∙ ap (labels_from first_places) cut
+    → labels ≡ labels_from first_cursor (bytes_of lines) → labels ≡ labels_from first_cursor (lines_of text)
+same_labels text lines labels cut same = same ∙ ap (labels_from first_cursor) cut
 
 pub whole_by : (text : List ℕ) (items first second third : List (Bor (List ℕ))) (labels : List Label) (draft : Draft) (line : ℕ)
     → bytes_of items ≡ lines_of text → first ≡ items → second ≡ items → third ≡ items
-    → labels ≡ labels_from first_places (bytes_of first)
+    → labels ≡ labels_from first_cursor (bytes_of first)
     → draft_from (first_of labels) 1 (bytes_of second) first_draft ≡ Ok draft
     → line ≡ length (bytes_of third) + 1
     → assembled text ≡ at_line line (image_with draft.class (all_given draft.entries) draft)
@@ -179,7 +181,7 @@ whole_by text items first second third labels draft line cut p q r same drawn be
 
 pub whole_fails : (text : List ℕ) (items first second : List (Bor (List ℕ))) (labels : List Label) (why : AsmError)
     → bytes_of items ≡ lines_of text → first ≡ items → second ≡ items
-    → labels ≡ labels_from first_places (bytes_of first)
+    → labels ≡ labels_from first_cursor (bytes_of first)
     → Fails why (draft_from (first_of labels) 1 (bytes_of second) first_draft)
     → Fails why (assembled text)
 whole_fails text items first second labels why cut p q same fails =

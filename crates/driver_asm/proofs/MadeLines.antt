@@ -6,7 +6,7 @@ use Rattle.std.specs.Result.{IsErrAnd}
 use Rattle.std.proofs.lemmas.List.{drop_all}
 use Rattle.nook_defs.specs.AsmLines.{Labels, first_of}
 use Rattle.nook_defs.specs.AsmTokens.{lines_of, tokens_of}
-use Rattle.nook_defs.specs.Assembler.{Draft, assembled, draft_after, draft_from, first_draft, first_places, labels_from}
+use Rattle.nook_defs.specs.Assembler.{Draft, assembled, draft_after, draft_from, first_draft, first_cursor, labels_from}
 use Rattle.nook_defs.specs.declared.assembler.AsmFault.{AsmFault}
 use Rattle.nook_defs.specs.declared.assembler.Label.{Label}
 use Rattle.nook_defs.specs.declared.assembler.Section.{Section}
@@ -69,7 +69,7 @@ made_passed (Err error) why labels lines whole passed fails = rw passed fails
 -- ---- the whole
 
 listed_with : (text text_lines initial_lines : List ℕ) (labels : List Label) (image : Image)
-    → labels ≡ labels_from first_places (lines_of text)
+    → labels ≡ labels_from first_cursor (lines_of text)
     → text_lines ≡ makers section.Text (first_of labels) 1 (lines_of text) first_draft
     → initial_lines ≡ makers section.Data (first_of labels) 1 (lines_of text) first_draft
     → assembled text ≡ Ok image
@@ -79,13 +79,13 @@ listed_with text text_lines initial_lines labels image same ts is made = rw (mad
 
 pub listed_by : (text : List ℕ) (items first second : List (Bor (List ℕ))) (text_lines initial_lines : List ℕ) (labels : List Label) (image : Image)
     → bytes_of items ≡ lines_of text → first ≡ items → second ≡ items
-    → labels ≡ labels_from first_places (bytes_of first)
+    → labels ≡ labels_from first_cursor (bytes_of first)
     → text_lines ≡ makers section.Text (first_of labels) 1 (bytes_of second) first_draft
     → initial_lines ≡ makers section.Data (first_of labels) 1 (bytes_of second) first_draft
     → assembled text ≡ Ok image
     → listed text ≡ Ok (record { image = image; text_lines = text_lines; initial_lines = initial_lines; labels = labels })
 listed_by text items first second text_lines initial_lines labels image cut p q same ts is made =
-    listed_with text text_lines initial_lines labels image (same ∙ ap (labels_from first_places) (ap bytes_of p ∙ cut))
+    listed_with text text_lines initial_lines labels image (same ∙ ap (labels_from first_cursor) (ap bytes_of p ∙ cut))
     (ts ∙ ap (λ ls. makers section.Text (first_of labels) 1 ls first_draft) (ap bytes_of q ∙ cut))
     (is ∙ ap (λ ls. makers section.Data (first_of labels) 1 ls first_draft) (ap bytes_of q ∙ cut))
     made

@@ -1,7 +1,7 @@
 -- Lists of two and three tokens.
 use Rattle.std.proofs.Common.{◌≡◌, ℕ, ◌<◌, ◌≤◌, List, [], ◌∷◌, length, get_or, arith, Some}
 use Rattle.nook_defs.specs.AsmLines.{Labels, operands_of, operands_with, value_of}
-use Rattle.nook_defs.specs.AsmTokens.{register_of}
+use Rattle.nook_defs.specs.AsmTokens.{register_named}
 use Rattle.nook_defs.specs.declared.assembler.Form.TheVariants as form
 
 two : (tokens : List (List ℕ)) (a b : List ℕ) → 2 ≤ length tokens → length tokens < 3 → a ≡ get_or tokens 0 a → b ≡ get_or tokens 1 b → tokens ≡ a ∷ b ∷ []
@@ -18,11 +18,11 @@ three (x ∷ y ∷ z ∷ []) a b d low high p q r = cc
 three (x ∷ y ∷ z ∷ w ∷ more) a b d low high p q r = absurd (omega (arith, high))
 
 pub register_and_value : (labels : Labels) (tokens : List (List ℕ)) (a imm : List ℕ) → 2 ≤ length tokens → length tokens < 3 → a ≡ get_or tokens 0 a → imm ≡ get_or tokens 1 imm
-    → operands_of labels form.AImm tokens ≡ operands_with (register_of a) (Some 0) (value_of labels imm)
+    → operands_of labels form.AImm tokens ≡ operands_with (register_named a) (Some 0) (value_of labels imm)
 unfolding operands_of
 register_and_value labels tokens a imm low high p q = rw (two tokens a imm low high p q)
 
 pub registers_and_value : (labels : Labels) (tokens : List (List ℕ)) (a b imm : List ℕ) → 3 ≤ length tokens → length tokens < 4 → a ≡ get_or tokens 0 a → b ≡ get_or tokens 1 b → imm ≡ get_or tokens 2 imm
-    → operands_of labels form.ABImm tokens ≡ operands_with (register_of a) (register_of b) (value_of labels imm)
+    → operands_of labels form.ABImm tokens ≡ operands_with (register_named a) (register_named b) (value_of labels imm)
 unfolding operands_of
 registers_and_value labels tokens a b imm low high p q r = rw (three tokens a b imm low high p q r)

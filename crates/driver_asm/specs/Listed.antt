@@ -1,7 +1,7 @@
 use Rattle.std.specs.Prelude.{◌≡◌, ℕ, ◌+◌, List, [], ◌∷◌, ◌++◌, length, nat_lt, Bool, Result, Ok, Err, if◌then◌else◌}
 use Rattle.nook_defs.specs.AsmLines.{Labels, first_of}
 use Rattle.nook_defs.specs.AsmTokens.{lines_of, tokens_of}
-use Rattle.nook_defs.specs.Assembler.{Draft, assembled, at_line, draft_after, first_draft, first_places, labels_from}
+use Rattle.nook_defs.specs.Assembler.{Draft, assembled, at_line, draft_after, first_draft, first_cursor, labels_from}
 use Rattle.nook_defs.specs.Results.{◌>>=◌}
 use Rattle.nook_defs.specs.declared.assembler.AsmFault.{AsmFault}
 use Rattle.nook_defs.specs.declared.assembler.AsmKind.{AsmKind}
@@ -43,7 +43,7 @@ makers in_section labels line (first ∷ more) draft = behind_draft
 -- the image of a text with the lines of its words, counted from 1, and its labels in the order of their definitions;
 -- or the text's first fault
 unfoldable pub listed : List ℕ → Result Listed AsmFault
-listed text = let lines = lines_of text in let labels = labels_from first_places lines in do
+listed text = let lines = lines_of text in let labels = labels_from first_cursor lines in do
   image ← assembled text
   Ok (record {
     image = image;

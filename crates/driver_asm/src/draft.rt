@@ -2,11 +2,11 @@
 
 ghost use Rattle.std.specs.Prelude.{◌≡◌, ◌-◌, ◌<◌, ◌≤◌, [], ◌∷◌, ◌++◌, ◌||◌, IfOk, IfSome, Ok, true, false, length, slice_get};
 ghost use Rattle.nook_defs.specs.AsmLines.{definition_of, first_of};
-ghost use Rattle.nook_defs.specs.Assembler.{all_given, draft_after, is_above, is_given, first_draft, image_with, is_out_of_range, is_second_given, is_second_label, known, with_class, with_statement, with_word};
+ghost use Rattle.nook_defs.specs.Assembler.{all_given, draft_after, is_above, first_draft, image_with, is_out_of_range, is_second_given, is_second_label, known, with_statement, with_word};
+ghost use Rattle.nook_defs.specs.Views.Assembling.{is_given, with_class};
 ghost use Rattle.driver_asm.specs.Answers.{Takes};
 ghost use Rattle.driver_asm.specs.Lexing.{has_registers};
 
-use crate::class_names::entry_count;
 use crate::error::LineStop;
 use crate::labels::LabelTable;
 use crate::mnemonics::instr_with;
@@ -15,6 +15,7 @@ use crate::tokens::Token;
 use driver_isa::encode;
 use nook_defs::assembler::{AsmKind, Operands, Section, Statement, Value};
 use nook_defs::classes::Class;
+use nook_defs::keys::entry_keys;
 use nook_defs::lists::{Word, Words};
 use nook_defs::memory::NoMemory;
 use nook_defs::memory_map::{DATA_WORDS, TEXT_WORDS};
@@ -137,7 +138,7 @@ impl Draft {
     fn with_class(self, alloc: Global, class: Class) -> Result<Draft, NoMemory>
         ensures { IfOk result (λ made. made ≡ with_class class self) }
     {
-        let entries = vec![in alloc; None; entry_count(class)]?;
+        let entries = vec![in alloc; None; entry_keys(class).len()]?;
         Ok(Draft {
             class: Some(class),
             entries,

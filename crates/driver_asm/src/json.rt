@@ -6,10 +6,11 @@ ghost use Rattle.serde_json.specs.Data.{array, member, no_members, object, strin
 ghost use Rattle.serde_json.specs.View.{members_view, view};
 ghost use Rattle.nook_defs.specs.ImageText.{entry_members, hex_text, image_data, image_text, word_items};
 ghost use Rattle.nook_defs.specs.Keys.{entry_keys};
-ghost use Rattle.driver_asm.specs.Names.{hex_data, named_members};
+ghost use Rattle.driver_asm.specs.Names.{hex_data};
 
-use crate::class_names::{class_text, entry_names};
 use nook_defs::classes::Class;
+use nook_defs::input::Key;
+use nook_defs::keys::{class_text, entry_keys, key_text};
 use nook_defs::lists::{Word, Words8};
 use nook_defs::memory::NoMemory;
 use nook_defs::scenario::Image;
@@ -115,27 +116,26 @@ fn push_digit(text: &mut String, digit: Word) -> Result<(), NoMemory>
 }
 
 /// The entries and their places.
-#[tactic(auto, using(crate::proofs::NamedLines::members_of_keys))]
 fn entries_value(alloc: Global, class: Class, places: &[Word]) -> Result<Value, NoMemory>
     ensures { IfOk result (λ value. view value ≡ object (entry_members (entry_keys class) places.now no_members)) }
 {
-    Ok(Value::Object(named_places(alloc, entry_names(class), places)?))
+    Ok(Value::Object(entries_at(alloc, entry_keys(class), places)?))
 }
 
-/// The names and their places.
-fn named_places(
+/// Some entries and their places.
+fn entries_at(
     alloc: Global,
-    names: &[&str],
+    entries: &[Key],
     places: &[Word],
 ) -> Result<Map<String, Value>, NoMemory>
-    ensures { IfOk result (λ made. members_view made.entries ≡ named_members (map (λ name. name.now) names.now) places.now no_members) }
+    ensures { IfOk result (λ made. members_view made.entries ≡ entry_members entries.now places.now no_members) }
 {
     let mut made = Map::new(alloc);
     let mut rest = places;
-    for name in names {
+    for entry in entries {
         match rest.split_first() {
             Some((place, more)) => {
-                put(&mut made, alloc, name, Value::from(*place))?;
+                put(&mut made, alloc, key_text(*entry), Value::from(*place))?;
                 rest = more;
             }
             None => return Ok(made),

@@ -1,11 +1,13 @@
 //! The labels of a text, each with its first definition.
 
 ghost use Rattle.std.specs.Prelude.{◌≡◌, ◌<◌, ◌^◌, ◌++◌, IfOk, Some, [], OnOk};
-ghost use Rattle.nook_defs.specs.AsmLines.{first_of, label_value, no_labels};
-ghost use Rattle.nook_defs.specs.Assembler.{is_other_line, label_of};
+ghost use Rattle.nook_defs.specs.AsmLines.{first_of};
+ghost use Rattle.nook_defs.specs.Views.Assembling.{label_value, no_labels};
+ghost use Rattle.nook_defs.specs.Assembler.{label_of};
+ghost use Rattle.nook_defs.specs.Views.Assembling.{is_other_line};
 
 use crate::line::NextPlaces;
-use crate::tokens::register_of;
+use crate::tokens::register_named;
 use nook_defs::assembler::{Label, Value};
 use nook_defs::lists::{Items, Words8};
 use nook_defs::memory::NoMemory;
@@ -43,7 +45,7 @@ impl LabelTable {
         requires { at.now.initial < 2 ^ 63 }
         ensures { OnOk result (self.new ≡ self.old ++ label_of (Some name.now) at.now) }
     {
-        if register_of(name).is_some() {
+        if register_named(name).is_some() {
             return Ok(());
         }
         let label = Label {

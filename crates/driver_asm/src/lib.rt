@@ -3,8 +3,8 @@
 //! A text is read in two passes over its lines: the first finds the labels, the second makes the image.
 #![tactic(auto)]
 
-mod class_names;
 mod draft;
+mod entries;
 mod error;
 mod json;
 mod labels;
@@ -20,7 +20,6 @@ mod tests;
 mod texts;
 mod tokens;
 
-pub use class_names::{class_text, entry_names};
 pub use error::AsmError;
 pub use json::{image_value, push_digits, write_image};
 pub use listed::{Listed, assemble_listed};

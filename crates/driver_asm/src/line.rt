@@ -1,7 +1,8 @@
 //! Where the next words go, and what a line does to that.
 
 ghost use Rattle.std.specs.Prelude.{◌≡◌, ◌<◌, ◌^◌, ◌+◌, ◌≤◌, ℕ, Result};
-ghost use Rattle.nook_defs.specs.Assembler.{first_places, next_line, one_word, place_in, places_after};
+ghost use Rattle.nook_defs.specs.Assembler.{first_cursor, one_word, place_in, cursor_after};
+ghost use Rattle.nook_defs.specs.Views.Assembling.{next_line};
 
 use nook_defs::assembler::{AsmKind, Section, Statement};
 use nook_defs::memory_map::DATA_START;
@@ -17,9 +18,9 @@ pub struct NextPlaces {
 }
 
 impl Model for NextPlaces {
-    ghost use Rattle.nook_defs.specs.Assembler.{Places};
+    ghost use Rattle.nook_defs.specs.Assembler.{Cursor};
 
-    ghost Value = { Places };
+    ghost Value = { Cursor };
 
     ghost view = { λ s. record { line = s.line; in_section = s.in_section; text = s.text; initial = s.initial } };
 }
@@ -27,7 +28,7 @@ impl Model for NextPlaces {
 impl NextPlaces {
     /// Those at the first line.
     pub fn new() -> NextPlaces
-        ensures { result ≡ first_places }
+        ensures { result ≡ first_cursor }
     {
         NextPlaces {
             line: 1,
@@ -67,7 +68,7 @@ impl NextPlaces {
         requires line { self.line < 2 ^ 63 }
         requires text { self.text < 2 ^ 63 }
         requires initial { self.initial < 2 ^ 63 }
-        ensures { result ≡ next_line (places_after says self) }
+        ensures { result ≡ next_line (cursor_after says self) }
     {
         match says {
             Ok(Statement::Section(in_section)) => NextPlaces { in_section, ..self }.next_line(),

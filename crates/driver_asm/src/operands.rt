@@ -1,12 +1,13 @@
 //! Operands: registers and values.
 
 ghost use Rattle.std.specs.Prelude.{◌≡◌, ◌≤◌, ℕ, IfSome, true};
-ghost use Rattle.nook_defs.specs.AsmLines.{first_of, no_register, no_value, operands_of, operands_with, value_by, value_of};
+ghost use Rattle.nook_defs.specs.AsmLines.{first_of, operands_of, operands_with, value_of};
+ghost use Rattle.nook_defs.specs.Views.Assembling.{no_register, no_value, value_by};
 ghost use Rattle.nook_defs.specs.declared.assembler.Form.TheVariants as form;
 ghost use Rattle.driver_asm.specs.Lexing.{names_registers, only_value};
 
 use crate::labels::LabelTable;
-use crate::tokens::{Token, register_of};
+use crate::tokens::{Token, register_named};
 use nook_defs::assembler::{Form, Operands, TokenKind, Value};
 
 /// The value of a token: a number, or the place of a label. A register's name is no label.
@@ -16,7 +17,7 @@ pub fn value_of(labels: &LabelTable, token: &Token) -> Option<Value>
 {
     match token.kind() {
         TokenKind::Number { value } => Some(Value::Known { number: value }),
-        TokenKind::Name if register_of(token.bytes()).is_none() => {
+        TokenKind::Name if register_named(token.bytes()).is_none() => {
             Some(labels.value(token.bytes()))
         }
         _ => None,
@@ -63,7 +64,7 @@ fn one_register(labels: &LabelTable, tokens: &[Token]) -> Option<Operands>
     ensures registers { IfSome result (λ operands. names_registers operands ≡ true) }
 {
     match tokens {
-        [a] => operands_with(register_of(a.bytes()), Some(0), no_value()),
+        [a] => operands_with(register_named(a.bytes()), Some(0), no_value()),
         _ => None,
     }
 }
@@ -94,7 +95,11 @@ fn two_registers(labels: &LabelTable, tokens: &[Token]) -> Option<Operands>
     ensures registers { IfSome result (λ operands. names_registers operands ≡ true) }
 {
     match tokens {
-        [a, b] => operands_with(register_of(a.bytes()), register_of(b.bytes()), no_value()),
+        [a, b] => operands_with(
+            register_named(a.bytes()),
+            register_named(b.bytes()),
+            no_value(),
+        ),
         _ => None,
     }
 }
@@ -106,7 +111,7 @@ fn register_and_value(labels: &LabelTable, tokens: &[Token]) -> Option<Operands>
     ensures registers { IfSome result (λ operands. names_registers operands ≡ true) }
 {
     match tokens {
-        [a, imm] => operands_with(register_of(a.bytes()), Some(0), value_of(labels, imm)),
+        [a, imm] => operands_with(register_named(a.bytes()), Some(0), value_of(labels, imm)),
         _ => None,
     }
 }
@@ -119,8 +124,8 @@ fn registers_and_value(labels: &LabelTable, tokens: &[Token]) -> Option<Operands
 {
     match tokens {
         [a, b, imm] => operands_with(
-            register_of(a.bytes()),
-            register_of(b.bytes()),
+            register_named(a.bytes()),
+            register_named(b.bytes()),
             value_of(labels, imm),
         ),
         _ => None,

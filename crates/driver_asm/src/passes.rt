@@ -1,9 +1,11 @@
 //! The two passes.
 
 ghost use Rattle.std.specs.Prelude.{◌≡◌, ◌+◌, ◌<◌, ◌^◌, ◌++◌, IfOk, OnOk, None, Result, map, length};
-ghost use Rattle.nook_defs.specs.AsmLines.{definition_of, first_of, line_says, no_labels};
+ghost use Rattle.nook_defs.specs.AsmLines.{definition_of, first_of, line_says};
+ghost use Rattle.nook_defs.specs.Views.Assembling.{no_labels};
 ghost use Rattle.nook_defs.specs.AsmTokens.{tokens_of};
-ghost use Rattle.nook_defs.specs.Assembler.{all_given, label_of, next_line, places_after, assembled, at_line, draft_after, draft_from, first_draft, first_places, image_with, labels_from};
+ghost use Rattle.nook_defs.specs.Assembler.{all_given, label_of, cursor_after, assembled, at_line, draft_after, draft_from, first_draft, first_cursor, image_with, labels_from};
+ghost use Rattle.nook_defs.specs.Views.Assembling.{next_line};
 ghost use Rattle.nook_defs.specs.declared.assembler.AsmKind.{AsmKind};
 ghost use Rattle.driver_asm.specs.Answers.{Gives, Takes};
 
@@ -43,7 +45,7 @@ pub fn line_behind(lines: &[&[u8]]) -> u64
 
 /// The first pass: the labels that the lines define.
 pub fn labels_of(alloc: Global, lines: &[&[u8]]) -> Result<LabelTable, NoMemory>
-    ensures { IfOk result (λ labels. labels ≡ labels_from first_places (map (λ line. line.now) lines.now)) }
+    ensures { IfOk result (λ labels. labels ≡ labels_from first_cursor (map (λ line. line.now) lines.now)) }
 {
     let mut labels = LabelTable::new(alloc);
     let mut at = NextPlaces::new();
@@ -65,7 +67,7 @@ fn behind_line(
     requires text { at.text < 2 ^ 63 }
     requires initial { at.initial < 2 ^ 63 }
     ensures labels { OnOk result (labels.new ≡ labels.old ++ label_of (definition_of (tokens_of line.now)) at) }
-    ensures places { IfOk result (λ next. next ≡ next_line (places_after (line_says no_labels None at.in_section (tokens_of line.now)) at)) }
+    ensures places { IfOk result (λ next. next ≡ next_line (cursor_after (line_says no_labels None at.in_section (tokens_of line.now)) at)) }
 {
     let tokens = tokens_of(alloc, line)?;
     define_label(alloc, labels, &at, &tokens)?;

@@ -2,7 +2,8 @@
 
 ghost use Rattle.std.specs.Prelude.{◌≡◌, ℕ, List, [], ◌∷◌, ◌++◌, IfOk, OnOk, take_while, filter, map, take, length};
 ghost use Rattle.std.specs.List.{slice_split};
-ghost use Rattle.nook_defs.specs.AsmTokens.{is_before_comment, is_line_feed, is_separator, is_not_empty, lines_of, tokens_of, without_empty_last};
+ghost use Rattle.nook_defs.specs.AsmTokens.{is_separator, is_not_empty, lines_of, tokens_of, without_empty_last};
+ghost use Rattle.nook_defs.specs.Views.Assembling.{is_before_comment, is_line_feed};
 
 use crate::tokens::{Token, is_separator};
 use nook_defs::memory::NoMemory;

@@ -1,7 +1,8 @@
 //! What a line says, or the smallest of its faults that hang on the line alone.
 
 ghost use Rattle.std.specs.Prelude.{◌≡◌, ◌≤◌, length, drop, IfOk, IfSome, Result, Some, None, true, false, if◌then◌else◌, map, option_map};
-ghost use Rattle.nook_defs.specs.AsmLines.{at_most_wrong, bare_statement, behind_definition, behind_name, class_by, class_statement, definition_of, directive_statement, entry_by, entry_statement, entry_value, has_bad_token, instr_statement, is_bad, is_definition, line_says, named_statement, operands_of, right_or_wrong, statement_by, statement_of, word_statement};
+ghost use Rattle.nook_defs.specs.AsmLines.{bare_statement, behind_definition, behind_name, class_statement, definition_of, directive_statement, entry_statement, entry_value, has_bad_token, instr_statement, is_definition, line_says, operands_of, right_or_wrong, statement_of, word_statement};
+ghost use Rattle.nook_defs.specs.Views.Assembling.{at_most_wrong, class_by, entry_by, is_bad, named_statement, statement_by};
 ghost use Rattle.nook_defs.specs.AsmTokens.{but_last, is_register, kind_of};
 ghost use Rattle.nook_defs.specs.AsmLines.{first_of, place_among};
 ghost use Rattle.nook_defs.specs.Keys.{class_named, entry_keys};
@@ -10,13 +11,14 @@ ghost use Rattle.nook_defs.specs.declared.assembler.Statement.TheVariants as sta
 ghost use Rattle.std.specs.Option.{option_map_or};
 ghost use Rattle.driver_asm.specs.Lexing.{has_registers};
 
-use crate::class_names::{class_named, entry_place};
+use crate::entries::entry_place;
 use crate::labels::LabelTable;
 use crate::mnemonics::{form_of, mnemonic_named};
 use crate::operands::{only_value, operands_of};
-use crate::tokens::{Token, register_of};
+use crate::tokens::{Token, register_named};
 use nook_defs::assembler::{AsmKind, Mnemonic, Section, Statement, TokenKind};
 use nook_defs::classes::Class;
+use nook_defs::keys::class_named;
 
 /// An instruction, which stands in the text alone.
 fn instr_statement(
@@ -289,7 +291,7 @@ fn defines_register(name: Option<&[u8]>) -> bool
     ensures { result ≡ option_map_or (λ name. is_register name.now) name.entry false }
 {
     match name {
-        Some(name) => register_of(name).is_some(),
+        Some(name) => register_named(name).is_some(),
         None => false,
     }
 }

@@ -2,18 +2,19 @@
 
 ghost use Rattle.std.specs.Prelude.{◌≡◌, ◌∷◌, ◌++◌, [], codes, decimal, flat_map, map, IfOk, OnOk, Ok, string_bytes};
 ghost use Rattle.nook_defs.specs.AsmTokens.{register_text};
-ghost use Rattle.nook_defs.specs.Disassembler.{class_tokens, disassembled, entry_lines, image_lines, initial_lines, instr_tokens, later_token, line_body, line_text, operand_tokens, text_tokens, word_tokens};
+ghost use Rattle.nook_defs.specs.Disassembler.{disassembled, entry_lines, image_lines, initial_lines, line_body, line_text, operand_tokens, text_tokens, word_tokens};
+ghost use Rattle.nook_defs.specs.Views.Assembling.{class_tokens, instr_tokens, later_token};
 ghost use Rattle.nook_defs.specs.Assembler.{assembled};
 ghost use Rattle.nook_defs.specs.Valid.{IsValidImage};
 ghost use Rattle.nook_defs.specs.Keys.{entry_keys};
 ghost use Rattle.nook_defs.specs.Mnemonics.{fields_of};
-ghost use Rattle.driver_asm.specs.Names.{named_lines};
 
-use crate::class_names::{class_text, entry_names};
 use crate::mnemonics::{Fields, fields_of, form_of, mnemonic_text};
 use driver_isa::decode;
 use nook_defs::assembler::Form;
 use nook_defs::classes::Class;
+use nook_defs::input::Key;
+use nook_defs::keys::{class_text, entry_keys, key_text};
 use nook_defs::lists::{Word, Words8};
 use nook_defs::machine::Instr;
 use nook_defs::memory::NoMemory;
@@ -42,7 +43,7 @@ fn text_of(alloc: Global, image: &Image) -> Result<String, NoMemory>
 {
     let mut text = String::new(alloc);
     push_class(&mut text, image.class)?;
-    push_entries(&mut text, image.class, image.entries.as_slice())?;
+    push_entries(&mut text, entry_keys(image.class), image.entries.as_slice())?;
     push_text_words(&mut text, image.text.as_slice())?;
     push_initial_words(&mut text, image.initial.as_slice())?;
     Ok(text)
@@ -84,23 +85,15 @@ fn push_register(text: &mut String, register: u8) -> Result<(), NoMemory>
 }
 
 /// Adds the lines of the entries.
-#[tactic(auto, using(crate::proofs::NamedLines::names_of_keys))]
-fn push_entries(text: &mut String, class: Class, places: &[Word]) -> Result<(), NoMemory>
-    ensures { OnOk result (string_bytes text.new ≡ string_bytes text.old ++ flat_map line_text (entry_lines (entry_keys class) places.now)) }
-{
-    push_named(text, entry_names(class), places)
-}
-
-/// Adds a line for each name and its place.
-#[tactic(auto, using(crate::proofs::NamedLines::no_places))]
-fn push_named(text: &mut String, names: &[&str], places: &[Word]) -> Result<(), NoMemory>
-    ensures { OnOk result (string_bytes text.new ≡ string_bytes text.old ++ flat_map line_text (named_lines (map (λ name. name.now) names.now) places.now)) }
+#[tactic(auto, using(crate::proofs::EntryLines::no_places))]
+fn push_entries(text: &mut String, entries: &[Key], places: &[Word]) -> Result<(), NoMemory>
+    ensures { OnOk result (string_bytes text.new ≡ string_bytes text.old ++ flat_map line_text (entry_lines entries.now places.now)) }
 {
     let mut rest = places;
-    for name in names {
+    for entry in entries {
         match rest.split_first() {
             Some((place, more)) => {
-                push_entry(text, name, *place)?;
+                push_entry(text, key_text(*entry), *place)?;
                 rest = more;
             }
             None => return Ok(()),

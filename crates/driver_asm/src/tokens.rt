@@ -3,10 +3,12 @@
 ghost use Rattle.std.specs.Prelude.{◌≡◌, ◌≤◌, ◌==◌, ◌-◌, ◌&&◌, ◌<◌, ◌+◌, ◌*◌, min, true, ℕ, List, IfOk, IfSome, take, drop, take_while, filter, map, length, slice_index, codes, bytes_eq, Some, None, if◌then◌else◌};
 ghost use Rattle.std.specs.Char.{is_digit, digit_value};
 ghost use Rattle.std.specs.List.{list_all, slice_split};
-ghost use Rattle.nook_defs.specs.AsmTokens.{is_before_comment, is_line_feed, is_separator, is_not_empty, is_letter, is_letter_or_digit, is_label_name, is_numeral, numeral_value, but_last, kind_of, register_of, is_register, lines_of, tokens_of, without_empty_last};
+ghost use Rattle.nook_defs.specs.AsmTokens.{is_separator, is_not_empty, is_letter, is_letter_or_digit, is_label_name, is_numeral, numeral_value, but_last, kind_of, register_named, is_register, lines_of, tokens_of, without_empty_last};
+ghost use Rattle.nook_defs.specs.Views.Assembling.{is_before_comment, is_line_feed};
 ghost use Rattle.nook_defs.specs.declared.assembler.TokenKind.TheVariants as kind;
 ghost use Rattle.driver_asm.specs.Lexing.{numeral};
-ghost use Rattle.nook_defs.specs.AsmLines.{is_bad, is_definition};
+ghost use Rattle.nook_defs.specs.AsmLines.{is_definition};
+ghost use Rattle.nook_defs.specs.Views.Assembling.{is_bad};
 
 use nook_defs::assembler::TokenKind;
 use nook_defs::memory::NoMemory;
@@ -235,8 +237,8 @@ fn kind_of(token: &[u8]) -> TokenKind
 
 /// The register that a name is, of `r0` to `r15`.
 #[tactic(auto, unfolding(nook_defs::proofs::InputOnLiterals::input_on_literals))]
-pub fn register_of(name: &[u8]) -> Option<u8>
-    ensures register { result ≡ register_of name.now }
+pub fn register_named(name: &[u8]) -> Option<u8>
+    ensures register { result ≡ register_named name.now }
     ensures least { IfSome result (λ register. register ≤ 15) }
 {
     match name {

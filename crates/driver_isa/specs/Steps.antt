@@ -1,7 +1,7 @@
 use Rattle.std.specs.Prelude.{ℕ, List, Bool, true, false, Option, None, Some, if◌then◌else◌}
 use Rattle.driver_isa.specs.declared.turn.Step.{Step}
 use Rattle.driver_isa.specs.declared.turn.Step.TheVariants as step
-use Rattle.nook_defs.specs.Turn.{after}
+use Rattle.nook_defs.specs.Turn.{next_counter}
 use Rattle.nook_defs.specs.declared.machine.BurstEnd.{BurstEnd}
 use Rattle.nook_defs.specs.declared.machine.Cpu.{Cpu}
 
@@ -11,8 +11,8 @@ cpu_of counter registers = record { counter = counter; registers = registers }
 
 -- the counter after a turn at a counter
 abbrev pub next_of : ℕ → Step → ℕ
-next_of counter step.Next = after counter
-next_of counter step.Acted = after counter
+next_of counter step.Next = next_counter counter
+next_of counter step.Acted = next_counter counter
 next_of counter (step.To target) = target
 next_of counter (step.Ended last end) = last
 

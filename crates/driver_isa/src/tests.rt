@@ -156,22 +156,9 @@ fn outcome(
     Ok((done, acts.len()))
 }
 
-/// How a burst ended, in a word.
-fn told(end: BurstEnd) -> &'static str {
-    match end {
-        BurstEnd::Kcall { service: 3 } => "kernel call 3",
-        BurstEnd::Kcall { .. } => "kernel call",
-        BurstEnd::Reply { status: 0 } => "reply 0",
-        BurstEnd::Reply { .. } => "reply",
-        BurstEnd::Pause => "pause",
-        BurstEnd::Trap(TrapCause::BadOpcode) => "bad opcode",
-        BurstEnd::Trap(TrapCause::BadFetch) => "bad fetch",
-        BurstEnd::Trap(TrapCause::Hang) => "hang",
-        BurstEnd::Trap(TrapCause::Explicit) => "explicit",
-        BurstEnd::Trap(TrapCause::Injected) => "injected",
-        BurstEnd::Trap(_) => "trap",
-    }
-}
+const REPLY: BurstEnd = BurstEnd::Reply { status: 0 };
+
+const REGISTER: BurstEnd = BurstEnd::Kcall { service: 3 };
 
 /// A fault of the only burst.
 const fn fault(after: u32, kind: FaultKind) -> Fault {
@@ -185,24 +172,42 @@ const fn fault(after: u32, kind: FaultKind) -> Fault {
 #[test]
 fn counts_turns(rt: HostRuntime) -> Result<(), Fail> {
     for (program, arguments, count, end, acts) in [
-        (PLAY.as_slice(), [0, 1, 2048], 7, "reply 0", 1),
-        (PLAY.as_slice(), [0, 4, 2048], 22, "reply 0", 4),
-        (PLAY.as_slice(), [0, 63, 2048], 317, "reply 0", 63),
-        (PLAY.as_slice(), [0, 64, 2048], 318, "pause", 64),
-        (SET.as_slice(), [0, 9, 0], 8, "reply 0", 1),
-        (SET.as_slice(), [1, 9, 0], 4, "reply 0", 1),
-        (SET.as_slice(), [2, 9, 0], 6, "reply 0", 1),
-        (SET.as_slice(), [3, 9, 0], 8, "reply 0", 1),
-        (LATE_CALL.as_slice(), [0, 0, 0], 4096, "kernel call 3", 0),
-        ([0x0e00_0000].as_slice(), [0, 0, 0], 4096, "hang", 0),
-        ([0x1700_0001].as_slice(), [0, 0, 0], 1, "bad opcode", 0),
-        ([0x0e00_0800].as_slice(), [0, 0, 0], 2, "bad fetch", 0),
+        (PLAY.as_slice(), [0, 1, 2048], 7, REPLY, 1),
+        (PLAY.as_slice(), [0, 4, 2048], 22, REPLY, 4),
+        (PLAY.as_slice(), [0, 63, 2048], 317, REPLY, 63),
+        (PLAY.as_slice(), [0, 64, 2048], 318, BurstEnd::Pause, 64),
+        (SET.as_slice(), [0, 9, 0], 8, REPLY, 1),
+        (SET.as_slice(), [1, 9, 0], 4, REPLY, 1),
+        (SET.as_slice(), [2, 9, 0], 6, REPLY, 1),
+        (SET.as_slice(), [3, 9, 0], 8, REPLY, 1),
+        (LATE_CALL.as_slice(), [0, 0, 0], 4096, REGISTER, 0),
+        (
+            [0x0e00_0000].as_slice(),
+            [0, 0, 0],
+            4096,
+            BurstEnd::Trap(TrapCause::Hang),
+            0,
+        ),
+        (
+            [0x1700_0001].as_slice(),
+            [0, 0, 0],
+            1,
+            BurstEnd::Trap(TrapCause::BadOpcode),
+            0,
+        ),
+        (
+            [0x0e00_0800].as_slice(),
+            [0, 0, 0],
+            2,
+            BurstEnd::Trap(TrapCause::BadFetch),
+            0,
+        ),
     ] {
         let (done, made) = outcome(rt.alloc(), program, arguments, &[])
             .ok()
             .ok_or("memory")?;
         assert_eq!(rt; done.count, count);
-        assert_eq!(rt; told(done.end), end, "at {count}");
+        assert_eq!(rt; done.end, end, "at {count}");
         assert_eq!(rt; made, acts, "at {count}");
     }
     Ok(())
@@ -211,10 +216,25 @@ fn counts_turns(rt: HostRuntime) -> Result<(), Fail> {
 #[test]
 fn strikes_faults(rt: HostRuntime) -> Result<(), Fail> {
     for (faults, count, end, acts) in [
-        ([fault(11, FaultKind::Trap)], 11, "injected", 2),
-        ([fault(0, FaultKind::Trap)], 0, "injected", 0),
-        ([fault(22, FaultKind::Trap)], 22, "reply 0", 4),
-        ([fault(5, FaultKind::Hang)], 4096, "hang", 1),
+        (
+            [fault(11, FaultKind::Trap)],
+            11,
+            BurstEnd::Trap(TrapCause::Injected),
+            2,
+        ),
+        (
+            [fault(0, FaultKind::Trap)],
+            0,
+            BurstEnd::Trap(TrapCause::Injected),
+            0,
+        ),
+        ([fault(22, FaultKind::Trap)], 22, REPLY, 4),
+        (
+            [fault(5, FaultKind::Hang)],
+            4096,
+            BurstEnd::Trap(TrapCause::Hang),
+            1,
+        ),
         (
             [fault(
                 1,
@@ -224,7 +244,7 @@ fn strikes_faults(rt: HostRuntime) -> Result<(), Fail> {
                 },
             )],
             7,
-            "reply 0",
+            REPLY,
             1,
         ),
         (
@@ -236,7 +256,7 @@ fn strikes_faults(rt: HostRuntime) -> Result<(), Fail> {
                 },
             )],
             22,
-            "explicit",
+            BurstEnd::Trap(TrapCause::Explicit),
             4,
         ),
         (
@@ -248,7 +268,7 @@ fn strikes_faults(rt: HostRuntime) -> Result<(), Fail> {
                 },
             )],
             22,
-            "reply 0",
+            REPLY,
             4,
         ),
     ] {
@@ -256,7 +276,7 @@ fn strikes_faults(rt: HostRuntime) -> Result<(), Fail> {
             .ok()
             .ok_or("memory")?;
         assert_eq!(rt; done.count, count);
-        assert_eq!(rt; told(done.end), end, "at {count}");
+        assert_eq!(rt; done.end, end, "at {count}");
         assert_eq!(rt; made, acts, "at {count}");
     }
     Ok(())

@@ -4,7 +4,7 @@ ghost use Rattle.std.specs.Prelude.{◌≡◌, ◌+◌, ◌*◌, ◌%◌, ◌^�
 ghost use Rattle.driver_isa.specs.Fields.{has_registers};
 ghost use Rattle.driver_isa.specs.Steps.{cpu_of, crossing_of, is_quiet, next_of, target_where};
 ghost use Rattle.driver_isa.specs.Turns.{IsTurn, machine_of, quiet};
-ghost use Rattle.nook_defs.specs.Turn.{after, executed, loads, past_input, past_output, stores, turn as machine_turn};
+ghost use Rattle.nook_defs.specs.Turn.{next_counter, executed, loads, past_input, past_output, stores, turn as machine_turn};
 ghost use Rattle.nook_defs.specs.Devices.{input_of, output_of};
 
 use crate::bus::Bus;
@@ -200,7 +200,7 @@ fn trap(counter: Word, cause: TrapCause) -> Step
 
 /// A crossing with the counter on the next word.
 fn cross(counter: Word, end: BurstEnd) -> Step
-    ensures { result ≡ Step.Ended (after counter) end }
+    ensures { result ≡ Step.Ended (next_counter counter) end }
 {
     Step::Ended {
         last: counter.wrapping_add(1),
@@ -232,7 +232,7 @@ fn branch(holds: bool, target: u16) -> Step
 /// On to `target`, and a register gets the next word's address.
 fn link(counter: Word, registers: &mut [Word; 16], a: u8, target: u16) -> Step
     requires { a < 16 }
-    ensures registers { registers.new ≡ slice_set registers.old a (after counter) }
+    ensures registers { registers.new ≡ slice_set registers.old a (next_counter counter) }
     ensures goes { result ≡ Step.To target }
 {
     registers[a as usize] = counter.wrapping_add(1);

@@ -3,7 +3,7 @@
 //! The members run side by side, and each row stands at its fault's place: the table is that of one thread.
 #![tactic(auto)]
 
-pub mod laws;
+mod laws;
 mod lines;
 mod member;
 mod row;
@@ -11,8 +11,6 @@ mod running;
 mod tally;
 mod writing;
 
-pub use lines::write_rows;
-pub use member::member_of;
-pub use running::{run_batch, run_campaign, run_scenario};
-pub use tally::{Tally, write_tally};
+pub use laws::{every_campaign_has_a_table, every_campaign_has_one_table};
+pub use running::run_campaign;
 pub use writing::write_campaign;

@@ -9,8 +9,7 @@ ghost use Rattle.report_text.specs.Writing.{Wrote};
 use nook_defs::campaign::MemberRow;
 use nook_defs::memory::NoMemory;
 use nook_defs::outside::Sink;
-use report_text::line::Line;
-use report_text::write::{WriteStop, write_text};
+use report_text::{Line, WriteStop, write_text};
 use std::alloc::Global;
 
 /// Writes the lines of rows, the first of them number `first`.

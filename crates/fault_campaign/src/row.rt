@@ -12,7 +12,7 @@ use nook_defs::calls::{Answer, PartAnswers};
 use nook_defs::campaign::MemberRow;
 use nook_defs::journal::Journal;
 use nook_defs::memory::NoMemory;
-use report_text::whole_report::{PartReport, Report};
+use report_text::{PartReport, Report};
 
 /// The row of a run's report: its status, and what its parts and threads come to. A sum that has no room in 64 bits is
 /// refused as memory is, which no run that fits in memory reaches.

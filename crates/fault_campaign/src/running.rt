@@ -1,6 +1,6 @@
 //! The runs of members, side by side.
 
-ghost use Rattle.std.specs.Prelude.{◌≡◌, ◌+◌, ◌≤◌, All, IfOk, drop, length, take};
+ghost use Rattle.std.specs.Prelude.{All, IfOk};
 ghost use Rattle.nook_defs.specs.Campaigns.{AreRows, IsRowOf, IsTable, IsValidCampaign, member};
 ghost use Rattle.nook_defs.specs.Valid.{IsValidFault, IsValidScenario};
 
@@ -11,7 +11,7 @@ use nook_defs::lists::Items;
 use nook_defs::memory::NoMemory;
 use nook_defs::scenario::{Fault, Scenario};
 use rayon::prelude::*;
-use report_text::whole_report::report_of;
+use report_text::report_of;
 use request_taps::TapBus;
 use sim_run::simulate;
 use std::alloc::{AllocError, Global};
@@ -29,22 +29,6 @@ pub fn run_campaign<R: Threads + Sync>(
     ensures { IfOk result (IsTable campaign.now) }
 {
     run_members(rt, alloc, campaign, campaign.faults.as_slice())
-}
-
-/// Runs `count` members of a campaign from member `first` on, counted from 0: their rows of the campaign's table.
-pub fn run_batch<R: Threads + Sync>(
-    rt: &R,
-    alloc: Global,
-    campaign: &Campaign,
-    first: usize,
-    count: usize,
-) -> Result<Table, NoMemory>
-    requires valid { IsValidCampaign campaign.now }
-    requires within { first + count ≤ length campaign.now.faults }
-    ensures { IfOk result (AreRows campaign.now (take count (drop first campaign.now.faults))) }
-{
-    let faults = campaign.faults.as_slice();
-    run_members(rt, alloc, campaign, &faults[first..first + count])
 }
 
 /// Runs the members with some faults: their rows, in the faults' order.

@@ -9,8 +9,7 @@ use crate::lines::push_number;
 use nook_defs::campaign::MemberRow;
 use nook_defs::memory::NoMemory;
 use nook_defs::outside::Sink;
-use report_text::line::Line;
-use report_text::write::{WriteStop, write_text};
+use report_text::{Line, WriteStop, write_text};
 use std::alloc::Global;
 
 /// How many rows there are, and how many of them have status 0, 1 and 7.

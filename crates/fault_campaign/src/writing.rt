@@ -13,7 +13,7 @@ use crate::tally::{Tally, write_tally};
 use nook_defs::campaign::Campaign;
 use nook_defs::outside::Sink;
 use nook_defs::scenario::Fault;
-use report_text::write::WriteStop;
+use report_text::WriteStop;
 use std::alloc::Global;
 use std::thread::Threads;
 

@@ -1,7 +1,7 @@
 //! A listener that has a total when it begins.
 
 ghost use Rattle.std.specs.Prelude.{◌≡◌};
-ghost use Rattle.nook_defs.specs.Listening.{masks_meet};
+ghost use Rattle.nook_defs.specs.Views.Masks.{masks_meet};
 
 use nook_defs::listeners::event_kinds;
 use nook_defs::outside::Listener;

@@ -4,7 +4,8 @@ use Rattle.std.specs.Prelude.{⊤, Option, Some, None, Result, Ok, Err, nat_lt, 
 use Rattle.std.proofs.lemmas.Bool.{ltb-true, ltb-false}
 use Rattle.nook_defs.specs.AsmLines.{Labels, definition_of, first_of, line_says}
 use Rattle.nook_defs.specs.AsmTokens.{lines_of, tokens_of}
-use Rattle.nook_defs.specs.Assembler.{Draft, all_given, assembled, at_line, draft_after, draft_from, fault_if, first_draft, first_places, image_with, is_out_of_range, is_second_given, is_second_label, known, labels_from, with_class, with_statement, with_word}
+use Rattle.nook_defs.specs.Assembler.{Draft, all_given, assembled, at_line, draft_after, draft_from, fault_if, first_draft, first_cursor, image_with, is_out_of_range, is_second_given, is_second_label, known, labels_from, with_statement, with_word}
+use Rattle.nook_defs.specs.Views.Assembling.{with_class}
 use Rattle.nook_defs.specs.Machine.{encode_of}
 use Rattle.nook_defs.specs.Mnemonics.{instr_with}
 use Rattle.nook_defs.specs.Results.{◌>>=◌}
@@ -146,7 +147,7 @@ drafted (Ok draft) line image e = let same = image_same draft.class (all_given d
 drafted (Err fault) line image e = absurd (cc e)
 
 abbrev labels_in : List ℕ → Labels
-labels_in text = first_of (labels_from first_places (lines_of text))
+labels_in text = first_of (labels_from first_cursor (lines_of text))
 
 has_lines : (text : List ℕ) (image : Image) → assembled text ≡ Ok image
     → (length image.text ≡ length (makers section.Text (labels_in text) 1 (lines_of text) first_draft))

@@ -2,7 +2,8 @@
 use Rattle.std.proofs.Common.{◌≡◌, ℕ, ◌+◌, ◌<◌, List, [], ◌∷◌, ◌++◌, map, length, drop, get_or, refl, arith, decimal, append_assoc, ap, sym, ◌∙◌, add-one}
 use Rattle.std.proofs.Math.Seq.{drop-cons}
 use Rattle.std.specs.Prelude.{Option, Some, None, flat_map}
-use Rattle.nook_defs.specs.Disassembler.{decoded_tokens, later_token, line_body, line_text}
+use Rattle.nook_defs.specs.Disassembler.{line_body, line_text}
+use Rattle.nook_defs.specs.Views.Assembling.{decoded_tokens, later_token}
 use Rattle.nook_defs.specs.ImageText.{hex_text}
 use Rattle.nook_defs.specs.Machine.{decode_of}
 use Rattle.nook_defs.specs.declared.assembler.Section.{Section}

@@ -1,9 +1,10 @@
 //! The listing of an assembler text: each word with its address and the line that made it, the labels and the entries.
 #![tactic(auto)]
 
-pub mod laws;
+mod laws;
 mod listing;
 #[cfg(test)]
 mod tests;
 
+pub use laws::{every_word_is_listed, faults_are_the_assemblers};
 pub use listing::write_list;

@@ -1,15 +1,17 @@
 //! The lines of a listing.
 
 ghost use Rattle.std.specs.Prelude.{◌≡◌, ◌≤◌, ◌++◌, ◌∷◌, [], IfOk, OnOk, decimal, flat_map, map, string_bytes};
-ghost use Rattle.nook_defs.specs.Disassembler.{later_token, line_text};
+ghost use Rattle.nook_defs.specs.Disassembler.{line_text};
+ghost use Rattle.nook_defs.specs.Keys.{key_text};
+ghost use Rattle.nook_defs.specs.Views.Assembling.{later_token};
 ghost use Rattle.driver_asm.specs.Answers.{Gives};
 ghost use Rattle.image_list.specs.ListText.{entry_tokens, label_tokens, list_lines, list_text, listed_entries, named_entries, row_tokens, rows_from, word_says};
 
-use driver_asm::{
-    AsmError, Listed, assemble_listed, entry_names, push_digits, push_text_word, push_word,
-};
+use driver_asm::{AsmError, Listed, assemble_listed, push_digits, push_text_word, push_word};
 use itoa::Buffer;
 use nook_defs::assembler::{Label, Section};
+use nook_defs::input::Key;
+use nook_defs::keys::{entry_keys, key_text};
 use nook_defs::lists::{Word, Words8};
 use nook_defs::memory::NoMemory;
 use nook_defs::memory_map::DATA_START;
@@ -144,19 +146,19 @@ fn push_label(text: &mut Vec<u8>, label: &Label) -> Result<(), NoMemory>
 fn push_entries(text: &mut Vec<u8>, image: &Image) -> Result<(), NoMemory>
     ensures { OnOk result (text.new.items ≡ text.old.items ++ flat_map line_text (listed_entries image.now)) }
 {
-    push_named(text, entry_names(image.class), image.entries.as_slice())
+    push_addresses(text, entry_keys(image.class), image.entries.as_slice())
 }
 
-/// Adds a line for each name and its address.
+/// Adds a line for each of some entries and its address.
 #[tactic(auto, using(crate::proofs::Rows::no_addresses))]
-fn push_named(text: &mut Vec<u8>, names: &[&str], addresses: &[Word]) -> Result<(), NoMemory>
-    ensures { OnOk result (text.new.items ≡ text.old.items ++ flat_map line_text (named_entries (map (λ name. name.now) names.now) addresses.now)) }
+fn push_addresses(text: &mut Vec<u8>, entries: &[Key], addresses: &[Word]) -> Result<(), NoMemory>
+    ensures { OnOk result (text.new.items ≡ text.old.items ++ flat_map line_text (named_entries (map key_text entries.now) addresses.now)) }
 {
     let mut rest = addresses;
-    for name in names {
+    for entry in entries {
         match rest.split_first() {
             Some((address, more)) => {
-                push_entry(text, name, *address)?;
+                push_entry(text, key_text(*entry), *address)?;
                 rest = more;
             }
             None => return Ok(()),

@@ -4,14 +4,14 @@ use Rattle.std.proofs.lemmas.List.{drop-set-lt, drop_all, drop_more, take_all, t
 use Rattle.std.proofs.lemmas.List.Elements.{All-get_or, All-set}
 use Rattle.std.specs.List.{list_all}
 use Rattle.run_laws.specs.Audit.{are_through, is_through, thread_on}
-use Rattle.nook_defs.specs.Simulation.{started, threads_after, told}
+use Rattle.nook_defs.specs.Simulation.{started, threads_after, thread_after}
 use Rattle.nook_defs.specs.declared.steps.Event.{Event}
 use Rattle.nook_defs.specs.declared.scenario.ThreadSpec.{ThreadSpec}
 use Rattle.part_laws.proofs.Places.{length_map}
 use Rattle.journal_audit.specs.Sections.{AreOn, OnPart, state_in, with_state}
 
 abbrev pub heard_by : ℕ → Event → OnPart → OnPart
-heard_by thread e t = with_state t (told t.part e (started thread t.part e t.state))
+heard_by thread e t = with_state t (thread_after t.part e (started thread t.part e t.state))
 
 abbrev pub all_heard : ℕ → Event → List OnPart → List OnPart
 all_heard thread e [] = []
@@ -19,7 +19,7 @@ all_heard thread e (t ∷ threads) = heard_by thread e t ∷ all_heard (thread +
 
 -- a thread has noted the event
 pub is_heard : (thread : ℕ) (e : Event) (old new : OnPart) → new.part ≡ old.part
-    → new.state ≡ told old.part e (started thread old.part e old.state) → new ≡ heard_by thread e old
+    → new.state ≡ thread_after old.part e (started thread old.part e old.state) → new ≡ heard_by thread e old
 is_heard thread e old new part state =
     ap (λ (p : ℕ). record { part = p; state = new.state }) part ∙ ap (with_state old) state
 

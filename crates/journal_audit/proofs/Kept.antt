@@ -9,7 +9,7 @@ use Rattle.nook_defs.specs.Contract.{first_break}
 use Rattle.nook_defs.specs.Listening.{Listening}
 use Rattle.nook_defs.specs.ReportText.{has_break, has_given_up}
 use Rattle.nook_defs.specs.Runs.{state_of}
-use Rattle.nook_defs.specs.Simulation.{answers_of}
+use Rattle.nook_defs.specs.Simulation.{answers_of_thread}
 use Rattle.nook_defs.specs.Stages.{is_given_up}
 use Rattle.nook_defs.specs.declared.steps.Event.{Event}
 use Rattle.nook_defs.specs.declared.scenario.PartSpec.{PartSpec}
@@ -85,7 +85,7 @@ given_up_back (r ∷ specs) s (x ∷ sections) d h =
 
 -- what is kept after a section more
 pub record Adds (s : Section) (old new : Tallied) : Type 0 where
-  pub answers : new.answers ≡ old.answers ++ map answers_of s.threads ∷ []
+  pub answers : new.answers ≡ old.answers ++ map answers_of_thread s.threads ∷ []
   pub taps : new.taps ≡ told_all (each_of_part s.place s.seat.run.journal) old.taps
   pub broken : new.broken ≡ old.broken || is_some (first_break s.spec.class s.spec.blocks s.seat.run.journal)
   pub given_up : new.given_up ≡ old.given_up || is_given_up (state_of s.spec s.seat.run.journal)
@@ -97,7 +97,7 @@ kept specs sections s old new place sums adds =
     let from_zero : 0 + length sections ≡ s.place = omega arith in
     record {
       many = omega (arith, length-append sections (done_of s ∷ []), length-append specs (s.spec ∷ []));
-      answers = adds.answers ∙ ap (λ l. l ++ map answers_of s.threads ∷ []) sums.answers ∙ sym (map-append answers_in sections (done_of s ∷ []));
+      answers = adds.answers ∙ ap (λ l. l ++ map answers_of_thread s.threads ∷ []) sums.answers ∙ sym (map-append answers_in sections (done_of s ∷ []));
       taps = adds.taps ∙ heard_back sections (done_of s) s.place old.taps from_zero sums.taps;
       broken = adds.broken ∙ ap (λ b. b || is_some (first_break s.spec.class s.spec.blocks s.seat.run.journal)) sums.broken
           ∙ sym (break_back specs s.spec sections (done_of s) sums.many);

@@ -20,7 +20,7 @@ use crate::stop::Stop;
 use crate::tally::Tally;
 use nook_defs::memory::NoMemory;
 use nook_defs::scenario::{PartSpec, Scenario};
-use report_text::write::{WriteStop, write_part_line};
+use report_text::{WriteStop, write_part_line};
 use std::alloc::Global;
 
 /// Checks a printed report line by line, along the steps that its lines name, with no trust in the run that printed it.

@@ -9,7 +9,7 @@ ghost use Rattle.report_text.specs.Writing.{Wrote};
 
 use crate::comparing::Comparing;
 use crate::stop::Stop;
-use report_text::write::WriteStop;
+use report_text::WriteStop;
 use std::marker::Model;
 
 /// Where an audit stands in a report: at a byte, in the line with this number.

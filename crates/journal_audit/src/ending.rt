@@ -16,8 +16,7 @@ use crate::stop::Stop;
 use crate::tally::Tally;
 use contract_monitor::Monitor;
 use nook_defs::memory::NoMemory;
-use report_text::whole_report::PartReport;
-use report_text::whole_text::write_final;
+use report_text::{PartReport, write_final};
 use run_ends::end_of;
 use std::alloc::Global;
 

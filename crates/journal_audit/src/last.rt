@@ -15,13 +15,13 @@ use crate::cursor::Cursor;
 use crate::stop::Stop;
 use crate::tally::Tally;
 use nook_defs::calls::{Answer, AnswerTable, Op, PartAnswers};
+use nook_defs::limits::MOST_THREADS;
 use nook_defs::listeners::TapTotals;
 use nook_defs::lists::{Items, TryCopy};
 use nook_defs::memory::NoMemory;
 use nook_defs::outside::Sink;
 use nook_defs::scenario::ThreadSpec;
-use report_text::whole_text::write_taps;
-use report_text::write::{WriteStop, write_status_line, write_threads};
+use report_text::{WriteStop, write_status_line, write_taps, write_threads};
 use std::alloc::Global;
 use std::marker::Model;
 
@@ -32,7 +32,7 @@ pub fn check_last(
     threads: &[ThreadSpec],
     tally: &Tally,
 ) -> Result<(), Stop>
-    requires { length threads.now ≤ 16 }
+    requires { length threads.now ≤ MOST_THREADS }
     ensures { (scenario : Scenario) (sections : List Done) → scenario.threads ≡ threads.now
         → SumsUp scenario.parts sections tally.now
         → Checks result (found_from scenario (between sections []) cursor.old) (found_from scenario (at_last sections []) cursor.new) }
@@ -60,7 +60,7 @@ fn write_last<K: Sink>(
     taps: &TapTotals,
     status: u32,
 ) -> Result<(), WriteStop>
-    requires { length threads.now ≤ 16 }
+    requires { length threads.now ≤ MOST_THREADS }
     ensures { Wrote (K.held sink.old) (K.held sink.new) (K.count sink.old) (K.count sink.new) result
         (threads_text 0 threads.now answers.now ++ (taps_text 0 taps.now ++ status_line status)) }
 {

@@ -3,7 +3,7 @@
 ghost use Rattle.std.specs.Prelude.{drop, ◌≡◌, ℕ, true, List, ◌∷◌, [], None, IfOk, MatchOption, OnOk, filter, if◌then◌else◌};
 ghost use Rattle.run_laws.specs.Audit.{is_on, is_through, thread_on};
 ghost use Rattle.nook_defs.specs.Runs.{answer_among, answer_at};
-ghost use Rattle.nook_defs.specs.Simulation.{started, told};
+ghost use Rattle.nook_defs.specs.Simulation.{started, thread_after};
 ghost use Rattle.journal_audit.specs.Sections.{is_at, with_state};
 ghost use Rattle.nook_defs.specs.declared.calls.Op.{Op};
 
@@ -73,7 +73,7 @@ impl<'a> Script<'a> {
     /// kept.
     pub fn hear(&mut self, alloc: Global, thread: u8, event: &Event) -> Result<(), NoMemory>
         ensures part { self.new.part ≡ self.old.part }
-        ensures state { OnOk result (self.new.state ≡ told self.old.part event.now (started thread self.old.part event.now self.old.state)) }
+        ensures state { OnOk result (self.new.state ≡ thread_after self.old.part event.now (started thread self.old.part event.now self.old.state)) }
     {
         self.start(thread, event);
         self.settle(alloc, event)
@@ -98,7 +98,7 @@ impl<'a> Script<'a> {
     /// An answer to the open call is kept.
     fn settle(&mut self, alloc: Global, event: &Event) -> Result<(), NoMemory>
         ensures part { self.new.part ≡ self.old.part }
-        ensures state { OnOk result (self.new ≡ with_state self.old (told self.old.part event.now self.old.state)) }
+        ensures state { OnOk result (self.new ≡ with_state self.old (thread_after self.old.part event.now self.old.state)) }
     {
         let Some(call) = self.waiting else {
             return Ok(());

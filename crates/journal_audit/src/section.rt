@@ -4,7 +4,7 @@ ghost use Rattle.std.specs.Prelude.{◌≡◌, ◌<◌, ◌≤◌, ℕ, IfOk, On
 ghost use Rattle.run_laws.specs.Audit.{after_event, are_through, arrival_of, context_in, if_burst, if_entered, if_invoked, is_complete, opening_section, step_named, thread_on};
 ghost use Rattle.nook_defs.specs.ReportLines.{event_line};
 ghost use Rattle.nook_defs.specs.Runs.{state_of};
-ghost use Rattle.nook_defs.specs.Simulation.{answers_of, coming_after, threads_after};
+ghost use Rattle.nook_defs.specs.Simulation.{answers_of_thread, coming_after, threads_after};
 ghost use Rattle.nook_defs.specs.Valid.{IsValidPart};
 ghost use Rattle.nook_defs.specs.declared.steps.Event.{Event};
 ghost use Rattle.journal_audit.specs.Sections.{AreOn, IsAfter, IsTaken, newest_in, state_in, with_threads};
@@ -12,12 +12,13 @@ ghost use Rattle.journal_audit.specs.Sections.{AreOn, IsAfter, IsTaken, newest_i
 use crate::script::Script;
 use crate::words::{context_in, word_at};
 use nook_defs::calls::AnswerTable;
+use nook_defs::limits::MOST_THREADS;
 use nook_defs::lists::{Items, TryCopy, Words};
 use nook_defs::memory::NoMemory;
 use nook_defs::scenario::{PartSpec, ThreadSpec};
 use nook_defs::steps::{Event, Step};
 use part_core::{Part, StepRefused};
-use report_text::write::event_line;
+use report_text::event_line;
 use std::alloc::Global;
 use std::marker::Model;
 
@@ -34,6 +35,7 @@ pub struct Section<'a> {
 
 impl<'a> Model for Section<'a> {
     ghost use Rattle.std.specs.Prelude.{◌≡◌, ◌≤◌, length, map};
+    ghost use Rattle.nook_defs.specs.declared.limits.TheConstants.{MOST_THREADS};
     ghost use Rattle.run_laws.specs.Audit.{Section as Sectioned};
     ghost use Rattle.journal_audit.specs.Sections.{AreOn, state_in};
 
@@ -41,7 +43,7 @@ impl<'a> Model for Section<'a> {
 
     ghost view = { λ s. record { place = s.place; spec = s.spec.now; seat = record { run = s.part; coming = s.coming.now }; threads = map state_in s.threads.items } };
 
-    ghost invariant = { λ s. (s.part.state.spec ≡ s.spec.now) × AreOn s.place s.threads.items × (length s.threads.items ≤ 16) };
+    ghost invariant = { λ s. (s.part.state.spec ≡ s.spec.now) × AreOn s.place s.threads.items × (length s.threads.items ≤ MOST_THREADS) };
 }
 
 impl<'a> Section<'a> {
@@ -52,7 +54,7 @@ impl<'a> Section<'a> {
         place: u32,
         spec: &'a PartSpec,
     ) -> Result<Section<'a>, NoMemory>
-        requires threads { length threads.now ≤ 16 }
+        requires threads { length threads.now ≤ MOST_THREADS }
         requires valid { IsValidPart spec.now }
         ensures { IfOk result (λ section. section ≡ opening_section threads.now place spec.now) }
     {
@@ -211,14 +213,21 @@ impl<'a> Section<'a> {
 
     /// What the part answered each thread. The part is dropped.
     pub fn into_answers(self, alloc: Global) -> Result<AnswerTable, NoMemory>
-        ensures { IfOk result (λ made. made ≡ map answers_of self.entry.threads) }
+        ensures { IfOk result (λ made. made ≡ map answers_of_thread self.entry.threads) }
     {
-        let mut made = Items::new(alloc);
-        for thread in self.threads {
-            made.push(thread.into_answers())?;
-        }
-        Ok(made)
+        answers_of_each(alloc, self.threads)
     }
+}
+
+/// What a part answered each of these threads.
+fn answers_of_each(alloc: Global, threads: Vec<Script<'_>>) -> Result<AnswerTable, NoMemory>
+    ensures { IfOk result (λ made. made ≡ map answers_of_thread (map state_in threads.entry.items)) }
+{
+    let mut made = Items::new(alloc);
+    for thread in threads {
+        made.push(thread.into_answers())?;
+    }
+    Ok(made)
 }
 
 /// What each thread asks of a part.
@@ -268,7 +277,7 @@ fn newest(part: &Part) -> &Event
 
 /// Each thread notes an event of the part.
 fn hear_all(alloc: Global, threads: &mut [Script], event: &Event) -> Result<(), NoMemory>
-    requires few { length threads.old ≤ 16 }
+    requires few { length threads.old ≤ MOST_THREADS }
     ensures parts { (part : ℕ) → AreOn part threads.old → AreOn part threads.new }
     ensures states { (part : ℕ) → AreOn part threads.old → OnOk result (map state_in threads.new ≡ threads_after 0 part event.now (map state_in threads.old)) }
 {

@@ -15,7 +15,7 @@ use nook_defs::lists::Items;
 use nook_defs::memory::NoMemory;
 use nook_defs::outside::Listener;
 use nook_defs::steps::Event;
-use report_text::whole_report::PartReport;
+use report_text::PartReport;
 use request_taps::Bus;
 use std::alloc::Global;
 use std::marker::Model;

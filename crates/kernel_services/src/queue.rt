@@ -2,7 +2,7 @@
 
 ghost use Rattle.std.specs.Prelude.{◌≡◌, ◌<◌, [], length, nat_lt, IfOk};
 ghost use Rattle.nook_defs.specs.Devices.{tail_of};
-ghost use Rattle.nook_defs.specs.Log.{front_of};
+ghost use Rattle.nook_defs.specs.Views.CallLogs.{front_of};
 ghost use Rattle.kernel_services.specs.Outcome.{with_frame};
 
 use nook_defs::limits::MOST_QUEUED_FRAMES;

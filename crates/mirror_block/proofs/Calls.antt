@@ -14,12 +14,14 @@ use Rattle.nook_defs.specs.declared.steps.Stage.{Stage}
 use Rattle.nook_defs.specs.declared.steps.Stage.TheVariants as stage
 use Rattle.nook_defs.specs.declared.steps.Step.{Step}
 use Rattle.nook_defs.specs.declared.steps.Step.TheVariants as step
-use Rattle.nook_defs.specs.Calls.{after_enter, after_invoke, invoked_by}
+use Rattle.nook_defs.specs.Calls.{after_enter, after_invoke}
+use Rattle.nook_defs.proofs.Cases.{invoked_by, stage_by}
 use Rattle.nook_defs.specs.Classes.{static_check}
-use Rattle.nook_defs.specs.Log.{IsNumbered, call_of_thread, opening_log}
+use Rattle.nook_defs.specs.Log.{call_of_thread, opening_log}
+use Rattle.nook_defs.specs.Views.CallLogs.{IsNumbered}
 use Rattle.nook_defs.specs.Answers.{one_answer}
 use Rattle.nook_defs.specs.Runs.{IsRun, IsRunFrom, answer_at, event_of, state_after, state_from, state_of, step_of, answer_among}
-use Rattle.nook_defs.specs.Stages.{collects, gives_up_part, inits, is_given_up, loads_image, replays_open, replays_set, resets, resumes, stage_by, stage_done, stage_due, stage_stepped, stops}
+use Rattle.nook_defs.specs.Stages.{collects, gives_up_part, inits, is_given_up, loads_image, replays_open, replays_set, resets, resumes, stage_done, stage_due, stage_stepped, stops}
 use Rattle.nook_defs.specs.State.{PartState}
 use Rattle.nook_defs.specs.Steps.{after_arrival, burst_stepped, enabled, opening, stepped}
 use Rattle.part_laws.specs.Bound.{calls_of, is_invoke}
@@ -98,7 +100,8 @@ number_is : (p : PartState) (c t : ℕ) (o : Op) (check a : Option Answer) → (
 number_is p c t o None a e = ap call_number (sym e)
 number_is p c t o (Some refusal) a e = ap call_number (sym e)
 
-invoke_number : (p : PartState) (c t : ℕ) (o : Op) (a : Option Answer) → event_of p (step.Invoke t o) ≡ event.Invoke c t o a → c ≡ p.log.count + 1
+-- an invocation has the next number
+pub invoke_number : (p : PartState) (c t : ℕ) (o : Op) (a : Option Answer) → event_of p (step.Invoke t o) ≡ event.Invoke c t o a → c ≡ p.log.count + 1
 unfolding stepped after_invoke
 invoke_number p c t o a e = number_is p c t o (static_check p.spec.class p.spec.blocks o) a e
 

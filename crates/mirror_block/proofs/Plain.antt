@@ -18,7 +18,8 @@ use Rattle.nook_defs.specs.declared.calls.Op.{Op}
 use Rattle.nook_defs.specs.declared.calls.Op.TheVariants.{Read, Write, Send, Recv, Open, Play, Close, Get, Set}
 use Rattle.nook_defs.specs.Blocks.{get_blocks, has_block}
 use Rattle.nook_defs.specs.Classes.{covers, same_class, static_check}
-use Rattle.nook_defs.specs.Ideal.{Ideal, Opened, after_answer, answers, closes, is_due, may_answer, may_call, may_sound, may_wire, never_failing, play_of, ran, shows, when}
+use Rattle.nook_defs.specs.Ideal.{Ideal, Opened, after_answer, is_due, may_answer, may_call, may_sound, may_wire, never_failing, play_of, ran, shows, when}
+use Rattle.nook_defs.proofs.Cases.{answers, closes}
 use Rattle.nook_defs.proofs.Changes.{opens, stops_waiting}
 use Rattle.nook_defs.specs.Places.{at_number}
 use Rattle.nook_defs.specs.Answers.{one_answer}

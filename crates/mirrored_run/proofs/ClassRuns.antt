@@ -16,11 +16,13 @@ use Rattle.nook_defs.specs.declared.calls.Op.{Op}
 use Rattle.nook_defs.specs.declared.scenario.PartSpec.{PartSpec}
 use Rattle.nook_defs.specs.declared.steps.Stage.TheVariants as stage
 use Rattle.nook_defs.specs.declared.steps.Step.TheVariants as step
-use Rattle.nook_defs.specs.Calls.{answer_in, after_invoke, invoked_by}
+use Rattle.nook_defs.specs.Calls.{answer_in, after_invoke}
+use Rattle.nook_defs.proofs.Cases.{invoked_by}
 use Rattle.nook_defs.specs.Classes.{same_class, static_check}
 use Rattle.nook_defs.specs.Contract.{first_break, known_first}
 use Rattle.nook_defs.specs.Ideal.{IsClassRun}
-use Rattle.nook_defs.specs.Log.{IsNumbered, call_of_thread, gone_answers, opening_log}
+use Rattle.nook_defs.specs.Log.{call_of_thread, gone_answers, opening_log}
+use Rattle.nook_defs.specs.Views.CallLogs.{IsNumbered}
 use Rattle.nook_defs.specs.Answers.{one_answer}
 use Rattle.nook_defs.specs.Runs.{IsRun, IsRunFrom, answer_at, event_of, state_after, state_from, state_of, step_of, answer_among}
 use Rattle.nook_defs.specs.Stages.{collects, stage_due, stage_stepped}
@@ -40,7 +42,7 @@ use Rattle.part_laws.proofs.Recovered.{gone_stays}
 use Rattle.part_laws.proofs.RunBound.{count_more}
 use Rattle.part_laws.proofs.Stages.{with_mode}
 use Rattle.mirror_block.specs.Sides.{Invocation, and_more, answers_given, first_answer, invocations, or_later}
-use Rattle.mirror_block.proofs.Calls.{run_parts}
+use Rattle.mirror_block.proofs.Calls.{run_parts, invoke_number}
 use Rattle.mirrored_run.proofs.GivingUp.{GivenUp, StopsAll, given_up_in, gives_up, gone_given, has_gone, more_gone, trace_ends, unbroken_before}
 
 -- the static check of a disk of so many blocks passes each
@@ -138,18 +140,6 @@ record Invoked (k : ℕ) (events : List Event) : Type 0 where
   told : Option Answer
   behind : List Event
   parts : before ++ (event.Invoke k thread op told ∷ behind) ≡ events
-
-abbrev call_number : Event → ℕ
-call_number (event.Invoke call thread op answer) = call
-call_number _ = 0
-
-number_is : (p : PartState) (c t : ℕ) (o : Op) (check a : Option Answer) → (invoked_by p t o check).event ≡ event.Invoke c t o a → c ≡ p.log.count + 1
-number_is p c t o None a e = ap call_number (sym e)
-number_is p c t o (Some refusal) a e = ap call_number (sym e)
-
-invoke_number : (p : PartState) (c t : ℕ) (o : Op) (a : Option Answer) → event_of p (step.Invoke t o) ≡ event.Invoke c t o a → c ≡ p.log.count + 1
-unfolding stepped after_invoke
-invoke_number p c t o a e = number_is p c t o (static_check p.spec.class p.spec.blocks o) a e
 
 -- the next number was given by the event
 invoked_first : (k : ℕ) (e : Event) (events : List Event) (p : PartState) → IsRunFrom p (e ∷ []) → (state_after p (step_of e)).log.count ≡ p.log.count + calls_of (e ∷ [])

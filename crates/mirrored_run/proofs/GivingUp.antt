@@ -25,19 +25,20 @@ use Rattle.nook_defs.specs.declared.machine.BadParam.{BadParam}
 use Rattle.nook_defs.specs.declared.machine.BurstEnd.{BurstEnd}
 use Rattle.nook_defs.specs.declared.machine.BurstEnd.TheVariants as ends
 use Rattle.nook_defs.specs.declared.machine.Service.{Service}
-use Rattle.nook_defs.specs.Calls.{Stepped, after_admit, entered_by, after_enter, after_invoke, invoked_by}
+use Rattle.nook_defs.specs.Calls.{Stepped, after_admit, after_enter, after_invoke}
+use Rattle.nook_defs.proofs.Cases.{entered_by, invoked_by, reply_by, serve_by, with_burst}
 use Rattle.nook_defs.specs.Classes.{accept, admit, static_check}
 use Rattle.nook_defs.specs.declared.clause.Clause.{Clause}
-use Rattle.nook_defs.specs.Contract.{Known, after, break_from, broken}
+use Rattle.nook_defs.specs.Contract.{Known, known_after, break_from, broken}
 use Rattle.nook_defs.proofs.Changes.{break_or}
-use Rattle.nook_defs.specs.Crossing.{Crossed, call_replied, closes_call, after_crossing, failed_crossing, fails, goes_on, is_accepted, is_last, kernel_call, next_mode, next_stage, refused_service, reply_by, serve_by, shadow_fault, shadow_replied, stage_in}
+use Rattle.nook_defs.specs.Crossing.{Crossed, call_replied, closes_call, after_crossing, failed_crossing, fails, goes_on, is_accepted, is_last, kernel_call, next_mode, next_stage, refused_service, shadow_fault, shadow_replied, stage_in}
 use Rattle.nook_defs.specs.Domain.{domain_burst, first_argument, second_argument, stopped_domain}
 use Rattle.nook_defs.specs.Log.{call_of_thread, gone_answers}
 use Rattle.nook_defs.specs.Runs.{answer_at, state_after, state_from, step_of}
 use Rattle.nook_defs.specs.Services.{checked}
 use Rattle.nook_defs.specs.Stages.{collects, gives_up_part, inits, is_given_up, loads_image, replays_open, replays_set, resets, resumes, stage_stepped, stops}
 use Rattle.nook_defs.specs.State.{PartState}
-use Rattle.nook_defs.specs.Steps.{after_arrival, burst_stepped, faults_of_burst, is_driven, stepped, with_burst}
+use Rattle.nook_defs.specs.Steps.{after_arrival, burst_stepped, faults_of_burst, is_driven, stepped}
 use Rattle.nook_defs.specs.Trace.{Track, Visible, shown, trace_from, tracks_after}
 use Rattle.part_laws.specs.Facts.{is_dead}
 use Rattle.part_laws.proofs.Places.{split}
@@ -70,8 +71,8 @@ pub unbroken_before : (place : ℕ) (k : Known) (xs ys : List Event) → break_f
 unfolding break_from
 unbroken_before place k [] ys h = refl
 unbroken_before place k (e ∷ xs) ys h =
-    let u = unbroken (broken k e) place (break_from (suc place) (after k e) (xs ++ ys)) h in
-    ap (λ (cs : List Clause). break_or place cs (break_from (suc place) (after k e) xs)) u.0 ∙ unbroken_before (suc place) (after k e) xs ys u.1
+    let u = unbroken (broken k e) place (break_from (suc place) (known_after k e) (xs ++ ys)) h in
+    ap (λ (cs : List Clause). break_or place cs (break_from (suc place) (known_after k e) xs)) u.0 ∙ unbroken_before (suc place) (known_after k e) xs ys u.1
 
 -- ---- where a part was given up
 

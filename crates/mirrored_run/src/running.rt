@@ -18,6 +18,7 @@ ghost use Rattle.threaded_run.specs.Threaded.{in_parts};
 use crate::serving::serve_first;
 use mirror_block::Mirror;
 use nook_defs::calls::AnswerTable;
+use nook_defs::limits::MOST_OPS;
 use nook_defs::lists::TryCopy;
 use nook_defs::memory::NoMemory;
 use nook_defs::mirror::MirrorAnswers;
@@ -25,8 +26,7 @@ use nook_defs::outside::Listener;
 use nook_defs::scenario::{PartSpec, Scenario, ThreadSpec};
 use part_core::Part;
 use part_server::{DeskSeat, PartDesk};
-use report_text::report::{Journals, Run};
-use report_text::whole_report::PartEnds;
+use report_text::{Journals, PartEnds, Run};
 use request_taps::Bus;
 use run_ends::WholeRun;
 use std::alloc::Global;
@@ -166,7 +166,7 @@ fn serve_over<R: Wait>(
     blocks: u32,
 ) -> Result<Served, NoMemory>
     requires single { is_single threads.now ≡ true }
-    requires few { length (ops_of_thread threads.now) ≤ 256 }
+    requires few { length (ops_of_thread threads.now) ≤ MOST_OPS }
     requires left_seat { IsDeskSeat left.now left_seat }
     requires right_seat { IsDeskSeat right.now right_seat }
     requires left { IsNewSide (desk_spec left.now) blocks (desk_view left_seat) }

@@ -10,6 +10,7 @@ ghost use Rattle.mirrored_run.specs.Serving.{AreServedBy, HasAsked};
 use desk_like::DeskLike;
 use mirror_block::{Mirror, MirrorStop};
 use nook_defs::calls::Op;
+use nook_defs::limits::MOST_OPS;
 use nook_defs::memory::NoMemory;
 use nook_defs::mirror::{MirrorAnswer, MirrorAnswers};
 use nook_defs::scenario::ThreadSpec;
@@ -27,7 +28,7 @@ pub fn serve_first<R: Wait, D: DeskLike>(
     requires goes { mirror.old.stopped ≡ false }
     requires fresh { HasAsked 0 mirror.old }
     requires single { is_single threads.now ≡ true }
-    requires few { length (ops_of_thread threads.now) ≤ 256 }
+    requires few { length (ops_of_thread threads.now) ≤ MOST_OPS }
     ensures { IfOk result (λ answers. AreServedBy D.spec mirror.old (ops_of_thread threads.now) answers mirror.new) }
 {
     match threads {
@@ -47,7 +48,7 @@ fn serve_all<R: Wait, D: DeskLike>(
     requires goes { mirror.old.stopped ≡ false }
     requires fresh { HasAsked 0 mirror.old }
     requires disk_ops { list_all is_mirrored_op ops.now ≡ true }
-    requires few { length ops.now ≤ 256 }
+    requires few { length ops.now ≤ MOST_OPS }
     ensures { IfOk result (λ answers. AreServedBy D.spec mirror.old (map (λ o. o.1) ops.now) answers mirror.new) }
 {
     let mut answers = MirrorAnswers::new(alloc);
@@ -67,7 +68,7 @@ fn serve<R: Wait, D: DeskLike>(
 ) -> Result<MirrorAnswer, NoMemory>
     requires mirror { IsMirror D.spec mirror.old }
     requires goes { mirror.old.stopped ≡ false }
-    requires room { HasAsked 256 mirror.old }
+    requires room { HasAsked MOST_OPS mirror.old }
     requires disk_op { is_disk_op op.now ≡ true }
     ensures mirror { IsMirror D.spec mirror.new }
     ensures answered { IfOk result (λ answer. IsAnswered mirror.old mirror.new op.now answer) }

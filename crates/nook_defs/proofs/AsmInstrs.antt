@@ -5,7 +5,8 @@ use native.Mathlib.Omega.{arith}
 use Rattle.nook_defs.specs.AsmTokens.{kind_of, is_label_name}
 use Rattle.nook_defs.specs.AsmLines.{Labels, value_of, operands_of, statement_of, line_says, has_bad_token}
 use Rattle.nook_defs.specs.Assembler.{Draft, is_out_of_range, with_statement, with_word}
-use Rattle.nook_defs.specs.Disassembler.{operand_tokens, instr_tokens}
+use Rattle.nook_defs.specs.Disassembler.{operand_tokens}
+use Rattle.nook_defs.specs.Views.Assembling.{instr_tokens}
 use Rattle.nook_defs.specs.Machine.{encode_of}
 use Rattle.nook_defs.specs.Mnemonics.{Fields, mnemonic_named, mnemonic_text, form_of, instr_with, fields_of}
 use Rattle.nook_defs.specs.declared.assembler.Form.{Form}
@@ -121,10 +122,10 @@ operands_written : (labels : Labels) (x : Form) (f : Fields) → InRange f → o
 unfolding operands_of value_of used
 operands_written labels form.Bare f h = refl
 operands_written labels form.A f h = rw (register_token f.a h.low_a) refl
-operands_written labels form.Imm f h = rw (number_kind f.imm (omega (arith, h.low_imm))) refl
+operands_written labels form.Imm f h = rw (number_kind f.imm (omega (arith, h.low_imm)), value_of) refl
 operands_written labels form.AB f h = rw (register_token f.a h.low_a, register_token f.b h.low_b) refl
-operands_written labels form.AImm f h = rw (register_token f.a h.low_a, number_kind f.imm (omega (arith, h.low_imm))) refl
-operands_written labels form.ABImm f h = rw (register_token f.a h.low_a, register_token f.b h.low_b, number_kind f.imm (omega (arith, h.low_imm))) refl
+operands_written labels form.AImm f h = rw (register_token f.a h.low_a, number_kind f.imm (omega (arith, h.low_imm)), value_of) refl
+operands_written labels form.ABImm f h = rw (register_token f.a h.low_a, register_token f.b h.low_b, number_kind f.imm (omega (arith, h.low_imm)), value_of) refl
 
 none_bad : (x : Form) (f : Fields) → InRange f → has_bad_token (operand_tokens x f) ≡ false
 none_bad form.Bare f h = refl
@@ -149,7 +150,7 @@ in_range m form.ABImm f h = not_above f.imm h.low_imm
 pub instr_says : (labels : Labels) (class : Option Class) (f : Fields) → InRange f → line_says labels class section.Text (instr_tokens f) ≡ Ok (statement.Instr f.mnemonic (used (form_of f.mnemonic) f))
 unfolding line_says statement_of
 instr_says labels class f h =
-    rw (mnemonic_kind f.mnemonic, none_bad (form_of f.mnemonic) f h, mnemonic_kind f.mnemonic, named_mnemonic f.mnemonic, operands_written labels (form_of f.mnemonic) f h) refl
+    rw (mnemonic_kind f.mnemonic, none_bad (form_of f.mnemonic) f h, mnemonic_kind f.mnemonic, named_mnemonic f.mnemonic, operands_written labels (form_of f.mnemonic) f h, statement_of) refl
 
 pub stated : (m : Mnemonic) (f : Fields) (draft : Draft) → with_statement (statement.Instr m (used (form_of m) f)) draft ≡ with_word draft.in_section (encode_of (instr_with m f.a f.b f.imm)) draft
 unfolding used

@@ -13,7 +13,7 @@ use Rattle.std.proofs.lemmas.Str.Parse.{digit_from_value}
 use Rattle.std.proofs.Math.Nat.{min-eq_left, eq-or-lt_of_le, suc-le-suc_iff}
 use native.Mathlib.Omega.{arith}
 use mathlib.Core.Path.{ap, subst, sym}
-use Rattle.nook_defs.specs.AsmTokens.{is_letter, is_label_name, is_numeral, but_last, kind_of, register_of, register_text, is_not_empty}
+use Rattle.nook_defs.specs.AsmTokens.{is_letter, is_label_name, is_numeral, but_last, kind_of, register_named, register_text, is_not_empty}
 use Rattle.nook_defs.specs.declared.assembler.TokenKind.TheVariants as kind
 use Rattle.nook_defs.proofs.AsmText.{is_plain, IsPlainToken}
 
@@ -92,9 +92,9 @@ pub number_token : (n : ℕ) → n < 2 ^ 32 → IsPlainToken (decimal n)
 number_token n small = let numeral = decimal_is_IsNumeral n (omega arith) in
     record { bytes = (all_digits (decimal n) numeral.0.1).0; some = some_bytes (decimal n) numeral.0.0 }
 
-pub register_token : (r : ℕ) → r < 16 → register_of (register_text r) ≡ Some r
-unfolding register_of digits
-register_token = at_below (λ r. register_of (register_text r) ≡ Some r) 16 (refl, (refl, (refl, (refl, (refl, (refl, (refl, (refl, (refl, (refl, (refl, (refl, (refl, (refl, (refl, (refl, tt))))))))))))))))
+pub register_token : (r : ℕ) → r < 16 → register_named (register_text r) ≡ Some r
+unfolding register_named digits
+register_token = at_below (λ r. register_named (register_text r) ≡ Some r) 16 (refl, (refl, (refl, (refl, (refl, (refl, (refl, (refl, (refl, (refl, (refl, (refl, (refl, (refl, (refl, (refl, tt))))))))))))))))
 
 pub register_kind : (r : ℕ) → r < 16 → kind_of (register_text r) ≡ kind.Name
 unfolding kind_of is_label_name digits

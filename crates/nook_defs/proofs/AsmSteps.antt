@@ -5,8 +5,10 @@ use native.Mathlib.Omega.{arith}
 use mathlib.Core.Path.{ap, ◌∙◌}
 use Rattle.nook_defs.specs.AsmTokens.{kind_of, is_label_name, is_numeral}
 use Rattle.nook_defs.specs.AsmLines.{Labels, value_of, statement_of, directive_statement, class_statement, entry_statement, word_statement, place_among, line_says}
-use Rattle.nook_defs.specs.Assembler.{Draft, first_draft, is_given, with_class, draft_after}
-use Rattle.nook_defs.specs.Disassembler.{text_tokens, decoded_tokens, word_tokens, class_tokens, instr_tokens, operand_tokens}
+use Rattle.nook_defs.specs.Assembler.{Draft, first_draft, draft_after}
+use Rattle.nook_defs.specs.Views.Assembling.{is_given, with_class}
+use Rattle.nook_defs.specs.Disassembler.{text_tokens, word_tokens, operand_tokens}
+use Rattle.nook_defs.specs.Views.Assembling.{decoded_tokens, class_tokens, instr_tokens}
 use Rattle.nook_defs.specs.Keys.{key_text, class_named, entry_keys}
 use Rattle.nook_defs.specs.Machine.{decode_of, encode_of}
 use Rattle.nook_defs.specs.Mnemonics.{Fields, fields_of, form_of, instr_with}
@@ -58,7 +60,7 @@ word_kind = refl
 
 word_says : (labels : Labels) (c : Option Class) (s : Section) (w : ℕ) → w < 2 ^ 32 → line_says labels c s (word_tokens w) ≡ Ok (statement.Word (value.Known w))
 unfolding line_says statement_of directive_statement word_statement value_of
-word_says labels c s w small = rw (word_kind, number_kind w small, word_kind, number_kind w small) refl
+word_says labels c s w small = rw (word_kind, number_kind w small, word_kind, number_kind w small, statement_of, value_of) refl
 
 pub word_in_text : (labels : Labels) (line w : ℕ) (c : Class) (e : List (Option ℕ)) (t i : List ℕ) → w < 2 ^ 32 → length t < 2048
     → draft_after labels line (word_tokens w) (draft c e section.Text t i) ≡ Ok (draft c e section.Text (t ++ w ∷ []) i)
@@ -125,4 +127,4 @@ pub entry_taken : (labels : Labels) (line place at : ℕ) (k : Key) (c : Class) 
     → draft_after labels line (codes ".entry" ∷ key_text k ∷ decimal place ∷ []) (draft c e section.Text t i) ≡ Ok (draft c (slice_set e at (Some place)) section.Text t i)
 unfolding draft_after line_says statement_of directive_statement entry_statement value_of
 entry_taken labels line place at k c e t i name among fresh low =
-    rw (entry_kind, name, number_kind place (omega arith), entry_kind, name, among, number_kind place (omega arith), le-ltb 2047 place low, fresh) refl
+    rw (entry_kind, name, number_kind place (omega arith), entry_kind, name, among, number_kind place (omega arith), le-ltb 2047 place low, fresh, statement_of, entry_statement, value_of) refl

@@ -6,8 +6,10 @@ use Rattle.std.proofs.lemmas.List.{append_assoc, append-nil}
 use Rattle.std.proofs.lemmas.List.Folds.{list_all-append}
 use Rattle.std.proofs.lemmas.List.Splits.{slice_split_at, slice_split_none}
 use Rattle.std.proofs.lemmas.List.Sums.{take_while-cons, AllPass-from_list_all}
-use Rattle.nook_defs.specs.AsmTokens.{is_line_feed, is_separator, is_before_comment, is_not_empty, without_empty_last, lines_of, tokens_of}
-use Rattle.nook_defs.specs.Disassembler.{later_token, line_body, line_text}
+use Rattle.nook_defs.specs.AsmTokens.{is_separator, is_not_empty, without_empty_last, lines_of, tokens_of}
+use Rattle.nook_defs.specs.Views.Assembling.{is_line_feed, is_before_comment}
+use Rattle.nook_defs.specs.Disassembler.{line_body, line_text}
+use Rattle.nook_defs.specs.Views.Assembling.{later_token}
 use mathlib.Core.Path.{ap, ◌∙◌, sym}
 
 -- bytes of tokens that are written, and the space between those

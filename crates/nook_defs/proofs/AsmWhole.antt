@@ -5,11 +5,14 @@ use native.Mathlib.Omega.{arith}
 use mathlib.Core.Path.{ap, ◌∙◌}
 use Rattle.nook_defs.specs.AsmTokens.{kind_of, is_label_name}
 use Rattle.nook_defs.specs.AsmLines.{Labels, place_among}
-use Rattle.nook_defs.specs.Assembler.{Draft, first_draft, with_class, draft_after, draft_from, all_given, is_given, assembled}
+use Rattle.nook_defs.specs.Assembler.{Draft, first_draft, draft_after, draft_from, all_given, assembled}
+use Rattle.nook_defs.specs.Views.Assembling.{with_class, is_given}
 use Rattle.nook_defs.specs.Classes.{entry_count}
-use Rattle.nook_defs.specs.Disassembler.{line_body, text_tokens, word_tokens, class_tokens, entry_lines, initial_lines, image_lines, disassembled}
+use Rattle.nook_defs.specs.Disassembler.{line_body, text_tokens, word_tokens, entry_lines, initial_lines, image_lines, disassembled}
+use Rattle.nook_defs.specs.Views.Assembling.{class_tokens}
 use Rattle.nook_defs.specs.Keys.{key_text, entry_keys}
-use Rattle.nook_defs.specs.Valid.{IsValidImage, IsWord, IsTextPlace}
+use Rattle.nook_defs.specs.Valid.{IsValidImage, IsWord}
+use Rattle.nook_defs.specs.Views.Limits.{IsTextPlace}
 use Rattle.nook_defs.specs.declared.assembler.Section.{Section}
 use Rattle.nook_defs.specs.declared.assembler.Section.TheVariants as section
 use Rattle.nook_defs.specs.declared.assembler.TokenKind.TheVariants as kind

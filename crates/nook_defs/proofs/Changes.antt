@@ -4,7 +4,7 @@ use Rattle.nook_defs.specs.declared.calls.Answer.{Answer}
 use Rattle.nook_defs.specs.declared.steps.Event.{Event}
 use Rattle.nook_defs.specs.declared.calls.Op.{Op}
 use Rattle.nook_defs.specs.Classes.{covers}
-use Rattle.nook_defs.specs.Contract.{Deed, Known, OpenCall, after_deed, number_of}
+use Rattle.nook_defs.specs.Contract.{Deed, Known, OpenCall, after_deed, clause_number}
 use Rattle.nook_defs.specs.Losses.{Tally, is_played, is_sent}
 use Rattle.nook_defs.specs.declared.clause.Clause.{Clause}
 use Rattle.nook_defs.specs.declared.machine.Act.{Act}
@@ -81,7 +81,7 @@ after_deeds call k ds = fold (after_deed call) k ds
 -- the break that an event is, or else that of the later ones
 abbrev pub break_or : ℕ → List Clause → Option Break → Option Break
 break_or place clauses later =
-    elim clauses [ [] ↦ later | (clause ∷ more) ↦ Some (record { event = place; clause = number_of clause }) ]
+    elim clauses [ [] ↦ later | (clause ∷ more) ↦ Some (record { event = place; clause = clause_number clause }) ]
 
 -- a call of the thread that waits for its answer
 abbrev pub waits_for : ℕ → Opened → Bool

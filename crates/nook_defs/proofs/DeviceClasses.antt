@@ -4,7 +4,8 @@ use Rattle.nook_defs.specs.declared.classes.Class.{Class}
 use Rattle.nook_defs.specs.declared.devices.DeviceKind.{DeviceKind}
 use Rattle.nook_defs.specs.declared.devices.DeviceKind.TheVariants as kind
 use Rattle.nook_defs.specs.declared.devices.DeviceState.{DeviceState}
-use Rattle.nook_defs.specs.Devices.{Given, Taken, input_of, is_command, is_empty_ring, is_register_port, kind_input, kind_output, output_of}
+use Rattle.nook_defs.specs.Devices.{Given, Taken, input_of, is_command, is_empty, is_register_port, kind_output, output_of}
+use Rattle.nook_defs.proofs.Cases.{kind_input}
 use Rattle.nook_defs.specs.Views.Ports.{class_of, class_of_kind, device_after, device_given, device_of}
 
 given_by_choice : (c : Class) (d : DeviceState) (test : Bool) (x y : Option Given) →
@@ -33,7 +34,7 @@ kind_output_keeps_class port word registers (kind.Disk k) =
 kind_output_keeps_class port word registers (kind.Link k) =
     taken_by_choice _ _ (port == 0) _ _
     (taken_by_choice _ _ (word == 1 && (nat_le 1 k.length && nat_le k.length 64)) _ _ refl
-    (taken_by_choice _ _ (word == 2 && not (is_empty_ring k.ring)) _ _ refl refl))
+    (taken_by_choice _ _ (word == 2 && not (is_empty k.ring)) _ _ refl refl))
     (taken_by_choice _ _ (port == 1) _ _ refl
     (taken_by_choice _ _ (port == 2) _ _ (taken_by_choice _ _ (nat_lt k.position 64) _ _ refl refl) refl))
 kind_output_keeps_class port word registers kind.Speaker = taken_by_choice _ _ (port == 0) _ _ refl refl

@@ -13,7 +13,8 @@ use native.Mathlib.Omega.{arith}
 use mathlib.Core.Path.{ap, subst, ◌∙◌, sym}
 use Rattle.serde_json.specs.Data.{Data, string, array, object, no_members}
 use Rattle.nook_defs.specs.Classes.{entry_count}
-use Rattle.nook_defs.specs.ImageReading.{is_hex_digit, hex_word, word_of, words_of, class_of, entries_of, image_of}
+use Rattle.nook_defs.specs.ImageReading.{hex_word, words_of, known_class, entries_of, image_of}
+use Rattle.nook_defs.specs.Views.Readings.{is_hex_digit, text_word}
 use Rattle.nook_defs.specs.ImageText.{hex_text, word_items, entry_members, image_data}
 use Rattle.nook_defs.specs.Keys.{class_text, class_named, entry_keys}
 use Rattle.nook_defs.specs.Reading.{count_of, items_from}
@@ -53,7 +54,7 @@ hex_back : (w : ℕ) → w < 2 ^ 32 → hex_word (hex_text 8 w) ≡ Ok w
 unfolding hex_word most
 hex_back w small = rw (hex_digits 8 w, hex_value 8 w (omega (arith, small))) refl
 
-items_back : (earlier : List ℕ) (place : ℕ) (ws : List ℕ) → Words ws → items_from word_of earlier place (word_items ws) ≡ Ok (earlier ++ ws)
+items_back : (earlier : List ℕ) (place : ℕ) (ws : List ℕ) → Words ws → items_from text_word earlier place (word_items ws) ≡ Ok (earlier ++ ws)
 items_back earlier place [] h = rw (append-nil earlier) refl
 items_back earlier place (w ∷ ws) h =
     rw (hex_back w h.0) (items_back (earlier ++ w ∷ []) (place + 1) ws h.1 ∙ ap Ok (append_assoc earlier (w ∷ []) ws))
@@ -68,7 +69,7 @@ words_back ws h room =
 
 -- ---- classes and entries
 
-class_back : (c : Class) → class_of (string (class_text c)) ≡ Ok c
+class_back : (c : Class) → known_class (string (class_text c)) ≡ Ok c
 unfolding class_named
 class_back class.Block = refl
 class_back class.Net = refl

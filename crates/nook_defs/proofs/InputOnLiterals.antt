@@ -3,7 +3,7 @@ use Rattle.std.specs.Str.{chars}
 use Rattle.std.specs.Fmt.{digits}
 use Rattle.std.specs.Char.{encode_utf8}
 use Rattle.serde_json.proofs.OnLiterals.{serde_json_on_literals}
-use Rattle.nook_defs.specs.AsmTokens.{lines_of, tokens_of, is_label_name, is_numeral, kind_of, register_of}
+use Rattle.nook_defs.specs.AsmTokens.{lines_of, tokens_of, is_label_name, is_numeral, kind_of, register_named}
 use Rattle.nook_defs.specs.AsmLines.{value_of, operands_of, word_statement, class_statement, entry_statement, directive_statement, statement_of, line_says}
 use Rattle.nook_defs.specs.Assembler.{labels_from, draft_after, draft_from, assembled}
 use Rattle.nook_defs.specs.Disassembler.{image_lines, disassembled}
@@ -20,7 +20,7 @@ use Rattle.nook_defs.specs.ScenarioReading.{schedule_named, schedule_by, schedul
 -- what a law unfolds to compute the definitions of inputs on literals
 unfoldable pub input_on_literals : ⊤
 unfolding chars encode_utf8 digits serde_json_on_literals
-    lines_of tokens_of is_label_name is_numeral kind_of register_of mnemonic_named
+    lines_of tokens_of is_label_name is_numeral kind_of register_named mnemonic_named
     value_of operands_of word_statement class_statement entry_statement directive_statement statement_of line_says
     labels_from draft_after draft_from assembled image_lines disassembled
     is_utf8 json_of class_named hex_word image_data image_text image_of driver_of image_from image_from_asm

@@ -17,3 +17,4 @@ pub mod Changes
 pub mod DeviceClasses
 pub mod Padded
 pub mod Options
+pub mod Cases

@@ -8,7 +8,8 @@ use Rattle.nook_defs.specs.Crossing.{fails, next_stage, closes_call, after_cross
 use Rattle.nook_defs.specs.Devices.{reset_device, opening_device, with_arrival}
 use Rattle.nook_defs.specs.Domain.{opening_domain, entered_domain, plainly_entered, domain_burst, result_set, left_domain, stopped_domain, collected_domain, loaded_domain, noted}
 use Rattle.nook_defs.specs.Entries.{lowest_run}
-use Rattle.nook_defs.specs.Log.{opening_log, with_call, with_answered_call, after_entering, after_holding, after_answering, after_acknowledging, shadow_answer, replay_after}
+use Rattle.nook_defs.specs.Log.{opening_log, with_call, with_answered_call, after_entering, after_answering, after_acknowledging, shadow_answer, replay_after}
+use Rattle.nook_defs.specs.Views.CallLogs.{after_holding}
 use Rattle.nook_defs.specs.Pages.{opening_memory, loaded_memory}
 use Rattle.nook_defs.specs.Runs.{state_from, next_for, next_recovery, next_any}
 use Rattle.nook_defs.specs.Schedules.{opening_order, picked}

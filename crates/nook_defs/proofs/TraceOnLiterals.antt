@@ -6,7 +6,7 @@ use Rattle.nook_defs.specs.Licence.{is_licensed_from, is_licensed}
 use Rattle.nook_defs.specs.Losses.{losses}
 use Rattle.nook_defs.specs.ReportLines.{event_line, event_lines}
 use Rattle.nook_defs.specs.ReportText.{part_text, parts_text, threads_text, taps_text, has_break, has_given_up, report_text, failures_count, summary_line}
-use Rattle.nook_defs.specs.Taps.{heard_events}
+use Rattle.nook_defs.specs.Listening.{heard_events}
 use Rattle.nook_defs.specs.Trace.{trace_from, trace}
 
 -- a law that computes unfolds this one name, and with it every definition of traces, contracts, losses and reports

@@ -1,11 +1,8 @@
 use Rattle.std.specs.Prelude.{ℕ, ◌+◌, List, [], ◌∷◌, codes, bytes_eq, Bool, true, false, Option, Some, None, Result, Ok}
-use Rattle.std.specs.Prelude.{Err, if◌then◌else◌}
-use Rattle.std.specs.List.{find, list_any}
-use Rattle.nook_defs.specs.AsmTokens.{kind_of, but_last, register_of, is_register}
-use Rattle.nook_defs.specs.Keys.{key_text, class_named, entry_keys}
-use Rattle.nook_defs.specs.Mnemonics.{mnemonic_named, form_of}
-use Rattle.nook_defs.specs.Types.{AsmKind, Class, Form, Key, Label, Mnemonic, Operands, Section, Statement, TokenKind}
-use Rattle.nook_defs.specs.Types.{Value}
+use Rattle.std.specs.{Prelude.{Err, if◌then◌else◌}, List.{find, list_any}}
+use Rattle.nook_defs.specs.{AsmTokens.{kind_of, but_last, register_named, is_register}, Keys.{key_text, class_named}}
+use Rattle.nook_defs.specs.{Keys.entry_keys, Mnemonics.{mnemonic_named, form_of}, Types.{AsmKind, Class, Form, Key}}
+use Rattle.nook_defs.specs.Types.{Label, Mnemonic, Operands, Section, Statement, TokenKind, Value}
 use Rattle.nook_defs.specs.declared.assembler.AsmKind.TheVariants as fault
 use Rattle.nook_defs.specs.declared.assembler.Form.TheVariants as form
 use Rattle.nook_defs.specs.declared.assembler.Section.TheVariants as section
@@ -20,52 +17,36 @@ use Rattle.nook_defs.specs.declared.assembler.Value.TheVariants as value
 abbrev pub Labels : Type 0
 Labels = List ℕ → Option Label
 
--- no name is defined
-abbrev pub no_labels : Labels
-no_labels name = None
-
 -- the first definition of a name
 abbrev pub first_of : List Label → Labels
 first_of labels name = find (λ label. bytes_eq name label.name) labels
 
 -- ---- operands
 
--- the place of a label that is defined
-abbrev pub label_value : Option Label → Value
-label_value None = value.Missing
-label_value (Some label) = value.Known label.place
-
--- the value of a token of a kind: a number, or a name that is no register
-abbrev pub value_by : TokenKind → Labels → List ℕ → Option Value
-value_by kind.Name labels token = if is_register token then None else Some (label_value (labels token))
-value_by (kind.Number number) labels token = Some (value.Known number)
-value_by _ labels token = None
-
--- the value of a token, where it may be one
+-- the value of a token: of a number itself, of a name that is no register the place of its label, if it is defined
 unfoldable pub value_of : Labels → List ℕ → Option Value
-value_of labels token = value_by (kind_of token) labels token
+value_of labels token = elim (kind_of token) [
+  | kind.Number number ↦ Some (value.Known number)
+  | kind.Name ↦
+      if is_register token then None
+      else Some (elim (labels token) [ None ↦ value.Missing | Some label ↦ value.Known label.place ])
+  | _ ↦ None
+]
 
 -- registers and a value, where each is right
 abbrev pub operands_with : Option ℕ → Option ℕ → Option Value → Option Operands
 operands_with (Some a) (Some b) (Some imm) = Some (record { a = a; b = b; imm = imm })
 operands_with _ _ _ = None
 
--- for a form without the register
-abbrev pub no_register : Option ℕ
-no_register = Some 0
-
--- for a form without the immediate
-abbrev pub no_value : Option Value
-no_value = Some (value.Known 0)
-
--- the operands of a form; None where there are more or fewer, or one is of another sort
+-- the operands of a form, 0 where it has none; None where there are more or fewer, or one is of another sort
 unfoldable pub operands_of : Labels → Form → List (List ℕ) → Option Operands
-operands_of labels form.Bare [] = operands_with no_register no_register no_value
-operands_of labels form.A (a ∷ []) = operands_with (register_of a) no_register no_value
-operands_of labels form.Imm (imm ∷ []) = operands_with no_register no_register (value_of labels imm)
-operands_of labels form.AB (a ∷ b ∷ []) = operands_with (register_of a) (register_of b) no_value
-operands_of labels form.AImm (a ∷ imm ∷ []) = operands_with (register_of a) no_register (value_of labels imm)
-operands_of labels form.ABImm (a ∷ b ∷ imm ∷ []) = operands_with (register_of a) (register_of b) (value_of labels imm)
+operands_of labels form.Bare [] = operands_with (Some 0) (Some 0) (Some (value.Known 0))
+operands_of labels form.A (a ∷ []) = operands_with (register_named a) (Some 0) (Some (value.Known 0))
+operands_of labels form.Imm (imm ∷ []) = operands_with (Some 0) (Some 0) (value_of labels imm)
+operands_of labels form.AB (a ∷ b ∷ []) = operands_with (register_named a) (register_named b) (Some (value.Known 0))
+operands_of labels form.AImm (a ∷ imm ∷ []) = operands_with (register_named a) (Some 0) (value_of labels imm)
+operands_of labels form.ABImm (a ∷ b ∷ imm ∷ []) =
+    operands_with (register_named a) (register_named b) (value_of labels imm)
 operands_of _ _ _ = None
 
 -- ---- statements
@@ -75,16 +56,16 @@ abbrev pub right_or_wrong : {T : Type 0} → (T → Statement) → Option T → 
 right_or_wrong says (Some right) = Ok (says right)
 right_or_wrong says None = Err fault.WrongOperands
 
+-- what a name says by what it stands for; it must stand for something
+abbrev pub of_name : {T : Type 0} → Option T → (T → Result Statement AsmKind) → Result Statement AsmKind
+of_name (Some named) says = says named
+of_name None says = Err fault.UnknownName
+
 -- an instruction stands in the text alone
 abbrev pub instr_statement : Labels → Section → Mnemonic → List (List ℕ) → Result Statement AsmKind
 instr_statement labels section.Text mnemonic rest =
     right_or_wrong (statement.Instr mnemonic) (operands_of labels (form_of mnemonic) rest)
 instr_statement labels section.Data mnemonic rest = Err fault.WrongOperands
-
--- a first token that is a name must be a mnemonic
-abbrev pub named_statement : Labels → Section → Option Mnemonic → List (List ℕ) → Result Statement AsmKind
-named_statement labels section (Some mnemonic) rest = instr_statement labels section mnemonic rest
-named_statement labels section None rest = Err fault.UnknownName
 
 -- a directive without operands
 abbrev pub bare_statement : Statement → List (List ℕ) → Result Statement AsmKind
@@ -96,16 +77,13 @@ unfoldable pub word_statement : Labels → List (List ℕ) → Result Statement 
 word_statement labels (token ∷ []) = right_or_wrong statement.Word (value_of labels token)
 word_statement labels _ = Err fault.WrongOperands
 
--- `.class` and a name: a name that is no class is told before operands that are too many
-abbrev pub class_by : TokenKind → Option Class → List (List ℕ) → Result Statement AsmKind
-class_by kind.Name (Some class) more = bare_statement (statement.Class class) more
-class_by kind.Name None more = Err fault.UnknownName
-class_by _ _ more = Err fault.WrongOperands
-
--- `.class` and one class
+-- `.class` and one class: a name that is no class is told before operands that are too many
 unfoldable pub class_statement : List (List ℕ) → Result Statement AsmKind
 class_statement [] = Err fault.WrongOperands
-class_statement (name ∷ more) = class_by (kind_of name) (class_named name) more
+class_statement (name ∷ more) = elim (kind_of name) [
+  | kind.Name ↦ of_name (class_named name) (λ class. bare_statement (statement.Class class) more)
+  | _ ↦ Err fault.WrongOperands
+]
 
 -- the place of an entry's name among the entries of a class
 abbrev pub place_among : ℕ → List Key → List ℕ → Option ℕ
@@ -118,16 +96,13 @@ abbrev pub entry_value : Labels → ℕ → List (List ℕ) → Result Statement
 entry_value labels place (token ∷ []) = right_or_wrong (statement.Entry place) (value_of labels token)
 entry_value labels place _ = Err fault.WrongOperands
 
--- `.entry` by its name: one that the class does not have is told before operands that are too few or too many
-abbrev pub entry_by : Labels → TokenKind → Option ℕ → List (List ℕ) → Result Statement AsmKind
-entry_by labels kind.Name (Some place) more = entry_value labels place more
-entry_by labels kind.Name None more = Err fault.UnknownName
-entry_by labels _ _ more = Err fault.WrongOperands
-
--- `.entry`, a name of the class so far and a value
+-- `.entry`, a name of the class so far and a value: a name that the class does not have is told before operands that
+-- are too few or too many
 unfoldable pub entry_statement : Labels → Option Class → List (List ℕ) → Result Statement AsmKind
-entry_statement labels (Some class) (name ∷ more) =
-    entry_by labels (kind_of name) (place_among 0 (entry_keys class) name) more
+entry_statement labels (Some class) (name ∷ more) = elim (kind_of name) [
+  | kind.Name ↦ of_name (place_among 0 (entry_keys class) name) (λ place. entry_value labels place more)
+  | _ ↦ Err fault.WrongOperands
+]
 entry_statement labels _ _ = Err fault.WrongOperands
 
 -- one of the five directives and its operands
@@ -140,17 +115,14 @@ directive_statement labels class directive rest =
     else if bytes_eq directive (codes ".word") then word_statement labels rest
     else Err fault.WrongOperands
 
--- a statement, by what its first token is
-abbrev pub statement_by : TokenKind → Labels → Option Class → Section → List ℕ → List (List ℕ)
-    → Result Statement AsmKind
-statement_by kind.Name labels class section first rest = named_statement labels section (mnemonic_named first) rest
-statement_by kind.Directive labels class section first rest = directive_statement labels class first rest
-statement_by _ labels class section first rest = Err fault.WrongOperands
-
--- what the tokens behind the definition say
+-- what the tokens after the definition say: a first token that is a name must be a mnemonic
 unfoldable pub statement_of : Labels → Option Class → Section → List (List ℕ) → Result Statement AsmKind
 statement_of labels class section [] = Ok statement.Nothing
-statement_of labels class section (first ∷ rest) = statement_by (kind_of first) labels class section first rest
+statement_of labels class section (first ∷ rest) = elim (kind_of first) [
+  | kind.Name ↦ of_name (mnemonic_named first) (λ mnemonic. instr_statement labels section mnemonic rest)
+  | kind.Directive ↦ directive_statement labels class first rest
+  | _ ↦ Err fault.WrongOperands
+]
 
 -- ---- lines
 
@@ -164,29 +136,20 @@ abbrev pub definition_of : List (List ℕ) → Option (List ℕ)
 definition_of [] = None
 definition_of (first ∷ rest) = if is_definition (kind_of first) then Some (but_last first) else None
 
--- the tokens behind the definition
+-- the tokens after the definition
 abbrev pub behind_definition : List (List ℕ) → List (List ℕ)
 behind_definition [] = []
 behind_definition (first ∷ rest) = if is_definition (kind_of first) then rest else first ∷ rest
 
--- no token of the language
-abbrev pub is_bad : TokenKind → Bool
-is_bad kind.Bad = true
-is_bad _ = false
-
 -- one of the tokens is none of the language
 abbrev pub has_bad_token : List (List ℕ) → Bool
-has_bad_token tokens = list_any (λ token. is_bad (kind_of token)) tokens
+has_bad_token tokens = list_any (λ token. elim (kind_of token) [ kind.Bad ↦ true | _ ↦ false ]) tokens
 
--- the smaller of a statement's fault and WrongOperands
-abbrev pub at_most_wrong : Result Statement AsmKind → Result Statement AsmKind
-at_most_wrong (Ok says) = Err fault.WrongOperands
-at_most_wrong (Err kind) = Err kind
-
--- a register's name may not be defined
+-- a register's name may not be defined: such a line has WrongOperands, or its statement's fault, which is no larger
 abbrev pub behind_name : Option (List ℕ) → Result Statement AsmKind → Result Statement AsmKind
 behind_name None said = said
-behind_name (Some name) said = if is_register name then at_most_wrong said else said
+behind_name (Some name) said =
+    if is_register name then elim said [ Ok says ↦ Err fault.WrongOperands | Err kind ↦ Err kind ] else said
 
 -- what a line says, or the smallest of its faults among BadToken, UnknownName and WrongOperands
 unfoldable pub line_says : Labels → Option Class → Section → List (List ℕ) → Result Statement AsmKind

@@ -1,21 +1,8 @@
 use Rattle.std.specs.Prelude.{ℕ, ◌-◌, ◌==◌, ◌&&◌, ◌||◌, not, nat_le, min, Bool, List, [], ◌∷◌, ◌++◌, length, take, drop}
 use Rattle.std.specs.Prelude.{take_while, filter, slice_index, codes, decimal, bytes_eq, Option, is_some, if◌then◌else◌}
-use Rattle.std.specs.Char.{is_digit}
-use Rattle.std.specs.List.{list_all, slice_split}
-use Rattle.std.specs.Str.Parse.{digits_value}
-use Rattle.nook_defs.specs.Names.{of_text}
-use Rattle.nook_defs.specs.Types.{TokenKind}
+use Rattle.std.specs.{Char.is_digit, List.{list_all, slice_split}, Str.Parse.digits_value}
+use Rattle.nook_defs.specs.{Names.of_text, Types.TokenKind}
 use Rattle.nook_defs.specs.declared.assembler.TokenKind.TheVariants as kind
-
--- the bytes that end a line, begin a comment and stand between tokens
-
--- a line ends here
-abbrev pub is_line_feed : ℕ → Bool
-is_line_feed b = b == 10
-
--- anything but the `;` that begins a comment
-abbrev pub is_before_comment : ℕ → Bool
-is_before_comment b = not (b == 59)
 
 -- space, tab, carriage return or comma
 abbrev pub is_separator : ℕ → Bool
@@ -31,13 +18,13 @@ without_empty_last [] = []
 without_empty_last (piece ∷ []) = filter is_not_empty (piece ∷ [])
 without_empty_last (piece ∷ next ∷ more) = piece ∷ without_empty_last (next ∷ more)
 
--- the lines of a text: behind the last line feed there is one only where something stands there
+-- the lines of a text, each up to a line feed: after the last one there is a line only where something stands there
 unfoldable pub lines_of : List ℕ → List (List ℕ)
-lines_of text = without_empty_last (slice_split is_line_feed text)
+lines_of text = without_empty_last (slice_split (λ b. b == 10) text)
 
--- the tokens of a line: the runs between separators, up to the comment
+-- the tokens of a line: the runs between separators, up to the `;` that begins a comment
 unfoldable pub tokens_of : List ℕ → List (List ℕ)
-tokens_of line = filter is_not_empty (slice_split is_separator (take_while is_before_comment line))
+tokens_of line = filter is_not_empty (slice_split is_separator (take_while (λ b. not (b == 59)) line))
 
 -- a letter or `_`
 abbrev pub is_letter : ℕ → Bool
@@ -65,7 +52,7 @@ numeral_value base bytes = min (digits_value base bytes) 4294967296
 abbrev pub but_last : List ℕ → List ℕ
 but_last bytes = take (length bytes - 1) bytes
 
--- what a token is
+-- what a token is, which has a byte at least
 unfoldable pub kind_of : List ℕ → TokenKind
 kind_of token =
     if is_label_name token then kind.Name
@@ -81,10 +68,10 @@ abbrev pub register_text : ℕ → List ℕ
 register_text register = codes "r" ++ decimal register
 
 -- the register whose text a name is
-unfoldable pub register_of : List ℕ → Option ℕ
-register_of name =
+unfoldable pub register_named : List ℕ → Option ℕ
+register_named name =
     of_text register_text (0 ∷ 1 ∷ 2 ∷ 3 ∷ 4 ∷ 5 ∷ 6 ∷ 7 ∷ 8 ∷ 9 ∷ 10 ∷ 11 ∷ 12 ∷ 13 ∷ 14 ∷ 15 ∷ []) name
 
 -- a register's name, which is no label
 abbrev pub is_register : List ℕ → Bool
-is_register name = is_some (register_of name)
+is_register name = is_some (register_named name)

@@ -1,65 +1,59 @@
 use Rattle.std.specs.Prelude.{ℕ, ◌+◌, ◌-◌, ◌==◌, ◌++◌, nat_lt, List, [], ◌∷◌, length, replicate, slice_get, slice_set}
 use Rattle.std.specs.Prelude.{Bool, true, false, not, ◌||◌, Option, Some, None, is_some, option_map, Result, Ok, Err, ⊤}
 use Rattle.std.specs.Prelude.{if◌then◌else◌}
-use Rattle.nook_defs.specs.AsmLines.{Labels, no_labels, first_of, definition_of, line_says}
-use Rattle.nook_defs.specs.AsmTokens.{is_register, lines_of, tokens_of}
-use Rattle.nook_defs.specs.Classes.{entry_count}
-use Rattle.nook_defs.specs.Machine.{encode_of}
-use Rattle.nook_defs.specs.Mnemonics.{instr_with}
-use Rattle.nook_defs.specs.Results.{◌>>=◌}
-use Rattle.nook_defs.specs.Types.{AsmFault, AsmKind, Class, Image, Label, Section, Statement, Value}
+use Rattle.nook_defs.specs.declared.memory_map.TheConstants.{TEXT_WORDS, DATA_START, DATA_WORDS}
+use Rattle.nook_defs.specs.{AsmLines.{Labels, first_of, definition_of, line_says}, AsmTokens.{is_register, lines_of}}
+use Rattle.nook_defs.specs.{AsmTokens.tokens_of, Classes.entry_count, Machine.encode_of, Mnemonics.instr_with}
+use Rattle.nook_defs.specs.{Results.◌>>=◌, Types.{AsmFault, AsmKind, Class, Image, Label, Section, Statement, Value}}
 use Rattle.nook_defs.specs.declared.assembler.AsmKind.TheVariants as fault
 use Rattle.nook_defs.specs.declared.assembler.Section.TheVariants as section
 use Rattle.nook_defs.specs.declared.assembler.Statement.TheVariants as statement
 use Rattle.nook_defs.specs.declared.assembler.Value.TheVariants as value
-use Rattle.nook_defs.specs.declared.memory_map.TheConstants.{TEXT_WORDS, DATA_START, DATA_WORDS}
 
 -- ---- first pass: the labels
 
 -- where the next words go: the line, the section, and the words that each section has
-pub record Places : Type 0 where
+pub record Cursor : Type 0 where
   pub line : ℕ
   pub in_section : Section
   pub text : ℕ
   pub initial : ℕ
 
--- the place of the next word; data comes behind the 2,048 words of the text
-abbrev pub place_in : Section → Places → ℕ
+-- the place of the next word; data comes after the 2,048 words of the text
+abbrev pub place_in : Section → Cursor → ℕ
 place_in section.Text at = at.text
 place_in section.Data at = DATA_START + at.initial
 
 -- the label that a line defines: a register's name defines none
-abbrev pub label_of : Option (List ℕ) → Places → List Label
+abbrev pub label_of : Option (List ℕ) → Cursor → List Label
 label_of None at = []
 label_of (Some name) at =
     if is_register name then [] else record { name = name; place = place_in at.in_section at; line = at.line } ∷ []
 
--- one line further
-abbrev pub next_line : Places → Places
-next_line at = record at { line = at.line + 1 }
-
 -- a section with one word more
-abbrev pub one_word : Section → Places → Places
+abbrev pub one_word : Section → Cursor → Cursor
 one_word section.Text at = record at { text = at.text + 1 }
 one_word section.Data at = record at { initial = at.initial + 1 }
 
--- places after a line: one that `line_says` finds a fault in adds no word and stays in the section
-abbrev pub places_after : Result Statement AsmKind → Places → Places
-places_after (Ok (statement.Section in_section)) at = record at { in_section = in_section }
-places_after (Ok (statement.Word value)) at = one_word at.in_section at
-places_after (Ok (statement.Instr mnemonic operands)) at = one_word at.in_section at
-places_after _ at = at
+-- the cursor after what a line says, but for the line: a line in which `line_says` finds a fault adds no word and stays
+-- in the section
+abbrev pub cursor_after : Result Statement AsmKind → Cursor → Cursor
+cursor_after (Ok (statement.Section in_section)) at = record at { in_section = in_section }
+cursor_after (Ok (statement.Word value)) at = one_word at.in_section at
+cursor_after (Ok (statement.Instr mnemonic operands)) at = one_word at.in_section at
+cursor_after _ at = at
 
 -- the labels that the lines define, in order. No place depends on a label's value or on the class.
-unfoldable pub labels_from : Places → List (List ℕ) → List Label
+unfoldable pub labels_from : Cursor → List (List ℕ) → List Label
 labels_from at [] = []
-labels_from at (line ∷ more) = let tokens = tokens_of line in
-    label_of (definition_of tokens) at
-    ++ labels_from (next_line (places_after (line_says no_labels None at.in_section tokens) at)) more
+labels_from at (line ∷ more) =
+    let tokens = tokens_of line in
+    let next = cursor_after (line_says (λ name. None) None at.in_section tokens) at in
+    label_of (definition_of tokens) at ++ labels_from (record next { line = next.line + 1 }) more
 
--- places at the first line
-abbrev pub first_places : Places
-first_places = record { line = 1; in_section = section.Text; text = 0; initial = 0 }
+-- the cursor at the first line
+abbrev pub first_cursor : Cursor
+first_cursor = record { line = 1; in_section = section.Text; text = 0; initial = 0 }
 
 -- ---- second pass: the image
 
@@ -92,25 +86,17 @@ is_out_of_range (statement.Word value) = is_above 4294967295 value
 is_out_of_range (statement.Instr mnemonic operands) = is_above 65535 operands.imm
 is_out_of_range _ = false
 
--- the first definition of the name stands on another line
-abbrev pub is_other_line : Option Label → ℕ → Bool
-is_other_line None line = false
-is_other_line (Some label) line = not (label.line == line)
-
--- the line defines a name again
+-- the line defines a name again: its first definition stands on another line
 abbrev pub is_second_label : Labels → ℕ → Option (List ℕ) → Bool
 is_second_label labels line None = false
-is_second_label labels line (Some name) = is_other_line (labels name) line
-
--- an entry of the class that has its value
-abbrev pub is_given : Option (Option ℕ) → Bool
-is_given (Some (Some number)) = true
-is_given _ = false
+is_second_label labels line (Some name) =
+    elim (labels name) [ None ↦ false | Some label ↦ not (label.line == line) ]
 
 -- the class or the entry was given before
 abbrev pub is_second_given : Draft → Statement → Bool
 is_second_given draft (statement.Class class) = is_some draft.class
-is_second_given draft (statement.Entry place value) = is_given (slice_get draft.entries place)
+is_second_given draft (statement.Entry place value) =
+    elim (slice_get draft.entries place) [ Some (Some number) ↦ true | _ ↦ false ]
 is_second_given draft _ = false
 
 -- the number of a value; its label must be defined
@@ -127,24 +113,17 @@ with_word section.Data word draft =
     if nat_lt (length draft.initial) DATA_WORDS then Ok (record draft { initial = draft.initial ++ word ∷ [] })
     else Err fault.DataTooLong
 
--- the draft with its class, and none of its entries given
-abbrev pub with_class : Class → Draft → Draft
-with_class class draft = record draft { class = Some class; entries = replicate (entry_count class) None }
-
--- the draft after a statement
+-- the draft after a statement; a class begins with none of its entries given
 abbrev pub with_statement : Statement → Draft → Result Draft AsmKind
 with_statement statement.Nothing draft = Ok draft
-with_statement (statement.Class class) draft = Ok (with_class class draft)
-with_statement (statement.Entry place value) draft = do
-  number ← known value
-  Ok (record draft { entries = slice_set draft.entries place (Some number) })
+with_statement (statement.Class class) draft =
+    Ok (record draft { class = Some class; entries = replicate (entry_count class) None })
+with_statement (statement.Entry place value) draft =
+    known value >>= λ number. Ok (record draft { entries = slice_set draft.entries place (Some number) })
 with_statement (statement.Section in_section) draft = Ok (record draft { in_section = in_section })
-with_statement (statement.Word value) draft = do
-  number ← known value
-  with_word draft.in_section number draft
-with_statement (statement.Instr mnemonic operands) draft = do
-  number ← known operands.imm
-  with_word draft.in_section (encode_of (instr_with mnemonic operands.a operands.b number)) draft
+with_statement (statement.Word value) draft = known value >>= λ number. with_word draft.in_section number draft
+with_statement (statement.Instr mnemonic operands) draft = known operands.imm >>= λ imm.
+    with_word draft.in_section (encode_of (instr_with mnemonic operands.a operands.b imm)) draft
 
 -- the draft after a line, or the smallest kind of fault that the line has: one of `line_says`, then NumberRange, then
 -- DoubleLabel, then MissingLabel, TextTooLong or DataTooLong
@@ -163,9 +142,8 @@ at_line line (Err kind) = Err (record { kind = kind; line = line })
 -- the draft after all lines, the first of them with its number, or the fault of the first line that has one
 unfoldable pub draft_from : Labels → ℕ → List (List ℕ) → Draft → Result Draft AsmFault
 draft_from labels line [] draft = Ok draft
-draft_from labels line (first ∷ more) draft = do
-  next ← at_line line (draft_after labels line (tokens_of first) draft)
-  draft_from labels (line + 1) more next
+draft_from labels line (first ∷ more) draft =
+    at_line line (draft_after labels line (tokens_of first) draft) >>= λ next. draft_from labels (line + 1) more next
 
 -- the values, where each is given
 abbrev pub all_given : List (Option ℕ) → Option (List ℕ)
@@ -182,5 +160,5 @@ image_with _ _ draft = Err fault.MissingEntry
 -- the image of an assembler text, or its first fault. A class or an entry that is missing stands behind the last line.
 unfoldable pub assembled : List ℕ → Result Image AsmFault
 assembled text = let lines = lines_of text in do
-  draft ← draft_from (first_of (labels_from first_places lines)) 1 lines first_draft
+  draft ← draft_from (first_of (labels_from first_cursor lines)) 1 lines first_draft
   at_line (length lines + 1) (image_with draft.class (all_given draft.entries) draft)

@@ -25,15 +25,11 @@ abbrev pub words_for : Op → ℕ → List ℕ
 words_for (Write first words) block = take BLOCK_WORDS (drop (BLOCK_WORDS * (block - first)) words)
 words_for o block = []
 
--- a block, or what a Write has for it
-abbrev pub put_block : Bool → Op → ℕ → List ℕ → List ℕ
-put_block true o block words = words_for o block
-put_block false o block words = words
-
 -- the blocks after the chosen ones of a Write were put; `block` is the number of the first
 abbrev pub put_from : (ℕ → Bool) → Op → ℕ → List (List ℕ) → List (List ℕ)
 put_from chosen o block [] = []
-put_from chosen o block (words ∷ blocks) = put_block (chosen block) o block words ∷ put_from chosen o (suc block) blocks
+put_from chosen o block (words ∷ blocks) =
+    elim (chosen block) [ true ↦ words_for o block | false ↦ words ] ∷ put_from chosen o (suc block) blocks
 
 -- each block that a Write covers has its words; `block` is the number of the first
 abbrev pub holds_from : ℕ → Op → List (List ℕ) → Bool

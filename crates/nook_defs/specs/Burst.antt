@@ -1,5 +1,5 @@
-use Rattle.std.specs.Prelude.{ℕ, zero, suc, ◌-◌, ◌+◌, ◌==◌, nat_le, nat_lt, if◌then◌else◌, Bool, true, false, Option}
-use Rattle.std.specs.Prelude.{Some, None, List, [], ◌∷◌, ◌++◌, length, slice_set}
+use Rattle.std.specs.Prelude.{ℕ, zero, suc, ◌-◌, ◌==◌, nat_le, nat_lt, if◌then◌else◌, true, false, Option, Some, None}
+use Rattle.std.specs.Prelude.{List, [], ◌∷◌, ◌++◌, length, slice_set}
 use Rattle.nook_defs.specs.Types.{Act, BurstEnd, Entry, Fault, FaultKind, TrapCause}
 use Rattle.nook_defs.specs.declared.scenario.FaultKind.TheVariants as fault
 use Rattle.nook_defs.specs.declared.machine.TrapCause.TheVariants as trap
@@ -41,9 +41,7 @@ struck_registers _ registers = registers
 
 -- the trap that a fault is
 abbrev pub trap_of : FaultKind → Option TrapCause
-trap_of fault.Trap = Some trap.Injected
-trap_of fault.Hang = Some trap.Hang
-trap_of _ = None
+trap_of k = elim k [ fault.Trap ↦ Some trap.Injected | fault.Hang ↦ Some trap.Hang | _ ↦ None ]
 
 -- the machine after a fault struck
 abbrev pub struck_machine : List Entry → FaultKind → Machine → Machine
@@ -52,29 +50,24 @@ struck_machine entries k m = record m {
   memory = struck_memory entries k m.memory;
 }
 
--- a fault that is a trap stops the others of its place
-abbrev pub past_trap : Struck → Machine → List Fault → Option TrapCause → Struck
-past_trap more m rest None = more
-past_trap more m rest (Some cause) = record { machine = m; rest = rest; stopped = Some cause }
-
--- the faults of one place strike in order, up to a trap
+-- the faults of one place strike in order; one that is a trap stops the others of its place
 abbrev pub strikes_at : ℕ → List Entry → List Fault → Machine → Struck
 strikes_at place entries [] m = record { machine = m; rest = []; stopped = None }
-strikes_at place entries (f ∷ faults) m =
-    elim (f.after == place) [
-      | true ↦ past_trap (strikes_at place entries faults (struck_machine entries f.kind m)) m faults (trap_of f.kind)
-      | false ↦ record { machine = m; rest = f ∷ faults; stopped = None }
-    ]
+strikes_at place entries (f ∷ faults) m = elim (f.after == place) [
+  | true ↦ elim (trap_of f.kind) [
+    | None ↦ strikes_at place entries faults (struck_machine entries f.kind m)
+    | Some cause ↦ record { machine = m; rest = faults; stopped = Some cause }
+  ]
+  | false ↦ record { machine = m; rest = f ∷ faults; stopped = None }
+]
 
 -- an injected hang has the count of a whole burst, an injected trap that of the turns before it
 abbrev pub count_at : ℕ → TrapCause → ℕ
-count_at count trap.Hang = MOST_TURNS
-count_at count _ = count
+count_at count cause = elim cause [ trap.Hang ↦ MOST_TURNS | _ ↦ count ]
 
 -- the act of a turn, where it does one
 abbrev pub acts_of : Option Act → List Act
-acts_of None = []
-acts_of (Some done) = done ∷ []
+acts_of act = elim act [ None ↦ [] | Some done ↦ done ∷ [] ]
 
 -- what a turn leaves: the burst goes on, with the machine, the faults that are left and the acts so far; or it is over
 pub data Going : Type 0 where
@@ -91,8 +84,7 @@ after_turn count rest acts t =
           else on t.machine rest acts'
     ]
 
--- one turn, with so many left after it: the faults of its place strike, and a trap among them ends the burst;
--- then comes the machine's turn
+-- one turn, with so many left after it: the faults of its place, of which a trap ends the burst; then the machine's
 abbrev pub one_turn : ℕ → List Entry → List Fault → Machine → List Act → Going
 one_turn left entries faults m acts =
     let place : ℕ = MOST_TURNS - suc left in
@@ -105,11 +97,10 @@ one_turn left entries faults m acts =
 -- a burst with so many turns left: one turn after the other until it is over; a burst without a crossing is a hang
 unfoldable pub burst_from : ℕ → List Entry → List Fault → Machine → List Act → Burst
 burst_from zero entries faults m acts = ended MOST_TURNS m acts (ends.Trap trap.Hang)
-burst_from (suc left) entries faults m acts =
-    elim (one_turn left entries faults m acts) [
-      | on m' rest acts' ↦ burst_from left entries rest m' acts'
-      | over b ↦ b
-    ]
+burst_from (suc left) entries faults m acts = elim (one_turn left entries faults m acts) [
+  | on m' rest acts' ↦ burst_from left entries rest m' acts'
+  | over b ↦ b
+]
 
 -- one burst up to its crossing, with the faults of the burst in rising order of their places
 unfoldable pub burst : List Entry → List Fault → Machine → Burst

@@ -7,17 +7,14 @@ use Rattle.nook_defs.specs.declared.steps.Mode.TheVariants as mode
 use Rattle.nook_defs.specs.Classes.{static_check, admit}
 use Rattle.nook_defs.specs.Devices.{head_of, tail_of}
 use Rattle.nook_defs.specs.Domain.{entered_domain}
-use Rattle.nook_defs.specs.Log.{with_call, with_answered_call, after_answering, after_entering, call_of_thread}
-use Rattle.nook_defs.specs.Log.{shadow_answer}
-use Rattle.nook_defs.specs.Log.{queue_after}
+use Rattle.nook_defs.specs.Log.{after_answering, after_entering, call_of_thread, queue_after, shadow_answer}
+use Rattle.nook_defs.specs.Log.{with_answered_call, with_call}
 use Rattle.nook_defs.specs.State.{CallLog, PartState}
 
 -- the part after a step, and the step's one event
 pub record Stepped : Type 0 where
   pub state : PartState
   pub event : Event
-
--- Invoking
 
 -- the answer that the mode gives to an operation past the static check; None where the call is held
 abbrev pub answer_in : Mode → ℕ → Op → PartState → Option Answer
@@ -30,28 +27,18 @@ abbrev pub queue_in : Mode → Op → List (List ℕ) → List (List ℕ)
 queue_in (mode.Recovering s) o queue = queue_after o queue
 queue_in _ o queue = queue
 
--- a call that the shadow or the static check answers is only counted; another is open
-abbrev pub log_after_invoke : ℕ → Op → Option Answer → CallLog → CallLog
-log_after_invoke thread o None log = with_call thread o log
-log_after_invoke thread o (Some a) log = with_answered_call log
-
--- the part after an Invoke with its answer, if it has one
+-- the part after an Invoke with its answer, if it has one: a call that is answered is only counted; another is open
 abbrev pub invoked_with : PartState → ℕ → Op → Option Answer → List (List ℕ) → Stepped
-invoked_with p thread o a queue = record {
-  state = record p { log = log_after_invoke thread o a p.log; queue = queue };
-  event = event.Invoke (p.log.count + 1) thread o a;
-}
+invoked_with p thread o a queue =
+    let log : CallLog = elim a [ None ↦ with_call thread o p.log | Some a ↦ with_answered_call p.log ] in
+    record { state = record p { log = log; queue = queue }; event = event.Invoke (p.log.count + 1) thread o a }
 
--- an operation that the static check answers changes nothing else
-abbrev pub invoked_by : PartState → ℕ → Op → Option Answer → Stepped
-invoked_by p thread o None = invoked_with p thread o (answer_in p.mode thread o p) (queue_in p.mode o p.queue)
-invoked_by p thread o (Some a) = invoked_with p thread o (Some a) p.queue
-
--- a thread invokes an operation: the static check answers it, or the mode answers or holds it
+-- a thread invokes an operation: the static check answers it, with no other change, or the mode answers or holds it
 unfoldable pub after_invoke : ℕ → Op → PartState → Stepped
-after_invoke thread o p = invoked_by p thread o (static_check p.spec.class p.spec.blocks o)
-
--- Entering
+after_invoke thread o p = elim (static_check p.spec.class p.spec.blocks o) [
+  | None ↦ invoked_with p thread o (answer_in p.mode thread o p) (queue_in p.mode o p.queue)
+  | Some a ↦ invoked_with p thread o (Some a) p.queue
+]
 
 -- the event of an Enter, with the number of the attempt
 abbrev pub entering : PartState → CallEntry → Option Answer → Event
@@ -59,10 +46,8 @@ entering p c a = event.Enter c.call c.thread (c.attempts + 1) a
 
 -- a call that its class answers is over; another begins an attempt
 abbrev pub after_admit : PartState → CallEntry → Admit → Stepped
-after_admit p c (admits.Reply a) = record {
-  state = record p { log = after_answering c.call p.log };
-  event = entering p c (Some a);
-}
+after_admit p c (admits.Reply a) =
+    record { state = record p { log = after_answering c.call p.log }; event = entering p c (Some a) }
 after_admit p c admits.TakeFrame = record {
   state = record p { log = after_answering c.call p.log; queue = tail_of p.queue };
   event = entering p c (Some (answer.Frame (head_of p.queue)));
@@ -72,12 +57,10 @@ after_admit p c (admits.Enter place) = record {
   event = entering p c None;
 }
 
--- the Enter of a thread's open call; a thread that has none may not take this step
-abbrev pub entered_by : PartState → ℕ → Option CallEntry → Stepped
-entered_by p thread None = record { state = p; event = event.Enter 0 thread 0 None }
-entered_by p thread (Some c) =
-    after_admit p c (admit p.spec.class thread c.op p.log.holder (length p.queue))
-
--- a thread's held call is answered by the class, or goes Inside with its parameters copied from the log
+-- a thread's held call is answered by the class, or goes Inside with its parameters copied from the log. A thread that
+-- has no open call may not take this step, so the first line is not reached
 unfoldable pub after_enter : ℕ → PartState → Stepped
-after_enter thread p = entered_by p thread (call_of_thread thread p.log.pending)
+after_enter thread p = elim (call_of_thread thread p.log.pending) [
+  | None ↦ record { state = p; event = event.Enter 0 thread 0 None }
+  | Some c ↦ after_admit p c (admit p.spec.class thread c.op p.log.holder (length p.queue))
+]

@@ -11,9 +11,7 @@ use Rattle.nook_defs.specs.declared.calls.Op.TheVariants.{Read, Write, Send, Rec
 
 -- the number by which a driver registers for its class
 abbrev pub class_code : Class → ℕ
-class_code Block = 0
-class_code Net = 1
-class_code Sound = 2
+class_code class = elim class [ Block ↦ 0 | Net ↦ 1 | Sound ↦ 2 ]
 
 -- two classes are one
 abbrev pub same_class : Class → Class → Bool
@@ -48,33 +46,27 @@ is_of_class class Recv = same_class class Net
 is_of_class class Open = same_class class Sound
 is_of_class class (Play samples) = same_class class Sound
 is_of_class class Close = same_class class Sound
-is_of_class class (Get key) = true
-is_of_class class (Set key value) = true
+is_of_class class o = true
 
 -- a Write
 abbrev pub is_write : Op → Bool
-is_write (Write first words) = true
-is_write o = false
+is_write o = elim o [ (Write first words) ↦ true | _ ↦ false ]
 
 -- a Set
 abbrev pub is_set : Op → Bool
-is_set (Set key value) = true
-is_set o = false
+is_set o = elim o [ (Set key value) ↦ true | _ ↦ false ]
 
 -- a Recv
 abbrev pub is_recv : Op → Bool
-is_recv Recv = true
-is_recv o = false
+is_recv o = elim o [ Recv ↦ true | _ ↦ false ]
 
 -- a Play
 abbrev pub is_play : Op → Bool
-is_play (Play samples) = true
-is_play o = false
+is_play o = elim o [ (Play samples) ↦ true | _ ↦ false ]
 
 -- a Send of this frame
 abbrev pub sends : List ℕ → Op → Bool
-sends frame (Send own) = bytes_eq own frame
-sends frame o = false
+sends frame o = elim o [ (Send own) ↦ bytes_eq own frame | _ ↦ false ]
 
 -- the word is the next one of a Play of which so many samples were played
 abbrev pub is_next : Op → ℕ → ℕ → Bool
@@ -83,10 +75,7 @@ is_next o played word = false
 
 -- Open, Play and Close
 abbrev pub is_of_stream : Op → Bool
-is_of_stream Open = true
-is_of_stream (Play samples) = true
-is_of_stream Close = true
-is_of_stream o = false
+is_of_stream o = elim o [ Open ↦ true | (Play samples) ↦ true | Close ↦ true | _ ↦ false ]
 
 -- the first block of a Read or Write
 abbrev pub first_of_op : Op → ℕ
@@ -127,14 +116,12 @@ check_op class blocks (Write first words) =
     if is_block_length (length words) then check_range blocks first (length words / BLOCK_WORDS)
     else Some answer.BadLength
 check_op class blocks (Send frame) = check_length frame
-check_op class blocks Recv = None
-check_op class blocks Open = None
 check_op class blocks (Play samples) = check_length samples
-check_op class blocks Close = None
 check_op class blocks (Get key) = if nat_le key 3 then None else Some answer.BadKey
 check_op class blocks (Set key value) =
     if nat_le key 3 then if nat_le value (maximum_of class key) then None else Some answer.BadValue
     else Some answer.BadKey
+check_op class blocks o = None
 
 -- the answer that an operation gets in every state, if there is one; the second argument is the disk's blocks
 abbrev pub static_check : Class → ℕ → Op → Option Answer
@@ -143,13 +130,13 @@ static_check class blocks o = if is_of_class class o then check_op class blocks 
 -- ---- conflicts: two open calls of which the later waits for the earlier
 
 -- two ranges of blocks
-abbrev pub overlap : Op → Op → Bool
-overlap a b =
+abbrev pub share_block : Op → Op → Bool
+share_block a b =
     nat_lt (first_of_op a) (first_of_op b + blocks_of_op b) && nat_lt (first_of_op b) (first_of_op a + blocks_of_op a)
 
 -- two operations of a class, neither of them a Set
 abbrev pub clash : Class → Op → Op → Bool
-clash Block a b = (is_write a || is_write b) && overlap a b
+clash Block a b = (is_write a || is_write b) && share_block a b
 clash Net a b = is_recv a && is_recv b
 clash Sound a b = is_of_stream a && is_of_stream b
 
@@ -161,9 +148,7 @@ conflicts class a b = is_set a || is_set b || clash class a b
 
 -- how many entries a driver of the class has
 abbrev pub entry_count : Class → ℕ
-entry_count Block = 5
-entry_count Net = 5
-entry_count Sound = 6
+entry_count class = elim class [ Block ↦ 5 | Net ↦ 5 | Sound ↦ 6 ]
 
 -- the place of Init among the entries
 abbrev pub init_place : ℕ
@@ -175,15 +160,11 @@ open_place = 1
 
 -- the place of Get among the entries
 abbrev pub get_place : Class → ℕ
-get_place Block = 3
-get_place Net = 3
-get_place Sound = 4
+get_place class = elim class [ Block ↦ 3 | Net ↦ 3 | Sound ↦ 4 ]
 
 -- the place of Set among the entries
 abbrev pub set_place : Class → ℕ
-set_place Block = 4
-set_place Net = 4
-set_place Sound = 5
+set_place class = elim class [ Block ↦ 4 | Net ↦ 4 | Sound ↦ 5 ]
 
 -- the place of an operation's entry
 abbrev pub entry_place : Class → Op → ℕ
@@ -204,11 +185,6 @@ abbrev pub is_holder : Option ℕ → ℕ → Bool
 is_holder None thread = false
 is_holder (Some holder) thread = holder == thread
 
--- an Open while the stream is free, or while a thread has it
-abbrev pub admit_open : Option ℕ → Admit
-admit_open None = Enter open_place
-admit_open (Some holder) = Reply (answer.InUse holder)
-
 -- a Play or Close, which only the holder may do
 abbrev pub admit_holder : Bool → ℕ → Admit
 admit_holder true place = Enter place
@@ -217,7 +193,7 @@ admit_holder false place = Reply answer.NotOpen
 -- what becomes of a thread's call at its Enter, by the stream's holder and the number of frames in the queue
 abbrev pub admit : Class → ℕ → Op → Option ℕ → ℕ → Admit
 admit class thread Recv holder queued = if queued == 0 then Enter (entry_place class Recv) else TakeFrame
-admit class thread Open holder queued = admit_open holder
+admit class thread Open holder queued = elim holder [ None ↦ Enter open_place | Some one ↦ Reply (answer.InUse one) ]
 admit class thread (Play samples) holder queued =
     admit_holder (is_holder holder thread) (entry_place class (Play samples))
 admit class thread Close holder queued = admit_holder (is_holder holder thread) (entry_place class Close)
@@ -231,7 +207,6 @@ is_io_status o status = nat_le 256 status && nat_lt (status - 256) (blocks_of_op
 
 -- what the status of a reply says of an operation
 abbrev pub accept : Op → ℕ → Accept
-accept o status =
-    if status == 0 then accepted.Take
+accept o status = if status == 0 then accepted.Take
     else if is_io_status o status then accepted.IoError (first_of_op o + (status - 256))
     else accepted.Fail (BadReply status)

@@ -16,7 +16,7 @@ use Rattle.nook_defs.specs.declared.steps.Stage.TheVariants as stage
 use Rattle.nook_defs.specs.Blocks.{blank_blocks, get_blocks, has_block, holds_from, words_for}
 use Rattle.nook_defs.specs.Classes.{covers, defaults_of, is_next, is_play, is_write, sends, is_recv}
 use Rattle.nook_defs.specs.Answers.{answers_of}
-use Rattle.nook_defs.specs.declared.calls.Op.TheVariants.{Recv}
+use Rattle.nook_defs.specs.Devices.{is_empty}
 
 -- The contract of a class is what a driver owes its device and its callers, in fifteen clauses. It is judged by the
 -- events of a journal alone. Two things are said apart: what is known after some events, and what the next event
@@ -31,22 +31,22 @@ all_clauses =
     ∷ LeftInRing ∷ OtherSample ∷ UnplayedPlay ∷ UnaskedRegister ∷ UnmadeSet ∷ OtherGet ∷ UnseenFailure ∷ []
 
 -- the number by which a clause is printed
-abbrev pub number_of : Clause → ℕ
-number_of UnaskedStore = 1
-number_of OtherStore = 2
-number_of UnstoredWrite = 3
-number_of OtherRead = 4
-number_of UnaskedFrame = 5
-number_of SecondFrame = 6
-number_of UnsentSend = 7
-number_of OutOfOrder = 8
-number_of LeftInRing = 9
-number_of OtherSample = 10
-number_of UnplayedPlay = 11
-number_of UnaskedRegister = 12
-number_of UnmadeSet = 13
-number_of OtherGet = 14
-number_of UnseenFailure = 15
+abbrev pub clause_number : Clause → ℕ
+clause_number UnaskedStore = 1
+clause_number OtherStore = 2
+clause_number UnstoredWrite = 3
+clause_number OtherRead = 4
+clause_number UnaskedFrame = 5
+clause_number SecondFrame = 6
+clause_number UnsentSend = 7
+clause_number OutOfOrder = 8
+clause_number LeftInRing = 9
+clause_number OtherSample = 10
+clause_number UnplayedPlay = 11
+clause_number UnaskedRegister = 12
+clause_number UnmadeSet = 13
+clause_number OtherGet = 14
+clause_number UnseenFailure = 15
 
 -- ---- what is known
 
@@ -119,12 +119,12 @@ abbrev pub call_of : ℕ → List OpenCall → Option OpenCall
 call_of number calls = find (λ c. c.number == number) calls
 
 -- a Write that is Inside and covers a block
-abbrev pub stores : ℕ → OpenCall → Bool
-stores block c = c.inside && is_write c.op && covers c.op block
+abbrev pub may_store : ℕ → OpenCall → Bool
+may_store block c = c.inside && is_write c.op && covers c.op block
 
 -- such a Write that has other words for the block
 abbrev pub stores_other : ℕ → List ℕ → OpenCall → Bool
-stores_other block words c = stores block c && not (bytes_eq words (words_for c.op block))
+stores_other block words c = may_store block c && not (bytes_eq words (words_for c.op block))
 
 -- a Play that is Inside
 abbrev pub is_playing : OpenCall → Bool
@@ -136,18 +136,15 @@ play_inside calls = find is_playing calls
 
 -- the sample is the next one of a Play
 abbrev pub is_next_of : ℕ → Option OpenCall → Bool
-is_next_of word None = false
-is_next_of word (Some c) = is_next c.op c.played word
+is_next_of word o = elim o [ None ↦ false | Some c ↦ is_next c.op c.played word ]
 
 -- a call that is such a Send
 abbrev pub is_send_of : List ℕ → Option OpenCall → Bool
-is_send_of frame None = false
-is_send_of frame (Some c) = sends frame c.op
+is_send_of frame o = elim o [ None ↦ false | Some c ↦ sends frame c.op ]
 
 -- a Set of a key and value
 abbrev pub sets : ℕ → ℕ → Op → Bool
-sets key value (Set k v) = (k == key) && (v == value)
-sets key value o = false
+sets key value o = elim o [ (Set k v) ↦ (k == key) && (v == value) | _ ↦ false ]
 
 -- such a Set that is Inside
 abbrev pub is_setting : ℕ → ℕ → OpenCall → Bool
@@ -155,8 +152,7 @@ is_setting key value c = c.inside && sets key value c.op
 
 -- the ReplaySet is of this key and value
 abbrev pub is_replay_of : ℕ → ℕ → Option (ℕ × ℕ) → Bool
-is_replay_of key value None = false
-is_replay_of key value (Some set) = (set.0 == key) && (set.1 == value)
+is_replay_of key value o = elim o [ None ↦ false | Some set ↦ (set.0 == key) && (set.1 == value) ]
 
 -- a Set or a ReplaySet that is Inside gives the register this value
 abbrev pub is_asked : ℕ → ℕ → Known → Bool
@@ -168,13 +164,6 @@ is_front [] frames = true
 is_front (first ∷ more) [] = false
 is_front (first ∷ more) (frame ∷ frames) = bytes_eq first frame && is_front more frames
 
--- there is no frame
-abbrev pub is_empty : List (List ℕ) → Bool
-is_empty [] = true
-is_empty (frame ∷ frames) = false
-
--- ---- questions about an operation that is answered
-
 -- the register has the value of the ReplaySet that is Inside, if one is
 abbrev pub is_replayed : Option (ℕ × ℕ) → List ℕ → Bool
 is_replayed None registers = true
@@ -185,7 +174,7 @@ is_replayed (Some set) registers = slice_index registers set.0 == set.1
 -- the deed, in a burst of this call (none for the shadow's own), breaks the clause
 abbrev pub breaks : Clause → Known → Option OpenCall → Deed → Bool
 -- 1: a block is stored that no Write Inside covers
-breaks UnaskedStore k c (acts (act.Store block words)) = not (list_any (stores block) k.calls)
+breaks UnaskedStore k c (acts (act.Store block words)) = not (list_any (may_store block) k.calls)
 -- 2: a block that a Write Inside covers is stored with other words than that Write's
 breaks OtherStore k c (acts (act.Store block words)) = list_any (stores_other block words) k.calls
 -- 3: a Write is accepted, and a block that it covers does not hold its words
@@ -298,8 +287,8 @@ abbrev pub is_answered_in : List (ℕ × Answer) → OpenCall → Bool
 is_answered_in answers c = list_any (λ a. a.0 == c.number) answers
 
 -- what is known after one more event: a call is open until an event answers it
-abbrev pub after : Known → Event → Known
-after k e = record (during k e) { calls = filter (λ c. not (is_answered_in (answers_of e) c)) (during k e).calls }
+abbrev pub known_after : Known → Event → Known
+known_after k e = record (during k e) { calls = filter (λ c. not (is_answered_in (answers_of e) c)) (during k e).calls }
 
 -- ---- the first break
 
@@ -319,8 +308,8 @@ broken k e = []
 unfoldable pub break_from : ℕ → Known → List Event → Option Break
 break_from place k [] = None
 break_from place k (e ∷ events) = elim (broken k e) [
-  | [] ↦ break_from (suc place) (after k e) events
-  | (clause ∷ more) ↦ Some (record { event = place; clause = number_of clause })
+  | [] ↦ break_from (suc place) (known_after k e) events
+  | (clause ∷ more) ↦ Some (record { event = place; clause = clause_number clause })
 ]
 
 -- the first event that breaks a clause, with the smallest clause that it breaks

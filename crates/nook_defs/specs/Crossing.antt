@@ -1,7 +1,6 @@
-use Rattle.std.specs.Prelude.{ℕ, ◌+◌, ◌*◌, ◌==◌, ◌&&◌, if◌then◌else◌, Bool, true, false, Option, Some, None, Result, Ok}
-use Rattle.std.specs.Prelude.{Err, [], length, slice_index, slice_set}
-use Rattle.nook_defs.specs.Types.{Accept, Answer, BadParam, BurstEnd, CallEntry, End, FailCause, Mode, Op, Service}
-use Rattle.nook_defs.specs.Types.{Stage}
+use Rattle.std.specs.Prelude.{ℕ, ◌+◌, ◌*◌, ◌==◌, ◌&&◌, if◌then◌else◌, Bool, true, false, Option, Some, None, Ok, Err}
+use Rattle.std.specs.Prelude.{[], length, slice_index, slice_set}
+use Rattle.nook_defs.specs.Types.{Answer, BadParam, BurstEnd, CallEntry, End, FailCause, Mode, Op, Service, Stage}
 use Rattle.nook_defs.specs.declared.classes.Accept.TheVariants as accepts
 use Rattle.nook_defs.specs.declared.calls.Answer.TheVariants as answer
 use Rattle.nook_defs.specs.declared.steps.End.TheVariants as end
@@ -13,8 +12,8 @@ use Rattle.nook_defs.specs.declared.limits.TheConstants.{BLOCK_WORDS, MOST_BURST
 use Rattle.nook_defs.specs.declared.memory_map.TheConstants.{DATA_START}
 use Rattle.nook_defs.specs.declared.machine.BurstEnd.TheVariants as ends
 use Rattle.nook_defs.specs.Classes.{accept}
-use Rattle.nook_defs.specs.Domain.{no_context, first_argument, second_argument, attempt_bursts, result_set, left_domain}
-use Rattle.nook_defs.specs.Domain.{noted, buffer_words}
+use Rattle.nook_defs.specs.Domain.{first_argument, second_argument, attempt_bursts, result_set, left_domain, noted}
+use Rattle.nook_defs.specs.Domain.{buffer_words}
 use Rattle.nook_defs.specs.Entries.{is_registered}
 use Rattle.nook_defs.specs.Log.{call_of_thread, after_acknowledging, after_answering, frame_or_empty, queue_after}
 use Rattle.nook_defs.specs.Pages.{buffer_start}
@@ -35,7 +34,7 @@ pub record Crossed : Type 0 where
 
 -- the shadow's own call ends
 abbrev pub without_shadow : DomainState → DomainState
-without_shadow d = record d { contexts = slice_set d.contexts SHADOW no_context }
+without_shadow d = record d { contexts = slice_set d.contexts SHADOW None }
 
 -- a failure: it is counted, also in object 0, the shadow's call ends, and the part recovers from Stop on
 unfoldable pub fails : PartState → PartState
@@ -68,8 +67,7 @@ refused_service number context p =
 abbrev pub heap_start : PartState → ℕ
 heap_start p = DATA_START + length p.spec.image.initial
 
--- the crossing of a served call: the driver finds the answer in a register, and the end tells it with the words that
--- were moved
+-- the crossing of a served call: the answer stands in a register, and in the end with the words that were moved
 abbrev pub served_call : ℕ → ℕ → Served → PartState → Crossed
 served_call number context s p = goes_on
     (record p {
@@ -78,34 +76,28 @@ served_call number context s p = goes_on
     })
     (end.Service number (first_argument context p.domain) (second_argument context p.domain) (Some s.answer) s.moved)
 
--- a call with a bad argument fails the driver; another is served
-abbrev pub serve_by : ℕ → ℕ → PartState → Result Service BadParam → Crossed
-serve_by number context p (Err bad) =
-    failed_crossing p (refused_service number context p) (fail.BadParam bad.service bad.argument)
-serve_by number context p (Ok s) =
-    served_call number context (served (heap_start p) s p.domain.memory p.domain.entries p.queue) p
-
--- a kernel call by its number, with the first two arguments that the driver gives it
+-- a kernel call by its number, with the first two arguments that the driver gives it: one with a bad argument fails
+-- the driver, another is served
 abbrev pub kernel_call : ℕ → ℕ → PartState → Crossed
-kernel_call number context p = serve_by number context p
-    (checked number (first_argument context p.domain) (second_argument context p.domain) p.spec.class p.domain.entries)
+kernel_call number context p =
+    let first : ℕ = first_argument context p.domain in
+    elim (checked number first (second_argument context p.domain) p.spec.class p.domain.entries) [
+      | Err bad ↦ failed_crossing p (refused_service number context p) (fail.BadParam bad.service bad.argument)
+      | Ok s ↦ served_call number context (served (heap_start p) s p.domain.memory p.domain.entries p.queue) p
+    ]
 
 -- Replies of the shadow's own calls
 
 -- the stage of a boot or a recovery; in the other modes the shadow has no call, so no reply of it asks for one
 abbrev pub stage_in : Mode → Stage
-stage_in (mode.Boot s) = s
-stage_in (mode.Recovering s) = s
-stage_in mode.Running = stage.Resume
-stage_in (mode.Dead collected) = stage.Collect
+stage_in m =
+    elim m [ (mode.Boot s) ↦ s | (mode.Recovering s) ↦ s | mode.Running ↦ stage.Resume | (mode.Dead c) ↦ stage.Collect ]
 
 -- the stage Init
 abbrev pub is_init : Stage → Bool
-is_init stage.Init = true
-is_init _ = false
+is_init s = elim s [ stage.Init ↦ true | _ ↦ false ]
 
--- the mode after the shadow's call was accepted: a boot has nothing to replay, and a recovery goes on to the stage that
--- follows; in the other modes the shadow has no call
+-- the mode after the shadow's call was accepted: a boot resumes, a recovery goes on; no other mode has such a call
 abbrev pub next_mode : Mode → PartState → Mode
 next_mode (mode.Boot s) p = mode.Boot stage.Resume
 next_mode (mode.Recovering s) p = mode_after s p.log (mode.Recovering s)
@@ -113,8 +105,7 @@ next_mode m p = m
 
 -- the shadow's call is accepted: status 0, and for Init the driver is registered
 abbrev pub is_accepted : ℕ → PartState → Bool
-is_accepted status p =
-    status == 0 && (if is_init (stage_in p.mode) then is_registered p.domain.entries else true)
+is_accepted status p = status == 0 && (if is_init (stage_in p.mode) then is_registered p.domain.entries else true)
 
 -- the failure of a refused reply to the shadow
 abbrev pub shadow_fault : ℕ → Stage → FailCause
@@ -127,8 +118,7 @@ next_stage p = record p { domain = left_domain SHADOW p.domain; mode = next_mode
 -- the reply to the shadow's own call
 abbrev pub shadow_replied : ℕ → PartState → Crossed
 shadow_replied status p =
-    if is_accepted status p
-    then goes_on (next_stage p) (end.Reply status)
+    if is_accepted status p then goes_on (next_stage p) (end.Reply status)
     else failed_crossing p (end.Reply status) (shadow_fault status (stage_in p.mode))
 
 -- Replies of applications' calls
@@ -158,29 +148,26 @@ abbrev pub accepted_crossing : CallEntry → ℕ → Answer → PartState → Cr
 accepted_crossing c status a p =
     record { state = closes_call c p; end = end.Reply status; answer = Some a; failure = None }
 
--- a reply is accepted, tells a failure of the medium, or fails the driver
-abbrev pub reply_by : CallEntry → ℕ → PartState → Accept → Crossed
-reply_by c status p accepts.Take = accepted_crossing c status (reply_answer c.op c.thread p) p
-reply_by c status p (accepts.IoError block) = accepted_crossing c status (answer.IoError block) p
-reply_by c status p (accepts.Fail cause) = failed_crossing p (end.Reply status) cause
-
--- the reply to a thread's open call; a context in which none is open has no burst, so it gives no reply
+-- the reply to a thread's open call is accepted, tells a failure of the medium, or fails the driver. A context in which
+-- no call is open has no burst, so it gives no reply
 abbrev pub call_replied : ℕ → PartState → Option CallEntry → Crossed
 call_replied status p None = goes_on p (end.Reply status)
-call_replied status p (Some c) = reply_by c status p (accept c.op status)
+call_replied status p (Some c) = elim (accept c.op status) [
+  | accepts.Take ↦ accepted_crossing c status (reply_answer c.op c.thread p) p
+  | (accepts.IoError block) ↦ accepted_crossing c status (answer.IoError block) p
+  | (accepts.Fail cause) ↦ failed_crossing p (end.Reply status) cause
+]
 
 -- a reply, by the context that gives it
 abbrev pub after_reply : ℕ → ℕ → PartState → Crossed
-after_reply status context p =
-    if context == SHADOW then shadow_replied status p
+after_reply status context p = if context == SHADOW then shadow_replied status p
     else call_replied status p (call_of_thread context p.log.pending)
 
 -- the crossing of a context: a trap; a 32nd burst that is no reply; a kernel call; a pause; a reply
 unfoldable pub after_crossing : ℕ → BurstEnd → PartState → Crossed
 after_crossing context (ends.Trap cause) p = failed_crossing p end.Trap (fail.Trap cause)
 after_crossing context (ends.Kcall number) p =
-    if is_last context p
-    then failed_crossing p (refused_service number context p) fail.TooManyCrossings
+    if is_last context p then failed_crossing p (refused_service number context p) fail.TooManyCrossings
     else kernel_call number context p
 after_crossing context ends.Pause p =
     if is_last context p then failed_crossing p end.Pause fail.TooManyCrossings else goes_on p end.Pause

@@ -1,6 +1,6 @@
-use Rattle.std.specs.Prelude.{ℕ, ◌+◌, ◌-◌, ◌*◌, ◌%◌, ◌^◌, min, ◌==◌, ◌&&◌, ◌||◌, nat_le, nat_lt, not, if◌then◌else◌}
-use Rattle.std.specs.Prelude.{Bool, true, false, Option, Some, None, List, [], ◌∷◌, ◌++◌, take, length, replicate}
-use Rattle.std.specs.Prelude.{slice_get, slice_index, slice_index_or, slice_set, unwrap_or}
+use Rattle.std.specs.Prelude.{ℕ, ◌+◌, ◌-◌, ◌%◌, ◌^◌, min, ◌==◌, ◌&&◌, ◌||◌, nat_le, nat_lt, not, if◌then◌else◌, Bool}
+use Rattle.std.specs.Prelude.{true, false, Option, Some, None, List, [], ◌∷◌, ◌++◌, take, length, replicate, slice_get}
+use Rattle.std.specs.Prelude.{slice_index, slice_index_or, slice_set, unwrap_or}
 use Rattle.std.specs.List.{list_any}
 use Rattle.nook_defs.specs.Types.{Act, BadBlock, Class, DeviceKind, DeviceState, Disk, Link}
 use Rattle.nook_defs.specs.declared.machine.Act.TheVariants as act
@@ -36,44 +36,28 @@ with_link d k = record d { kind = kind.Link k }
 
 -- the disk
 
--- a block of a medium
-abbrev pub block_at : List (List ℕ) → ℕ → List ℕ
-block_at medium block = unwrap_or (slice_get medium block) []
-
 -- the word is a command, and the block register names a block
 abbrev pub is_command : ℕ → Disk → Bool
 is_command word k = (word == 1 || word == 2) && nat_lt k.block (length k.medium)
 
--- the bad block's commands fail once so many were given
-abbrev pub strikes : ℕ → ℕ → BadBlock → Bool
-strikes block count b = b.block == block && nat_le b.after count
-
--- a command on the block of the block register fails
+-- a command on the block of the block register fails: the block is bad from so many of its commands on
 abbrev pub is_failing : Disk → Bool
-is_failing k = list_any (strikes k.block (slice_index k.counts k.block)) k.bad
+is_failing k = list_any (λ b. b.block == k.block && nat_le b.after (slice_index k.counts k.block)) k.bad
 
--- a count of commands, which stays at its highest value
-abbrev pub raised : ℕ → ℕ
-raised count = min (count + 1) (2 ^ 32 - 1)
-
--- the disk after any command: its block has had one command more, and the buffer stands at its first word
+-- the disk after any command: its block has one command more, up to the highest count, and the buffer is at its start
 abbrev pub counted : ℕ → Disk → Disk
 counted status k = record k {
-  counts = slice_set k.counts k.block (raised (slice_index k.counts k.block));
+  counts = slice_set k.counts k.block (min (slice_index k.counts k.block + 1) (2 ^ 32 - 1));
   position = 0;
   status = status;
 }
 
--- the disk after a command that succeeds: a load fills the buffer, a store the block of the medium
-abbrev pub obeyed : ℕ → Disk → Disk
-obeyed word k = record (counted 0 k) {
-  medium = if word == 2 then slice_set k.medium k.block k.buffer else k.medium;
-  buffer = if word == 1 then block_at k.medium k.block else k.buffer;
-}
-
--- the disk after a command: one that fails leaves the medium and the buffer
+-- the disk after a command: one that fails changes no words; else a load fills the buffer, and a store the block
 abbrev pub commanded : ℕ → Disk → Disk
-commanded word k = if is_failing k then counted 1 k else obeyed word k
+commanded word k = if is_failing k then counted 1 k else record (counted 0 k) {
+  medium = if word == 2 then slice_set k.medium k.block k.buffer else k.medium;
+  buffer = if word == 1 then unwrap_or (slice_get k.medium k.block) [] else k.buffer;
+}
 
 -- the act of a command
 abbrev pub command_act : ℕ → Disk → Act
@@ -88,8 +72,7 @@ disk_input port d k =
     if port == 1 then gives k.block d
     else if port == 2 then
     gives (slice_index k.buffer k.position) (with_disk d (record k { position = (k.position + 1) % BLOCK_WORDS }))
-    else if port == 3 then gives k.status d
-    else None
+    else if port == 3 then gives k.status d else None
 
 -- what OUT does to a disk; there is nothing at other ports
 abbrev pub disk_output : ℕ → ℕ → DeviceState → Disk → Option Taken
@@ -116,14 +99,14 @@ abbrev pub tail_of : List (List ℕ) → List (List ℕ)
 tail_of [] = []
 tail_of (frame ∷ ring) = ring
 
--- no frame waits
-abbrev pub is_empty_ring : List (List ℕ) → Bool
-is_empty_ring [] = true
-is_empty_ring (frame ∷ ring) = false
+-- there is no frame
+abbrev pub is_empty : List (List ℕ) → Bool
+is_empty [] = true
+is_empty (frame ∷ frames) = false
 
 -- the receive position after a word was read: it stays at an empty ring, and past the longest frame
 abbrev pub next_reading : Link → ℕ
-next_reading k = if is_empty_ring k.ring then k.reading else min (k.reading + 1) MOST_FRAME_WORDS
+next_reading k = if is_empty k.ring then k.reading else min (k.reading + 1) MOST_FRAME_WORDS
 
 -- what IN gives of a link; there is nothing at other ports
 abbrev pub link_input : ℕ → DeviceState → Link → Option Given
@@ -131,15 +114,14 @@ link_input port d k =
     if port == 1 then gives k.length d
     else if port == 3 then gives (length (head_of k.ring)) d
     else if port == 4 then
-    gives (slice_index_or (head_of k.ring) k.reading 0) (with_link d (record k { reading = next_reading k }))
-    else None
+    gives (slice_index_or (head_of k.ring) k.reading 0) (with_link d (record k { reading = next_reading k })) else None
 
 -- word 1 sends the first words of the transmit buffer, word 2 lets the ring's head leave
 abbrev pub link_command : ℕ → DeviceState → Link → Option Taken
 link_command word d k =
     if word == 1 && (nat_le 1 k.length && nat_le k.length MOST_FRAME_WORDS) then
     takes (Some (act.Sent (take k.length k.buffer))) d
-    else if word == 2 && not (is_empty_ring k.ring) then
+    else if word == 2 && not (is_empty k.ring) then
     takes (Some (act.Popped (head_of k.ring))) (with_link d (record k { ring = tail_of k.ring; reading = 0 }))
     else takes None d
 
@@ -152,24 +134,14 @@ link_output port word d k =
     else if port == 2 then
     if nat_lt k.position MOST_FRAME_WORDS then
     takes None (with_link d (record k { buffer = slice_set k.buffer k.position word; position = k.position + 1 }))
-    else takes None d
-    else None
-
--- the sound device
+    else takes None d else None
 
 -- what OUT does to a speaker: a sample is played at the rate and the volume of its registers
 abbrev pub speaker_output : ℕ → ℕ → DeviceState → Option Taken
 speaker_output port word d =
-    if port == 0 then takes (Some (act.Played word (slice_index d.registers 0) (slice_index d.registers 1))) d
-    else None
+    if port == 0 then takes (Some (act.Played word (slice_index d.registers 0) (slice_index d.registers 1))) d else None
 
 -- every device
-
--- what IN gives at a port of the class
-abbrev pub kind_input : ℕ → DeviceState → DeviceKind → Option Given
-kind_input port d (kind.Disk k) = disk_input port d k
-kind_input port d (kind.Link k) = link_input port d k
-kind_input port d kind.Speaker = None
 
 -- what OUT does at a port of the class
 abbrev pub kind_output : ℕ → ℕ → DeviceState → DeviceKind → Option Taken
@@ -183,8 +155,11 @@ is_register_port port = nat_le 8 port && nat_le port 11
 
 -- what IN gives at a port; None where there is no such port
 abbrev pub input_of : ℕ → DeviceState → Option Given
-input_of port d =
-    if is_register_port port then gives (slice_index d.registers (port - 8)) d else kind_input port d d.kind
+input_of port d = if is_register_port port then gives (slice_index d.registers (port - 8)) d else elim d.kind [
+  | (kind.Disk k) ↦ disk_input port d k
+  | (kind.Link k) ↦ link_input port d k
+  | kind.Speaker ↦ None
+]
 
 -- what OUT does at a port; None where there is no such port
 abbrev pub output_of : ℕ → ℕ → DeviceState → Option Taken
@@ -226,23 +201,13 @@ opening_kind class.Sound blocks bad = kind.Speaker
 unfoldable pub opening_device : Class → ℕ → List BadBlock → List ℕ → DeviceState
 opening_device c blocks bad defaults = record { registers = defaults; kind = opening_kind c blocks bad }
 
--- the frames in the ring
-abbrev pub ring_of_kind : DeviceKind → List (List ℕ)
-ring_of_kind (kind.Link k) = k.ring
-ring_of_kind _ = []
-
 -- the frames that wait in the ring; a device that is no link has none
 abbrev pub ring_of : DeviceState → List (List ℕ)
-ring_of d = ring_of_kind d.kind
+ring_of d = elim d.kind [ (kind.Link k) ↦ k.ring | _ ↦ [] ]
 
 -- a disk's blocks; the other devices have none
-abbrev pub medium_of_kind : DeviceKind → List (List ℕ)
-medium_of_kind (kind.Disk k) = k.medium
-medium_of_kind _ = []
-
--- the same of a device
 abbrev pub medium_of : DeviceState → List (List ℕ)
-medium_of d = medium_of_kind d.kind
+medium_of d = elim d.kind [ (kind.Disk k) ↦ k.medium | _ ↦ [] ]
 
 -- an arriving frame is kept where the ring holds fewer than the most that it may
 abbrev pub is_below_most : List (List ℕ) → Bool
@@ -252,12 +217,11 @@ is_below_most ring = nat_lt (length ring) MOST_RING_FRAMES
 abbrev pub has_room : DeviceState → Bool
 has_room d = is_below_most (ring_of d)
 
--- a frame arrives in the ring; the other devices take none
-abbrev pub kind_with_arrival : List ℕ → DeviceKind → DeviceKind
-kind_with_arrival frame (kind.Link k) =
-    kind.Link (record k { ring = if is_below_most k.ring then k.ring ++ frame ∷ [] else k.ring })
-kind_with_arrival frame other = other
-
--- the device after a frame arrived
+-- the device after a frame arrived in the ring; the devices that are no link take none
 unfoldable pub with_arrival : List ℕ → DeviceState → DeviceState
-with_arrival frame d = record d { kind = kind_with_arrival frame d.kind }
+with_arrival frame d = record d {
+  kind = elim d.kind [
+    | (kind.Link k) ↦ kind.Link (record k { ring = if is_below_most k.ring then k.ring ++ frame ∷ [] else k.ring })
+    | other ↦ other
+  ];
+}

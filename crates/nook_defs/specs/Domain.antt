@@ -1,6 +1,6 @@
-use Rattle.std.specs.Prelude.{ℕ, ◌+◌, ◌*◌, ◌/◌, Bool, true, false, Option, Some, None, List, [], ◌∷◌, ◌++◌, length}
-use Rattle.std.specs.Prelude.{replicate, slice_get, slice_index, slice_range, slice_set, unwrap_or}
-use Rattle.nook_defs.specs.Types.{Act, BurstEnd, Context, Cpu, DeviceState, Entry, Fault, Image, Op, PartSpec}
+use Rattle.std.specs.Prelude.{ℕ, ◌+◌, ◌/◌, Bool, true, false, Option, Some, None, List, [], ◌∷◌, ◌++◌, length}
+use Rattle.std.specs.Prelude.{option_map, replicate, slice_get, slice_index, slice_range, slice_set, unwrap_or}
+use Rattle.nook_defs.specs.Types.{Act, BurstEnd, Context, Cpu, Entry, Fault, Image, Op, PartSpec}
 use Rattle.nook_defs.specs.declared.entries.Entry.TheVariants as entry
 use Rattle.nook_defs.specs.declared.calls.Op.TheVariants as op
 use Rattle.nook_defs.specs.declared.limits.TheConstants.{BLOCK_WORDS, CONTEXTS}
@@ -24,8 +24,6 @@ opening_domain spec = record {
   device = opening_device spec.class spec.blocks spec.bad (defaults_of spec.class);
   contexts = replicate CONTEXTS None;
 }
-
--- what an entry is given
 
 -- registers r1, r2 and r3 at an entry, the buffer's address among them
 pub record Arguments : Type 0 where
@@ -65,15 +63,11 @@ buffer_of (op.Play samples) = lent false samples
 buffer_of (op.Get key) = lent true []
 buffer_of _ = None
 
--- the processor at an entry: r14 is the end of the context's stack, all other registers are zero
-abbrev pub entry_registers : ℕ → Arguments → List ℕ
-entry_registers context a =
-    0 ∷ a.first ∷ a.second ∷ a.third ∷ (replicate 10 0 ++ stack_end context ∷ 0 ∷ [])
-
--- a context that begins an entry
+-- a context that begins an entry: r14 is the end of the context's stack, the registers after the arguments are zero
 abbrev pub entry_context : ℕ → ℕ → Arguments → Context
 entry_context start context a =
-    record { cpu = record { counter = start; registers = entry_registers context a }; bursts = 0 }
+    let registers : List ℕ = 0 ∷ a.first ∷ a.second ∷ a.third ∷ (replicate 10 0 ++ stack_end context ∷ 0 ∷ []) in
+    record { cpu = record { counter = start; registers = registers }; bursts = 0 }
 
 -- the buffer's two pages hold the words and then zeros
 abbrev pub lent_memory : ℕ → Option Lent → List ℕ → List ℕ
@@ -96,16 +90,9 @@ entered_domain context place o d = record d {
 
 -- the context enters the entry at a place, with no arguments
 unfoldable pub plainly_entered : ℕ → ℕ → DomainState → DomainState
-plainly_entered context place d = record d {
-  contexts = slice_set d.contexts context
-      (Some (entry_context (slice_index d.starts place) context (three 0 0 0)));
-}
-
--- one context, where it is Inside
-
--- a context in which nothing runs
-abbrev pub no_context : Option Context
-no_context = None
+plainly_entered context place d =
+    let entered : Context = entry_context (slice_index d.starts place) context (three 0 0 0) in
+    record d { contexts = slice_set d.contexts context (Some entered) }
 
 -- what runs in a context
 abbrev pub context_of : ℕ → List (Option Context) → Option Context
@@ -135,19 +122,17 @@ after_burst context x b d = record {
   acts = b.acts;
 }
 
--- a burst of what runs in a context; where nothing runs there is no burst to be taken
-abbrev pub burst_by : ℕ → List Fault → DomainState → Option Context → DomainBurst
-burst_by context faults d None = record { domain = d; count = 0; ending = ends.Pause; acts = [] }
-burst_by context faults d (Some x) = after_burst context x (burst d.entries faults (machine_of x d)) d
-
--- one burst of a context that is Inside, with the faults of the burst
+-- one burst of a context that is Inside, with the faults of the burst. Where nothing runs no burst may be taken, so the
+-- Pause of 0 turns never stands in an event
 unfoldable pub domain_burst : ℕ → List Fault → DomainState → DomainBurst
-domain_burst context faults d = burst_by context faults d (context_of context d.contexts)
+domain_burst context faults d = elim (context_of context d.contexts) [
+  | None ↦ record { domain = d; count = 0; ending = ends.Pause; acts = [] }
+  | Some x ↦ after_burst context x (burst d.entries faults (machine_of x d)) d
+]
 
 -- a register of what runs in a context; 0 where nothing runs
 abbrev pub register_of : ℕ → Option Context → ℕ
-register_of number None = 0
-register_of number (Some x) = slice_index x.cpu.registers number
+register_of number o = elim o [ None ↦ 0 | Some x ↦ slice_index x.cpu.registers number ]
 
 -- r1 and r2 of a context
 abbrev pub first_argument : ℕ → DomainState → ℕ
@@ -157,32 +142,21 @@ first_argument context d = register_of 1 (context_of context d.contexts)
 abbrev pub second_argument : ℕ → DomainState → ℕ
 second_argument context d = register_of 2 (context_of context d.contexts)
 
--- how many bursts what runs in a context has had
-abbrev pub bursts_of : Option Context → ℕ
-bursts_of None = 0
-bursts_of (Some x) = x.bursts
-
--- the bursts of a context's attempt so far
+-- the bursts of a context's attempt so far; 0 where nothing runs
 abbrev pub attempt_bursts : ℕ → DomainState → ℕ
-attempt_bursts context d = bursts_of (context_of context d.contexts)
+attempt_bursts context d = elim (context_of context d.contexts) [ None ↦ 0 | Some x ↦ x.bursts ]
 
--- the answer of a kernel call stands in a register
-abbrev pub with_result : ℕ → Option Context → Option Context
-with_result word None = None
-with_result word (Some x) =
-    Some (record x { cpu = record x.cpu { registers = slice_set x.cpu.registers 1 word } })
-
--- a kernel call's result goes to r1
+-- a kernel call's result goes to r1 of what runs in the context
 unfoldable pub result_set : ℕ → ℕ → DomainState → DomainState
 result_set context word d =
-    record d { contexts = slice_set d.contexts context (with_result word (context_of context d.contexts)) }
+    let set : Cpu → Cpu = λ cpu. record cpu { registers = slice_set cpu.registers 1 word } in
+    let with_set : Context → Context = λ x. record x { cpu = set x.cpu } in
+    record d { contexts = slice_set d.contexts context (option_map with_set (context_of context d.contexts)) }
 
 -- the context is free, and its buffer is lent no more
 unfoldable pub left_domain : ℕ → DomainState → DomainState
-left_domain context d = record d {
-  entries = without_buffer context d.entries;
-  contexts = slice_set d.contexts context no_context;
-}
+left_domain context d =
+    record d { entries = without_buffer context d.entries; contexts = slice_set d.contexts context None }
 
 -- every context is free, and the driver is not registered
 unfoldable pub stopped_domain : DomainState → DomainState

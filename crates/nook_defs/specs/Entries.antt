@@ -1,5 +1,5 @@
-use Rattle.std.specs.Prelude.{ℕ, zero, suc, ◌+◌, ◌-◌, ◌==◌, ◌&&◌, ◌||◌, nat_lt, nat_le, not, if◌then◌else◌, Bool, true}
-use Rattle.std.specs.Prelude.{false, Option, Some, None, List, [], ◌∷◌, ◌++◌, count_by, filter, map}
+use Rattle.std.specs.Prelude.{ℕ, zero, suc, ◌+◌, ◌-◌, ◌==◌, ◌&&◌, ◌||◌, nat_lt, not, if◌then◌else◌, Bool, true, false}
+use Rattle.std.specs.Prelude.{Option, Some, None, List, [], ◌∷◌, count_by, filter, map}
 use Rattle.std.specs.List.{list_any}
 use Rattle.nook_defs.specs.Types.{Entry}
 use Rattle.nook_defs.specs.declared.entries.Entry.TheVariants as entry
@@ -10,17 +10,11 @@ use Rattle.nook_defs.specs.declared.memory_map.TheConstants.{DATA_END, OBJECT_WO
 
 -- where the entry's kind stands in that order
 abbrev pub rank : Entry → ℕ
-rank (entry.Heap start len) = 0
-rank (entry.Borrow object start) = 1
-rank (entry.Buffer context writable) = 2
-rank (entry.Registration live) = 3
+rank e = elim e [ (entry.Heap s n) ↦ 0 | (entry.Borrow o s) ↦ 1 | (entry.Buffer c w) ↦ 2 | (entry.Registration l) ↦ 3 ]
 
 -- what orders the entries of one kind
 abbrev pub key_of : Entry → ℕ
-key_of (entry.Heap start len) = start
-key_of (entry.Borrow object start) = object
-key_of (entry.Buffer context writable) = context
-key_of (entry.Registration live) = 0
+key_of e = elim e [ (entry.Heap start n) ↦ start | (entry.Borrow object s) ↦ object | (entry.Buffer c w) ↦ c | _ ↦ 0 ]
 
 -- the order of entries: by kind, then by place
 abbrev pub comes_before : Entry → Entry → Bool
@@ -33,39 +27,31 @@ with_entry e (x ∷ entries) = if comes_before e x then e ∷ x ∷ entries else
 
 -- a heap block that begins at the address
 abbrev pub is_heap_at : ℕ → Entry → Bool
-is_heap_at address (entry.Heap start len) = start == address
-is_heap_at address _ = false
+is_heap_at address e = elim e [ (entry.Heap start len) ↦ start == address | _ ↦ false ]
 
 -- a copy of the kernel object
 abbrev pub is_borrow_of : ℕ → Entry → Bool
-is_borrow_of object (entry.Borrow o start) = o == object
-is_borrow_of object _ = false
+is_borrow_of object e = elim e [ (entry.Borrow o start) ↦ o == object | _ ↦ false ]
 
 -- the buffer of the context
 abbrev pub is_buffer_of : ℕ → Entry → Bool
-is_buffer_of context (entry.Buffer c writable) = c == context
-is_buffer_of context _ = false
+is_buffer_of context e = elim e [ (entry.Buffer c writable) ↦ c == context | _ ↦ false ]
 
 -- the driver's registration
 abbrev pub is_registration : Entry → Bool
-is_registration (entry.Registration live) = true
-is_registration _ = false
+is_registration e = elim e [ (entry.Registration live) ↦ true | _ ↦ false ]
 
 -- the driver is registered
 abbrev pub is_live : Entry → Bool
-is_live (entry.Registration live) = live
-is_live _ = false
+is_live e = elim e [ (entry.Registration live) ↦ live | _ ↦ false ]
 
 -- the registration with another state; other entries stay
 abbrev pub with_live : Bool → Entry → Entry
-with_live live (entry.Registration was) = entry.Registration live
-with_live live e = e
+with_live live e = elim e [ (entry.Registration was) ↦ entry.Registration live | other ↦ other ]
 
 -- the entry covers heap words
 abbrev pub is_heap_use : Entry → Bool
-is_heap_use (entry.Heap start len) = true
-is_heap_use (entry.Borrow object start) = true
-is_heap_use _ = false
+is_heap_use e = elim e [ (entry.Heap start len) ↦ true | (entry.Borrow object start) ↦ true | _ ↦ false ]
 
 -- the list of a domain at first
 abbrev pub opening_entries : List Entry
@@ -87,9 +73,8 @@ overlap start n other len = nat_lt start (other + len) && nat_lt other (start + 
 
 -- the entry covers one of n words from a start on
 abbrev pub covers_some : ℕ → ℕ → Entry → Bool
-covers_some start n (entry.Heap s len) = overlap start n s len
-covers_some start n (entry.Borrow object s) = overlap start n s OBJECT_WORDS
-covers_some start n _ = false
+covers_some start n e =
+    elim e [ (entry.Heap s k) ↦ overlap start n s k | (entry.Borrow o s) ↦ overlap start n s OBJECT_WORDS | _ ↦ false ]
 
 -- n words from a start on are free
 abbrev pub is_free_run : List Entry → ℕ → ℕ → Bool
@@ -103,21 +88,15 @@ lowest_run (suc left) entries start n =
 
 -- the lowest start of n free heap words; None where there is none, or as many Heap and Borrow entries as there may be
 abbrev pub free_start : ℕ → ℕ → List Entry → Option ℕ
-free_start heap_start n entries =
-    if nat_lt (count_by is_heap_use entries) MOST_HEAP_ENTRIES
-    then lowest_run (DATA_END + 1 - (heap_start + n)) entries heap_start n
-    else None
+free_start heap_start n entries = if nat_lt (count_by is_heap_use entries) MOST_HEAP_ENTRIES
+    then lowest_run (DATA_END + 1 - (heap_start + n)) entries heap_start n else None
 
--- where the copy of a kernel object begins; other entries have none
-abbrev pub start_of_borrow : Entry → ℕ
-start_of_borrow (entry.Borrow object start) = start
-start_of_borrow _ = 0
-
--- where the copy of a borrowed object begins
+-- where the copy of a borrowed object begins; only a Borrow is of an object, so the 0 is not reached
 abbrev pub borrow_start : ℕ → List Entry → Option ℕ
 borrow_start object [] = None
 borrow_start object (e ∷ entries) =
-    if is_borrow_of object e then Some (start_of_borrow e) else borrow_start object entries
+    if is_borrow_of object e then Some (elim e [ (entry.Borrow o start) ↦ start | _ ↦ 0 ])
+    else borrow_start object entries
 
 -- the list without the Heap entry at an address, the Borrow of an object, the Buffer of a context
 abbrev pub without_heap : ℕ → List Entry → List Entry

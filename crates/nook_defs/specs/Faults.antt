@@ -1,6 +1,5 @@
-use Rattle.std.specs.Prelude.{ℕ, List, [], ◌∷◌, ◌++◌, flat_map, codes, decimal, Result, Ok, Err}
-use Rattle.nook_defs.specs.Keys.{key_text}
-use Rattle.nook_defs.specs.Types.{AsmKind, InputFault, PathStep, Refusal}
+use Rattle.std.specs.Prelude.{ℕ, List, [], ◌∷◌, ◌++◌, flat_map, codes, decimal}
+use Rattle.nook_defs.specs.{Keys.key_text, Types.{AsmKind, InputFault, PathStep, Refusal}}
 use Rattle.nook_defs.specs.declared.assembler.AsmKind.TheVariants as asm
 use Rattle.nook_defs.specs.declared.input.InputFault.TheVariants as fault
 use Rattle.nook_defs.specs.declared.input.PathStep.TheVariants as step
@@ -43,8 +42,3 @@ path_text (first ∷ rest) = flat_map step_text (first ∷ rest)
 -- the line that tells a fault and its place
 unfoldable pub fault_line : Refusal → List ℕ
 fault_line refusal = codes "fault " ++ fault_text refusal.fault ++ 32 ∷ path_text refusal.path ++ 10 ∷ []
-
--- what is written: the text of what was read, or the fault's line
-abbrev pub told : {T : Type 0} → (T → List ℕ) → Result T Refusal → List ℕ
-told text (Ok read) = text read
-told text (Err refusal) = fault_line refusal

@@ -1,29 +1,26 @@
 use Rattle.std.specs.Prelude.{ℕ, zero, suc, ◌+◌, ◌*◌, ◌%◌, ◌==◌, List, [], ◌∷◌, ◌++◌, map, replicate, codes, decimal}
 use Rattle.std.specs.Prelude.{if◌then◌else◌}
-use Rattle.nook_defs.specs.References.{block_image, net_image, sound_image}
-use Rattle.nook_defs.specs.Types.{Class, Fault, Image, Op, PartSpec, Scenario, ThreadSpec}
+use Rattle.nook_defs.specs.{References.{block_image, net_image, sound_image}, Types.{Class, Image, Op, PartSpec}}
+use Rattle.nook_defs.specs.Types.{Scenario, ThreadSpec}
+use Rattle.nook_defs.specs.declared.calls.Op.TheVariants as op
 use Rattle.nook_defs.specs.declared.classes.Class.TheVariants as class
 use Rattle.nook_defs.specs.declared.scenario.FaultKind.TheVariants as strikes
-use Rattle.nook_defs.specs.declared.calls.Op.TheVariants as op
 use Rattle.nook_defs.specs.declared.scenario.ScheduleSpec.TheVariants as schedule
 
 -- The scenario that `gen` makes for a number: a disk that fails eight times, a link and a sound stream, and four
 -- threads.
-
--- a trap in a burst, after 40 turns
-abbrev pub trap_at : ℕ → Fault
-trap_at burst = record { burst = burst; after = 40; kind = strikes.Trap }
 
 -- a part without blocks, faults and arrivals, which may fail sixteen times
 abbrev pub generated_part : List ℕ → Class → Image → PartSpec
 generated_part name class image =
     record { name = name; class = class; blocks = 0; bad = []; limit = 16; image = image; faults = []; arrivals = [] }
 
--- a block part of 64 blocks, with a trap in every fifth burst
+-- a block part of 64 blocks, with a trap in every fifth burst up to the 40th, after 40 turns
 abbrev pub generated_disk : PartSpec
 generated_disk = record (generated_part (codes "disk") class.Block block_image) {
   blocks = 64;
-  faults = map trap_at (5 ∷ 10 ∷ 15 ∷ 20 ∷ 25 ∷ 30 ∷ 35 ∷ 40 ∷ []);
+  faults = map (λ burst. record { burst = burst; after = 40; kind = strikes.Trap })
+      (5 ∷ 10 ∷ 15 ∷ 20 ∷ 25 ∷ 30 ∷ 35 ∷ 40 ∷ []);
 }
 
 -- frames of one word each, 1 to n
@@ -34,10 +31,6 @@ frames_to (suc n) = frames_to n ++ (suc n ∷ []) ∷ []
 -- a net part with n arrivals
 abbrev pub generated_link : ℕ → PartSpec
 generated_link n = record (generated_part (codes "link") class.Net net_image) { arrivals = frames_to n }
-
--- a sound part
-abbrev pub generated_audio : PartSpec
-generated_audio = generated_part (codes "audio") class.Sound sound_image
 
 -- operation k of thread t, by which of six it is
 abbrev pub generated_op : ℕ → ℕ → ℕ → ℕ × Op
@@ -62,6 +55,6 @@ generated_thread n t = record { name = codes "t" ++ decimal t; ops = ops_to t n 
 unfoldable pub generated : ℕ → Scenario
 generated n = record {
   schedule = schedule.Drawn n;
-  parts = generated_disk ∷ generated_link n ∷ generated_audio ∷ [];
+  parts = generated_disk ∷ generated_link n ∷ generated_part (codes "audio") class.Sound sound_image ∷ [];
   threads = generated_thread n 0 ∷ generated_thread n 1 ∷ generated_thread n 2 ∷ generated_thread n 3 ∷ [];
 }

@@ -22,8 +22,7 @@ pub record Opened : Type 0 where
   pub wired : Bool
   pub played : ℕ
 
--- every call at the place of its number; the disk's blocks; the frames that arrived and are pending; the thread that
--- has the stream; and the configuration
+-- every call at the place of its number; the disk's blocks; the pending frames; the stream's thread; the configuration
 pub record Ideal : Type 0 where
   pub class : Class
   pub size : ℕ
@@ -50,8 +49,6 @@ abbrev pub when : Bool → Ideal → Option Ideal
 when true m = Some m
 when false m = None
 
--- ---- a call is made
-
 -- calls are numbered from 1, and a thread has one open call
 abbrev pub may_call : ℕ → ℕ → List Opened → Bool
 may_call call thread opened =
@@ -63,13 +60,9 @@ may_call call thread opened =
 abbrev pub may_wire : List ℕ → Opened → Bool
 may_wire frame o = o.waits && not o.wired && sends frame o.op
 
--- a Play that waits, of the thread that has the stream
-abbrev pub plays_for : Option ℕ → Opened → Bool
-plays_for holder o = o.waits && is_play o.op && is_holder holder o.thread
-
--- the number of the holder's open Play, 0 where there is none
+-- the number of the Play that waits, of the thread that has the stream; 0 where there is none
 abbrev pub play_of : Ideal → ℕ
-play_of m = number_where (plays_for m.holder) m.opened
+play_of m = number_where (λ o. o.waits && is_play o.op && is_holder m.holder o.thread) m.opened
 
 -- a call's next sample, at the rate and the volume that are configured
 abbrev pub may_sound : ℕ → ℕ → ℕ → Ideal → Opened → Bool
@@ -128,20 +121,12 @@ same_refusal answered.BadKey answered.BadKey = true
 same_refusal answered.BadValue answered.BadValue = true
 same_refusal a b = false
 
--- the device where the call with a number waits no more
-abbrev pub closes : ℕ → Ideal → Ideal
-closes call m = record m { opened = change_number (λ o. record o { waits = false }) call m.opened }
-
 -- the answer that the static check gives, or else one that may come
 abbrev pub is_due : Ideal → Opened → Answer → Bool
 is_due m o a = elim (static_check m.class m.size o.op) [
   | (Some refusal) ↦ same_refusal refusal a
   | None ↦ may_answer m o.thread o.op a
 ]
-
--- the device after a call is answered, from the one in which it waits no more; None where it waits for no such answer
-abbrev pub answers : Ideal → Answer → List ℕ → Opened → Option Ideal
-answers m a stored o = when (o.waits && is_due m o a) (after_answer m o.thread o.op a stored)
 
 -- ---- one thing shown, and all
 
@@ -160,7 +145,10 @@ shows m (sample word rate volume) = option_and_then
     (record m { opened = change_number (λ o. record o { played = suc o.played }) (play_of m) m.opened }))
     (at_number (play_of m) m.opened)
 shows m (arrived frame) = when (same_class m.class Net) (record m { pending = m.pending ++ frame ∷ [] })
-shows m (answer call a stored) = option_and_then (answers (closes call m) a stored) (at_number call m.opened)
+shows m (answer call a stored) =
+    let closed : Ideal = record m { opened = change_number (λ o. record o { waits = false }) call m.opened } in
+    option_and_then (λ o. when (o.waits && is_due closed o a) (after_answer closed o.thread o.op a stored))
+    (at_number call m.opened)
 
 -- the device after it showed all of these; None where it never does
 unfoldable pub ran : Ideal → List Visible → Option Ideal

@@ -1,10 +1,7 @@
-use Rattle.std.specs.Prelude.{ℕ, zero, suc, ◌/◌, ◌%◌, List, [], ◌∷◌, ◌++◌, codes, false}
-use Rattle.std.specs.Fmt.{digit_glyph}
+use Rattle.std.specs.{Prelude.{ℕ, zero, suc, ◌/◌, ◌%◌, List, [], ◌∷◌, ◌++◌, codes, false}, Fmt.digit_glyph}
 use Rattle.serde_json.specs.Data.{Data, string, number, array, object, unsigned, Items, no_items, item, Members}
-use Rattle.serde_json.specs.Data.{no_members, member, put}
-use Rattle.serde_json.specs.Written.{compact_text}
-use Rattle.nook_defs.specs.Keys.{key_text, class_text, entry_keys}
-use Rattle.nook_defs.specs.Types.{Image, Key}
+use Rattle.serde_json.specs.{Data.{no_members, member, put}, Written.compact_text}
+use Rattle.nook_defs.specs.{Keys.{key_text, class_text, entry_keys}, Types.{Image, Key}}
 
 -- the last n hexadecimal digits of a word, in lower case
 abbrev pub hex_text : ℕ → ℕ → List ℕ
@@ -16,7 +13,7 @@ abbrev pub word_items : List ℕ → Items
 word_items [] = no_items
 word_items (word ∷ more) = item (string (hex_text 8 word)) (word_items more)
 
--- the members, with the entries and their places
+-- the members, with the entries and their places; an image has a place for each entry
 abbrev pub entry_members : List Key → List ℕ → Members → Members
 entry_members (entry ∷ more) (place ∷ places) members =
     entry_members more places (put (key_text entry) (number (unsigned place)) members)

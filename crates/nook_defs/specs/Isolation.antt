@@ -1,7 +1,7 @@
-use Rattle.std.specs.Prelude.{◌≡◌, ◌⊎◌, ℕ, ◌≤◌, ◌==◌, ◌&&◌, ◌||◌, nat_lt, Bool, true, false, is_some, Option, Some}
-use Rattle.std.specs.Prelude.{None, List, [], ◌∷◌, ◌++◌, replicate, slice_index}
+use Rattle.std.specs.Prelude.{◌≡◌, ◌⊎◌, ℕ, ◌≤◌, ◌==◌, ◌&&◌, ◌||◌, nat_lt, Bool, true, false, is_some, Some, None, List}
+use Rattle.std.specs.Prelude.{[], ◌∷◌, ◌++◌, replicate, slice_index}
 use Rattle.std.specs.List.{list_any}
-use Rattle.nook_defs.specs.Types.{Answer, CallEntry, End, Entry, Event, Fault, FaultKind, PartSpec}
+use Rattle.nook_defs.specs.Types.{Entry, Event, Fault, PartSpec}
 use Rattle.nook_defs.specs.declared.calls.Answer.TheVariants as answers
 use Rattle.nook_defs.specs.declared.steps.End.TheVariants as end
 use Rattle.nook_defs.specs.declared.steps.Event.TheVariants as event
@@ -18,16 +18,9 @@ use Rattle.nook_defs.specs.Steps.{opening, faults_of_burst}
 
 -- No driver changes a word that it may not write, nor a kernel object that is not lent to it.
 
--- Inside a burst
-
--- a fault writes the text word at the address
-abbrev pub is_code_at : ℕ → FaultKind → Bool
-is_code_at address (fault.Code a value) = nat_lt a TEXT_WORDS && a == address
-is_code_at address _ = false
-
 -- a fault that writes the text word at the address
 abbrev pub writes_code : ℕ → Fault → Bool
-writes_code address f = is_code_at address f.kind
+writes_code address f = elim f.kind [ (fault.Code a value) ↦ nat_lt a TEXT_WORDS && a == address | _ ↦ false ]
 
 -- no word changes that the driver may not write, but a text word that a fault of the burst names
 abbrev pub ChangesOnlyAllowed : List Entry → List Fault → List ℕ → List ℕ → Type 0
@@ -35,51 +28,35 @@ ChangesOnlyAllowed entries faults before after =
     (address : ℕ) → may_write entries address ≡ false → list_any (writes_code address) faults ≡ false
     → slice_index after address ≡ slice_index before address
 
--- a burst, up to what its crossing asks, changes no word that its driver may not write, but a text word that a code
--- fault of that very burst names
+-- a burst, up to its crossing, changes no word that its driver may not write, but text words that its faults name
 abbrev pub KeepsWithin : PartState → Event → Type 0
 KeepsWithin p (event.Burst context call number count e acts answer failure) =
     ChangesOnlyAllowed p.domain.entries (faults_of_burst number p.spec.faults) p.domain.memory
     (domain_burst context (faults_of_burst number p.spec.faults) p.domain).domain.memory
 KeepsWithin p _ = Unit {0}
 
--- From one part to the next
-
 -- the 64 words of a part's kernel object
 abbrev pub object_of : ℕ → PartState → List ℕ
 object_of object p = object_words object p.domain.memory
 
--- a served give_back of an object that moved these words
-abbrev pub IsGiveBack : ℕ → List ℕ → End → Type 0
-IsGiveBack object words (end.Service number first second answer moved) =
-    (number ≡ 5) × (first ≡ object) × (is_some answer ≡ true) × (moved ≡ words)
-IsGiveBack object words _ = ⊥
-
 -- an event that is a served give_back of an object that moved these words
 abbrev pub GivesBack : ℕ → List ℕ → Event → Type 0
-GivesBack object words (event.Burst context call burst count e acts answer failure) = IsGiveBack object words e
+GivesBack object words (event.Burst context call burst count e acts answer failure) = elim e [
+  | (end.Service n first second result moved) ↦ (n ≡ 5) × (first ≡ object) × (is_some result ≡ true) × (moved ≡ words)
+  | _ ↦ ⊥
+]
 GivesBack object words _ = ⊥
 
 -- from one part to the next, an object 1 to 12 stays, or it was lent and its copy is given back to it
 abbrev pub KeepsObject : ℕ → PartState → Event → PartState → Type 0
-KeepsObject object p e q =
-    (object_of object q ≡ object_of object p)
+KeepsObject object p e q = (object_of object q ≡ object_of object p)
     ⊎ ((list_any (is_borrow_of object) p.domain.entries ≡ true) × GivesBack object (object_of object q) e)
-
--- the answer Done
-abbrev pub is_done_answer : Option Answer → Bool
-is_done_answer (Some answers.Done) = true
-is_done_answer _ = false
-
--- a Set
-abbrev pub is_set_call : Option CallEntry → Bool
-is_set_call None = false
-is_set_call (Some c) = is_set c.op
 
 -- the event answers a Set Done, or carries a failure: what the kernel notes in object 0
 abbrev pub is_noted : PartState → Event → Bool
 is_noted p (event.Burst context call burst count e acts answer failure) =
-    is_some failure || (is_done_answer answer && is_set_call (call_of_thread context p.log.pending))
+    is_some failure || elim answer [ (Some answers.Done) ↦ true | _ ↦ false ]
+    && elim (call_of_thread context p.log.pending) [ (Some c) ↦ is_set c.op | None ↦ false ]
 is_noted p _ = false
 
 -- object 0 is the record, the count of failures, and zeros
@@ -103,7 +80,6 @@ IsIsolatedFrom p [] = Unit {0}
 IsIsolatedFrom p (e ∷ events) =
     IsIsolatedStep p e (state_after p (step_of e)) × IsIsolatedFrom (state_after p (step_of e)) events
 
--- over a journal a burst writes only where its driver may write, and a kernel object changes only where it was lent, or
--- the kernel changes it
+-- over a journal bursts write only where their driver may, and a kernel object changes only where lent or by the kernel
 abbrev pub IsIsolated : PartSpec → List Event → Type 0
 IsIsolated spec journal = IsIsolatedFrom (opening spec) journal

@@ -1,7 +1,5 @@
-use Rattle.std.specs.Prelude.{ℕ, List, [], ◌∷◌, codes, bytes_eq, Bool, Option}
-use Rattle.std.specs.List.{list_any}
-use Rattle.nook_defs.specs.Names.{of_text}
-use Rattle.nook_defs.specs.Types.{Class, Key}
+use Rattle.std.specs.Prelude.{ℕ, List, [], ◌∷◌, codes, Option}
+use Rattle.nook_defs.specs.{Names.of_text, Types.{Class, Key}}
 use Rattle.nook_defs.specs.declared.classes.Class.TheVariants as class
 use Rattle.nook_defs.specs.declared.input.Key.TheVariants as key
 
@@ -52,10 +50,6 @@ key_text key.Threads = codes "threads"
 key_text key.Value = codes "value"
 key_text key.Version = codes "version"
 key_text key.Write = codes "write"
-
--- the bytes are one of these keys
-abbrev pub is_key : List Key → List ℕ → Bool
-is_key known name = list_any (λ key. bytes_eq name (key_text key)) known
 
 -- a class's name
 abbrev pub class_text : Class → List ℕ

@@ -31,7 +31,6 @@ pub mod Losses
 pub mod Licence
 pub mod ReportLines
 pub mod ReportText
-pub mod Taps
 pub mod Results
 pub mod Keys
 pub mod Mnemonics

@@ -1,7 +1,7 @@
 use Rattle.std.specs.Prelude.{◌≡◌, ℕ, Bool, true, false, List, [], ◌∷◌, length, Option, Some, None, is_some, is_none}
 use Rattle.std.specs.Prelude.{nat_lt, not, ◌+◌, ◌==◌, ◌&&◌, ◌||◌}
 use Rattle.std.specs.List.{list_any}
-use Rattle.nook_defs.specs.Types.{Answer, Event, Losses, Mode, Op, PartSpec, Stage}
+use Rattle.nook_defs.specs.Types.{Answer, Event, Losses, Mode, PartSpec, Stage}
 use Rattle.nook_defs.specs.declared.calls.Answer.TheVariants as answer
 use Rattle.nook_defs.specs.declared.steps.Event.TheVariants as event
 use Rattle.nook_defs.specs.declared.steps.Mode.TheVariants as mode
@@ -9,7 +9,8 @@ use Rattle.nook_defs.specs.declared.calls.Op.TheVariants.{Send, Play}
 use Rattle.nook_defs.specs.declared.steps.Stage.TheVariants as stage
 use Rattle.nook_defs.specs.Answers.{answers_of}
 use Rattle.nook_defs.specs.Blocks.{has_block}
-use Rattle.nook_defs.specs.Contract.{Known, OpenCall, known_first, call_of, is_empty, during, after}
+use Rattle.nook_defs.specs.Contract.{Known, OpenCall, known_first, call_of, during, known_after}
+use Rattle.nook_defs.specs.Devices.{is_empty}
 use Rattle.nook_defs.specs.Losses.{losses}
 use Rattle.nook_defs.specs.Runs.{state_after, step_of}
 use Rattle.nook_defs.specs.State.{PartState}
@@ -29,8 +30,6 @@ same_stage stage.ReplayOpen stage.ReplayOpen = true
 same_stage stage.Resume stage.Resume = true
 same_stage a b = false
 
--- ---- where the shadow answers
-
 -- the current stage where the shadow answers: at an invocation while the part recovers, and at Stop
 abbrev pub shadow_stage : Mode → Event → Option Stage
 shadow_stage m (event.Invoke call thread o a) = elim m as (λ m. Option Stage) [ mode.Recovering s ↦ Some s | _ ↦ None ]
@@ -39,26 +38,16 @@ shadow_stage m e = None
 
 -- ---- one answer
 
--- Done of a call whose frame was sent, or of which all samples were played
-abbrev pub is_served : Op → OpenCall → Bool
-is_served (Send frame) c = nat_lt 0 c.sent
-is_served (Play samples) c = c.played == length samples
-is_served o c = true
-
--- the same of the call with a number, if it is open
+-- Done of a call whose frame was sent, or of which all samples were played, if it is open
 abbrev pub is_served_call : Option OpenCall → Bool
 is_served_call None = true
-is_served_call (Some c) = is_served c.op c
+is_served_call (Some c) =
+    elim c.op [ (Send frame) ↦ nat_lt 0 c.sent | (Play samples) ↦ c.played == length samples | _ ↦ true ]
 
 -- this is the current stage where the shadow answers
 abbrev pub is_stage : Option Stage → Stage → Bool
 is_stage None s = false
 is_stage (Some current) s = same_stage current s
-
--- a command on the block failed in the attempt
-abbrev pub has_failed : ℕ → Option OpenCall → Bool
-has_failed block None = false
-has_failed block (Some c) = has_block block c.failed
 
 -- an answer of a call: `shadow` is the current stage where the shadow answers, `queue` is the kernel's queue, and `k`
 -- is what is known with the event, the calls that it answers among them
@@ -66,7 +55,8 @@ abbrev pub allows : Option Stage → List (List ℕ) → Known → ℕ → Answe
 allows shadow queue k call answer.Done = is_some shadow || is_served_call (call_of call k.calls)
 allows shadow queue k call (answer.Busy s) = is_stage shadow s
 allows shadow queue k call answer.Empty = is_some shadow || is_empty queue && is_empty k.ring
-allows shadow queue k call (answer.IoError block) = is_none shadow && has_failed block (call_of call k.calls)
+allows shadow queue k call (answer.IoError block) =
+    is_none shadow && elim (call_of call k.calls) [ None ↦ false | Some c ↦ has_block block c.failed ]
 allows shadow queue k call a = true
 
 -- an answer that is not allowed
@@ -83,12 +73,11 @@ licenses p k e = not (list_any (refuses (shadow_stage p.mode e) p.queue k) (answ
 unfoldable pub is_licensed_from : PartState → Known → List Event → Bool
 is_licensed_from p k [] = true
 is_licensed_from p k (e ∷ events) =
-    licenses p (during k e) e && is_licensed_from (state_after p (step_of e)) (after k e) events
+    licenses p (during k e) e && is_licensed_from (state_after p (step_of e)) (known_after k e) events
 
 -- each frame that arrived was received, or is somewhere, or was lost where it is told
 abbrev pub is_balanced : Losses → Bool
-is_balanced n =
-    n.arrived == n.received + n.queued + n.ring + n.driver + n.reset + n.full_ring + n.full_queue
+is_balanced n = n.arrived == n.received + n.queued + n.ring + n.driver + n.reset + n.full_ring + n.full_queue
 
 -- a journal of a part
 unfoldable pub is_licensed : PartSpec → List Event → Bool

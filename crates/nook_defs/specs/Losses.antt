@@ -16,25 +16,21 @@ use Rattle.nook_defs.specs.Answers.{answers_of}
 
 -- a frame arrived
 abbrev pub is_arrival : Event → Bool
-is_arrival (event.Arrive frame kept) = true
-is_arrival e = false
+is_arrival e = elim e [ (event.Arrive frame kept) ↦ true | _ ↦ false ]
 
 -- the ring was full
 abbrev pub is_lost_arrival : Event → Bool
-is_lost_arrival (event.Arrive frame kept) = not kept
-is_lost_arrival e = false
+is_lost_arrival e = elim e [ (event.Arrive frame kept) ↦ not kept | _ ↦ false ]
 
 -- ---- frames handed up: the queue takes one exactly where the service's result is not 0
 
 -- the answer of service 6 that ends a burst, which is not 0 where the queue took the frame
 abbrev pub handed_result : End → Option ℕ
-handed_result (end.Service number first second result moved) = if number == 6 then result else None
-handed_result e = None
+handed_result e = elim e [ (end.Service n first second result moved) ↦ if n == 6 then result else None | _ ↦ None ]
 
 -- the same of an event
 abbrev pub result_of : Event → Option ℕ
-result_of (event.Burst context call burst count e acts a failure) = handed_result e
-result_of e = None
+result_of e = elim e [ (event.Burst context call burst count ending acts a f) ↦ handed_result ending | _ ↦ None ]
 
 -- a frame was handed up, and the queue took it
 abbrev pub is_taken : Event → Bool
@@ -69,13 +65,11 @@ pub record Tally : Type 0 where
 
 -- a frame is sent
 abbrev pub is_sent : Act → Bool
-is_sent (act.Sent frame) = true
-is_sent a = false
+is_sent a = elim a [ (act.Sent frame) ↦ true | _ ↦ false ]
 
 -- a sample is played
 abbrev pub is_played : Act → Bool
-is_played (act.Played word rate volume) = true
-is_played a = false
+is_played a = elim a [ (act.Played word rate volume) ↦ true | _ ↦ false ]
 
 -- a call that is made
 abbrev pub new_tally : ℕ → Op → Tally
@@ -95,8 +89,7 @@ tallies_after ts e = filter (λ t. not (list_any (λ a. a.0 == t.number) (answer
 
 -- the answer Done
 abbrev pub is_done : Answer → Bool
-is_done answer.Done = true
-is_done a = false
+is_done a = elim a [ answer.Done ↦ true | _ ↦ false ]
 
 -- what is lost by an answer of an open call: something only if it is Done
 abbrev pub lost_by : (Tally → ℕ) → List Tally → ℕ × Answer → ℕ
@@ -110,19 +103,16 @@ lost_from lost ts (e ∷ events) =
 
 -- Sends that were answered Done though no frame was sent in them
 abbrev pub lost_sends : List Event → ℕ
-lost_sends events =
-    lost_from (λ t. elim t.op [ (Send frame) ↦ if t.sent == 0 then 1 else 0 | _ ↦ 0 ]) [] events
+lost_sends events = lost_from (λ t. elim t.op [ (Send frame) ↦ if t.sent == 0 then 1 else 0 | _ ↦ 0 ]) [] events
 
 -- samples that were not played, of Plays that were answered Done
 abbrev pub lost_samples : List Event → ℕ
-lost_samples events =
-    lost_from (λ t. elim t.op [ (Play samples) ↦ length samples - t.played | _ ↦ 0 ]) [] events
+lost_samples events = lost_from (λ t. elim t.op [ (Play samples) ↦ length samples - t.played | _ ↦ 0 ]) [] events
 
 -- ---- where frames are: in the ring, in the driver, or cleared by a Reset
 
--- frames that the ring took, that were popped, and that Resets cleared; popped and handed up since the last Reset; and
--- what Resets lost
-pub record Places : Type 0 where
+-- frames that the ring took, that were popped, and cleared; popped and handed up since the last Reset; lost by Resets
+pub record FramePlaces : Type 0 where
   pub kept : ℕ
   pub popped : ℕ
   pub cleared : ℕ
@@ -131,34 +121,32 @@ pub record Places : Type 0 where
   pub reset : ℕ
 
 -- nowhere at first
-abbrev pub no_places : Places
+abbrev pub no_places : FramePlaces
 no_places = record { kept = 0; popped = 0; cleared = 0; popped_since = 0; handed_since = 0; reset = 0 }
 
 -- 1 where the test holds
 abbrev pub one_if : Bool → ℕ
-one_if true = 1
-one_if false = 0
+one_if test = elim test [ true ↦ 1 | false ↦ 0 ]
 
 -- a frame is popped
 abbrev pub is_popped : Act → Bool
-is_popped (act.Popped frame) = true
-is_popped a = false
+is_popped a = elim a [ (act.Popped frame) ↦ true | _ ↦ false ]
 
 -- frames that the ring took and that are still there
-abbrev pub in_ring : Places → ℕ
+abbrev pub in_ring : FramePlaces → ℕ
 in_ring n = n.kept - n.popped - n.cleared
 
 -- frames that were popped since the last Reset and not handed up
-abbrev pub in_driver : Places → ℕ
+abbrev pub in_driver : FramePlaces → ℕ
 in_driver n = n.popped_since - n.handed_since
 
 -- a Reset clears the ring and what the driver has
-abbrev pub places_reset : Places → Places
+abbrev pub places_reset : FramePlaces → FramePlaces
 places_reset n = record n
     { cleared = n.cleared + in_ring n; reset = n.reset + in_ring n + in_driver n; popped_since = 0; handed_since = 0 }
 
 -- where frames are after an event
-abbrev pub places_after : Places → Event → Places
+abbrev pub places_after : FramePlaces → Event → FramePlaces
 places_after n (event.Burst context call burst count e acts a failure) = record n {
   popped = n.popped + count_by is_popped acts;
   popped_since = n.popped_since + count_by is_popped acts;
@@ -167,8 +155,6 @@ places_after n (event.Burst context call burst count e acts a failure) = record 
 places_after n (event.Stage stage.Reset answers released) = places_reset n
 places_after n (event.Arrive frame kept) = record n { kept = n.kept + one_if kept }
 places_after n e = n
-
--- ---- all of them
 
 -- what was lost in a list of events, and where its frames went
 unfoldable pub losses : List Event → Losses

@@ -31,8 +31,7 @@ has_no_other form.ABImm a b imm = true
 
 -- a word is of a mnemonic's row: its op is the row's number, and the fields that the row's form does not have are 0
 abbrev pub is_of_row : ℕ → Mnemonic → Bool
-is_of_row w m =
-    op_field w == (instruction_row m).number
+is_of_row w m = op_field w == (instruction_row m).number
     && has_no_other (instruction_row m).form (a_field w) (b_field w) (imm_field w)
 
 -- the instruction of a word, by its row; None where it is of no row

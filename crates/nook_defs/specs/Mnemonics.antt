@@ -1,6 +1,5 @@
 use Rattle.std.specs.Prelude.{ℕ, List, [], ◌∷◌, codes, Option}
-use Rattle.nook_defs.specs.Names.{of_text}
-use Rattle.nook_defs.specs.Types.{Form, Instr, Mnemonic}
+use Rattle.nook_defs.specs.{Names.of_text, Types.{Form, Instr, Mnemonic}}
 use Rattle.nook_defs.specs.declared.assembler.Form.TheVariants as form
 use Rattle.nook_defs.specs.declared.assembler.Mnemonic.TheVariants as mnemonic
 use Rattle.nook_defs.specs.declared.machine.Instr.TheVariants as instr

@@ -1,5 +1,6 @@
 use Rattle.std.specs.Prelude.{ℕ, List, Bool, Option, option_map, length, bytes_eq, nat_le, ◌==◌, ◌&&◌, ◌||◌}
 use Rattle.std.specs.List.{find, list_all}
+use Rattle.nook_defs.specs.declared.limits.TheConstants.{MOST_NAME_BYTES}
 
 -- a byte of `a` to `z`, `0` to `9` or `_`
 abbrev pub is_name_byte : ℕ → Bool
@@ -7,7 +8,7 @@ is_name_byte b = nat_le 97 b && nat_le b 122 || nat_le 48 b && nat_le b 57 || b 
 
 -- 1 to 16 such bytes
 abbrev pub is_name : List ℕ → Bool
-is_name bytes = nat_le 1 (length bytes) && nat_le (length bytes) 16 && list_all is_name_byte bytes
+is_name bytes = nat_le 1 (length bytes) && nat_le (length bytes) MOST_NAME_BYTES && list_all is_name_byte bytes
 
 -- the first of all values whose text a name is
 abbrev pub of_text : {T : Type 0} → (T → List ℕ) → List T → List ℕ → Option T

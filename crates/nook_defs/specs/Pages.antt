@@ -1,6 +1,6 @@
-use Rattle.std.specs.Prelude.{ℕ, zero, suc, ◌+◌, ◌-◌, ◌*◌, ◌/◌, ◌<◌, ◌≡◌, ◌==◌, ◌&&◌, ◌||◌, nat_le, nat_lt}
-use Rattle.std.specs.Prelude.{if◌then◌else◌, Bool, true, false, Option, Some, None, List, [], ◌∷◌, ◌++◌, take, drop}
-use Rattle.std.specs.Prelude.{length, replicate, slice_index, slice_set, slice_range}
+use Rattle.std.specs.Prelude.{ℕ, zero, suc, ◌+◌, ◌-◌, ◌*◌, ◌/◌, ◌==◌, ◌&&◌, ◌||◌, nat_le, nat_lt, if◌then◌else◌, Bool}
+use Rattle.std.specs.Prelude.{false, Option, Some, None, List, [], ◌∷◌, ◌++◌, take, drop, length, replicate}
+use Rattle.std.specs.Prelude.{slice_index, slice_set, slice_range}
 use Rattle.std.specs.List.{list_any}
 use Rattle.nook_defs.specs.Types.{Entry, Image}
 use Rattle.nook_defs.specs.declared.entries.Entry.TheVariants as entry
@@ -8,9 +8,8 @@ use Rattle.nook_defs.specs.declared.memory_map.TheConstants.{TEXT_WORDS, DATA_ST
 use Rattle.nook_defs.specs.declared.memory_map.TheConstants.{BUFFERS_END, BUFFER_WORDS, LAST_OBJECT, OBJECT_WORDS}
 use Rattle.nook_defs.specs.declared.memory_map.TheConstants.{MEMORY_WORDS}
 
--- Addresses 0 to 8,191 in pages of 64 words: text to 2,047; initial words and the heap to 4,095; a stack page for
--- each of the 17 contexts to 5,183; two buffer pages for each to 7,359; and the 13 kernel objects, a page each. The
--- memory map names these numbers.
+-- Addresses 0 to 8,191 in pages of 64 words: text to 2,047; initial words and the heap to 4,095; a stack page for each
+-- of the 17 contexts to 5,183; two buffer pages for each to 7,359; and the 13 kernel objects, a page each.
 
 -- the first address behind a context's stack page
 abbrev pub stack_end : ℕ → ℕ
@@ -24,20 +23,14 @@ buffer_start context = STACKS_END + BUFFER_WORDS * context
 abbrev pub object_start : ℕ → ℕ
 object_start object = BUFFERS_END + OBJECT_WORDS * object
 
--- the entry lends the buffer of the context for writing
-abbrev pub lends : ℕ → Entry → Bool
-lends context (entry.Buffer c writable) = c == context && writable
-lends context _ = false
-
 -- the context's buffer is lent for writing
 abbrev pub is_lent : List Entry → ℕ → Bool
-is_lent entries context = list_any (lends context) entries
+is_lent entries context =
+    list_any (λ e. elim e [ (entry.Buffer c writable) ↦ c == context && writable | _ ↦ false ]) entries
 
--- a driver may write the address, where these contexts have their buffers lent for writing: an address of the data
--- or the stacks, or of a buffer that is lent
+-- a driver may write the address: it is of the data or the stacks, or of a buffer that is lent for writing
 abbrev pub may_write_where : (ℕ → Bool) → ℕ → Bool
-may_write_where lent address =
-    nat_le DATA_START address && nat_lt address STACKS_END
+may_write_where lent address = nat_le DATA_START address && nat_lt address STACKS_END
     || (nat_le STACKS_END address && nat_lt address BUFFERS_END) && lent ((address - STACKS_END) / BUFFER_WORDS)
 
 -- a driver may write the address while its domain has these entries
@@ -54,8 +47,7 @@ fetch_word memory address = if nat_lt address TEXT_WORDS then Some (slice_index 
 
 -- memory after a driver's write: as before where it may not write there
 abbrev pub written : List Entry → ℕ → ℕ → List ℕ → List ℕ
-written entries address word memory =
-    if may_write entries address then slice_set memory address word else memory
+written entries address word memory = if may_write entries address then slice_set memory address word else memory
 
 -- memory with these words from an address on
 abbrev pub with_words : ℕ → List ℕ → List ℕ → List ℕ
@@ -69,8 +61,7 @@ padded_words n words = words ++ replicate (n - length words) 0
 abbrev pub object_words : ℕ → List ℕ → List ℕ
 object_words object memory = slice_range memory (object_start object) (object_start object + OBJECT_WORDS)
 
--- what a kernel object from 1 to 12 holds at first: its number and zeros. What object 0 holds is said by the memory
--- below
+-- what a kernel object 1 to 12 holds at first: its number and zeros; the memory below says what object 0 holds
 abbrev pub opening_object : ℕ → List ℕ
 opening_object object = padded_words OBJECT_WORDS (object ∷ [])
 
@@ -86,6 +77,5 @@ opening_memory defaults =
 
 -- memory with an image put in place: its text, its initial words, zeros to the last buffer page; the objects stay
 unfoldable pub loaded_memory : Image → List ℕ → List ℕ
-loaded_memory image memory =
-    padded_words TEXT_WORDS image.text
+loaded_memory image memory = padded_words TEXT_WORDS image.text
     ++ (padded_words (BUFFERS_END - DATA_START) image.initial ++ drop BUFFERS_END memory)

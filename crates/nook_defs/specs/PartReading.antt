@@ -1,22 +1,17 @@
 use Rattle.std.specs.Prelude.{ℕ, ◌-◌, ◌==◌, List, [], ◌∷◌, map, codes, bytes_eq, Bool, Option, Result, Ok}
-use Rattle.std.specs.Prelude.{if◌then◌else◌}
-use Rattle.std.specs.List.{list_any}
+use Rattle.std.specs.{Prelude.if◌then◌else◌, List.list_any}
 use Rattle.serde_json.specs.Data.{Data}
-use Rattle.nook_defs.specs.ImageReading.{class_of, driver_of}
-use Rattle.nook_defs.specs.Names.{is_name, value_named}
-use Rattle.nook_defs.specs.Reading.{bad, text_of, named_of, is_object, object_with, required, optional, number_at}
-use Rattle.nook_defs.specs.Reading.{number_or, list_of, numbers_of}
-use Rattle.nook_defs.specs.Results.{◌>>=◌}
-use Rattle.nook_defs.specs.Types.{BadBlock, Class, Fault, FaultKind, FaultName, Key, PartSpec, Refusal}
+use Rattle.nook_defs.specs.declared.limits.TheConstants.{MOST_ARRIVALS, MOST_BAD_BLOCKS, MOST_DISK_BLOCKS}
+use Rattle.nook_defs.specs.declared.limits.TheConstants.{MOST_FAILURES, MOST_FAULTS, MOST_FRAME_WORDS, MOST_TURNS}
+use Rattle.nook_defs.specs.{ImageReading.{known_class, driver_of}, Names.{is_name, value_named}, Reading.word_at}
+use Rattle.nook_defs.specs.Reading.{whole_number, bad, text_of, named_of, is_object, object_with, required, optional}
+use Rattle.nook_defs.specs.{Reading.{number_at, list_of, numbers_of}, Results.◌>>=◌, Types.{BadBlock, Class, Fault}}
+use Rattle.nook_defs.specs.Types.{FaultKind, FaultName, Key, PartSpec, Refusal}
 use Rattle.nook_defs.specs.declared.classes.Class.TheVariants as class
-use Rattle.nook_defs.specs.declared.scenario.FaultKind.TheVariants as strikes
 use Rattle.nook_defs.specs.declared.input.FaultName.TheVariants as named
 use Rattle.nook_defs.specs.declared.input.InputFault.TheVariants as fault
 use Rattle.nook_defs.specs.declared.input.Key.TheVariants as key
-use Rattle.nook_defs.specs.declared.limits.TheConstants.{MOST_BAD_BLOCKS, MOST_FAILURES, MOST_FAULTS, MOST_FRAME_WORDS}
-use Rattle.nook_defs.specs.declared.limits.TheConstants.{MOST_TURNS}
-
--- ---- names
+use Rattle.nook_defs.specs.declared.scenario.FaultKind.TheVariants as strikes
 
 -- one of the names is this one
 abbrev pub is_among : List (List ℕ) → List ℕ → Bool
@@ -29,9 +24,7 @@ new_name earlier name =
 
 -- a name that none of the earlier ones is
 abbrev pub name_of : List (List ℕ) → Data → Result (List ℕ) Refusal
-name_of earlier d = do
-  name ← text_of d
-  new_name earlier name
+name_of earlier d = text_of d >>= new_name earlier
 
 -- ---- faults
 
@@ -54,16 +47,16 @@ unfoldable pub fault_kind : FaultName → Data → Result FaultKind Refusal
 fault_kind named.Trap d = Ok strikes.Trap
 fault_kind named.Hang d = Ok strikes.Hang
 fault_kind named.Poke d = do
-  address ← number_at key.Address 0 4294967295 d
-  value ← number_at key.Value 0 4294967295 d
+  address ← word_at key.Address d
+  value ← word_at key.Value d
   Ok (strikes.Poke address value)
 fault_kind named.Code d = do
-  address ← number_at key.Address 0 4294967295 d
-  value ← number_at key.Value 0 4294967295 d
+  address ← word_at key.Address d
+  value ← word_at key.Value d
   Ok (strikes.Code address value)
 fault_kind named.Reg d = do
   register ← number_at key.Register 0 15 d
-  value ← number_at key.Value 0 4294967295 d
+  value ← word_at key.Value d
   Ok (strikes.Reg register value)
 
 -- a fault
@@ -77,76 +70,56 @@ fault_of d = do
   kind ← fault_kind name d
   Ok (record { burst = burst; after = after; kind = kind })
 
--- up to 64 faults
-abbrev pub faults_of : Data → Result (List Fault) Refusal
-faults_of d = list_of (λ earlier. fault_of) 0 MOST_FAULTS d
-
--- ---- bad blocks
-
--- a bad block, of a disk of so many blocks
+-- a bad block, of a disk of so many blocks, of which there is one at least
 unfoldable pub bad_block_of : ℕ → Data → Result BadBlock Refusal
 bad_block_of blocks d = do
   known ← object_with (key.Block ∷ key.After ∷ []) d
   block ← number_at key.Block 0 (blocks - 1) d
-  after ← number_at key.After 0 4294967295 d
+  after ← word_at key.After d
   Ok (record { block = block; after = after })
-
--- up to 64 bad blocks
-abbrev pub bad_blocks_of : ℕ → Data → Result (List BadBlock) Refusal
-bad_blocks_of blocks d = list_of (λ earlier. bad_block_of blocks) 0 MOST_BAD_BLOCKS d
 
 -- ---- parts
 
--- bad blocks may stand in version 2
-abbrev pub bad_key : ℕ → List Key
-bad_key version = if version == 2 then key.Bad ∷ [] else []
-
--- the keys of a part, by its class
+-- the keys of a part, by its class; bad blocks may stand in version 2
 abbrev pub part_keys : ℕ → Class → List Key
 part_keys version class.Block =
-    key.Name ∷ key.Class ∷ key.Limit ∷ key.Driver ∷ key.Faults ∷ key.Blocks ∷ bad_key version
+    key.Name ∷ key.Class ∷ key.Limit ∷ key.Driver ∷ key.Faults ∷ key.Blocks
+    ∷ (if version == 2 then key.Bad ∷ [] else [])
 part_keys version class.Net = key.Name ∷ key.Class ∷ key.Limit ∷ key.Driver ∷ key.Faults ∷ key.Arrivals ∷ []
 part_keys version class.Sound = key.Name ∷ key.Class ∷ key.Limit ∷ key.Driver ∷ key.Faults ∷ []
 
 -- the blocks of a disk; other classes have none
 abbrev pub part_blocks : Class → Data → Result ℕ Refusal
-part_blocks class.Block d = number_at key.Blocks 1 256 d
+part_blocks class.Block d = number_at key.Blocks 1 MOST_DISK_BLOCKS d
 part_blocks _ d = Ok 0
 
--- the bad blocks of a disk; other classes have none
+-- up to 64 bad blocks of a disk; other classes have none
 abbrev pub part_bad : Class → ℕ → Data → Result (List BadBlock) Refusal
-part_bad class.Block blocks d = optional key.Bad (bad_blocks_of blocks) [] d
+part_bad class.Block blocks d = optional key.Bad (list_of (λ earlier. bad_block_of blocks) 0 MOST_BAD_BLOCKS) [] d
 part_bad _ blocks d = Ok []
 
--- a frame of 1 to 64 words
-abbrev pub frame_of : List (List ℕ) → Data → Result (List ℕ) Refusal
-frame_of earlier d = numbers_of 1 MOST_FRAME_WORDS 4294967295 d
-
--- up to 256 frames
-abbrev pub frames_of : Data → Result (List (List ℕ)) Refusal
-frames_of d = list_of frame_of 0 256 d
-
--- the arrivals of a net part; other classes have none
+-- up to 256 arrivals of a net part, frames of 1 to 64 words; other classes have none
 abbrev pub part_arrivals : Class → Data → Result (List (List ℕ)) Refusal
-part_arrivals class.Net d = optional key.Arrivals frames_of [] d
+part_arrivals class.Net d =
+    optional key.Arrivals (list_of (λ earlier. numbers_of 1 MOST_FRAME_WORDS 4294967295) 0 MOST_ARRIVALS) [] d
 part_arrivals _ d = Ok []
 
 -- the names of parts
 abbrev pub part_names : List PartSpec → List (List ℕ)
 part_names parts = map (λ part. part.name) parts
 
--- a part of a scenario of a version, behind the earlier parts
+-- a part of a scenario of a version, after the earlier parts
 unfoldable pub part_of : ℕ → List PartSpec → Data → Result PartSpec Refusal
 part_of version earlier d = do
   members ← is_object d
-  class ← required key.Class class_of d
+  class ← required key.Class known_class d
   known ← object_with (part_keys version class) d
   name ← required key.Name (name_of (part_names earlier)) d
   blocks ← part_blocks class d
   bad ← part_bad class blocks d
-  limit ← number_or key.Limit 0 MOST_FAILURES 0 d
+  limit ← optional key.Limit (whole_number 0 MOST_FAILURES) 0 d
   image ← required key.Driver (driver_of class) d
-  faults ← optional key.Faults faults_of [] d
+  faults ← optional key.Faults (list_of (λ earlier. fault_of) 0 MOST_FAULTS) [] d
   arrivals ← part_arrivals class d
   Ok (record {
     name = name;

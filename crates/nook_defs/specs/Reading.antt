@@ -1,13 +1,9 @@
 use Rattle.std.specs.Prelude.{ℕ, ◌+◌, ◌&&◌, ◌||◌, not, nat_lt, List, [], ◌∷◌, ◌++◌, Bool, true, false, Option, Some}
 use Rattle.std.specs.Prelude.{None, option_and_then, Result, Ok, Err, ⊤, chars, encode_utf8_all, bytes_eq}
-use Rattle.std.specs.Prelude.{if◌then◌else◌}
-use Rattle.std.specs.Str.{all_scalars}
-use Rattle.serde_json.specs.Data.{Data, Items, no_items, item, Members, no_members, member}
-use Rattle.serde_json.specs.Find.{get, as_array, as_number, as_object, as_str, as_u64}
-use Rattle.serde_json.specs.Read.{read}
-use Rattle.nook_defs.specs.Keys.{key_text, is_key}
-use Rattle.nook_defs.specs.Results.{◌>>=◌}
-use Rattle.nook_defs.specs.Types.{InputFault, Key, PathStep, Refusal}
+use Rattle.std.specs.{Prelude.if◌then◌else◌, List.list_any, Str.all_scalars}
+use Rattle.serde_json.specs.{Data.{Data, Items, no_items, item, Members, no_members, member}, Find.{get, as_array}}
+use Rattle.serde_json.specs.{Find.{as_number, as_object, as_str, as_u64}, Read.read}
+use Rattle.nook_defs.specs.{Keys.key_text, Results.◌>>=◌, Types.{InputFault, Key, PathStep, Refusal}}
 use Rattle.nook_defs.specs.declared.input.InputFault.TheVariants as fault
 use Rattle.nook_defs.specs.declared.input.PathStep.TheVariants as step
 
@@ -38,8 +34,8 @@ or_bad fault (Some value) = Ok value
 -- ---- values
 
 -- a whole number from low to high, which the reader shows as one of 64 bits
-abbrev pub number_of : ℕ → ℕ → Data → Result ℕ Refusal
-number_of low high d = do
+abbrev pub whole_number : ℕ → ℕ → Data → Result ℕ Refusal
+whole_number low high d = do
   n ← or_bad fault.WrongKind (option_and_then as_u64 (as_number d))
   if nat_lt n low || nat_lt high n then bad fault.NumberRange else Ok n
 
@@ -53,10 +49,11 @@ named_of named d = or_bad fault.WrongKind (option_and_then named (as_str d))
 
 -- ---- objects
 
--- each member's name is one of these keys
+-- each member's name is the text of one of these keys
 abbrev pub all_known : List Key → Members → Bool
 all_known known no_members = true
-all_known known (member name d more) = is_key known name && all_known known more
+all_known known (member name d more) =
+    list_any (λ key. bytes_eq name (key_text key)) known && all_known known more
 
 -- an object
 abbrev pub is_object : Data → Result Members Refusal
@@ -79,11 +76,11 @@ optional key of default d =
 
 -- a number from low to high at a key that must be there
 abbrev pub number_at : Key → ℕ → ℕ → Data → Result ℕ Refusal
-number_at key low high d = required key (number_of low high) d
+number_at key low high d = required key (whole_number low high) d
 
--- a number from low to high at a key, or the default where it is left out
-abbrev pub number_or : Key → ℕ → ℕ → ℕ → Data → Result ℕ Refusal
-number_or key low high default d = optional key (number_of low high) default d
+-- a word at a key that must be there
+abbrev pub word_at : Key → Data → Result ℕ Refusal
+word_at key d = number_at key 0 4294967295 d
 
 -- ---- lists
 
@@ -102,13 +99,13 @@ items_from of earlier place (item d more) =
 abbrev pub list_of : {T : Type 0} → (List T → Data → Result T Refusal) → ℕ → ℕ → Data → Result (List T) Refusal
 list_of of least most d = do
   items ← or_bad fault.WrongKind (as_array d)
-  few ← refuse_if (nat_lt most (count_of items)) fault.TooMany
-  enough ← refuse_if (nat_lt (count_of items) least) fault.NumberRange
+  not_more ← refuse_if (nat_lt most (count_of items)) fault.TooMany
+  not_fewer ← refuse_if (nat_lt (count_of items) least) fault.NumberRange
   items_from of [] 0 items
 
 -- a list of numbers
 abbrev pub numbers_of : ℕ → ℕ → ℕ → Data → Result (List ℕ) Refusal
-numbers_of least most high d = list_of (λ earlier. number_of 0 high) least most d
+numbers_of least most high d = list_of (λ earlier. whole_number 0 high) least most d
 
 -- ---- bytes
 

@@ -1,15 +1,14 @@
-use Rattle.std.specs.Prelude.{ℕ, suc, Bool, true, false, List, [], ◌∷◌, ◌++◌, flat_map, Option, Some, None, codes}
-use Rattle.std.specs.Prelude.{decimal}
+use Rattle.std.specs.Prelude.{if◌then◌else◌, ℕ, suc, List, [], ◌∷◌, ◌++◌, flat_map, Option, Some, None, codes, decimal}
 use Rattle.nook_defs.specs.Types.{Act, Answer, End, Entry, Event, FailCause, Op, Stage, TrapCause}
-use Rattle.nook_defs.specs.declared.machine.Act.TheVariants as act
 use Rattle.nook_defs.specs.declared.calls.Answer.TheVariants as answered
-use Rattle.nook_defs.specs.declared.steps.End.TheVariants as ends
+use Rattle.nook_defs.specs.declared.calls.Op.TheVariants as op
 use Rattle.nook_defs.specs.declared.entries.Entry.TheVariants as entry
+use Rattle.nook_defs.specs.declared.machine.Act.TheVariants as act
+use Rattle.nook_defs.specs.declared.machine.TrapCause.TheVariants as trap
+use Rattle.nook_defs.specs.declared.steps.End.TheVariants as ends
 use Rattle.nook_defs.specs.declared.steps.Event.TheVariants as event
 use Rattle.nook_defs.specs.declared.steps.FailCause.TheVariants as cause
-use Rattle.nook_defs.specs.declared.calls.Op.TheVariants as op
 use Rattle.nook_defs.specs.declared.steps.Stage.TheVariants as stages
-use Rattle.nook_defs.specs.declared.machine.TrapCause.TheVariants as trap
 
 -- The text of one line of a report for each event.
 
@@ -23,22 +22,14 @@ with_number text number = text ++ decimal number
 abbrev pub spaced : ℕ → List ℕ
 spaced number = with_number (codes " ") number
 
--- each word after a comma
-abbrev pub comma_words : List ℕ → List ℕ
-comma_words words = flat_map (with_number (codes ",")) words
-
 -- words with commas between them
 abbrev pub inner_words : List ℕ → List ℕ
 inner_words [] = []
-inner_words (word ∷ words) = decimal word ++ comma_words words
+inner_words (word ∷ words) = decimal word ++ flat_map (with_number (codes ",")) words
 
--- words in brackets, with commas
-abbrev pub words_text : List ℕ → List ℕ
-words_text words = codes "[" ++ (inner_words words ++ codes "]")
-
--- a text and words
+-- a text and words in brackets
 abbrev pub with_list : List ℕ → List ℕ → List ℕ
-with_list text words = text ++ words_text words
+with_list text words = text ++ (codes "[" ++ (inner_words words ++ codes "]"))
 
 -- the end of a line
 abbrev pub line_feed : List ℕ
@@ -106,30 +97,22 @@ cause_text cause.TooManyCrossings = codes "too_many_crossings"
 cause_text (cause.BadReply status) = with_number (codes "bad_reply ") status
 cause_text (cause.BadInit status) = with_number (codes "bad_init ") status
 
--- a command on a block failed
-abbrev pub failed_text : Bool → List ℕ
-failed_text true = codes "failed store "
-failed_text false = codes "failed load "
-
 -- a device act
 abbrev pub act_text : Act → List ℕ
 act_text (act.Load block) = with_number (codes "load ") block
 act_text (act.Store block words) = with_number (codes "store ") block ++ with_list (codes " ") words
-act_text (act.Failed block store) = with_number (failed_text store) block
+act_text (act.Failed block store) =
+    with_number (if store then codes "failed store " else codes "failed load ") block
 act_text (act.Sent frame) = with_list (codes "sent ") frame
 act_text (act.Popped frame) = with_list (codes "popped ") frame
 act_text (act.Played word rate volume) = with_number (codes "played ") word ++ (spaced rate ++ spaced volume)
 act_text (act.Register key value) = with_number (codes "register ") key ++ spaced value
 
--- words that a kernel call moved, where there are some
-abbrev pub moved_text : List ℕ → List ℕ
-moved_text [] = []
-moved_text (word ∷ words) = with_list (codes " ") (word ∷ words)
-
--- the result of a kernel call, where it was served
+-- the result of a kernel call, where it was served, and the words that it moved, where there are some
 abbrev pub result_text : Option ℕ → List ℕ → List ℕ
 result_text None moved = []
-result_text (Some result) moved = with_number (codes " = ") result ++ moved_text moved
+result_text (Some result) moved = with_number (codes " = ") result
+    ++ elim moved [ [] ↦ [] | (word ∷ words) ↦ with_list (codes " ") (word ∷ words) ]
 
 -- how a burst ended
 abbrev pub end_text : End → List ℕ
@@ -139,16 +122,12 @@ end_text (ends.Reply status) = with_number (codes "reply ") status
 end_text ends.Pause = codes "pause"
 end_text ends.Trap = codes "trap"
 
--- whether a buffer may be written
-abbrev pub right_text : Bool → List ℕ
-right_text true = codes " write"
-right_text false = codes " read"
-
--- what a Collect took back
+-- what a Collect took back; of a buffer also whether it might be written
 abbrev pub released_text : Entry → List ℕ
 released_text (entry.Heap start len) = with_number (codes " heap ") start ++ spaced len
 released_text (entry.Borrow object start) = with_number (codes " borrow ") object ++ spaced start
-released_text (entry.Buffer context writable) = with_number (codes " buffer ") context ++ right_text writable
+released_text (entry.Buffer context writable) =
+    with_number (codes " buffer ") context ++ (if writable then codes " write" else codes " read")
 released_text (entry.Registration live) = []
 
 -- ---- what may stand at the end of a line
@@ -167,22 +146,9 @@ cause_tail (Some c) = codes " ! " ++ cause_text c
 abbrev pub acts_tail : List Act → List ℕ
 acts_tail acts = flat_map (λ a. codes " | " ++ act_text a) acts
 
--- answers at the end of a line
-abbrev pub answers_tail : List (ℕ × Answer) → List ℕ
-answers_tail answers = flat_map (λ a. with_number (codes " -> c") a.0 ++ (codes " " ++ answer_text a.1)) answers
-
--- entries at the end of a line
-abbrev pub released_tail : List Entry → List ℕ
-released_tail released = flat_map released_text released
-
--- whether the ring took a frame
-abbrev pub kept_text : Bool → List ℕ
-kept_text true = codes " kept"
-kept_text false = codes " lost"
-
 -- ---- events
 
--- an event without its number
+-- an event without its number; a frame that arrived is kept or lost
 abbrev pub event_text : Event → List ℕ
 event_text (event.Invoke call thread o a) =
     with_number (codes "invoke c") call
@@ -195,8 +161,11 @@ event_text (event.Burst context call burst count end acts a failure) =
     ++ (with_number (codes " n") count
     ++ (codes " " ++ (end_text end ++ (acts_tail acts ++ (answer_tail a ++ cause_tail failure)))))))
 event_text (event.Stage stage answers released) =
-    codes "stage " ++ (stage_text stage ++ (answers_tail answers ++ released_tail released))
-event_text (event.Arrive frame kept) = with_list (codes "arrive ") frame ++ kept_text kept
+    codes "stage " ++ (stage_text stage
+    ++ (flat_map (λ a. with_number (codes " -> c") a.0 ++ (codes " " ++ answer_text a.1)) answers
+    ++ flat_map released_text released))
+event_text (event.Arrive frame kept) =
+    with_list (codes "arrive ") frame ++ (if kept then codes " kept" else codes " lost")
 
 -- the line of an event with its number
 unfoldable pub event_line : ℕ → Event → List ℕ

@@ -1,18 +1,12 @@
-use Rattle.std.specs.Prelude.{ℕ, zero, suc, Bool, true, false, List, [], ◌∷◌, ◌++◌, length, replicate, flat_map, Option}
-use Rattle.std.specs.Prelude.{Some, None, is_some, ◌+◌, ◌||◌, if◌then◌else◌, bytes_eq, codes, decimal}
-use Rattle.nook_defs.specs.Types.{Act, Answer, Break, Class, Event, Losses, PartSpec, Scenario, ThreadSpec}
-use Rattle.nook_defs.specs.declared.machine.Act.TheVariants as act
+use Rattle.std.specs.Prelude.{ℕ, zero, suc, Bool, false, List, [], ◌∷◌, ◌++◌, length, replicate, flat_map, Option, Some}
+use Rattle.std.specs.Prelude.{None, is_some, ◌+◌, ◌||◌, if◌then◌else◌, bytes_eq, codes, decimal}
+use Rattle.nook_defs.specs.{Contract.first_break, Devices.medium_of, Keys.class_text, Losses.losses, Pages.object_words}
+use Rattle.nook_defs.specs.{Pages.opening_object, ReportLines.{with_number, spaced, with_list, line_feed, answer_text}}
+use Rattle.nook_defs.specs.{ReportLines.event_lines, Runs.state_of, Stages.is_given_up, State.PartState, Types.Act}
+use Rattle.nook_defs.specs.Types.{Answer, Break, Class, Event, Losses, PartSpec, Scenario, ThreadSpec}
 use Rattle.nook_defs.specs.declared.classes.Class.TheVariants as class
+use Rattle.nook_defs.specs.declared.machine.Act.TheVariants as act
 use Rattle.nook_defs.specs.declared.steps.Event.TheVariants as event
-use Rattle.nook_defs.specs.Contract.{first_break}
-use Rattle.nook_defs.specs.Devices.{medium_of}
-use Rattle.nook_defs.specs.Losses.{losses}
-use Rattle.nook_defs.specs.Pages.{object_words, opening_object}
-use Rattle.nook_defs.specs.Keys.{class_text}
-use Rattle.nook_defs.specs.ReportLines.{with_number, spaced, with_list, line_feed, answer_text, event_lines}
-use Rattle.nook_defs.specs.Runs.{state_of}
-use Rattle.nook_defs.specs.Stages.{is_given_up}
-use Rattle.nook_defs.specs.State.{PartState}
 
 -- The text of a report: the parts in order, then the threads, the taps and the status.
 
@@ -26,37 +20,26 @@ part_line place s =
 
 -- ---- lines of what a journal left
 
--- a kernel object, where it differs from what it held at first
-abbrev pub object_line : ℕ → List ℕ → List ℕ
-object_line object words =
-    if bytes_eq words (opening_object object) then []
-    else with_number (codes "object ") object ++ (with_list (codes " ") words ++ line_feed)
-
--- so many objects from one on
+-- so many objects from one on, each where it differs from what it held at first
 abbrev pub object_lines : ℕ → ℕ → List ℕ → List ℕ
 object_lines object zero memory = []
-object_lines object (suc more) memory =
-    object_line object (object_words object memory) ++ object_lines (suc object) more memory
+object_lines object (suc more) memory = let words = object_words object memory in
+    (if bytes_eq words (opening_object object) then []
+    else with_number (codes "object ") object ++ (with_list (codes " ") words ++ line_feed))
+    ++ object_lines (suc object) more memory
 
--- a block, where it has another word than 0
-abbrev pub block_line : ℕ → List ℕ → List ℕ
-block_line block words =
-    if bytes_eq words (replicate 16 0) then []
-    else with_number (codes "disk ") block ++ (with_list (codes " ") words ++ line_feed)
-
--- the blocks of a medium, the first of them number `block`
+-- the blocks of a medium, the first of them number `block`, each where it has another word than 0
 abbrev pub block_lines : ℕ → List (List ℕ) → List ℕ
 block_lines block [] = []
-block_lines block (words ∷ medium) = block_line block words ++ block_lines (suc block) medium
+block_lines block (words ∷ medium) =
+    (if bytes_eq words (replicate 16 0) then []
+    else with_number (codes "disk ") block ++ (with_list (codes " ") words ++ line_feed))
+    ++ block_lines (suc block) medium
 
--- the acts of a burst
-abbrev pub acts_of_event : Event → List Act
-acts_of_event (event.Burst context call burst count end acts a failure) = acts
-acts_of_event e = []
-
--- the acts of a journal
-abbrev pub acts_of : List Event → List Act
-acts_of events = flat_map acts_of_event events
+-- the acts of a journal, which are those of its bursts
+abbrev pub journal_acts : List Event → List Act
+journal_acts events =
+    flat_map (λ e. elim e [ (event.Burst context call burst count end acts a failure) ↦ acts | _ ↦ [] ]) events
 
 -- the line of an act that sent a frame
 abbrev pub wire_line : Act → List ℕ
@@ -72,12 +55,8 @@ played_line a = []
 -- what the device was left with or gave
 abbrev pub device_lines : Class → List Event → PartState → List ℕ
 device_lines class.Block events p = block_lines 0 (medium_of p.domain.device)
-device_lines class.Net events p = flat_map wire_line (acts_of events)
-device_lines class.Sound events p = flat_map played_line (acts_of events)
-
--- the line of the record
-abbrev pub config_line : List ℕ → List ℕ
-config_line config = codes "config" ++ (flat_map spaced config ++ line_feed)
+device_lines class.Net events p = flat_map wire_line (journal_acts events)
+device_lines class.Sound events p = flat_map played_line (journal_acts events)
 
 -- the numbers of losses that are told of a class
 abbrev pub losses_lines : Class → Losses → List ℕ
@@ -92,21 +71,19 @@ losses_lines class.Net n =
 losses_lines class.Sound n =
     with_number (codes "losses samples ") n.samples ++ (with_number (codes " busy ") n.busy ++ line_feed)
 
--- the line of the failures
-abbrev pub failures_line : ℕ → List ℕ
-failures_line failures = with_number (codes "failures ") failures ++ line_feed
-
 -- the line of the verdict on the driver
 abbrev pub contract_line : Option Break → List ℕ
 contract_line None = codes "contract kept" ++ line_feed
 contract_line (Some b) =
     with_number (codes "contract broken event ") b.event ++ (with_number (codes " clause ") b.clause ++ line_feed)
 
--- the lines behind the events of a part: by the journal's numbers, its verdict and the state that it ends in
+-- the lines after the events of a part, by the journal's numbers, its verdict and the state that it ends in: the
+-- objects, what the device was left with or gave, the record, the losses, the failures and the verdict
 abbrev pub final_lines : Class → List Event → Losses → Option Break → PartState → List ℕ
 final_lines c events n verdict p =
-    object_lines 1 12 p.domain.memory ++ (device_lines c events p ++ (config_line p.log.config
-    ++ (losses_lines c n ++ (failures_line p.failures ++ contract_line verdict))))
+    object_lines 1 12 p.domain.memory ++ (device_lines c events p
+    ++ ((codes "config" ++ (flat_map spaced p.log.config ++ line_feed))
+    ++ (losses_lines c n ++ ((with_number (codes "failures ") p.failures ++ line_feed) ++ contract_line verdict))))
 
 -- a part's lines
 unfoldable pub part_text : ℕ → PartSpec → List Event → List ℕ
@@ -114,7 +91,7 @@ part_text place s events =
     part_line place s ++ (event_lines 1 events
     ++ final_lines s.class events (losses events) (first_break s.class s.blocks events) (state_of s events))
 
--- the parts, the first of them number `place`, each with its journal
+-- the parts, the first of them number `place`, each with its journal; there is a journal for each part
 unfoldable pub parts_text : ℕ → List PartSpec → List (List Event) → List ℕ
 parts_text place [] journals = []
 parts_text place (s ∷ specs) [] = []
@@ -130,44 +107,34 @@ answer_lines place (a ∷ answers) =
     ++ (with_number (codes " p") a.0
     ++ (codes " " ++ (answer_text a.1 ++ (line_feed ++ answer_lines (suc place) answers))))
 
--- the line of a thread's answers
-abbrev pub thread_line : ℕ → ThreadSpec → List ℕ
-thread_line place t = with_number (codes "thread ") place ++ (codes " " ++ (t.name ++ line_feed))
-
--- the threads, the first of them number `place`, each with its answers
+-- the threads, the first of them number `place`, each with its answers; there is a list for each thread
 unfoldable pub threads_text : ℕ → List ThreadSpec → List (List (ℕ × Answer)) → List ℕ
 threads_text place [] answers = []
 threads_text place (t ∷ threads) [] = []
 threads_text place (t ∷ threads) (own ∷ answers) =
-    thread_line place t ++ (answer_lines 1 own ++ threads_text (suc place) threads answers)
+    (with_number (codes "thread ") place ++ (codes " " ++ (t.name ++ line_feed)))
+    ++ (answer_lines 1 own ++ threads_text (suc place) threads answers)
 
--- the line of a listener
-abbrev pub tap_text : Bool → List ℕ
-tap_text true = codes " kept"
-tap_text false = codes " dropped"
-
--- a listener's total, and whether it was kept
-abbrev pub tap_line : ℕ → ℕ × Bool → List ℕ
-tap_line place t =
-    with_number (codes "tap ") place ++ (with_number (codes " total ") t.0 ++ (tap_text t.1 ++ line_feed))
-
--- the listeners, the first of them number `place`
+-- the listeners, the first of them number `place`, each with its total and whether it was kept
 unfoldable pub taps_text : ℕ → List (ℕ × Bool) → List ℕ
 taps_text place [] = []
-taps_text place (t ∷ taps) = tap_line place t ++ taps_text (suc place) taps
+taps_text place (t ∷ taps) =
+    (with_number (codes "tap ") place
+    ++ (with_number (codes " total ") t.0 ++ ((if t.1 then codes " kept" else codes " dropped") ++ line_feed)))
+    ++ taps_text (suc place) taps
 
 -- the last line
 abbrev pub status_line : ℕ → List ℕ
 status_line status = with_number (codes "status ") status ++ line_feed
 
--- some part broke its contract
+-- some part broke its contract; there is a journal for each part
 unfoldable pub has_break : List PartSpec → List (List Event) → Bool
 has_break [] journals = false
 has_break (s ∷ specs) [] = false
 has_break (s ∷ specs) (events ∷ journals) =
     is_some (first_break s.class s.blocks events) || has_break specs journals
 
--- some part was given up
+-- some part was given up; there is a journal for each part
 unfoldable pub has_given_up : List PartSpec → List (List Event) → Bool
 has_given_up [] journals = false
 has_given_up (s ∷ specs) [] = false
@@ -190,7 +157,7 @@ abbrev pub events_count : List (List Event) → ℕ
 events_count [] = 0
 events_count (events ∷ journals) = length events + events_count journals
 
--- how many failures the events carry
+-- how many failures the events carry; there is a journal for each part
 unfoldable pub failures_count : List PartSpec → List (List Event) → ℕ
 failures_count [] journals = 0
 failures_count (s ∷ specs) [] = 0

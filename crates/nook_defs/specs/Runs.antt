@@ -1,4 +1,4 @@
-use Rattle.std.specs.Prelude.{◌≡◌, ℕ, ◌+◌, ◌==◌, if◌then◌else◌, true, is_some, Option, Some, None, List, [], ◌∷◌, ◌++◌}
+use Rattle.std.specs.Prelude.{◌≡◌, ℕ, ◌==◌, if◌then◌else◌, true, is_some, Option, Some, None, List, [], ◌∷◌, ◌++◌}
 use Rattle.std.specs.Option.{option_or}
 use Rattle.nook_defs.specs.Types.{Answer, CallEntry, Event, PartSpec, Step}
 use Rattle.nook_defs.specs.declared.steps.Event.TheVariants as event
@@ -65,10 +65,8 @@ if_enabled p s others = if enabled p s then Some s else others
 
 -- the Enter or Burst of a thread's open call, where it may be taken; none where the thread has no open call
 unfoldable pub next_for : PartState → ℕ → Option Step
-next_for p thread =
-    if is_some (call_of_thread thread p.log.pending)
-    then if_enabled p (step.Enter thread) (if_enabled p (step.Burst thread) None)
-    else None
+next_for p thread = if is_some (call_of_thread thread p.log.pending)
+    then if_enabled p (step.Enter thread) (if_enabled p (step.Burst thread) None) else None
 
 -- the stage or the burst of the shadow's context, where it may be taken
 unfoldable pub next_recovery : PartState → Option Step
@@ -83,8 +81,6 @@ next_of_calls p (c ∷ calls) = option_or (next_for p c.thread) (next_of_calls p
 unfoldable pub next_any : PartState → Option Step
 next_any p = option_or (next_recovery p) (next_of_calls p p.log.pending)
 
--- Answers
-
 -- the answer of a call among answers
 abbrev pub answer_among : ℕ → List (ℕ × Answer) → Option Answer
 answer_among call [] = None
@@ -93,13 +89,3 @@ answer_among call ((c, a) ∷ answers) = if c == call then Some a else answer_am
 -- the answer that an event gives to a call
 abbrev pub answer_at : ℕ → Event → Option Answer
 answer_at call e = answer_among call (answers_of e)
-
--- the number of the first event from a place on that answers a call
-abbrev pub answered_from : ℕ → ℕ → List Event → Option ℕ
-answered_from place call [] = None
-answered_from place call (e ∷ events) =
-    if is_some (answer_at call e) then Some place else answered_from (place + 1) call events
-
--- the number of the event that answers a call
-abbrev pub answered_at : List Event → ℕ → Option ℕ
-answered_at journal call = answered_from 1 call journal

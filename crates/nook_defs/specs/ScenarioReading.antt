@@ -1,17 +1,15 @@
 use Rattle.std.specs.Prelude.{ℕ, ◌-◌, List, [], ◌∷◌, length, map, codes, Option, Result, Ok}
 use Rattle.serde_json.specs.Data.{Data}
-use Rattle.nook_defs.specs.Names.{value_named}
-use Rattle.nook_defs.specs.PartReading.{name_of, part_of}
-use Rattle.nook_defs.specs.Reading.{named_of, is_object, object_with, required, optional, number_at, list_of}
-use Rattle.nook_defs.specs.Reading.{numbers_of, json_of}
-use Rattle.nook_defs.specs.Results.{◌>>=◌}
-use Rattle.nook_defs.specs.Types.{Key, Op, OpName, PartSpec, Refusal, Scenario, ScheduleName, ScheduleSpec, ThreadSpec}
+use Rattle.nook_defs.specs.declared.limits.TheConstants.{MOST_OPS, MOST_PARTS, MOST_THREADS}
+use Rattle.nook_defs.specs.{Names.value_named, PartReading.{name_of, part_of}, Reading.{word_at, named_of, is_object}}
+use Rattle.nook_defs.specs.Reading.{object_with, required, optional, number_at, list_of, numbers_of, json_of}
+use Rattle.nook_defs.specs.{Results.◌>>=◌, Types.{Key, Op, OpName, Refusal, Scenario, ScheduleName, ScheduleSpec}}
+use Rattle.nook_defs.specs.Types.{ThreadSpec}
 use Rattle.nook_defs.specs.declared.calls.Op.TheVariants as op
-use Rattle.nook_defs.specs.declared.scenario.ScheduleSpec.TheVariants as schedule
 use Rattle.nook_defs.specs.declared.input.Key.TheVariants as key
 use Rattle.nook_defs.specs.declared.input.OpName.TheVariants as asks
 use Rattle.nook_defs.specs.declared.input.ScheduleName.TheVariants as named
-use Rattle.nook_defs.specs.declared.limits.TheConstants.{MOST_PARTS, MOST_THREADS}
+use Rattle.nook_defs.specs.declared.scenario.ScheduleSpec.TheVariants as schedule
 
 -- ---- schedules
 
@@ -26,19 +24,11 @@ schedule_keys named.RoundRobin = key.Kind ∷ []
 schedule_keys named.Drawn = key.Kind ∷ key.Start ∷ []
 schedule_keys named.Listed = key.Kind ∷ key.Picks ∷ []
 
--- up to 65,536 picks
-abbrev pub picks_of : Data → Result (List ℕ) Refusal
-picks_of d = numbers_of 0 65536 65535 d
-
--- a schedule of a kind, by the keys of that kind
+-- a schedule of a kind, by the keys of that kind: a start of 64 bits, or up to 65,536 picks
 unfoldable pub schedule_by : ScheduleName → Data → Result ScheduleSpec Refusal
 schedule_by named.RoundRobin d = Ok schedule.RoundRobin
-schedule_by named.Drawn d = do
-  start ← number_at key.Start 0 18446744073709551615 d
-  Ok (schedule.Drawn start)
-schedule_by named.Listed d = do
-  picks ← required key.Picks picks_of d
-  Ok (schedule.Listed picks)
+schedule_by named.Drawn d = number_at key.Start 0 18446744073709551615 d >>= λ start. Ok (schedule.Drawn start)
+schedule_by named.Listed d = required key.Picks (numbers_of 0 65536 65535) d >>= λ picks. Ok (schedule.Listed picks)
 
 -- a schedule
 unfoldable pub schedule_of : Data → Result ScheduleSpec Refusal
@@ -69,10 +59,6 @@ op_keys asks.Close = []
 op_keys asks.Get = key.Key ∷ []
 op_keys asks.Set = key.Key ∷ key.Value ∷ []
 
--- a word at a key
-abbrev pub word_at : Key → Data → Result ℕ Refusal
-word_at key d = number_at key 0 4294967295 d
-
 -- up to 256 words
 abbrev pub op_words_of : Data → Result (List ℕ) Refusal
 op_words_of d = numbers_of 0 256 4294967295 d
@@ -87,24 +73,18 @@ op_by asks.Write d = do
   first ← word_at key.First d
   words ← required key.Data op_words_of d
   Ok (op.Write first words)
-op_by asks.Send d = do
-  frame ← required key.Frame op_words_of d
-  Ok (op.Send frame)
+op_by asks.Send d = required key.Frame op_words_of d >>= λ frame. Ok (op.Send frame)
 op_by asks.Recv d = Ok op.Recv
 op_by asks.Open d = Ok op.Open
-op_by asks.Play d = do
-  samples ← required key.Samples op_words_of d
-  Ok (op.Play samples)
+op_by asks.Play d = required key.Samples op_words_of d >>= λ samples. Ok (op.Play samples)
 op_by asks.Close d = Ok op.Close
-op_by asks.Get d = do
-  register ← word_at key.Key d
-  Ok (op.Get register)
+op_by asks.Get d = word_at key.Key d >>= λ register. Ok (op.Get register)
 op_by asks.Set d = do
   register ← word_at key.Key d
   value ← word_at key.Value d
   Ok (op.Set register value)
 
--- an operation on one of so many parts
+-- an operation on one of so many parts, of which there is one at least
 unfoldable pub op_of : ℕ → Data → Result (ℕ × Op) Refusal
 op_of parts d = do
   members ← is_object d
@@ -120,40 +100,26 @@ op_of parts d = do
 abbrev pub thread_names : List ThreadSpec → List (List ℕ)
 thread_names threads = map (λ thread. thread.name) threads
 
--- up to 256 operations
-abbrev pub ops_of : ℕ → Data → Result (List (ℕ × Op)) Refusal
-ops_of parts d = list_of (λ earlier. op_of parts) 0 256 d
-
--- a thread of a scenario of so many parts, behind the earlier threads
+-- a thread of a scenario of so many parts, after the earlier threads, with up to 256 operations
 unfoldable pub thread_of : ℕ → List ThreadSpec → Data → Result ThreadSpec Refusal
 thread_of parts earlier d = do
   known ← object_with (key.Name ∷ key.Ops ∷ []) d
   name ← required key.Name (name_of (thread_names earlier)) d
-  ops ← required key.Ops (ops_of parts) d
+  ops ← required key.Ops (list_of (λ earlier. op_of parts) 0 MOST_OPS) d
   Ok (record { name = name; ops = ops })
 
 -- ---- scenarios
 
--- 1 to 8 parts
-abbrev pub parts_of : ℕ → Data → Result (List PartSpec) Refusal
-parts_of version d = list_of (part_of version) 1 MOST_PARTS d
-
--- up to 16 threads
-abbrev pub threads_of : ℕ → Data → Result (List ThreadSpec) Refusal
-threads_of parts d = list_of (thread_of parts) 0 MOST_THREADS d
-
--- a scenario of version 1 or 2
+-- a scenario of version 1 or 2, of 1 to 8 parts and up to 16 threads
 unfoldable pub scenario_of : Data → Result Scenario Refusal
 scenario_of d = do
   known ← object_with (key.Version ∷ key.Schedule ∷ key.Parts ∷ key.Threads ∷ []) d
   version ← number_at key.Version 1 2 d
   schedule ← optional key.Schedule schedule_of schedule.RoundRobin d
-  parts ← required key.Parts (parts_of version) d
-  threads ← required key.Threads (threads_of (length parts)) d
+  parts ← required key.Parts (list_of (part_of version) 1 MOST_PARTS) d
+  threads ← required key.Threads (list_of (thread_of (length parts)) 0 MOST_THREADS) d
   Ok (record { schedule = schedule; parts = parts; threads = threads })
 
 -- the scenario of some bytes, or their first fault
 unfoldable pub scenario_from : List ℕ → Result Scenario Refusal
-scenario_from bytes = do
-  d ← json_of bytes
-  scenario_of d
+scenario_from bytes = json_of bytes >>= scenario_of

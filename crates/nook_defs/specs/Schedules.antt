@@ -1,8 +1,7 @@
 use Rattle.std.specs.Prelude.{ℕ, ◌+◌, ◌%◌, ◌==◌, nat_le, unwrap_or, Some, None, List, [], ◌∷◌, length, position}
 use Rattle.std.specs.Prelude.{slice_index}
 use Rattle.rand_core.specs.Pcg32Seed.{pcg32_seed}
-use Rattle.rand_pcg.specs.Lcg.{Lcg}
-use Rattle.rand_pcg.specs.Pcg.{pcg32, pcg32_of_seed}
+use Rattle.rand_pcg.specs.{Lcg.Lcg, Pcg.{pcg32, pcg32_of_seed}}
 use Rattle.nook_defs.specs.Types.{ScheduleSpec}
 use Rattle.nook_defs.specs.declared.scenario.ScheduleSpec.TheVariants as schedule
 
@@ -23,14 +22,11 @@ pub record Picked : Type 0 where
   pub place : ℕ
   pub order : Order
 
--- the first enabled actor at or after the cursor, else the first
-abbrev pub place_from : ℕ → List ℕ → ℕ
-place_from cursor actors = unwrap_or (position (λ a. nat_le cursor a) actors) 0
-
--- that actor, with the cursor one past it
+-- the first enabled actor at or after the cursor, else the first; the cursor goes to one past it
 abbrev pub round_pick : ℕ → List ℕ → Picked
 round_pick cursor actors =
-    let place = place_from cursor actors in record { place = place; order = round (slice_index actors place + 1) }
+    let place = unwrap_or (position (λ a. nat_le cursor a) actors) 0 in
+    record { place = place; order = round (slice_index actors place + 1) }
 
 -- the first of the picks that is enabled; behind the last one a round robin from its start
 abbrev pub listed_pick : List ℕ → List ℕ → Picked

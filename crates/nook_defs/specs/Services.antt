@@ -1,5 +1,5 @@
-use Rattle.std.specs.Prelude.{ℕ, ◌+◌, ◌==◌, ◌&&◌, ◌||◌, nat_lt, nat_le, not, if◌then◌else◌, Bool, true, false, Option}
-use Rattle.std.specs.Prelude.{Some, None, Result, Ok, Err, List, [], ◌∷◌, ◌++◌, length, slice_range}
+use Rattle.std.specs.Prelude.{ℕ, ◌+◌, ◌==◌, ◌&&◌, nat_lt, nat_le, not, if◌then◌else◌, Bool, true, Option, Some, None}
+use Rattle.std.specs.Prelude.{Result, Ok, Err, List, [], ◌∷◌, ◌++◌, length, slice_range}
 use Rattle.std.specs.List.{list_any}
 use Rattle.nook_defs.specs.Types.{BadParam, Class, Entry, Service}
 use Rattle.nook_defs.specs.declared.entries.Entry.TheVariants as entry
@@ -15,8 +15,7 @@ use Rattle.nook_defs.specs.Pages.{object_start, object_words, with_words}
 
 -- the service, where its argument passes, else the failing argument
 abbrev pub needs : Bool → ℕ → ℕ → Service → Result Service BadParam
-needs passes number argument s =
-    if passes then Ok s else Err (record { service = number; argument = argument })
+needs passes number argument s = if passes then Ok s else Err (record { service = number; argument = argument })
 
 -- a frame has 1 to 64 words
 abbrev pub is_frame_length : ℕ → Bool
@@ -28,8 +27,7 @@ tested_length len = if is_frame_length len then len else 1
 
 -- a frame to be handed up: the class, then where it lies, then its length
 abbrev pub checked_frame : ℕ → ℕ → Class → Result Service BadParam
-checked_frame first second c =
-    if not (same_class c class.Net) then Err (record { service = 6; argument = 0 })
+checked_frame first second c = if not (same_class c class.Net) then Err (record { service = 6; argument = 0 })
     else if not (nat_le DATA_START first && nat_le (first + tested_length second) BUFFERS_END) then
     Err (record { service = 6; argument = 1 })
     else needs (is_frame_length second) 6 2 (service.NetRx first second)
@@ -46,8 +44,7 @@ checked number first second c entries =
     else if number == 5 then needs (list_any (is_borrow_of first) entries) 5 1 (service.GiveBack first)
     else if number == 6 then checked_frame first second c
     else if number == 7 then Ok service.Log
-    else if number == 8 then Ok service.Yield
-    else Err (record { service = number; argument = 0 })
+    else if number == 8 then Ok service.Yield else Err (record { service = number; argument = 0 })
 
 -- what a service leaves, its result, and the words that it moved
 pub record Served : Type 0 where
@@ -87,13 +84,8 @@ give_back_served object (Some start) memory entries queue =
 abbrev pub frame_served : List ℕ → List ℕ → List Entry → List (List ℕ) → Served
 frame_served frame memory entries queue =
     let taken : Bool = nat_lt (length queue) MOST_QUEUED_FRAMES in
-    record {
-      memory = memory;
-      entries = entries;
-      queue = if taken then queue ++ frame ∷ [] else queue;
-      answer = if taken then 1 else 0;
-      moved = frame;
-    }
+    let queue' : List (List ℕ) = if taken then queue ++ frame ∷ [] else queue in
+    record (plainly_served memory entries queue') { answer = if taken then 1 else 0; moved = frame }
 
 -- the eight services, over memory, the entry list and the kernel's queue
 unfoldable pub served : ℕ → Service → List ℕ → List Entry → List (List ℕ) → Served
@@ -101,8 +93,7 @@ served heap_start (service.Alloc n) memory entries queue =
     alloc_served n (free_start heap_start n entries) memory entries queue
 served heap_start (service.Free address) memory entries queue =
     plainly_served memory (without_heap address entries) queue
-served heap_start service.Register memory entries queue =
-    plainly_served memory (registered true entries) queue
+served heap_start service.Register memory entries queue = plainly_served memory (registered true entries) queue
 served heap_start (service.Borrow object) memory entries queue =
     borrow_served object (free_start heap_start OBJECT_WORDS entries) memory entries queue
 served heap_start (service.GiveBack object) memory entries queue =

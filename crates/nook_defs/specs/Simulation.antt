@@ -1,5 +1,5 @@
-use Rattle.std.specs.Prelude.{◌≡◌, ℕ, zero, suc, ◌+◌, ◌*◌, ◌==◌, if◌then◌else◌, Option, Some, None, List, [], ◌∷◌}
-use Rattle.std.specs.Prelude.{◌++◌, length, map, slice_get, slice_set, drop, option_map, filter_map, flat_map}
+use Rattle.std.specs.Prelude.{◌≡◌, ℕ, zero, suc, ◌+◌, ◌*◌, ◌==◌, if◌then◌else◌, Option, Some, None, List, [], ◌∷◌, ◌++◌}
+use Rattle.std.specs.Prelude.{length, map, slice_get, slice_set, drop, option_map, filter_map, flat_map}
 use Rattle.std.specs.List.{cons_option, enumerate_from}
 use Rattle.nook_defs.specs.Types.{Answer, Event, Op, PartSpec, Scenario, Step, ThreadSpec}
 use Rattle.nook_defs.specs.declared.steps.Event.TheVariants as event
@@ -27,6 +27,7 @@ pub record RunningPart : Type 0 where
   pub run : PartRun
   pub coming : List (List ℕ)
 
+-- a scenario as it runs: its schedule, its parts and its threads
 pub record Simulation : Type 0 where
   pub order : Order
   pub parts : List RunningPart
@@ -62,13 +63,11 @@ choice_of actor part s = option_map (λ s. record { actor = actor; part = part; 
 
 -- the Invoke of an operation, where it may be taken; a valid scenario names no part that is not there
 abbrev pub invocation : ℕ → Op → Option RunningPart → Option Step
-invocation thread o None = None
-invocation thread o (Some seat) = if_enabled seat.run.state (step.Invoke thread o) None
+invocation thread o p = elim p [ None ↦ None | Some seat ↦ if_enabled seat.run.state (step.Invoke thread o) None ]
 
 -- the next step of the thread's open call; it is open in a part that is there
 abbrev pub going_on : ℕ → Option RunningPart → Option Step
-going_on thread None = None
-going_on thread (Some seat) = next_for seat.run.state thread
+going_on thread part = elim part [ None ↦ None | Some seat ↦ next_for seat.run.state thread ]
 
 -- a thread goes on with its open call; where it has none it invokes its next operation
 abbrev pub choice_of_thread : List RunningPart → ℕ × ThreadState → Option Choice
@@ -79,19 +78,16 @@ choice_of_thread parts (thread, t) = elim t.waiting [
 
 -- the next arrival, where it may be taken
 abbrev pub arrival : PartRun → List (List ℕ) → Option Step
-arrival r [] = None
-arrival r (frame ∷ coming) = if_enabled r.state (step.Arrive frame) None
+arrival r coming = elim coming [ [] ↦ None | (frame ∷ rest) ↦ if_enabled r.state (step.Arrive frame) None ]
 
 -- the recovery of a part, then its arrivals
 abbrev pub choices_of_part : ℕ → ℕ × RunningPart → List Choice
-choices_of_part threads (part, seat) =
-    cons_option (choice_of (threads + 2 * part) part (next_recovery seat.run.state))
+choices_of_part threads (part, seat) = cons_option (choice_of (threads + 2 * part) part (next_recovery seat.run.state))
     (cons_option (choice_of (threads + 2 * part + 1) part (arrival seat.run seat.coming)) [])
 
 -- the steps that the actors can take, in rising order of actors
 unfoldable pub choices_of : Simulation → List Choice
-choices_of s =
-    filter_map (choice_of_thread s.parts) (enumerate_from 0 s.threads)
+choices_of s = filter_map (choice_of_thread s.parts) (enumerate_from 0 s.threads)
     ++ flat_map (choices_of_part (length s.threads)) (enumerate_from 0 s.parts)
 
 -- What a step changes
@@ -109,8 +105,8 @@ started thread part (event.Invoke call t o answer) s = record s {
 started thread part _ s = s
 
 -- a thread after an event of a part: where that answers its open call it waits no more, and has the answer
-abbrev pub told : ℕ → Event → ThreadState → ThreadState
-told part e s = elim s.waiting [
+abbrev pub thread_after : ℕ → Event → ThreadState → ThreadState
+thread_after part e s = elim s.waiting [
   | None ↦ s
   | Some w ↦ elim (if w.part == part then answer_at w.call e else None) [
     | None ↦ s
@@ -122,7 +118,7 @@ told part e s = elim s.waiting [
 abbrev pub threads_after : ℕ → ℕ → Event → List ThreadState → List ThreadState
 threads_after thread part e [] = []
 threads_after thread part e (s ∷ threads) =
-    told part e (started thread part e s) ∷ threads_after (thread + 1) part e threads
+    thread_after part e (started thread part e s) ∷ threads_after (thread + 1) part e threads
 
 -- an arrival takes the next frame
 abbrev pub coming_after : Step → List (List ℕ) → List (List ℕ)
@@ -154,8 +150,7 @@ taken s choices =
 -- at most so many steps, until no actor has one
 unfoldable pub runs : ℕ → Simulation → Simulation
 runs zero s = s
-runs (suc more) s =
-    elim (choices_of s) [ [] ↦ s | (c ∷ choices) ↦ runs more (taken s (c ∷ choices)) ]
+runs (suc more) s = elim (choices_of s) [ [] ↦ s | (c ∷ choices) ↦ runs more (taken s (c ∷ choices)) ]
 
 -- the simulation is the whole run of the scenario: no actor has a step left
 pub record IsScheduledRun (scenario : Scenario) (s : Simulation) : Type 0 where
@@ -168,8 +163,8 @@ abbrev pub journal_of : RunningPart → List Event
 journal_of seat = seat.run.journal
 
 -- a thread's answers
-abbrev pub answers_of : ThreadState → List (ℕ × Answer)
-answers_of t = t.answers
+abbrev pub answers_of_thread : ThreadState → List (ℕ × Answer)
+answers_of_thread t = t.answers
 
 -- one journal a part
 abbrev pub journals_of : Simulation → List (List Event)
@@ -177,4 +172,4 @@ journals_of s = map journal_of s.parts
 
 -- the answers of each thread, with their parts
 abbrev pub answer_table : Simulation → List (List (ℕ × Answer))
-answer_table s = map answers_of s.threads
+answer_table s = map answers_of_thread s.threads

@@ -56,11 +56,7 @@ stops p = stage_step stage.Stop
 -- Stop past the limit: each open call is answered Gone, and the part is dead
 unfoldable pub gives_up_part : PartState → Stepped
 gives_up_part p = stage_step stage.Stop
-    (record p {
-      domain = stopped_domain p.domain;
-      log = no_call_open p.log;
-      mode = mode.Dead false;
-    })
+    (record p { domain = stopped_domain p.domain; log = no_call_open p.log; mode = mode.Dead false })
     (gone_answers p.failures p.log.pending) []
 
 -- Collect: all that the driver held goes back, and the event lists it
@@ -111,11 +107,6 @@ stage_done (stage.ReplaySet key value) p = replays_set key value p
 stage_done stage.ReplayOpen p = replays_open p
 stage_done stage.Resume p = resumes p
 
--- the stage that is due; where none is due, the step may not be taken
-abbrev pub stage_by : PartState → Option Stage → Stepped
-stage_by p None = stage_step stage.Resume p [] []
-stage_by p (Some s) = stage_done s p
-
--- the stage that is due is done
+-- the stage that is due is done; where none is due, the step may not be taken, so the first case is not reached
 unfoldable pub stage_stepped : PartState → Stepped
-stage_stepped p = stage_by p (stage_due p.mode)
+stage_stepped p = elim (stage_due p.mode) [ None ↦ stage_step stage.Resume p [] [] | Some s ↦ stage_done s p ]

@@ -14,7 +14,7 @@ use Rattle.nook_defs.specs.Devices.{has_room, with_arrival}
 use Rattle.nook_defs.specs.Domain.{DomainBurst, opening_domain, domain_burst, context_of}
 use Rattle.nook_defs.specs.Log.{opening_log, call_of_thread, is_blocked}
 use Rattle.nook_defs.specs.Stages.{stage_due, stage_stepped}
-use Rattle.nook_defs.specs.State.{DomainState, PartState}
+use Rattle.nook_defs.specs.State.{PartState}
 
 -- The one step of a part.
 
@@ -35,8 +35,7 @@ opening spec = record {
 
 -- applications are served by the driver
 abbrev pub is_running : Mode → Bool
-is_running mode.Running = true
-is_running _ = false
+is_running m = elim m [ mode.Running ↦ true | _ ↦ false ]
 
 -- the shadow's own call is Inside
 abbrev pub is_driven : PartState → Bool
@@ -44,13 +43,11 @@ is_driven p = is_some (context_of SHADOW p.domain.contexts)
 
 -- a held call that no open call with a smaller number conflicts with
 abbrev pub is_ready : PartState → Option CallEntry → Bool
-is_ready p None = false
-is_ready p (Some c) = not c.inside && not (is_blocked p.spec.class c p.log.pending)
+is_ready p o = elim o [ None ↦ false | Some c ↦ not c.inside && not (is_blocked p.spec.class c p.log.pending) ]
 
 -- a call that is Inside
 abbrev pub is_inside : Option CallEntry → Bool
-is_inside None = false
-is_inside (Some c) = c.inside
+is_inside o = elim o [ None ↦ false | Some c ↦ c.inside ]
 
 -- one of 16 threads that has no open call may invoke, up to 100,000 calls
 abbrev pub can_invoke : PartState → ℕ → Bool
@@ -63,8 +60,7 @@ can_enter p thread = is_running p.mode && is_ready p (call_of_thread thread p.lo
 
 -- the shadow may run where a stage drives the driver, and a call while it is Inside
 abbrev pub can_burst : PartState → ℕ → Bool
-can_burst p context =
-    if context == SHADOW then is_driven p
+can_burst p context = if context == SHADOW then is_driven p
     else is_running p.mode && is_inside (call_of_thread context p.log.pending)
 
 -- a stage is due, and the shadow has no call Inside
@@ -91,8 +87,7 @@ enabled p (step.Arrive frame) = can_arrive p frame
 abbrev pub is_of_burst : ℕ → Fault → Bool
 is_of_burst number f = f.burst == number
 
--- a fault put before the first of a list that does not come earlier, so before those of its own place, which it
--- preceded
+-- a fault put before the first of a list that comes no earlier, so before those of its own place, which it preceded
 abbrev pub insert_fault : Fault → List Fault → List Fault
 insert_fault f [] = f ∷ []
 insert_fault f (g ∷ faults) = if nat_le f.after g.after then f ∷ g ∷ faults else g ∷ insert_fault f faults
@@ -106,36 +101,20 @@ in_order (f ∷ faults) = insert_fault f (in_order faults)
 unfoldable pub faults_of_burst : ℕ → List Fault → List Fault
 faults_of_burst number faults = in_order (filter (is_of_burst number) faults)
 
--- a call's number; 0 stands for the shadow's own call
-abbrev pub number_of_call : Option CallEntry → ℕ
-number_of_call None = 0
-number_of_call (Some c) = c.call
-
--- the number of the call that a context serves; 0 for the shadow's own
+-- the number of the call that a context serves; 0 for the shadow's own. A context that serves no call has no burst
 abbrev pub served_number : ℕ → PartState → ℕ
-served_number context p = if context == SHADOW then 0 else number_of_call (call_of_thread context p.log.pending)
+served_number context p =
+    if context == SHADOW then 0 else elim (call_of_thread context p.log.pending) [ None ↦ 0 | Some c ↦ c.call ]
 
--- the part with a domain that ran once more
-abbrev pub with_burst : DomainState → PartState → PartState
-with_burst d p = record p { domain = d; bursts = p.bursts + 1 }
-
--- the part after a burst and its crossing, with the event of both
-abbrev pub burst_event : ℕ → PartState → DomainBurst → Crossed → Stepped
-burst_event context p b c = record {
-  state = c.state;
-  event = event.Burst context (served_number context p) (p.bursts + 1) b.count c.end b.acts c.answer c.failure;
-}
-
--- a burst, then what its crossing asks
-abbrev pub burst_step : ℕ → PartState → DomainBurst → Stepped
-burst_step context p b = burst_event context p b (after_crossing context b.ending (with_burst b.domain p))
-
--- a burst of a context with the faults of its number, and what its crossing asks
+-- a burst of a context with the faults of its number, then what its crossing asks, with the event of both
 unfoldable pub burst_stepped : ℕ → PartState → Stepped
 burst_stepped context p =
-    burst_step context p (domain_burst context (faults_of_burst (p.bursts + 1) p.spec.faults) p.domain)
-
--- A frame arrives
+    let b : DomainBurst = domain_burst context (faults_of_burst (p.bursts + 1) p.spec.faults) p.domain in
+    let ran : PartState = record p { domain = b.domain; bursts = p.bursts + 1 } in
+    let c : Crossed = after_crossing context b.ending ran in record {
+      state = c.state;
+      event = event.Burst context (served_number context p) (p.bursts + 1) b.count c.end b.acts c.answer c.failure;
+    }
 
 -- a frame arrives: the ring takes it, or loses it where it is full
 unfoldable pub after_arrival : List ℕ → PartState → Stepped

@@ -25,18 +25,16 @@ abbrev pub r : Machine → ℕ → ℕ
 r m a = slice_index m.cpu.registers a
 
 -- the next counter
-abbrev pub after : ℕ → ℕ
-after counter = (counter + 1) % 2 ^ 32
+abbrev pub next_counter : ℕ → ℕ
+next_counter counter = (counter + 1) % 2 ^ 32
 
 -- the processor goes on to the next word
 abbrev pub advanced : Cpu → Cpu
-advanced cpu = record cpu { counter = after cpu.counter }
+advanced cpu = record cpu { counter = next_counter cpu.counter }
 
 -- the processor goes on, and the register a becomes v
 abbrev pub with_register : Cpu → ℕ → ℕ → Cpu
-with_register cpu a v = record { counter = after cpu.counter; registers = slice_set cpu.registers a v }
-
--- the kinds of effect that a turn has
+with_register cpu a v = record { counter = next_counter cpu.counter; registers = slice_set cpu.registers a v }
 
 -- a turn that does nothing but go on
 abbrev pub goes : Machine → Turn
@@ -53,33 +51,27 @@ puts m a v = goes (record m { cpu = with_register m.cpu a v })
 -- the counter becomes the target where the test holds, else the next one
 abbrev pub jumps : Machine → Bool → ℕ → Turn
 jumps m test target =
-    goes (record m { cpu = record m.cpu { counter = if test then target else after m.cpu.counter } })
+    goes (record m { cpu = record m.cpu { counter = if test then target else next_counter m.cpu.counter } })
 
 -- the processor goes on, and the crossing is told
 abbrev pub crosses : Machine → BurstEnd → Turn
 crosses m crossing = record { machine = record m { cpu = advanced m.cpu }; act = None; crossing = Some crossing }
 
--- a word that was read goes into a register; an address where there is none traps
-abbrev pub past_read : Machine → ℕ → ℕ → Option ℕ → Turn
-past_read m a address None = trapped m (trap.BadRead address)
-past_read m a address (Some word) = puts m a word
-
--- the word at an address is loaded into the register a
+-- the word at an address is loaded into the register a; an address where there is none traps
 abbrev pub loads : Machine → ℕ → ℕ → Turn
-loads m a address = past_read m a address (read_word m.memory address)
+loads m a address =
+    elim (read_word m.memory address) [ None ↦ trapped m (trap.BadRead address) | Some word ↦ puts m a word ]
 
 -- the register a is stored at an address, where the driver may write there
 abbrev pub stores : List Entry → Machine → ℕ → ℕ → Turn
-stores entries m a address =
-    if may_write entries address
+stores entries m a address = if may_write entries address
     then goes (record m { cpu = advanced m.cpu; memory = slice_set m.memory address (r m a) })
     else trapped m (trap.ForeignWrite address)
 
 -- a word from a port goes into a register; a port that is not there traps
 abbrev pub past_input : Machine → ℕ → ℕ → Option Given → Turn
 past_input m a port None = trapped m (trap.BadPort port)
-past_input m a port (Some given) =
-    goes (record m { cpu = with_register m.cpu a given.word; device = given.device })
+past_input m a port (Some given) = goes (record m { cpu = with_register m.cpu a given.word; device = given.device })
 
 -- a word goes to a port; a port that is not there traps
 abbrev pub past_output : Machine → ℕ → Option Taken → Turn
@@ -110,7 +102,8 @@ executed entries m (instr.Beq a b imm) = jumps m (r m a == r m b) imm
 executed entries m (instr.Bne a b imm) = jumps m (not (r m a == r m b)) imm
 executed entries m (instr.Blt a b imm) = jumps m (nat_lt (r m a) (r m b)) imm
 executed entries m (instr.Jal a imm) =
-    goes (record m { cpu = record { counter = imm; registers = slice_set m.cpu.registers a (after m.cpu.counter) } })
+    let registers : List ℕ = slice_set m.cpu.registers a (next_counter m.cpu.counter) in
+    goes (record m { cpu = record { counter = imm; registers = registers } })
 executed entries m (instr.Jr a) = goes (record m { cpu = record m.cpu { counter = r m a } })
 executed entries m (instr.In a imm) = past_input m a imm (input_of imm m.device)
 executed entries m (instr.Out a imm) = past_output m imm (output_of imm (r m a) m.device)
@@ -118,16 +111,9 @@ executed entries m (instr.Kcall imm) = crosses m (ends.Kcall imm)
 executed entries m (instr.Ret a) = crosses m (ends.Reply (r m a))
 executed entries m instr.Fault = trapped m trap.Explicit
 
--- an instruction is executed; a word that is none traps
-abbrev pub past_decode : List Entry → Machine → Option Instr → Turn
-past_decode entries m None = trapped m trap.BadOpcode
-past_decode entries m (Some i) = executed entries m i
-
--- a word of text is decoded; a counter past the text traps
-abbrev pub past_fetch : List Entry → Machine → Option ℕ → Turn
-past_fetch entries m None = trapped m trap.BadFetch
-past_fetch entries m (Some word) = past_decode entries m (decode_of word)
-
--- one machine turn: the word at the counter is fetched, decoded and done
+-- one machine turn: the word at the counter is fetched, decoded and done; where there is none of these, it traps
 unfoldable pub turn : List Entry → Machine → Turn
-turn entries m = past_fetch entries m (fetch_word m.memory m.cpu.counter)
+turn entries m = elim (fetch_word m.memory m.cpu.counter) [
+  | None ↦ trapped m trap.BadFetch
+  | Some word ↦ elim (decode_of word) [ None ↦ trapped m trap.BadOpcode | Some i ↦ executed entries m i ]
+]

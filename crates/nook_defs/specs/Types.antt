@@ -1,56 +1,14 @@
 -- The types of the code's data, which the definitions speak of, passed on so that each names them in one place.
-pub use Rattle.nook_defs.specs.declared.assembler.AsmFault.{AsmFault}
-pub use Rattle.nook_defs.specs.declared.assembler.AsmKind.{AsmKind}
-pub use Rattle.nook_defs.specs.declared.assembler.Form.{Form}
-pub use Rattle.nook_defs.specs.declared.assembler.Label.{Label}
-pub use Rattle.nook_defs.specs.declared.assembler.Mnemonic.{Mnemonic}
-pub use Rattle.nook_defs.specs.declared.assembler.Operands.{Operands}
-pub use Rattle.nook_defs.specs.declared.assembler.Section.{Section}
-pub use Rattle.nook_defs.specs.declared.assembler.Statement.{Statement}
-pub use Rattle.nook_defs.specs.declared.assembler.TokenKind.{TokenKind}
-pub use Rattle.nook_defs.specs.declared.assembler.Value.{Value}
-pub use Rattle.nook_defs.specs.declared.calls.Answer.{Answer}
-pub use Rattle.nook_defs.specs.declared.calls.CallEntry.{CallEntry}
-pub use Rattle.nook_defs.specs.declared.calls.Op.{Op}
-pub use Rattle.nook_defs.specs.declared.campaign.Campaign.{Campaign}
-pub use Rattle.nook_defs.specs.declared.campaign.MemberRow.{MemberRow}
-pub use Rattle.nook_defs.specs.declared.classes.Accept.{Accept}
-pub use Rattle.nook_defs.specs.declared.classes.Admit.{Admit}
-pub use Rattle.nook_defs.specs.declared.classes.Class.{Class}
-pub use Rattle.nook_defs.specs.declared.clause.Clause.{Clause}
-pub use Rattle.nook_defs.specs.declared.devices.DeviceKind.{DeviceKind}
-pub use Rattle.nook_defs.specs.declared.devices.DeviceState.{DeviceState}
-pub use Rattle.nook_defs.specs.declared.devices.Disk.{Disk}
-pub use Rattle.nook_defs.specs.declared.devices.Link.{Link}
-pub use Rattle.nook_defs.specs.declared.entries.Entry.{Entry}
-pub use Rattle.nook_defs.specs.declared.input.FaultName.{FaultName}
-pub use Rattle.nook_defs.specs.declared.input.InputFault.{InputFault}
-pub use Rattle.nook_defs.specs.declared.input.Key.{Key}
-pub use Rattle.nook_defs.specs.declared.input.OpName.{OpName}
-pub use Rattle.nook_defs.specs.declared.input.PathStep.{PathStep}
-pub use Rattle.nook_defs.specs.declared.input.Refusal.{Refusal}
-pub use Rattle.nook_defs.specs.declared.input.ScheduleName.{ScheduleName}
-pub use Rattle.nook_defs.specs.declared.machine.Act.{Act}
-pub use Rattle.nook_defs.specs.declared.machine.BadParam.{BadParam}
-pub use Rattle.nook_defs.specs.declared.machine.BurstEnd.{BurstEnd}
-pub use Rattle.nook_defs.specs.declared.machine.Context.{Context}
-pub use Rattle.nook_defs.specs.declared.machine.Cpu.{Cpu}
-pub use Rattle.nook_defs.specs.declared.machine.Instr.{Instr}
-pub use Rattle.nook_defs.specs.declared.machine.Service.{Service}
-pub use Rattle.nook_defs.specs.declared.machine.TrapCause.{TrapCause}
-pub use Rattle.nook_defs.specs.declared.scenario.BadBlock.{BadBlock}
-pub use Rattle.nook_defs.specs.declared.scenario.Fault.{Fault}
-pub use Rattle.nook_defs.specs.declared.scenario.FaultKind.{FaultKind}
-pub use Rattle.nook_defs.specs.declared.scenario.Image.{Image}
-pub use Rattle.nook_defs.specs.declared.scenario.PartSpec.{PartSpec}
-pub use Rattle.nook_defs.specs.declared.scenario.Scenario.{Scenario}
-pub use Rattle.nook_defs.specs.declared.scenario.ScheduleSpec.{ScheduleSpec}
-pub use Rattle.nook_defs.specs.declared.scenario.ThreadSpec.{ThreadSpec}
-pub use Rattle.nook_defs.specs.declared.steps.End.{End}
-pub use Rattle.nook_defs.specs.declared.steps.Event.{Event}
-pub use Rattle.nook_defs.specs.declared.steps.FailCause.{FailCause}
-pub use Rattle.nook_defs.specs.declared.steps.Mode.{Mode}
-pub use Rattle.nook_defs.specs.declared.steps.Stage.{Stage}
-pub use Rattle.nook_defs.specs.declared.steps.Step.{Step}
-pub use Rattle.nook_defs.specs.declared.verdicts.Break.{Break}
-pub use Rattle.nook_defs.specs.declared.verdicts.Losses.{Losses}
+use Rattle.nook_defs.specs.declared
+pub use declared.assembler.{AsmFault.AsmFault, AsmKind.AsmKind, Form.Form, Label.Label, Mnemonic.Mnemonic}
+pub use declared.assembler.{Operands.Operands, Section.Section, Statement.Statement, TokenKind.TokenKind, Value.Value}
+pub use declared.{calls.{Answer.Answer, CallEntry.CallEntry, Op.Op}, campaign.{Campaign.Campaign, MemberRow.MemberRow}}
+pub use declared.{classes.{Accept.Accept, Admit.Admit, Class.Class}, clause.Clause.Clause}
+pub use declared.{devices.{DeviceKind.DeviceKind, DeviceState.DeviceState, Disk.Disk, Link.Link}, entries.Entry.Entry}
+pub use declared.input.{FaultName.FaultName, InputFault.InputFault, Key.Key, OpName.OpName, PathStep.PathStep}
+pub use declared.{input.{Refusal.Refusal, ScheduleName.ScheduleName}, machine.{Act.Act, BadParam.BadParam}}
+pub use declared.machine.{BurstEnd.BurstEnd, Context.Context, Cpu.Cpu, Instr.Instr, Service.Service}
+pub use declared.{machine.TrapCause.TrapCause, scenario.{BadBlock.BadBlock, Fault.Fault, FaultKind.FaultKind}}
+pub use declared.scenario.{Image.Image, PartSpec.PartSpec, Scenario.Scenario, ScheduleSpec.ScheduleSpec}
+pub use declared.{scenario.ThreadSpec.ThreadSpec, steps.{End.End, Event.Event, FailCause.FailCause, Mode.Mode}}
+pub use declared.{steps.{Stage.Stage, Step.Step}, verdicts.{Break.Break, Losses.Losses}}

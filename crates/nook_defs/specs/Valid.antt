@@ -1,17 +1,15 @@
 use Rattle.std.specs.Prelude.{ℕ, ◌-◌, ◌^◌, ◌<◌, ◌≤◌, ◌≡◌, ◌&&◌, not, List, [], ◌∷◌, length, All, Bool, true, ⊤}
-use Rattle.nook_defs.specs.Classes.{entry_count}
-use Rattle.nook_defs.specs.Names.{is_name}
-use Rattle.nook_defs.specs.PartReading.{is_among, part_names}
-use Rattle.nook_defs.specs.ScenarioReading.{thread_names}
-use Rattle.nook_defs.specs.Types.{BadBlock, Class, Fault, FaultKind, Image, Op, PartSpec, Scenario, ScheduleSpec}
-use Rattle.nook_defs.specs.Types.{ThreadSpec}
-use Rattle.nook_defs.specs.declared.classes.Class.TheVariants as class
-use Rattle.nook_defs.specs.declared.scenario.FaultKind.TheVariants as strikes
-use Rattle.nook_defs.specs.declared.calls.Op.TheVariants as op
-use Rattle.nook_defs.specs.declared.scenario.ScheduleSpec.TheVariants as schedule
-use Rattle.nook_defs.specs.declared.limits.TheConstants.{MOST_BAD_BLOCKS, MOST_FAILURES, MOST_FAULTS, MOST_FRAME_WORDS}
+use Rattle.nook_defs.specs.declared.limits.TheConstants.{MOST_ARRIVALS, MOST_BAD_BLOCKS, MOST_DISK_BLOCKS}
+use Rattle.nook_defs.specs.declared.limits.TheConstants.{MOST_FAILURES, MOST_FAULTS, MOST_FRAME_WORDS, MOST_OPS}
 use Rattle.nook_defs.specs.declared.limits.TheConstants.{MOST_PARTS, MOST_THREADS, MOST_TURNS}
 use Rattle.nook_defs.specs.declared.memory_map.TheConstants.{TEXT_WORDS, DATA_WORDS}
+use Rattle.nook_defs.specs.{Classes.entry_count, Names.is_name, PartReading.{is_among, part_names}}
+use Rattle.nook_defs.specs.{ScenarioReading.thread_names, Types.{BadBlock, Class, Fault, FaultKind, Image, Op}}
+use Rattle.nook_defs.specs.Types.{PartSpec, Scenario, ScheduleSpec, ThreadSpec}
+use Rattle.nook_defs.specs.declared.calls.Op.TheVariants as op
+use Rattle.nook_defs.specs.declared.classes.Class.TheVariants as class
+use Rattle.nook_defs.specs.declared.scenario.FaultKind.TheVariants as strikes
+use Rattle.nook_defs.specs.declared.scenario.ScheduleSpec.TheVariants as schedule
 
 -- The limits that images, parts and scenarios keep. Every call that takes one has this as its condition, and every
 -- reader gives what keeps it.
@@ -24,14 +22,10 @@ IsWord word = word < 2 ^ 32
 abbrev pub AreWords : ℕ → List ℕ → Type 0
 AreWords most words = (length words ≤ most) × All IsWord words
 
--- a place in the text
-abbrev pub IsTextPlace : ℕ → Type 0
-IsTextPlace place = place ≤ TEXT_WORDS - 1
-
 -- an image has a place in the text for each entry of its class, and up to 2,048 text words and initial words
 pub record IsValidImage (image : Image) : Type 0 where
   pub entries : length image.entries ≡ entry_count image.class
-  pub places : All IsTextPlace image.entries
+  pub places : All (λ place. place ≤ TEXT_WORDS - 1) image.entries
   pub text : AreWords TEXT_WORDS image.text
   pub initial : AreWords DATA_WORDS image.initial
 
@@ -54,15 +48,12 @@ pub record IsValidBadBlock (blocks : ℕ) (bad : BadBlock) : Type 0 where
   pub block : bad.block < blocks
   pub after : IsWord bad.after
 
--- 1 to 64 words
-abbrev pub IsValidFrame : List ℕ → Type 0
-IsValidFrame frame = (1 ≤ length frame) × AreWords MOST_FRAME_WORDS frame
-
--- what only parts of one class have: a disk has 1 to 256 blocks, a net part up to 256 arrivals
+-- what only parts of one class have: a disk has 1 to 256 blocks, a net part up to 256 arrivals of 1 to 64 words
 abbrev pub FitsClass : Class → PartSpec → Type 0
-FitsClass class.Block part = (1 ≤ part.blocks) × (part.blocks ≤ 256) × (part.arrivals ≡ [])
+FitsClass class.Block part = (1 ≤ part.blocks) × (part.blocks ≤ MOST_DISK_BLOCKS) × (part.arrivals ≡ [])
 FitsClass class.Net part =
-    (part.blocks ≡ 0) × (part.bad ≡ []) × (length part.arrivals ≤ 256) × All IsValidFrame part.arrivals
+    (part.blocks ≡ 0) × (part.bad ≡ []) × (length part.arrivals ≤ MOST_ARRIVALS)
+    × All (λ frame. (1 ≤ length frame) × AreWords MOST_FRAME_WORDS frame) part.arrivals
 FitsClass class.Sound part = (part.blocks ≡ 0) × (part.bad ≡ []) × (part.arrivals ≡ [])
 
 -- a part keeps every limit, and its image is of its class
@@ -89,15 +80,11 @@ IsValidOp op.Close = ⊤
 IsValidOp (op.Get key) = IsWord key
 IsValidOp (op.Set key value) = IsWord key × IsWord value
 
--- a script's step, on one of so many parts
-abbrev pub IsValidStep : ℕ → ℕ × Op → Type 0
-IsValidStep parts step = (step.0 < parts) × IsValidOp step.1
-
--- a thread of a scenario of so many parts
+-- a thread of a scenario of so many parts, each operation on one of them
 pub record IsValidThread (parts : ℕ) (thread : ThreadSpec) : Type 0 where
   pub name : is_name thread.name ≡ true
-  pub op_count : length thread.ops ≤ 256
-  pub ops : All (IsValidStep parts) thread.ops
+  pub op_count : length thread.ops ≤ MOST_OPS
+  pub ops : All (λ step. (step.0 < parts) × IsValidOp step.1) thread.ops
 
 -- a start of 64 bits, or up to 65,536 picks of 16 bits
 abbrev pub IsValidSchedule : ScheduleSpec → Type 0

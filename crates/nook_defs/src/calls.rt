@@ -4,7 +4,7 @@ use crate::lists::{Items, Words};
 use crate::steps::Stage;
 
 /// What an application asks of a part.
-#[derive(Drop)]
+#[derive(Debug, PartialEq, Eq, Drop)]
 pub enum Op {
     /// `count` blocks (1 to 8) from block `first` on.
     Read { first: u32, count: u32 },
@@ -27,7 +27,7 @@ pub enum Op {
 }
 
 /// What an application is answered.
-#[derive(Drop)]
+#[derive(Debug, PartialEq, Eq, Drop)]
 pub enum Answer {
     Done,
     Blocks(Words),

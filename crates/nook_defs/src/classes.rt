@@ -1,5 +1,8 @@
 //! What a class decides about a call at its Enter and at its driver's reply.
 
+ghost use Rattle.std.specs.Prelude.{◌≡◌};
+ghost use Rattle.nook_defs.specs.Classes.{class_code};
+
 use crate::calls::Answer;
 use crate::steps::FailCause;
 
@@ -11,8 +14,19 @@ pub enum Class {
     Sound,
 }
 
+/// The number by which a driver registers for its class.
+pub fn class_code(class: Class) -> u32
+    ensures { result ≡ class_code class }
+{
+    match class {
+        Class::Block => 0,
+        Class::Net => 1,
+        Class::Sound => 2,
+    }
+}
+
 /// What becomes of a held call when it is entered.
-#[derive(Drop)]
+#[derive(Debug, PartialEq, Eq, Drop)]
 pub enum Admit {
     /// It is answered at once.
     Reply(Answer),
@@ -23,7 +37,7 @@ pub enum Admit {
 }
 
 /// What becomes of a call when its driver replies.
-#[derive(Clone, Copy)]
+#[derive(Clone, Copy, Debug, PartialEq, Eq)]
 pub enum Accept {
     /// The reply is accepted, and the call has its answer.
     Take,

@@ -1,7 +1,7 @@
 //! The clauses of the contract of a class.
 
 ghost use Rattle.std.specs.Prelude.{◌≡◌};
-ghost use Rattle.nook_defs.specs.Contract.{number_of};
+ghost use Rattle.nook_defs.specs.Contract.{clause_number};
 
 /// A clause of the contract of a class, named by what breaks it.
 #[derive(Clone, Copy, Debug, PartialEq, Eq)]
@@ -45,7 +45,7 @@ pub enum Clause {
 impl Clause {
     /// The number by which the clause is printed, 1 to 15.
     pub fn number(self) -> u8
-        ensures { result ≡ number_of self }
+        ensures { result ≡ clause_number self }
     {
         match self {
             Clause::UnaskedStore => 1,

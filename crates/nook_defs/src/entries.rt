@@ -3,7 +3,7 @@
 use crate::lists::Items;
 
 /// What the tracker records that a driver holds.
-#[derive(Clone, Copy, PartialEq, Eq)]
+#[derive(Clone, Copy, Debug, PartialEq, Eq)]
 pub enum Entry {
     /// Heap words.
     Heap { start: u32, len: u32 },

@@ -45,6 +45,18 @@ pub const MOST_CALLS: u32 = 100_000;
 /// The parts of a scenario at most.
 pub const MOST_PARTS: usize = 8;
 
+/// The operations of a thread at most.
+pub const MOST_OPS: usize = 256;
+
+/// The blocks of a disk at most.
+pub const MOST_DISK_BLOCKS: u32 = 256;
+
+/// The frames that a scenario hands in at a part at most.
+pub const MOST_ARRIVALS: usize = 256;
+
+/// The bytes of a name at most.
+pub const MOST_NAME_BYTES: usize = 16;
+
 /// The faults that a part's driver is struck by at most.
 pub const MOST_FAULTS: usize = 64;
 

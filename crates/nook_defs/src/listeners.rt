@@ -1,7 +1,8 @@
 //! A listener that counts, and a gate that is always open.
 
 ghost use Rattle.std.specs.Prelude.{◌≡◌, is_some, length, nat_lt};
-ghost use Rattle.nook_defs.specs.Listening.{bit_if, kinds_of, masks_meet};
+ghost use Rattle.nook_defs.specs.Listening.{kinds_of};
+ghost use Rattle.nook_defs.specs.Views.Masks.{bit_if, masks_meet};
 
 use crate::calls::{Answer, CallAnswers};
 use crate::lists::Items;
@@ -102,7 +103,7 @@ fn failure_kind(failure: &Option<FailCause>) -> u8
 fn answers_kind(answers: &CallAnswers) -> u8
     ensures { result ≡ bit_if 64 (nat_lt 0 (length answers.now)) }
 {
-    if answers.len() == 0 { 0 } else { 64 }
+    if answers.is_empty() { 0 } else { 64 }
 }
 
 /// A gate that holds nobody back.

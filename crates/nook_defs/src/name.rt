@@ -4,24 +4,26 @@ ghost use Rattle.std.specs.Prelude.{◌≡◌, ◌<◌, ◌≤◌, length, slice
 ghost use Rattle.std.specs.List.{list_all};
 ghost use Rattle.nook_defs.specs.Names.{is_name, is_name_byte};
 
+use crate::limits::MOST_NAME_BYTES;
 use std::marker::Model;
 
 /// A name: 1 to 16 bytes of `a` to `z`, `0` to `9` and `_`. Contracts see its bytes.
 #[derive(Drop)]
 pub struct Name {
-    bytes: [u8; 16],
+    bytes: [u8; MOST_NAME_BYTES],
     length: usize,
 }
 
 impl Model for Name {
     ghost use Rattle.std.specs.Prelude.{ℕ, List, take, length, ◌≤◌, ◌≡◌, true};
     ghost use Rattle.nook_defs.specs.Names.{is_name};
+    ghost use Rattle.nook_defs.specs.declared.limits.TheConstants.{MOST_NAME_BYTES};
 
     ghost Value = { List ℕ };
 
     ghost view = { λ s. take s.length s.bytes };
 
-    ghost invariant = { λ s. (s.length ≤ 16) × (is_name (take s.length s.bytes) ≡ true) };
+    ghost invariant = { λ s. (s.length ≤ MOST_NAME_BYTES) × (is_name (take s.length s.bytes) ≡ true) };
 }
 
 impl Name {
@@ -29,7 +31,7 @@ impl Name {
     pub fn new(bytes: &[u8]) -> Option<Name>
         ensures { result ≡ (if is_name bytes.now then Some bytes.now else None) }
     {
-        if !make_a_name(bytes) {
+        if !is_name(bytes) {
             return None;
         }
         Some(Name {
@@ -82,34 +84,28 @@ impl Name {
 }
 
 /// The bytes, and zeros up to 16.
-fn padded(bytes: &[u8]) -> [u8; 16]
-    requires { length bytes.now ≤ 16 }
+fn padded(bytes: &[u8]) -> [u8; MOST_NAME_BYTES]
+    requires { length bytes.now ≤ MOST_NAME_BYTES }
     ensures { take (length bytes.now) result ≡ bytes.now }
 {
-    let mut kept = [0; 16];
+    let mut kept = [0; MOST_NAME_BYTES];
     let (front, _) = kept.split_at_mut(bytes.len());
     front.copy_from_slice(bytes);
     kept
 }
 
 /// Whether the bytes are a name.
-fn make_a_name(bytes: &[u8]) -> bool
+fn is_name(bytes: &[u8]) -> bool
     ensures { result ≡ is_name bytes.now }
 {
-    !bytes.is_empty() && bytes.len() <= 16 && are_name_bytes(bytes)
+    !bytes.is_empty() && bytes.len() <= MOST_NAME_BYTES && are_name_bytes(bytes)
 }
 
 /// Whether each byte may stand in a name.
-
 fn are_name_bytes(bytes: &[u8]) -> bool
     ensures { result ≡ list_all is_name_byte bytes.now }
 {
-    for byte in bytes {
-        if !may_name(*byte) {
-            return false;
-        }
-    }
-    true
+    bytes.iter().all(|byte| may_name(*byte))
 }
 
 /// Whether a byte may stand in a name.

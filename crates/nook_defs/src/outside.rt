@@ -10,7 +10,7 @@ ghost use Rattle.std.specs.Io.KnownBytes.{ReadConsumes, WriteAppends};
 ghost use Rattle.nook_defs.specs.Views.Causes.{HasCause, HasWriteCause};
 ghost use Rattle.nook_defs.specs.Devices.{tail_of};
 ghost use Rattle.nook_defs.specs.Listening.{Listening, heard};
-ghost use Rattle.nook_defs.specs.Log.{front_of};
+ghost use Rattle.nook_defs.specs.Views.CallLogs.{front_of};
 
 use crate::lists::Words;
 use crate::steps::Event;

@@ -4,7 +4,7 @@ ghost use Rattle.std.specs.Prelude.{◌≡◌, ◌+◌, ◌<◌, ◌≤◌, [], 
 ghost use Rattle.std.specs.Io.{ReadsAtMost, WritesAtMost};
 ghost use Rattle.std.specs.Io.KnownBytes.{ReadConsumes, WriteAppends};
 ghost use Rattle.nook_defs.specs.Views.Causes.{HasCause, HasWriteCause};
-ghost use Rattle.nook_defs.specs.Views.Streams.{IsRefusal, given, is_listed as listed, one_more, read_fails, taken, write_fails};
+ghost use Rattle.nook_defs.specs.Views.Streams.{IsRefusal, bytes_taken, given, is_listed as listed, one_more, read_fails, write_fails};
 
 use crate::lists::{Words, Words8};
 use crate::memory::NoMemory;
@@ -154,10 +154,10 @@ impl Sink for ListSink {
         ensures bound { WritesAtMost result piece.now }
         ensures bytes { WriteAppends (Some self.old.bytes) (Some self.new.bytes) result piece.now }
         ensures cause { HasWriteCause self.old.faults self.new.faults result }
-        ensures outcome { MatchBool (write_fails self.old) (IsRefusal self.old.nothing result) (result ≡ Ok (taken self.old piece.now)) }
+        ensures outcome { MatchBool (write_fails self.old) (IsRefusal self.old.nothing result) (result ≡ Ok (bytes_taken self.old piece.now)) }
         ensures fails { MatchBool (write_fails self.old)
             (self.new ≡ record self.old { calls = one_more self.old.calls; faults = one_more self.old.faults })
-            (self.new ≡ record self.old { calls = one_more self.old.calls; bytes = self.old.bytes ++ take (taken self.old piece.now) piece.now }) }
+            (self.new ≡ record self.old { calls = one_more self.old.calls; bytes = self.old.bytes ++ take (bytes_taken self.old piece.now) piece.now }) }
     {
         self.calls = self.calls.saturating_add(1);
         let free = self.room - self.bytes.len();

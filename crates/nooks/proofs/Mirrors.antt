@@ -9,7 +9,7 @@ use Rattle.nook_defs.specs.Valid.{IsValidScenario}
 use Rattle.nook_defs.specs.declared.steps.Event.{Event}
 use Rattle.nook_defs.specs.declared.mirror.MirrorAnswer.{MirrorAnswer}
 use Rattle.nook_defs.specs.declared.scenario.Scenario.{Scenario}
-use Rattle.nook_defs.specs.Taps.{tap_result}
+use Rattle.nook_defs.specs.Listening.{tap_result}
 use Rattle.part_laws.specs.Headline.{AreSafe}
 use Rattle.report_text.specs.Mirrored.{mirror_report_text}
 use Rattle.report_text.specs.Whole.{IsReport}

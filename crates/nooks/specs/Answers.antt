@@ -13,7 +13,7 @@ use Rattle.nook_defs.specs.Listening.{Listening}
 use Rattle.nook_defs.specs.ReportText.{report_text, status_of, summary_line}
 use Rattle.nook_defs.specs.ScenarioReading.{scenario_from}
 use Rattle.nook_defs.specs.Simulation.{IsScheduledRun, Simulation, answer_table, begins, journals_of}
-use Rattle.nook_defs.specs.Taps.{tap_result}
+use Rattle.nook_defs.specs.Listening.{tap_result}
 use Rattle.nook_defs.specs.declared.assembler.AsmFault.{AsmFault}
 use Rattle.nook_defs.specs.declared.calls.Answer.{Answer}
 use Rattle.nook_defs.specs.declared.campaign.Campaign.{Campaign}

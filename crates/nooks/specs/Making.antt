@@ -5,7 +5,7 @@ use Rattle.nook_defs.specs.declared.steps.Event.{Event}
 use Rattle.nook_defs.specs.declared.mirror.MirrorAnswer.{MirrorAnswer}
 use Rattle.nook_defs.specs.declared.scenario.Scenario.{Scenario}
 use Rattle.mirrored_run.specs.Mirrors.{IsMirrorRun, mirror_status}
-use Rattle.nook_defs.specs.Taps.{tap_result}
+use Rattle.nook_defs.specs.Listening.{tap_result}
 use Rattle.part_laws.specs.Headline.{AreSafe}
 use Rattle.report_text.specs.Whole.{IsReport}
 use Rattle.report_text.specs.declared.report.Run.{Run}

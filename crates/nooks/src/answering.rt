@@ -34,7 +34,7 @@ use nook_defs::memory::NoMemory;
 use nook_defs::outside::{Gate, Listener, Sink, Source};
 use nook_defs::scenario::{Image, Scenario};
 use nook_defs::whole::{ReadStop, read_all};
-use report_text::write::WriteStop;
+use report_text::WriteStop;
 use request_taps::Bus;
 use scenario_read::{ScenarioFault, fault_line, read_campaign, read_image, read_scenario};
 use std::alloc::Global;

@@ -19,7 +19,7 @@ use nook_defs::input::InputFault;
 use nook_defs::memory::NoMemory;
 use nook_defs::outside::Sink;
 use nook_defs::scenario::Scenario;
-use report_text::line::Line;
+use report_text::Line;
 use scenario_read::read_scenario;
 use std::alloc::Global;
 

@@ -15,13 +15,12 @@ ghost use Rattle.run_ends.specs.Journals.{events_in};
 use crate::program::Status;
 use crate::words::Form;
 use nook_defs::journal::Journal;
+use nook_defs::limits::MOST_PARTS;
 use nook_defs::listeners::CountListener;
 use nook_defs::memory::NoMemory;
 use nook_defs::outside::{Gate, Listener, Sink};
 use nook_defs::scenario::Scenario;
-use report_text::whole_report::{PartReport, Report, report_of};
-use report_text::whole_text::write_report;
-use report_text::write::WriteStop;
+use report_text::{PartReport, Report, WriteStop, report_of, write_report};
 use request_taps::Bus;
 use scenario_gen::generate;
 use sim_run::simulate;
@@ -178,7 +177,7 @@ fn count_events(journals: &[Journal]) -> u64
 
 /// The failures of some parts.
 fn count_failures(parts: &[PartReport]) -> u64
-    requires { length parts.now ≤ 8 }
+    requires { length parts.now ≤ MOST_PARTS }
     ensures { result ≡ failures_in parts.now }
 {
     let mut count = 0;

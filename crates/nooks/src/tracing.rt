@@ -15,7 +15,7 @@ use crate::words::Form;
 use burst_trace::write_trace;
 use nook_defs::outside::Sink;
 use nook_defs::scenario::Scenario;
-use report_text::write::WriteStop;
+use report_text::WriteStop;
 use scenario_read::read_scenario;
 use std::alloc::Global;
 

@@ -1,11 +1,10 @@
 //! The check of a kernel call's arguments.
 
 ghost use Rattle.std.specs.Prelude.{◌≡◌, ◌+◌, ◌<◌, ◌≤◌, true, IfOk, IsTrue, nat_le};
-ghost use Rattle.nook_defs.specs.Classes.{class_code};
 ghost use Rattle.nook_defs.specs.Services.{needs, is_frame_length, tested_length, checked_frame, checked};
 ghost use Rattle.param_wrappers.specs.Crossing.{can_serve};
 
-use nook_defs::classes::Class;
+use nook_defs::classes::{Class, class_code};
 use nook_defs::limits::MOST_FRAME_WORDS;
 use nook_defs::machine::{BadParam, Service};
 use nook_defs::memory_map::{BUFFERS_END, DATA_START, DATA_WORDS, LAST_OBJECT};
@@ -65,17 +64,6 @@ fn needs(passes: bool, number: u32, argument: u32, service: Service) -> Result<S
             service: number,
             argument,
         })
-    }
-}
-
-/// The code by which a driver of the class registers.
-fn class_code(class: Class) -> u32
-    ensures { result ≡ class_code class }
-{
-    match class {
-        Class::Block => 0,
-        Class::Net => 1,
-        Class::Sound => 2,
     }
 }
 

@@ -12,7 +12,9 @@ use Rattle.nook_defs.specs.declared.classes.Class.{Class}
 use Rattle.nook_defs.specs.declared.calls.Op.{Op}
 use Rattle.nook_defs.specs.declared.calls.Op.TheVariants as op
 use Rattle.nook_defs.specs.declared.steps.Stage.TheVariants as stage
-use Rattle.nook_defs.specs.Log.{IsNumbered, after_acknowledging, acknowledged_call, after_answering, blocked_by, blocks_call, change_entry, after_entering, entered_call, gone_answers, held_by_shadow, is_blocked, is_call, is_held, new_entry, no_call_open, with_answered_call, open_call, opening_log, queue_after, shadow_answer, stop_answers, stop_calls, with_answer, with_call}
+use Rattle.nook_defs.specs.Log.{after_acknowledging, after_answering, blocks_call, after_entering, gone_answers, held_by_shadow, is_blocked, is_call, is_held, no_call_open, with_answered_call, open_call, opening_log, queue_after, shadow_answer, stop_answers, with_answer, with_call}
+use Rattle.nook_defs.specs.Views.CallLogs.{IsNumbered, acknowledged_call, blocked_by}
+use Rattle.nook_defs.proofs.Cases.{change_entry, entered_call, new_entry, stop_calls}
 use Rattle.nook_defs.specs.State.{CallLog}
 use Rattle.shadow_log.proofs.Numbers.{numbered_filter, numbered_map, numbered_more, numbered_push}
 use Rattle.shadow_log.proofs.Changes.{numbered_stop}

@@ -7,7 +7,8 @@ use Rattle.nook_defs.specs.declared.steps.Event.{Event}
 use Rattle.nook_defs.specs.declared.scenario.Fault.{Fault}
 use Rattle.nook_defs.specs.declared.scenario.PartSpec.{PartSpec}
 use Rattle.nook_defs.specs.declared.steps.Step.{Step}
-use Rattle.nook_defs.specs.Runs.{PartRun, IsRun, IsRunFrom, answered_at, event_of, next_any, opening_run, run_after, state_after, state_from, state_of}
+use Rattle.nook_defs.specs.Runs.{PartRun, IsRun, IsRunFrom, event_of, next_any, opening_run, run_after, state_after, state_from, state_of}
+use Rattle.nook_defs.specs.Views.CallLogs.{answered_at}
 use Rattle.nook_defs.specs.State.{PartState}
 use Rattle.nook_defs.specs.Steps.{enabled, opening, stepped}
 use Rattle.nook_defs.specs.Valid.{FitsClass, IsValidPart}

@@ -4,4 +4,3 @@ pub mod Kept
 pub mod Ready
 pub mod Replies
 pub mod ShadowAnswers
-pub mod Tested

@@ -14,7 +14,8 @@ use Rattle.nook_defs.specs.declared.steps.Stage.TheVariants as stage
 use Rattle.nook_defs.specs.declared.steps.Step.TheVariants as step
 use Rattle.nook_defs.specs.declared.machine.Context.{Context}
 use Rattle.nook_defs.specs.Classes.{static_check}
-use Rattle.nook_defs.specs.Domain.{attempt_bursts, bursts_of, context_of}
+use Rattle.nook_defs.specs.Domain.{attempt_bursts, context_of}
+use Rattle.nook_defs.proofs.Cases.{bursts_of}
 use Rattle.nook_defs.specs.Entries.{is_buffer_of}
 use Rattle.nook_defs.specs.Log.{call_of_thread}
 use Rattle.nook_defs.specs.Stages.{stage_due}

@@ -38,7 +38,7 @@ taken_reply p q r context status c a o found acc told moved closed e b f =
     let again : call_of_thread context q.log.pending ≡ Some c = ap (λ z. call_of_thread context z.log.pending) behind ∙ found in
     let second : r ≡ record (closes_call c q) { queue = q.queue } = rw again at closed in
     let last : closes_call c p ≡ r = sym (second ∙ ap (λ z. record (closes_call c z) { queue = z.queue }) behind) in
-    rw (found, acc, ← same) (ap (crossed_with status a) last ∙ outcome_of r o status a e b f)
+    rw (found, acc, call_replied, ← same) (ap (crossed_with status a) last ∙ outcome_of r o status a e b f)
 
 io_leaves_queue : (o : Op) (status block : ℕ) (queue : List (List ℕ)) → accept o status ≡ accepts.IoError block → queue_after o queue ≡ queue
 io_leaves_queue (op.Read first count) status block queue h = refl
@@ -63,4 +63,4 @@ failed_blocks p r context status block c o found acc closed e b f =
     let second : r ≡ record (closes_call c p) { queue = p.queue } = rw found at closed in
     let same : queue_after c.op p.queue ≡ p.queue = io_leaves_queue c.op status block p.queue acc in
     let last : closes_call c p ≡ r = ap (λ z. record (closes_call c p) { queue = z }) same ∙ sym second in
-    rw (found, acc) (ap (crossed_with status (answer.IoError block)) last ∙ outcome_of r o status (answer.IoError block) e b f)
+    rw (found, acc, call_replied) (ap (crossed_with status (answer.IoError block)) last ∙ outcome_of r o status (answer.IoError block) e b f)

@@ -2,7 +2,7 @@ use Rattle.std.specs.Prelude.{ℕ, ◌≡◌, List, [], ◌∷◌}
 use Rattle.claim_index.specs.declared.claim.Claim.{Claim}
 use Rattle.claim_index.specs.Claims.{claims_of, without_call}
 use Rattle.nook_defs.specs.declared.calls.Answer.{Answer}
-use Rattle.nook_defs.specs.Log.{IsNumbered}
+use Rattle.nook_defs.specs.Views.CallLogs.{IsNumbered}
 use Rattle.nook_defs.specs.State.{CallLog}
 
 -- the claims are those of the open calls, whose numbers rise

@@ -4,5 +4,4 @@ pub mod Crossings
 pub mod Entering
 pub mod Kept
 pub mod Staging
-pub mod Tested
 pub mod Turning

@@ -1,7 +1,8 @@
 //! Which steps may be taken.
 
 ghost use Rattle.std.specs.Prelude.{◌≡◌, Some, IfSome, IsSome};
-ghost use Rattle.nook_defs.specs.Log.{blocked_by, call_of_thread, is_blocked, open_call};
+ghost use Rattle.nook_defs.specs.Log.{call_of_thread, is_blocked, open_call};
+ghost use Rattle.nook_defs.specs.Views.CallLogs.{blocked_by};
 ghost use Rattle.part_core.specs.Answering.{call_number};
 ghost use Rattle.nook_defs.specs.Steps.{can_arrive, can_burst, can_enter, can_invoke, can_stage, enabled, is_driven, is_inside, is_ready};
 

@@ -17,7 +17,5 @@ mod part;
 mod reply;
 mod stage;
 mod state;
-#[cfg(test)]
-mod tests;
 
 pub use part::{Part, StepDone, StepRefused};

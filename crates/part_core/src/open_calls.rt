@@ -2,7 +2,8 @@
 
 ghost use Rattle.std.specs.Prelude.{◌≡◌, ◌+◌, ◌<◌, ◌≤◌, Some, option_map, IfSome, IfOk, OnOk, OnErr};
 ghost use Rattle.claim_index.specs.Claims.{HasBlocks, blocker_of, claimed_by};
-ghost use Rattle.nook_defs.specs.Log.{acknowledged_call, after_answering, call_of_thread, after_entering, gone_answers, held_by_shadow, no_call_open, with_answered_call, open_call, opening_log, stop_answers, stop_queue, with_call};
+ghost use Rattle.nook_defs.specs.Log.{after_answering, call_of_thread, after_entering, gone_answers, held_by_shadow, no_call_open, with_answered_call, open_call, opening_log, stop_answers, stop_queue, with_call};
+ghost use Rattle.nook_defs.specs.Views.CallLogs.{acknowledged_call};
 ghost use Rattle.part_core.specs.Claimed.{without_answered};
 
 use claim_index::{Claim, ClaimIndex};

@@ -3,8 +3,9 @@
 ghost use Rattle.std.specs.Prelude.{◌≡◌, ◌<◌, ◌≤◌, ◌^◌, is_some, true, [], IsSome, IfNone, IfSome, IfOk};
 ghost use Rattle.nook_defs.specs.Devices.{medium_of};
 ghost use Rattle.nook_defs.specs.Pages.{object_words};
-ghost use Rattle.nook_defs.specs.Log.{blocked_by, call_of_thread, open_call};
-ghost use Rattle.nook_defs.specs.Runs.{IsRun, answered_at, next_any, next_for, next_recovery, opening_run, state_of};
+ghost use Rattle.nook_defs.specs.Log.{call_of_thread, open_call};
+ghost use Rattle.nook_defs.specs.Views.CallLogs.{answered_at, blocked_by};
+ghost use Rattle.nook_defs.specs.Runs.{IsRun, next_any, next_for, next_recovery, opening_run, state_of};
 ghost use Rattle.nook_defs.specs.Steps.{can_arrive, can_invoke, enabled};
 ghost use Rattle.nook_defs.specs.Valid.{IsValidPart};
 ghost use Rattle.part_core.specs.Answering.{call_number};

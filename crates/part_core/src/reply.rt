@@ -124,7 +124,7 @@ impl State {
     }
 
     /// The call is answered: its loan ends, and the record and the holder follow. The queue stays.
-    #[tactic(auto, unfolding(nook_defs::specs::Crossing::closes_call, nook_defs::specs::Log::acknowledged_call))]
+    #[tactic(auto, unfolding(nook_defs::specs::Crossing::closes_call, nook_defs::specs::Views::CallLogs::acknowledged_call))]
     fn close(&mut self, context: u8)
         requires crossable { IsCrossable context self.old }
         ensures { IfSome (call_of_thread context self.old.log.pending) (λ c.

@@ -11,13 +11,12 @@ use Rattle.nook_defs.specs.declared.calls.Op.TheVariants.{Read, Write, Send, Rec
 use Rattle.nook_defs.specs.Blocks.{get_blocks, has_block, holds_from, put_from, words_for}
 use Rattle.nook_defs.specs.Classes.{conflicts, covers, is_holder, is_of_stream, is_recv, is_set, is_write, static_check}
 use Rattle.part_laws.specs.Watch.{Watch, owes}
-use Rattle.nook_defs.specs.Ideal.{closes}
 use Rattle.part_laws.specs.Allowed.{allows, is_served_found, has_failed}
-use Rattle.nook_defs.specs.Log.{config_after, holder_after, queue_after, frame_or_empty}
-use Rattle.nook_defs.specs.Devices.{tail_of}
+use Rattle.nook_defs.specs.Log.{queue_after, frame_or_empty}
+use Rattle.nook_defs.proofs.Cases.{closes, config_after, holder_after}
+use Rattle.nook_defs.specs.Devices.{is_empty, tail_of}
 use Rattle.nook_defs.specs.Places.{at_number}
 use Rattle.nook_defs.specs.Trace.{kept_blocks}
-use Rattle.nook_defs.specs.Contract.{is_empty}
 use Rattle.part_laws.specs.Facts.{At, CallFacts, DiskFacts, HolderFits, IsSetting, KeyIn, Sub, Facts}
 use Rattle.part_laws.specs.Moves.{close_core, with_core}
 use Rattle.part_laws.specs.Views.{View, Past, Core, Call, core_of, cores, as_watched, as_track, watch_of, ideal_of}

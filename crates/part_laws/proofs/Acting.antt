@@ -9,8 +9,9 @@ use Rattle.nook_defs.specs.declared.calls.Op.{Op}
 use Rattle.nook_defs.specs.declared.calls.Op.TheVariants.{Read, Write, Send, Recv, Open, Play, Close, Get, Set}
 use Rattle.nook_defs.specs.declared.steps.Stage.TheVariants as stage
 use Rattle.nook_defs.specs.Blocks.{has_block, words_for}
-use Rattle.nook_defs.specs.Classes.{conflicts, covers, overlap, first_of_op, blocks_of_op, is_set, is_write, is_recv, static_check}
-use Rattle.nook_defs.specs.Contract.{is_empty, is_replay_of}
+use Rattle.nook_defs.specs.Classes.{conflicts, covers, share_block, first_of_op, blocks_of_op, is_set, is_write, is_recv, static_check}
+use Rattle.nook_defs.specs.Contract.{is_replay_of}
+use Rattle.nook_defs.specs.Devices.{is_empty}
 use Rattle.part_laws.specs.ActsOn.{Dev}
 use Rattle.part_laws.specs.Facts.{At, CallFacts, CallsFacts, IsStored, DiskFacts, KeyAt, KeyIn, Sub, may_be_inside, is_driving, Facts}
 use Rattle.part_laws.specs.Moves.{store_core}
@@ -167,7 +168,7 @@ write_class Net size (Set k v) w h = absurd cc
 write_class Sound size (Set k v) w h = absurd cc
 
 -- two operations that cover a block, one of them a Write
-pub overlapping : (a b : Op) (n : ℕ) → covers a n ≡ true → covers b n ≡ true → overlap a b ≡ true
+pub overlapping : (a b : Op) (n : ℕ) → covers a n ≡ true → covers b n ≡ true → share_block a b ≡ true
 overlapping a b n h i =
     and_from (nat_lt (first_of_op a) (first_of_op b + blocks_of_op b)) (nat_lt (first_of_op b) (first_of_op a + blocks_of_op a))
     (lt-ltb (first_of_op a) (first_of_op b + blocks_of_op b) (omega (arith, low a h, high b i)))
@@ -183,8 +184,8 @@ pub write_conflicts : (class : Class) (a b : Op) (n : ℕ) → class ≡ Block �
     → covers a n ≡ true → covers b n ≡ true → conflicts class a b ≡ true
 write_conflicts class a b n e w h i =
     ap (λ c. conflicts c a b) e
-    ∙ or_right (is_set a || is_set b) ((is_write a || is_write b) && overlap a b)
-    (and_from (is_write a || is_write b) (overlap a b) w (overlapping a b n h i))
+    ∙ or_right (is_set a || is_set b) ((is_write a || is_write b) && share_block a b)
+    (and_from (is_write a || is_write b) (share_block a b) w (overlapping a b n h i))
 
 -- two open calls that were Inside, of which one is a Write, do not cover one block
 pub write_alone : (class : Class) (size : ℕ) (cs : List Core) → CallsFacts class size cs → (j k : ℕ) (c d : Core) → At cs j c → At cs k d

@@ -11,11 +11,13 @@ use Rattle.nook_defs.specs.declared.calls.Op.TheVariants.{Read, Write, Send, Rec
 use Rattle.nook_defs.specs.Blocks.{words_for}
 use Rattle.nook_defs.specs.Classes.{is_set, is_recv, is_holder, is_next, is_play, is_write, covers, same_class, sends}
 use Rattle.part_laws.specs.Watch.{Watched, sees_act, wanted, is_covered, is_agreed, is_own_frame, is_first_frame, is_next_of, is_playing, may_register, is_setting, sent_once, played_one, failed_at}
-use Rattle.nook_defs.specs.Ideal.{Ideal, Opened, ran, shows, when, may_wire, plays_for, play_of, may_sound}
+use Rattle.nook_defs.specs.Ideal.{Ideal, Opened, ran, shows, when, may_wire, play_of, may_sound}
+use Rattle.nook_defs.proofs.Cases.{plays_for}
 use Rattle.nook_defs.proofs.Changes.{wired_once, played_once, store_track}
 use Rattle.nook_defs.specs.Places.{at_number, change_number, number_where}
 use Rattle.nook_defs.specs.Trace.{Visible, wire, sample, tracks_after_act}
-use Rattle.nook_defs.specs.Contract.{is_empty, is_replay_of}
+use Rattle.nook_defs.specs.Contract.{is_replay_of}
+use Rattle.nook_defs.specs.Devices.{is_empty}
 use Rattle.part_laws.specs.Counts.{Counts, count_act}
 use Rattle.part_laws.specs.Balance.{held_at, Balanced}
 use Rattle.part_laws.specs.ActsOn.{act_on, Fits}

@@ -12,10 +12,11 @@ use Rattle.nook_defs.specs.declared.scenario.Fault.{Fault}
 use Rattle.nook_defs.specs.declared.machine.Instr.{Instr}
 use Rattle.nook_defs.specs.declared.machine.Instr.TheVariants as instr
 use Rattle.nook_defs.specs.Burst.{burst, acts_of}
-use Rattle.nook_defs.specs.Devices.{Given, Taken, input_of, output_of, kind_input, kind_output, disk_input, disk_output, link_input, link_output, link_command, speaker_output, is_register_port, is_command, is_failing, command_act, commanded, with_disk, with_link, head_of, tail_of, is_empty_ring}
+use Rattle.nook_defs.specs.Devices.{Given, Taken, input_of, output_of, kind_output, disk_input, disk_output, link_input, link_output, link_command, speaker_output, is_register_port, is_command, is_failing, command_act, commanded, with_disk, with_link, head_of, tail_of, is_empty}
+use Rattle.nook_defs.proofs.Cases.{kind_input, past_decode, past_fetch, past_read}
 use Rattle.nook_defs.specs.Machine.{decode_of}
 use Rattle.nook_defs.specs.Pages.{may_write, read_word, fetch_word}
-use Rattle.nook_defs.specs.Turn.{Machine, Turn, turn, executed, past_read, past_input, past_output, past_decode, past_fetch, stores, r}
+use Rattle.nook_defs.specs.Turn.{Machine, Turn, turn, executed, past_input, past_output, stores, r}
 use Rattle.part_laws.proofs.BurstKeeps.{split, every_fault, burst_keeps}
 use Rattle.part_laws.specs.ActsOn.{Dev, dev_of, act_on, acts_on, Fits, ActsFit, Tells}
 
@@ -85,12 +86,12 @@ disk_input_told registers k port =
 
 -- the net device
 
-ring_popped : (ring : List (List ℕ)) → is_empty_ring ring ≡ false
+ring_popped : (ring : List (List ℕ)) → is_empty ring ≡ false
     → (tail_of ring ≡ drop 1 ring) × ((rest : List (List ℕ)) × (ring ≡ head_of ring ∷ rest))
 ring_popped [] h = absurd (true≢false h)
 ring_popped (frame ∷ ring) h = (refl, (ring, refl))
 
-popped_told : (registers : List ℕ) (k : Link) → is_empty_ring k.ring ≡ false
+popped_told : (registers : List ℕ) (k : Link) → is_empty k.ring ≡ false
     → Told (device registers (kind.Link k))
     (with_link (device registers (kind.Link k)) (record k { ring = tail_of k.ring; reading = 0 })) (Some (act.Popped (head_of k.ring)))
 popped_told registers k h =
@@ -102,9 +103,9 @@ link_command_told : (registers : List ℕ) (k : Link) (word : ℕ)
 link_command_told registers k word =
     split (word == 1 && (nat_le 1 k.length && nat_le k.length 64))
     (λ sends. rw sends (refl, tt))
-    (λ none'. split (word == 2 && not (is_empty_ring k.ring))
+    (λ none'. split (word == 2 && not (is_empty k.ring))
     (λ pops. rw (none', pops) (popped_told registers k
-    (not-true (is_empty_ring k.ring) (and_parts (word == 2) (not (is_empty_ring k.ring)) pops).1)))
+    (not-true (is_empty k.ring) (and_parts (word == 2) (not (is_empty k.ring)) pops).1)))
     (λ none''. rw (none', none'') refl))
 
 link_output_told : (registers : List ℕ) (k : Link) (port word : ℕ)

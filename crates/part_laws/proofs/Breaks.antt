@@ -17,7 +17,7 @@ use Rattle.nook_defs.specs.Places.{change_number}
 use Rattle.part_laws.proofs.Places.{split}
 use Rattle.nook_defs.specs.Answers.{answers_of, one_answer}
 use Rattle.nook_defs.specs.declared.clause.Clause.{Clause}
-use Rattle.nook_defs.specs.Contract.{Known, OpenCall, after, after_failure, all_clauses, break_from, broken, change_call, crossing_deeds, deeds_of, during, first_break, is_answered_in, is_broken_by, known_first, acts}
+use Rattle.nook_defs.specs.Contract.{Known, OpenCall, known_after, after_failure, all_clauses, break_from, broken, change_call, crossing_deeds, deeds_of, during, first_break, is_answered_in, is_broken_by, known_first, acts}
 use Rattle.nook_defs.proofs.Changes.{after_deeds, break_or, enter_call, handed_frame}
 use Rattle.part_laws.specs.Orderly.{IsCrossing, IsFitting, IsOfCall, IsOrderlyFrom, flags_after, flags_during, kept_from}
 use Rattle.part_laws.proofs.Deeds.{acts_broken, acts_known, acts_shut, crossing_broken, own_change, own_shut}
@@ -102,7 +102,7 @@ crossing_shut flags call end.Trap None None w h s = shut_none flags w.calls s
 
 -- an event, seen by a monitor and by what is known
 pub record SeesAlike (flags : List Bool) (w : Watch) (e : Event) : Type 0 where
-  pub known : after (known_of flags w) e ≡ known_of (flags_after flags e) (sees w e)
+  pub known : known_after (known_of flags w) e ≡ known_of (flags_after flags e) (sees w e)
   pub shut : AreShut (flags_after flags e) (sees w e).calls
   pub first : w.clause ≡ None → (place : ℕ) (later : Option Break)
       → break_or place (broken (known_of flags w) e) later ≡ break_at (sees w e).clause place later
@@ -235,8 +235,8 @@ unfolding break_from watched_from
 breaks_alike place flags w [] s c h = refl
 breaks_alike place flags w (e ∷ events) s c h =
     let alike : SeesAlike flags w e = event_alike flags w e s h.0 in
-    alike.first c place (break_from (suc place) (after (known_of flags w) e) events)
-    ∙ later_only place (sees w e).clause (break_from (suc place) (after (known_of flags w) e) events) (watched_from (suc place) (sees w e) events)
+    alike.first c place (break_from (suc place) (known_after (known_of flags w) e) events)
+    ∙ later_only place (sees w e).clause (break_from (suc place) (known_after (known_of flags w) e) events) (watched_from (suc place) (sees w e) events)
     (λ n. ap (λ k. break_from (suc place) k events) alike.known
     ∙ breaks_alike (suc place) (flags_after flags e) (sees w e) events alike.shut n h.1)
 

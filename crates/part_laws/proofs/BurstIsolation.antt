@@ -1,4 +1,4 @@
-use Rattle.std.proofs.Common.{◌≡◌, ◌⊎◌, inl, inr, ℕ, ◌+◌, ◌%◌, ◌^◌, nat_lt, ◌==◌, sym, true, false, Option, Some, None, List, [], ◌∷◌, length, slice_index, slice_set, refl, ◌∙◌, ap, length-set, get_or-set_other, ◌≢◌}
+use Rattle.std.proofs.Common.{◌≡◌, ◌⊎◌, inl, inr, ℕ, ◌+◌, ◌%◌, ◌^◌, nat_lt, ◌==◌, sym, true, false, Option, Some, None, List, [], ◌∷◌, length, slice_index, slice_set, refl, ◌∙◌, ap, length-set, get_or-set_other, subst, ◌≢◌}
 use Rattle.std.specs.List.{list_any, AllByRecursion}
 use Rattle.std.proofs.lemmas.Bool.{or_parts, both_ways, eq-eqb}
 use Rattle.nook_defs.specs.declared.entries.Entry.{Entry}
@@ -10,12 +10,13 @@ use Rattle.nook_defs.specs.declared.machine.Instr.{Instr}
 use Rattle.nook_defs.specs.declared.machine.Instr.TheVariants as instr
 use Rattle.nook_defs.specs.Burst.{burst, struck_memory}
 use Rattle.nook_defs.specs.Devices.{Given, Taken, input_of, output_of}
-use Rattle.nook_defs.specs.Domain.{machine_of, burst_by, domain_burst, context_of}
-use Rattle.nook_defs.specs.Isolation.{ChangesOnlyAllowed, writes_code, is_code_at}
+use Rattle.nook_defs.specs.Domain.{machine_of, domain_burst, context_of}
+use Rattle.nook_defs.specs.Isolation.{ChangesOnlyAllowed, writes_code}
+use Rattle.nook_defs.proofs.Cases.{burst_by, is_code_at, past_decode, past_fetch, past_read}
 use Rattle.nook_defs.specs.Machine.{decode_of}
 use Rattle.nook_defs.specs.Pages.{may_write, read_word, fetch_word}
 use Rattle.nook_defs.specs.State.{DomainState}
-use Rattle.nook_defs.specs.Turn.{Machine, turn, executed, past_read, past_input, past_output, past_decode, past_fetch, stores, r}
+use Rattle.nook_defs.specs.Turn.{Machine, turn, executed, past_input, past_output, stores, r}
 use Rattle.part_laws.proofs.BurstKeeps.{split, every_fault, burst_keeps}
 use Rattle.part_laws.specs.BurstLaws.{IsIsolatedBurst}
 
@@ -71,7 +72,7 @@ turn_writes entries m = fetch_writes entries m (fetch_word m.memory m.cpu.counte
 -- one word
 
 other_place : (entries : List Entry) (a b : ℕ) → may_write entries a ≡ false → may_write entries b ≡ true → a ≢ b
-other_place entries a b no' yes' e = both_ways (may_write entries b) (rw e at no') yes'
+other_place entries a b no' yes' e = both_ways (may_write entries b) (subst (λ x. may_write entries x ≡ false) e no') yes'
 
 write_keeps_word : (entries : List Entry) (a : ℕ) (before after : List ℕ) → may_write entries a ≡ false
     → IsWrite entries before after → slice_index after a ≡ slice_index before a

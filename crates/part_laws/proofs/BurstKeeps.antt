@@ -4,7 +4,8 @@ use Rattle.nook_defs.specs.declared.machine.Act.{Act}
 use Rattle.nook_defs.specs.declared.entries.Entry.{Entry}
 use Rattle.nook_defs.specs.declared.scenario.Fault.{Fault}
 use Rattle.nook_defs.specs.declared.machine.TrapCause.{TrapCause}
-use Rattle.nook_defs.specs.Burst.{Burst, Struck, struck_machine, past_trap, strikes_at, acts_of, burst_from, burst, trap_of}
+use Rattle.nook_defs.specs.Burst.{Burst, Struck, struck_machine, strikes_at, acts_of, burst_from, burst, trap_of}
+use Rattle.nook_defs.proofs.Cases.{past_trap}
 use Rattle.nook_defs.specs.Turn.{Machine, Turn, turn}
 use Rattle.nook_defs.proofs.BurstTurns.{turn_cases}
 

@@ -13,12 +13,13 @@ use Rattle.nook_defs.specs.declared.calls.Op.TheVariants.{Read, Write, Send, Rec
 use Rattle.nook_defs.specs.declared.machine.Context.{Context}
 use Rattle.part_laws.specs.Watch.{Watch, Watched, sees, sees_acts, sees_crossing, owes, owes_found}
 use Rattle.nook_defs.specs.Crossing.{Crossed, after_crossing}
-use Rattle.nook_defs.specs.Domain.{DomainBurst, context_of, domain_burst, burst_by, machine_of}
+use Rattle.nook_defs.specs.Domain.{DomainBurst, context_of, domain_burst, machine_of}
 use Rattle.nook_defs.specs.Ideal.{ran}
-use Rattle.nook_defs.specs.Log.{is_of_thread, call_of_thread}
+use Rattle.nook_defs.specs.Log.{call_of_thread}
+use Rattle.nook_defs.proofs.Cases.{burst_by, burst_step, is_of_thread, number_of_call, with_burst}
 use Rattle.nook_defs.specs.Places.{at_number}
 use Rattle.nook_defs.specs.State.{DomainState, PartState}
-use Rattle.nook_defs.specs.Steps.{can_burst, is_driven, is_inside, is_running, number_of_call, served_number, faults_of_burst, with_burst, burst_step, burst_stepped}
+use Rattle.nook_defs.specs.Steps.{can_burst, is_driven, is_inside, is_running, served_number, faults_of_burst, burst_stepped}
 use Rattle.nook_defs.specs.Trace.{shown_acts, shown_option}
 use Rattle.part_laws.specs.Counts.{count_acts}
 use Rattle.part_laws.specs.Balance.{held_at, Balanced}

@@ -8,7 +8,9 @@ use Rattle.nook_defs.specs.declared.calls.CallEntry.{CallEntry}
 use Rattle.nook_defs.specs.declared.steps.Event.{Event}
 use Rattle.nook_defs.specs.declared.steps.Event.TheVariants as event
 use Rattle.nook_defs.specs.declared.calls.Op.{Op}
-use Rattle.nook_defs.specs.Log.{IsNumbered, is_call, new_entry, with_answered_call, with_call}
+use Rattle.nook_defs.specs.Log.{is_call, with_answered_call, with_call}
+use Rattle.nook_defs.specs.Views.CallLogs.{IsNumbered}
+use Rattle.nook_defs.proofs.Cases.{new_entry}
 use Rattle.nook_defs.specs.Answers.{one_answer}
 use Rattle.nook_defs.specs.Runs.{answer_at, answer_among}
 use Rattle.nook_defs.specs.State.{CallLog}

@@ -9,11 +9,12 @@ use Rattle.nook_defs.specs.declared.scenario.Fault.{Fault}
 use Rattle.nook_defs.specs.declared.machine.Instr.{Instr}
 use Rattle.nook_defs.specs.declared.machine.Instr.TheVariants as instr
 use Rattle.nook_defs.specs.Burst.{burst}
-use Rattle.nook_defs.specs.Devices.{Given, Taken, input_of, is_command, is_empty_ring, is_register_port, kind_input, kind_output, output_of}
+use Rattle.nook_defs.specs.Devices.{Given, Taken, input_of, is_command, is_empty, is_register_port, kind_output, output_of}
+use Rattle.nook_defs.proofs.Cases.{kind_input, past_decode, past_fetch, past_read}
 use Rattle.nook_defs.specs.Machine.{decode_of}
 use Rattle.nook_defs.specs.Pages.{may_write, read_word, fetch_word}
 use Rattle.nook_defs.specs.Views.Ports.{class_of, class_of_kind, device_after, device_given, device_of}
-use Rattle.nook_defs.specs.Turn.{Machine, Turn, turn, executed, past_read, past_input, past_output, past_decode, past_fetch, stores, r}
+use Rattle.nook_defs.specs.Turn.{Machine, Turn, turn, executed, past_input, past_output, stores, r}
 use Rattle.nook_defs.proofs.DeviceClasses.{input_keeps_class, output_keeps_class}
 use Rattle.part_laws.proofs.BurstKeeps.{split, every_fault, burst_keeps}
 

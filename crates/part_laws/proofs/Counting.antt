@@ -22,7 +22,7 @@ use Rattle.nook_defs.specs.Losses.{handed_result as result_in, one_if as as_one}
 use Rattle.nook_defs.specs.Places.{at_number, change_number}
 use Rattle.part_laws.proofs.Places.{split}
 use Rattle.nook_defs.specs.Answers.{answers_of, one_answer}
-use Rattle.nook_defs.specs.Losses.{Places, Tally, all_answers, handed_result, in_driver, in_ring, is_arrival, is_busy, is_done, is_lost_arrival, is_popped, is_received, is_refused, is_taken, lost_by, lost_from, losses, no_places, one_if, places_after, tallies_after, tallies_during}
+use Rattle.nook_defs.specs.Losses.{FramePlaces, Tally, all_answers, handed_result, in_driver, in_ring, is_arrival, is_busy, is_done, is_lost_arrival, is_popped, is_received, is_refused, is_taken, lost_by, lost_from, losses, no_places, one_if, places_after, tallies_after, tallies_during}
 use Rattle.nook_defs.proofs.Changes.{unplayed, unsent, with_acts}
 use Rattle.part_laws.specs.Orderly.{AreOwn, IsFitting, IsOrderlyFrom, flags_after, flags_during, is_open, is_told, kept_from}
 use Rattle.part_laws.proofs.Picked.{at_one, change_at, change_one, find_at}
@@ -145,7 +145,7 @@ same_result end.Trap = refl
 
 -- ---- what an event adds before its answers
 
-abbrev pub places_of : Counts → Places
+abbrev pub places_of : Counts → FramePlaces
 places_of n = record
     { kept = n.kept; popped = n.popped; cleared = n.cleared; popped_since = n.popped_since; handed_since = n.handed_since; reset = n.reset }
 

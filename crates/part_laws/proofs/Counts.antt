@@ -16,7 +16,8 @@ use Rattle.nook_defs.specs.declared.steps.Step.{Step}
 use Rattle.nook_defs.specs.declared.steps.Step.TheVariants as step
 use Rattle.nook_defs.specs.declared.machine.Context.{Context}
 use Rattle.nook_defs.specs.Burst.{burst}
-use Rattle.nook_defs.specs.Calls.{Stepped, after_invoke, invoked_by, invoked_with, answer_in, queue_in, after_enter, entered_by, after_admit}
+use Rattle.nook_defs.specs.Calls.{Stepped, after_invoke, invoked_with, answer_in, queue_in, after_enter, after_admit}
+use Rattle.nook_defs.proofs.Cases.{burst_step, bursts_of, entered_by, invoked_by, reply_by, serve_by, stage_by, with_burst}
 use Rattle.nook_defs.specs.Classes.{static_check, admit}
 use Rattle.nook_defs.specs.declared.classes.Accept.{Accept}
 use Rattle.nook_defs.specs.declared.classes.Accept.TheVariants as accepts
@@ -28,8 +29,8 @@ use Rattle.nook_defs.specs.declared.machine.BurstEnd.{BurstEnd}
 use Rattle.nook_defs.specs.declared.machine.BurstEnd.TheVariants as ends
 use Rattle.nook_defs.specs.declared.machine.Service.{Service}
 use Rattle.nook_defs.specs.Classes.{accept}
-use Rattle.nook_defs.specs.Crossing.{Crossed, fails, failed_crossing, is_last, serve_by, next_stage, is_accepted, shadow_replied, closes_call, reply_by, call_replied, after_crossing}
-use Rattle.nook_defs.specs.Domain.{first_argument, second_argument, attempt_bursts, bursts_of}
+use Rattle.nook_defs.specs.Crossing.{Crossed, fails, failed_crossing, is_last, next_stage, is_accepted, shadow_replied, closes_call, call_replied, after_crossing}
+use Rattle.nook_defs.specs.Domain.{first_argument, second_argument, attempt_bursts}
 use Rattle.nook_defs.specs.Log.{after_acknowledging, opening_log}
 use Rattle.nook_defs.specs.Runs.{step_of, event_of, state_after, state_from, IsRunFrom, IsRun}
 use Rattle.nook_defs.specs.Services.{checked}
@@ -43,9 +44,9 @@ use Rattle.nook_defs.specs.Crossing.{shadow_fault, stage_in}
 use Rattle.std.proofs.lemmas.Bool.{ltb-true}
 use Rattle.nook_defs.specs.Domain.{context_of, DomainBurst, domain_burst}
 use Rattle.nook_defs.specs.Log.{with_call, with_answered_call, after_entering, after_answering, call_of_thread, is_blocked}
-use Rattle.nook_defs.specs.Stages.{stage_due, is_given_up, stops, gives_up_part, collects, resets, loads_image, inits, replays_set, replays_open, resumes, stage_done, stage_by, stage_stepped}
+use Rattle.nook_defs.specs.Stages.{stage_due, is_given_up, stops, gives_up_part, collects, resets, loads_image, inits, replays_set, replays_open, resumes, stage_done, stage_stepped}
 use Rattle.nook_defs.specs.State.{PartState}
-use Rattle.nook_defs.specs.Steps.{enabled, is_running, is_ready, is_inside, faults_of_burst, with_burst, burst_step, burst_stepped, after_arrival, stepped}
+use Rattle.nook_defs.specs.Steps.{enabled, is_running, is_ready, is_inside, faults_of_burst, burst_stepped, after_arrival, stepped}
 use Rattle.part_laws.proofs.BurstKeeps.{split}
 use Rattle.part_laws.proofs.CrossingFit.{found_fits}
 use Rattle.part_laws.proofs.RunBound.{opening_tied, run_tied, count_more}

@@ -18,9 +18,10 @@ use Rattle.nook_defs.specs.declared.machine.BurstEnd.TheVariants as bursts
 use Rattle.nook_defs.specs.declared.machine.Service.{Service}
 use Rattle.nook_defs.specs.Classes.{accept, first_of_op, is_io_status, blocks_of_op, covers}
 use Rattle.part_laws.specs.Watch.{sees_crossing, owes, owes_found}
-use Rattle.nook_defs.specs.Crossing.{Crossed, fails, failed_crossing, goes_on, is_last, refused_service, heap_start, served_call, serve_by, kernel_call, next_mode, is_accepted, shadow_fault, stage_in, next_stage, shadow_replied, reply_answer, noted_set, closes_call, accepted_crossing, reply_by, call_replied, after_reply, after_crossing}
-use Rattle.nook_defs.specs.Domain.{no_context, context_of, with_result, result_set, left_domain, noted, first_argument, second_argument}
-use Rattle.nook_defs.specs.Log.{call_of_thread, after_answering as answered_log, after_acknowledging, config_after, holder_after, queue_after}
+use Rattle.nook_defs.specs.Crossing.{Crossed, fails, failed_crossing, goes_on, is_last, refused_service, heap_start, served_call, kernel_call, next_mode, is_accepted, shadow_fault, stage_in, next_stage, shadow_replied, reply_answer, noted_set, closes_call, accepted_crossing, call_replied, after_reply, after_crossing}
+use Rattle.nook_defs.specs.Domain.{context_of, result_set, left_domain, noted, first_argument, second_argument}
+use Rattle.nook_defs.specs.Log.{call_of_thread, after_answering as answered_log, after_acknowledging, queue_after}
+use Rattle.nook_defs.proofs.Cases.{config_after, holder_after, no_context, reply_by, serve_by, with_result}
 use Rattle.nook_defs.specs.Services.{Served, checked, served}
 use Rattle.nook_defs.specs.State.{DomainState, PartState}
 use Rattle.nook_defs.specs.Losses.{handed_result}

@@ -15,10 +15,11 @@ use Rattle.nook_defs.specs.declared.machine.BurstEnd.{BurstEnd}
 use Rattle.nook_defs.specs.declared.machine.BurstEnd.TheVariants as ends
 use Rattle.nook_defs.specs.declared.machine.Service.{Service}
 use Rattle.nook_defs.specs.Classes.{accept, is_set, is_io_status}
-use Rattle.nook_defs.specs.Crossing.{Crossed, fails, failed_crossing, goes_on, is_last, heap_start, serve_by, next_stage, next_mode, is_accepted, shadow_replied, reply_answer, closes_call, reply_by, call_replied, after_reply, after_crossing, without_shadow}
-use Rattle.nook_defs.specs.Domain.{no_context, first_argument, second_argument, left_domain, result_set}
+use Rattle.nook_defs.specs.Crossing.{Crossed, fails, failed_crossing, goes_on, is_last, heap_start, next_stage, next_mode, is_accepted, shadow_replied, reply_answer, closes_call, call_replied, after_reply, after_crossing, without_shadow}
+use Rattle.nook_defs.specs.Domain.{first_argument, second_argument, left_domain, result_set}
 use Rattle.nook_defs.specs.Entries.{is_borrow_of}
-use Rattle.nook_defs.specs.Isolation.{object_of, IsGiveBack, is_done_answer, is_set_call}
+use Rattle.nook_defs.specs.Isolation.{object_of}
+use Rattle.nook_defs.proofs.Cases.{IsGiveBack, is_done_answer, is_set_call, no_context, reply_by, serve_by}
 use Rattle.nook_defs.specs.Log.{call_of_thread, after_acknowledging, after_answering}
 use Rattle.nook_defs.specs.Services.{Served, checked, served}
 use Rattle.nook_defs.specs.State.{DomainState, CallLog, PartState}

@@ -14,12 +14,14 @@ use Rattle.nook_defs.specs.Crossing.{next_mode}
 use Rattle.nook_defs.specs.Ideal.{ran}
 use Rattle.nook_defs.proofs.Changes.{stops_waiting}
 use Rattle.part_laws.specs.Allowed.{allows_option}
-use Rattle.nook_defs.specs.Log.{next_replay, replay_stream, replay_after, config_after, holder_after, queue_after}
+use Rattle.nook_defs.specs.Log.{next_replay, replay_after, queue_after}
+use Rattle.nook_defs.proofs.Cases.{config_after, holder_after, replay_stream}
 use Rattle.nook_defs.specs.Places.{at_number, change_number}
 use Rattle.nook_defs.specs.State.{PartState}
 use Rattle.nook_defs.specs.Trace.{Visible, shown_option, kept_blocks, answer}
 use Rattle.nook_defs.specs.Losses.{handed_result}
-use Rattle.nook_defs.specs.Contract.{is_empty, is_front, is_replayed}
+use Rattle.nook_defs.specs.Contract.{is_front, is_replayed}
+use Rattle.nook_defs.specs.Devices.{is_empty}
 use Rattle.part_laws.specs.Counts.{Counts, count_option, count_handed}
 use Rattle.part_laws.specs.Balance.{tally, held_at, Balance, Balanced}
 use Rattle.part_laws.specs.Facts.{At, CallsFacts, DiskFacts, KeyAt, KeyIn, ReplayFits, BootFits, Sub, may_be_inside, is_driving, Facts}

@@ -15,11 +15,12 @@ use Rattle.nook_defs.specs.declared.calls.Op.TheVariants as op
 use Rattle.nook_defs.specs.Blocks.{has_block, holds_from, words_for}
 use Rattle.nook_defs.specs.Classes.{covers, is_write, sends as sends_own, is_play, sends}
 use Rattle.part_laws.specs.Watch.{Watch, Watched, failed_at as failed_one, handed_one, hands_up as is_handed, is_agreed, is_covered, is_first_frame, is_own_frame, is_playing as plays, is_next_of as is_next_in, is_setting as are_setting, leaves, may_register, owes, owes_found, played_one, sees_act, sees_acts, sees_crossing, sees_reply, sees_service, sent_once, stores_at, wanted}
-use Rattle.nook_defs.specs.Contract.{is_front as is_prefix, is_empty as was_empty, is_replayed as was_replayed, is_replay_of as is_replaying, sets as sets_own}
+use Rattle.nook_defs.specs.Contract.{is_front as is_prefix, is_replayed as was_replayed, is_replay_of as is_replaying, sets as sets_own}
+use Rattle.nook_defs.specs.Devices.{is_empty, is_empty as was_empty}
 use Rattle.nook_defs.specs.Places.{at_number, change_number, number_where}
 use Rattle.part_laws.proofs.Places.{split}
 use Rattle.nook_defs.specs.declared.clause.Clause.{Clause}
-use Rattle.nook_defs.specs.Contract.{Deed, Known, OpenCall, acts, after_deed, after_failure, all_clauses, breaks, call_of, change_call, change_first, crossing_deeds, deeds_of, hands_up, is_broken_by, is_empty, is_front, is_next_of, is_playing, is_replay_of, is_replayed, is_send_of, is_setting, play_inside, played_more, replays, replies, sets, stores, stores_other}
+use Rattle.nook_defs.specs.Contract.{Deed, Known, OpenCall, acts, after_deed, after_failure, all_clauses, breaks, call_of, change_call, change_first, crossing_deeds, deeds_of, hands_up, is_broken_by, is_front, is_next_of, is_playing, is_replay_of, is_replayed, is_send_of, is_setting, play_inside, played_more, replays, replies, sets, may_store, stores_other}
 use Rattle.nook_defs.proofs.Changes.{after_deeds, failed_at, handed_frame, sent_more}
 use Rattle.part_laws.specs.Orderly.{IsCrossing, IsOfCall, is_open}
 use Rattle.part_laws.proofs.Picked.{AreShut, any_picked, at_one, at_where, change_at, change_one, change_where, changed_where, find_at, find_picked, first_picked, found_below, opened_call, picked, picked_below, picked_call, picked_change, shut_change, shut_where}
@@ -116,9 +117,9 @@ none_other : (a b c d : Bool) → a ≡ false → (((a && b) && c) && d) ≡ fal
 none_other false b c d e = refl
 none_other true b c d e = absurd cc
 
-is_stored : (flags : List Bool) (block : ℕ) (ws : List Watched) → AreShut flags ws → list_any (stores block) (picked 1 flags ws) ≡ is_covered block ws
+is_stored : (flags : List Bool) (block : ℕ) (ws : List Watched) → AreShut flags ws → list_any (may_store block) (picked 1 flags ws) ≡ is_covered block ws
 is_stored flags block ws s =
-    any_picked (stores block) (stores_at block) (λ n w. refl) (λ w e. none_inside w.inside (is_write w.op) (covers w.op block) e) 1 flags ws s
+    any_picked (may_store block) (stores_at block) (λ n w. refl) (λ w e. none_inside w.inside (is_write w.op) (covers w.op block) e) 1 flags ws s
     ∙ sym (covered_any block ws)
 
 is_agreed_on : (flags : List Bool) (block : ℕ) (words : List ℕ) (ws : List Watched) → AreShut flags ws
@@ -176,7 +177,7 @@ act_shut flags call (act.Register key value) w s = s
 -- what an act breaks
 store_breaks : (k : Known) (o : Option OpenCall) (block : ℕ) (words : List ℕ) (x : Option ℕ)
     → smallest_or all_clauses (λ clause. breaks clause k o (acts (act.Store block words))) x
-    ≡ wanted (not (not (list_any (stores block) k.calls))) 1 (wanted (not (list_any (stores_other block words) k.calls)) 2 x)
+    ≡ wanted (not (not (list_any (may_store block) k.calls))) 1 (wanted (not (list_any (stores_other block words) k.calls)) 2 x)
 store_breaks k None block words x = refl
 store_breaks k (Some c) block words x = refl
 
@@ -235,7 +236,7 @@ act_broken flags call (act.Failed block store) w i s =
 act_broken flags call (act.Store block words) w i s =
     store_breaks (known_of flags w) (call_of call (picked 1 flags w.calls)) block words w.clause
     ∙ ap₂ (λ a b. wanted a 1 (wanted b 2 w.clause))
-    (not_twice (list_any (stores block) (picked 1 flags w.calls)) ∙ is_stored flags block w.calls s)
+    (not_twice (list_any (may_store block) (picked 1 flags w.calls)) ∙ is_stored flags block w.calls s)
     (is_agreed_on flags block words w.calls s)
 act_broken flags call (act.Sent frame) w i s =
     ap (λ o. smallest_or all_clauses (λ clause. breaks clause (known_of flags w) o (acts (act.Sent frame))) w.clause) (own_call flags call w.calls i)

@@ -26,18 +26,19 @@ use Rattle.nook_defs.specs.declared.machine.BurstEnd.{BurstEnd}
 use Rattle.nook_defs.specs.declared.machine.BurstEnd.TheVariants as ends
 use Rattle.nook_defs.specs.declared.machine.Context.{Context}
 use Rattle.nook_defs.specs.declared.machine.Service.{Service}
-use Rattle.nook_defs.specs.Calls.{Stepped, after_invoke, invoked_by, after_enter, entered_by, after_admit}
+use Rattle.nook_defs.specs.Calls.{Stepped, after_invoke, after_enter, after_admit}
+use Rattle.nook_defs.proofs.Cases.{burst_by, burst_step, entered_by, invoked_by, kind_with_arrival, reply_by, serve_by, stage_by, with_burst}
 use Rattle.nook_defs.specs.Classes.{static_check, admit, accept}
-use Rattle.nook_defs.specs.Crossing.{fails, is_last, serve_by, next_stage, is_accepted, shadow_replied, noted_set, closes_call, reply_by, call_replied, after_crossing}
-use Rattle.nook_defs.specs.Devices.{reset_device, reset_kind, opening_device, opening_kind, kind_with_arrival, with_arrival}
-use Rattle.nook_defs.specs.Domain.{opening_domain, entered_domain, plainly_entered, context_of, machine_of, burst_by, DomainBurst, domain_burst, first_argument, second_argument, result_set, left_domain, stopped_domain, collected_domain, loaded_domain, noted}
+use Rattle.nook_defs.specs.Crossing.{fails, is_last, next_stage, is_accepted, shadow_replied, noted_set, closes_call, call_replied, after_crossing}
+use Rattle.nook_defs.specs.Devices.{reset_device, reset_kind, opening_device, opening_kind, with_arrival}
+use Rattle.nook_defs.specs.Domain.{opening_domain, entered_domain, plainly_entered, context_of, machine_of, DomainBurst, domain_burst, first_argument, second_argument, result_set, left_domain, stopped_domain, collected_domain, loaded_domain, noted}
 use Rattle.nook_defs.specs.Log.{call_of_thread}
 use Rattle.nook_defs.specs.Views.Ports.{class_of, class_of_kind}
 use Rattle.nook_defs.specs.Runs.{step_of, state_after, state_from, IsRun, state_of}
 use Rattle.nook_defs.specs.Services.{checked}
-use Rattle.nook_defs.specs.Stages.{stage_due, is_given_up, stops, gives_up_part, collects, resets, loads_image, inits, replays_set, replays_open, resumes, stage_done, stage_by, stage_stepped}
+use Rattle.nook_defs.specs.Stages.{stage_due, is_given_up, stops, gives_up_part, collects, resets, loads_image, inits, replays_set, replays_open, resumes, stage_done, stage_stepped}
 use Rattle.nook_defs.specs.State.{DomainState, PartState}
-use Rattle.nook_defs.specs.Steps.{opening, faults_of_burst, with_burst, burst_step, burst_stepped, after_arrival, stepped}
+use Rattle.nook_defs.specs.Steps.{opening, faults_of_burst, burst_stepped, after_arrival, stepped}
 use Rattle.part_laws.proofs.BurstKeeps.{split}
 use Rattle.part_laws.proofs.Counts.{step_counted}
 use Rattle.part_laws.proofs.Classes.{burst_keeps_class}

@@ -4,7 +4,8 @@ use Rattle.std.proofs.lemmas.List.{get_or_past}
 use Rattle.std.proofs.lemmas.Option.{unwrap_or-slice_get}
 use Rattle.nook_defs.specs.declared.classes.Class.{Class}
 use Rattle.nook_defs.specs.declared.calls.Op.{Op}
-use Rattle.nook_defs.specs.Blocks.{get_blocks, has_block, holds_from, put_block, put_from, words_for}
+use Rattle.nook_defs.specs.Blocks.{get_blocks, has_block, holds_from, put_from, words_for}
+use Rattle.nook_defs.proofs.Cases.{put_block}
 use Rattle.nook_defs.specs.Classes.{covers, is_write}
 use Rattle.part_laws.specs.Facts.{At, CallsFacts, IsStored, DiskFacts}
 use Rattle.part_laws.specs.Views.{Core}

@@ -12,9 +12,9 @@ use Rattle.nook_defs.specs.declared.scenario.PartSpec.{PartSpec}
 use Rattle.nook_defs.specs.declared.machine.Context.{Context}
 use Rattle.nook_defs.specs.Classes.{static_check, defaults_of, is_set}
 use Rattle.nook_defs.specs.Crossing.{noted_set}
-use Rattle.nook_defs.specs.Domain.{Lent, buffer_of, lent_memory, lent_entries, entered_domain, plainly_entered, no_context, context_of, DomainBurst, machine_of, burst_by, domain_burst, result_set, left_domain, stopped_domain, collected_domain, loaded_domain, noted, opening_domain}
+use Rattle.nook_defs.specs.Domain.{Lent, buffer_of, lent_memory, lent_entries, entered_domain, plainly_entered, context_of, DomainBurst, machine_of, domain_burst, result_set, left_domain, stopped_domain, collected_domain, loaded_domain, noted, opening_domain}
 use Rattle.nook_defs.specs.Entries.{is_registration}
-use Rattle.nook_defs.specs.Log.{config_after}
+use Rattle.nook_defs.proofs.Cases.{burst_by, config_after, no_context}
 use Rattle.nook_defs.specs.Pages.{object_words, object_start, opening_memory}
 use Rattle.nook_defs.specs.State.{DomainState}
 use Rattle.part_laws.proofs.EntriesFit.{with_entry_fits, filter_fits, registered_fits, with_entry_ordered, registered_ordered, without_buffer_ordered, collected_ordered}

@@ -2,7 +2,8 @@ use Rattle.std.proofs.Common.{◌≡◌, ℕ, ◌<◌, ◌==◌, not, Bool, true
 use Rattle.std.specs.List.{find}
 use Rattle.std.proofs.lemmas.Bool.{eqb-false, eq-eqb, ne_eqb}
 use Rattle.nook_defs.specs.declared.calls.CallEntry.{CallEntry}
-use Rattle.nook_defs.specs.Log.{is_of_thread, is_call, call_of_thread, entered_call, change_entry}
+use Rattle.nook_defs.specs.Log.{is_call, call_of_thread}
+use Rattle.nook_defs.proofs.Cases.{change_entry, entered_call, is_of_thread}
 use Rattle.nook_defs.specs.Steps.{is_inside}
 use Rattle.part_laws.proofs.BurstKeeps.{split}
 use Rattle.part_laws.proofs.TiedCalls.{found_above, without_call}

@@ -10,18 +10,19 @@ use Rattle.nook_defs.specs.declared.steps.Mode.TheVariants as mode
 use Rattle.nook_defs.specs.declared.calls.Op.{Op}
 use Rattle.nook_defs.specs.declared.calls.Op.TheVariants.{Read, Write, Send, Recv, Open, Play, Close, Get, Set}
 use Rattle.nook_defs.specs.declared.steps.Stage.{Stage}
-use Rattle.nook_defs.specs.Calls.{answer_in, queue_in, invoked_with, invoked_by, after_invoke}
+use Rattle.nook_defs.specs.Calls.{answer_in, queue_in, invoked_with, after_invoke}
 use Rattle.nook_defs.specs.Classes.{is_of_class, is_recv, check_op, check_range, is_block_length, maximum_of, static_check}
 use Rattle.part_laws.specs.Watch.{Watch}
-use Rattle.nook_defs.specs.Ideal.{Ideal, Opened, ran, after_answer, is_due, may_call, same_refusal, closes}
+use Rattle.nook_defs.specs.Ideal.{Ideal, Opened, ran, after_answer, is_due, may_call, same_refusal}
 use Rattle.nook_defs.proofs.Changes.{waits_for, opens, stops_waiting, first_track}
 use Rattle.part_laws.specs.Allowed.{allows}
-use Rattle.nook_defs.specs.Log.{is_of_thread, call_of_thread, with_call, with_answered_call, new_entry, shadow_answer, queue_after}
+use Rattle.nook_defs.specs.Log.{call_of_thread, with_call, with_answered_call, shadow_answer, queue_after}
+use Rattle.nook_defs.proofs.Cases.{closes, invoked_by, is_of_thread, new_entry}
 use Rattle.nook_defs.specs.Places.{at_number, change_number}
 use Rattle.nook_defs.specs.State.{PartState}
 use Rattle.nook_defs.specs.Steps.{can_invoke}
 use Rattle.nook_defs.specs.Trace.{Visible, Track, called, answer, kept_blocks}
-use Rattle.nook_defs.specs.Contract.{is_empty}
+use Rattle.nook_defs.specs.Devices.{is_empty}
 use Rattle.part_laws.specs.Counts.{counted}
 use Rattle.part_laws.specs.Balance.{held_at}
 use Rattle.part_laws.specs.Facts.{At, CallsFacts, DiskFacts, HolderFits, IsSetting, KeyIn, Sub, may_be_inside, is_dead, Facts}

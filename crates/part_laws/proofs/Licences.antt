@@ -16,7 +16,7 @@ use Rattle.nook_defs.specs.declared.calls.Op.TheVariants as op
 use Rattle.nook_defs.specs.declared.steps.Stage.{Stage}
 use Rattle.nook_defs.specs.declared.steps.Stage.TheVariants as stage
 use Rattle.part_laws.specs.Watch.{Watch, Watched, enters, leaves, sees, sees_acts, sees_crossing, watched}
-use Rattle.nook_defs.specs.Contract.{is_empty as was_empty}
+use Rattle.nook_defs.specs.Devices.{is_empty, is_empty as was_empty}
 use Rattle.part_laws.specs.Allowed.{allows as allowed, allows_each, allows_event, allows_option, has_failed as had_failed, is_served as was_served, is_served_found, licenses as allows_at, licensed_from as allowed_from}
 use Rattle.nook_defs.specs.Licence.{is_stage, shadow_stage}
 use Rattle.nook_defs.specs.Places.{at_number, change_number}
@@ -24,9 +24,10 @@ use Rattle.nook_defs.specs.Runs.{state_after, step_of}
 use Rattle.nook_defs.specs.State.{PartState}
 use Rattle.part_laws.proofs.Places.{split}
 use Rattle.nook_defs.specs.Answers.{answers_of, one_answer}
-use Rattle.nook_defs.specs.Contract.{Known, OpenCall, after, after_failure, call_of, change_call, crossing_deeds, deeds_of, during, is_empty}
+use Rattle.nook_defs.specs.Contract.{Known, OpenCall, known_after, after_failure, call_of, change_call, crossing_deeds, deeds_of, during}
 use Rattle.nook_defs.proofs.Changes.{after_deeds, enter_call}
-use Rattle.nook_defs.specs.Licence.{allows, has_failed, is_served, is_served_call, licenses, is_licensed_from, refuses}
+use Rattle.nook_defs.specs.Licence.{allows, is_served_call, licenses, is_licensed_from, refuses}
+use Rattle.nook_defs.proofs.Cases.{has_failed, is_served}
 use Rattle.part_laws.specs.Orderly.{AreOwn, IsFitting, IsOfCall, IsOrderlyFrom, flags_after, is_open}
 use Rattle.part_laws.proofs.Breaks.{SeesAlike, event_alike}
 use Rattle.part_laws.proofs.Deeds.{acts_known, own_call, own_change}

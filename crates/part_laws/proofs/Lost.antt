@@ -18,7 +18,7 @@ use Rattle.nook_defs.specs.Losses.{handed_result as result_in}
 use Rattle.nook_defs.specs.Places.{at_number, change_number}
 use Rattle.part_laws.proofs.Places.{split}
 use Rattle.nook_defs.specs.Answers.{answers_of, one_answer}
-use Rattle.nook_defs.specs.Losses.{Places, Tally, all_answers, in_driver, in_ring, is_arrival, is_busy, is_done, is_lost_arrival, is_received, is_refused, is_taken, lost_by, lost_from, lost_samples, lost_sends, losses, no_places, places_after, tallies_after, tallies_during}
+use Rattle.nook_defs.specs.Losses.{FramePlaces, Tally, all_answers, in_driver, in_ring, is_arrival, is_busy, is_done, is_lost_arrival, is_received, is_refused, is_taken, lost_by, lost_from, lost_samples, lost_sends, losses, no_places, places_after, tallies_after, tallies_during}
 use Rattle.nook_defs.proofs.Changes.{unplayed, unsent, with_acts}
 use Rattle.part_laws.specs.Orderly.{AreOwn, IsFitting, IsOrderlyFrom, flags_after, flags_during, is_open, is_told, kept_from}
 use Rattle.part_laws.proofs.Counting.{Adds, all_counted, arrived_adds, before_adds, before_answers, busy_adds, event_counted, grows, lost_adds, places_go, places_of, received_adds, refused_adds, same_done, taken_adds}
@@ -233,7 +233,7 @@ samples_are = record {
 
 -- ---- all of them
 
-abbrev told_by : (sends samples busy arrived received taken lost refused : ℕ) → Places → Told
+abbrev told_by : (sends samples busy arrived received taken lost refused : ℕ) → FramePlaces → Told
 told_by sends samples busy arrived received taken lost refused places = record {
   sends = sends;
   samples = samples;
@@ -248,7 +248,7 @@ told_by sends samples busy arrived received taken lost refused places = record {
   full_queue = refused;
 }
 
-told_same : (s s' m m' b b' a a' r r' t t' l l' q q' : ℕ) (p p' : Places)
+told_same : (s s' m m' b b' a a' r r' t t' l l' q q' : ℕ) (p p' : FramePlaces)
     → s ≡ s' → m ≡ m' → b ≡ b' → a ≡ a' → r ≡ r' → t ≡ t' → l ≡ l' → q ≡ q' → p ≡ p'
     → told_by s m b a r t l q p ≡ told_by s' m' b' a' r' t' l' q' p'
 told_same s s' m m' b b' a a' r r' t t' l l' q q' p p' es em eb ea er et el eq ep =

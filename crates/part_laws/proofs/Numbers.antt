@@ -7,7 +7,8 @@ use Rattle.nook_defs.specs.declared.calls.Answer.{Answer}
 use Rattle.nook_defs.specs.declared.calls.Answer.TheVariants as answer
 use Rattle.nook_defs.specs.declared.calls.CallEntry.{CallEntry}
 use Rattle.nook_defs.specs.declared.steps.Stage.TheVariants as stage
-use Rattle.nook_defs.specs.Log.{call_of_thread, change_entry, entered_call, gone_answers, held_call, is_call, is_held, is_of_thread, queue_after, shadow_answer, stop_answers, stop_calls, with_answer}
+use Rattle.nook_defs.specs.Log.{call_of_thread, gone_answers, held_call, is_call, is_held, queue_after, shadow_answer, stop_answers, with_answer}
+use Rattle.nook_defs.proofs.Cases.{change_entry, entered_call, is_of_thread, stop_calls}
 use Rattle.part_laws.proofs.Answered.{shadow_says}
 use Rattle.part_laws.proofs.Places.{some_same, split}
 use Rattle.part_laws.specs.Orderly.{AreOwn, is_open, is_told, kept_from}

@@ -13,7 +13,8 @@ use Rattle.nook_defs.specs.declared.calls.Op.TheVariants as op
 use Rattle.nook_defs.specs.Burst.{burst}
 use Rattle.nook_defs.specs.Classes.{static_check, check_op, check_length, is_block_length, is_of_class}
 use Rattle.nook_defs.specs.Domain.{Lent, buffer_of, lent_memory}
-use Rattle.nook_defs.specs.Isolation.{writes_code, is_code_at}
+use Rattle.nook_defs.specs.Isolation.{writes_code}
+use Rattle.nook_defs.proofs.Cases.{is_code_at}
 use Rattle.nook_defs.specs.Pages.{may_write, is_lent, object_words, object_start, buffer_start, with_words, padded_words, loaded_memory}
 use Rattle.nook_defs.specs.Turn.{Machine}
 use Rattle.part_laws.proofs.BurstKeeps.{split}

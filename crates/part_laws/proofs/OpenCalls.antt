@@ -5,7 +5,8 @@ use Rattle.nook_defs.specs.declared.calls.CallEntry.{CallEntry}
 use Rattle.nook_defs.specs.declared.classes.Class.{Class}
 use Rattle.nook_defs.specs.Classes.{conflicts}
 use Rattle.nook_defs.proofs.Changes.{waits_for}
-use Rattle.nook_defs.specs.Log.{is_of_thread, is_call, change_entry, blocks_call, held_call, is_held, stop_calls}
+use Rattle.nook_defs.specs.Log.{is_call, blocks_call, held_call, is_held}
+use Rattle.nook_defs.proofs.Cases.{change_entry, is_of_thread, stop_calls}
 use Rattle.part_laws.specs.Facts.{At}
 use Rattle.part_laws.specs.Moves.{stop_core}
 use Rattle.part_laws.specs.Views.{Core, Call, core_of, entry_of, keep_waiting, open_from, as_opened}

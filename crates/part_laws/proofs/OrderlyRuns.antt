@@ -19,15 +19,16 @@ use Rattle.nook_defs.specs.declared.machine.BadParam.{BadParam}
 use Rattle.nook_defs.specs.declared.machine.BurstEnd.{BurstEnd}
 use Rattle.nook_defs.specs.declared.machine.BurstEnd.TheVariants as ends
 use Rattle.nook_defs.specs.declared.machine.Service.{Service}
-use Rattle.nook_defs.specs.Calls.{after_admit, answer_in, entered_by, after_enter, after_invoke, invoked_by, invoked_with, queue_in}
+use Rattle.nook_defs.specs.Calls.{after_admit, answer_in, after_enter, after_invoke, invoked_with, queue_in}
 use Rattle.nook_defs.specs.Classes.{accept, static_check}
-use Rattle.nook_defs.specs.Crossing.{Crossed, call_replied, closes_call, after_crossing, fails, is_accepted, is_last, next_stage, reply_by, serve_by, shadow_replied}
+use Rattle.nook_defs.specs.Crossing.{Crossed, call_replied, closes_call, after_crossing, fails, is_accepted, is_last, next_stage, shadow_replied}
 use Rattle.nook_defs.specs.Domain.{DomainBurst, domain_burst}
-use Rattle.nook_defs.specs.Log.{after_acknowledging, after_answering, call_of_thread, after_entering, gone_answers, is_call, new_entry, with_answered_call, opening_log, stop_answers, with_call}
+use Rattle.nook_defs.specs.Log.{after_acknowledging, after_answering, call_of_thread, after_entering, gone_answers, is_call, with_answered_call, opening_log, stop_answers, with_call}
+use Rattle.nook_defs.proofs.Cases.{burst_event, entered_by, invoked_by, new_entry, number_of_call, reply_by, serve_by, stage_by, with_burst}
 use Rattle.nook_defs.specs.Runs.{IsRun, IsRunFrom, event_of, state_after, step_of}
-use Rattle.nook_defs.specs.Stages.{collects, gives_up_part, inits, is_given_up, loads_image, replays_open, replays_set, resets, resumes, stage_by, stage_done, stage_due, stage_stepped, stops}
+use Rattle.nook_defs.specs.Stages.{collects, gives_up_part, inits, is_given_up, loads_image, replays_open, replays_set, resets, resumes, stage_done, stage_due, stage_stepped, stops}
 use Rattle.nook_defs.specs.State.{CallLog, PartState}
-use Rattle.nook_defs.specs.Steps.{after_arrival, burst_event, burst_stepped, can_burst, enabled, faults_of_burst, is_inside, is_ready, is_running, number_of_call, opening, served_number, stepped, with_burst}
+use Rattle.nook_defs.specs.Steps.{after_arrival, burst_stepped, can_burst, enabled, faults_of_burst, is_inside, is_ready, is_running, opening, served_number, stepped}
 use Rattle.part_laws.proofs.Places.{split}
 use Rattle.nook_defs.specs.Answers.{one_answer}
 use Rattle.part_laws.specs.Orderly.{AreOwn, IsCrossing, IsFitting, IsOfCall, IsOrderlyFrom, flags_after, is_open, is_told, kept_from}

@@ -13,8 +13,9 @@ use Rattle.nook_defs.specs.declared.steps.Stage.TheVariants as stage
 use Rattle.nook_defs.specs.declared.steps.Step.TheVariants as step
 use Rattle.nook_defs.specs.declared.machine.Context.{Context}
 use Rattle.nook_defs.specs.Classes.{static_check, check_op, check_range, is_of_class, is_block_length, first_of_op, blocks_of_op}
-use Rattle.nook_defs.specs.Domain.{Lent, buffer_of, context_of, bursts_of}
-use Rattle.nook_defs.specs.Log.{is_of_thread, is_call, call_of_thread, open_call}
+use Rattle.nook_defs.specs.Domain.{Lent, buffer_of, context_of}
+use Rattle.nook_defs.specs.Log.{is_call, call_of_thread, open_call}
+use Rattle.nook_defs.proofs.Cases.{bursts_of, is_of_thread}
 use Rattle.nook_defs.specs.Stages.{stage_due}
 use Rattle.nook_defs.specs.State.{PartState}
 use Rattle.nook_defs.specs.Steps.{enabled, is_running, is_inside}

@@ -16,7 +16,8 @@ use Rattle.nook_defs.specs.declared.steps.Stage.TheVariants as stage
 use Rattle.nook_defs.specs.declared.steps.Step.{Step}
 use Rattle.nook_defs.specs.declared.steps.Step.TheVariants as step
 use Rattle.nook_defs.specs.Blocks.{blank_blocks}
-use Rattle.nook_defs.specs.Calls.{after_invoke, invoked_by}
+use Rattle.nook_defs.specs.Calls.{after_invoke}
+use Rattle.nook_defs.proofs.Cases.{invoked_by}
 use Rattle.nook_defs.specs.Classes.{defaults_of, is_set, same_class, static_check}
 use Rattle.part_laws.specs.Watch.{sees, break_at, break_from, first_watch, watched_break}
 use Rattle.nook_defs.specs.Devices.{opening_device}

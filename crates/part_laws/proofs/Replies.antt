@@ -8,8 +8,8 @@ use Rattle.nook_defs.specs.declared.calls.Op.{Op}
 use Rattle.nook_defs.specs.declared.calls.Op.TheVariants as op
 use Rattle.nook_defs.specs.Blocks.{get_blocks, has_block, holds_from}
 use Rattle.part_laws.specs.Watch.{Watch, Watched, owes, wanted}
-use Rattle.nook_defs.specs.Contract.{is_empty as was_empty}
-use Rattle.nook_defs.specs.Contract.{all_clauses, breaks, is_empty, replies}
+use Rattle.nook_defs.specs.Devices.{is_empty, is_empty as was_empty}
+use Rattle.nook_defs.specs.Contract.{all_clauses, breaks, replies}
 use Rattle.part_laws.proofs.Known.{known_of}
 use Rattle.part_laws.proofs.Picked.{opened_call}
 use Rattle.part_laws.proofs.Smallest.{smallest_or}

@@ -10,11 +10,12 @@ use Rattle.nook_defs.specs.declared.steps.Stage.{Stage}
 use Rattle.nook_defs.specs.declared.steps.Stage.TheVariants as stage
 use Rattle.nook_defs.specs.declared.steps.Step.{Step}
 use Rattle.nook_defs.specs.declared.steps.Step.TheVariants as step
-use Rattle.nook_defs.specs.Calls.{after_invoke, invoked_by, after_enter, entered_by, after_admit}
+use Rattle.nook_defs.specs.Calls.{after_invoke, after_enter, after_admit}
 use Rattle.nook_defs.specs.Classes.{static_check, admit}
-use Rattle.nook_defs.specs.Log.{call_of_thread, is_of_thread}
+use Rattle.nook_defs.specs.Log.{call_of_thread}
+use Rattle.nook_defs.proofs.Cases.{entered_by, invoked_by, is_of_thread, stage_by}
 use Rattle.nook_defs.specs.Runs.{step_of, event_of, state_after, state_from, IsRunFrom}
-use Rattle.nook_defs.specs.Stages.{is_given_up, stops, gives_up_part, collects, resets, loads_image, inits, replays_set, replays_open, resumes, stage_done, stage_by, stage_due, stage_stepped}
+use Rattle.nook_defs.specs.Stages.{is_given_up, stops, gives_up_part, collects, resets, loads_image, inits, replays_set, replays_open, resumes, stage_done, stage_due, stage_stepped}
 use Rattle.nook_defs.specs.State.{PartState}
 use Rattle.nook_defs.specs.Steps.{enabled, burst_stepped, after_arrival, stepped}
 use Rattle.part_laws.proofs.BurstKeeps.{split}

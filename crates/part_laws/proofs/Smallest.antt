@@ -4,13 +4,13 @@ use Rattle.nook_defs.specs.declared.verdicts.Break.{Break}
 use Rattle.part_laws.specs.Watch.{break_at, smaller_clause, wanted}
 use Rattle.part_laws.proofs.Places.{split}
 use Rattle.nook_defs.specs.declared.clause.Clause.{Clause}
-use Rattle.nook_defs.specs.Contract.{all_clauses, number_of}
+use Rattle.nook_defs.specs.Contract.{all_clauses, clause_number}
 use Rattle.nook_defs.proofs.Changes.{break_or}
 
 -- the smallest of these clauses that the test finds broken, and of one that was broken before
 abbrev pub smallest_or : List Clause → (Clause → Bool) → Option ℕ → Option ℕ
 smallest_or [] test x = x
-smallest_or (c ∷ cs) test x = wanted (not (test c)) (number_of c) (smallest_or cs test x)
+smallest_or (c ∷ cs) test x = wanted (not (test c)) (clause_number c) (smallest_or cs test x)
 
 wanted_swap : (a b : Bool) (m n : ℕ) (x : Option ℕ) → wanted a m (wanted b n x) ≡ wanted b n (wanted a m x)
 wanted_swap true b m n x = refl
@@ -28,20 +28,20 @@ past_wanted : (cs : List Clause) (q : Clause → Bool) (b : Bool) (n : ℕ) (x :
     → smallest_or cs q (wanted b n x) ≡ wanted b n (smallest_or cs q x)
 past_wanted [] q b n x = refl
 past_wanted (c ∷ cs) q b n x =
-    ap (wanted (not (q c)) (number_of c)) (past_wanted cs q b n x) ∙ wanted_swap (not (q c)) b (number_of c) n (smallest_or cs q x)
+    ap (wanted (not (q c)) (clause_number c)) (past_wanted cs q b n x) ∙ wanted_swap (not (q c)) b (clause_number c) n (smallest_or cs q x)
 
 -- what breaks first, and then what breaks later
 pub smallest_join : (cs : List Clause) (p q : Clause → Bool) (x : Option ℕ)
     → smallest_or cs (λ c. p c || q c) x ≡ smallest_or cs q (smallest_or cs p x)
 smallest_join [] p q x = refl
 smallest_join (c ∷ cs) p q x =
-    ap (wanted (not (p c || q c)) (number_of c)) (smallest_join cs p q x)
-    ∙ wanted_twice (p c) (q c) (number_of c) (smallest_or cs q (smallest_or cs p x))
-    ∙ ap (wanted (not (q c)) (number_of c)) (sym (past_wanted cs q (not (p c)) (number_of c) (smallest_or cs p x)))
+    ap (wanted (not (p c || q c)) (clause_number c)) (smallest_join cs p q x)
+    ∙ wanted_twice (p c) (q c) (clause_number c) (smallest_or cs q (smallest_or cs p x))
+    ∙ ap (wanted (not (q c)) (clause_number c)) (sym (past_wanted cs q (not (p c)) (clause_number c) (smallest_or cs p x)))
 
 abbrev IsRising : ℕ → List Clause → Type 0
 IsRising low [] = Unit {0}
-IsRising low (c ∷ cs) = (low < number_of c) × IsRising (number_of c) cs
+IsRising low (c ∷ cs) = (low < clause_number c) × IsRising (clause_number c) cs
 
 abbrev IsAbove : ℕ → Option ℕ → Type 0
 IsAbove low None = Unit {0}
@@ -59,7 +59,7 @@ above_wanted low n false (Some k) l h = omega arith
 smallest_above : (low : ℕ) (cs : List Clause) (p : Clause → Bool) → IsRising low cs → IsAbove low (smallest_or cs p None)
 smallest_above low [] p r = tt
 smallest_above low (c ∷ cs) p r =
-    above_wanted low (number_of c) (not (p c)) (smallest_or cs p None) r.0 (smallest_above (number_of c) cs p r.1)
+    above_wanted low (clause_number c) (not (p c)) (smallest_or cs p None) r.0 (smallest_above (clause_number c) cs p r.1)
 
 smaller_first : (n : ℕ) (x : Option ℕ) → IsAbove n x → smaller_clause n x ≡ n
 smaller_first n None h = refl
@@ -70,8 +70,8 @@ first_of : (low : ℕ) (cs : List Clause) (p : Clause → Bool) (place : ℕ) (l
 first_of low [] p place later r = refl
 first_of low (c ∷ cs) p place later r = split (p c)
     (λ e. rw e (ap (λ n. Some (record { event = place; clause = n }))
-    (sym (smaller_first (number_of c) (smallest_or cs p None) (smallest_above (number_of c) cs p r.1)))))
-    (λ e. rw e (first_of (number_of c) cs p place later r.1))
+    (sym (smaller_first (clause_number c) (smallest_or cs p None) (smallest_above (clause_number c) cs p r.1)))))
+    (λ e. rw e (first_of (clause_number c) cs p place later r.1))
 
 all_rising : IsRising 0 all_clauses
 all_rising = (omega arith, (omega arith, (omega arith, (omega arith, (omega arith, (omega arith, (omega arith, (omega arith, (omega arith, (omega arith, (omega arith, (omega arith, (omega arith, (omega arith, (omega arith, tt)))))))))))))))

@@ -12,7 +12,8 @@ use Rattle.nook_defs.specs.declared.steps.Stage.TheVariants as stage
 use Rattle.nook_defs.specs.declared.machine.Context.{Context}
 use Rattle.nook_defs.specs.Calls.{Stepped}
 use Rattle.part_laws.specs.Watch.{Watch, sees_stage}
-use Rattle.nook_defs.specs.Devices.{reset_device, reset_kind, medium_of_kind, ring_of_kind}
+use Rattle.nook_defs.specs.Devices.{reset_device, reset_kind}
+use Rattle.nook_defs.proofs.Cases.{medium_of_kind, ring_of_kind}
 use Rattle.nook_defs.specs.Domain.{context_of, entered_domain, plainly_entered, stopped_domain, collected_domain, loaded_domain}
 use Rattle.nook_defs.specs.Ideal.{ran}
 use Rattle.nook_defs.specs.Stages.{is_given_up, stops, gives_up_part, collects, resets, loads_image, inits, replays_set, replays_open, resumes, stage_due, stage_stepped}

@@ -27,17 +27,18 @@ use Rattle.nook_defs.specs.declared.machine.BurstEnd.{BurstEnd}
 use Rattle.nook_defs.specs.declared.machine.BurstEnd.TheVariants as ends
 use Rattle.nook_defs.specs.declared.machine.Context.{Context}
 use Rattle.nook_defs.specs.declared.machine.Service.{Service}
-use Rattle.nook_defs.specs.Calls.{after_invoke, invoked_by, invoked_with, answer_in, queue_in, after_enter, entered_by, after_admit}
+use Rattle.nook_defs.specs.Calls.{after_invoke, invoked_with, answer_in, queue_in, after_enter, after_admit}
 use Rattle.nook_defs.specs.Classes.{static_check, admit, accept}
-use Rattle.nook_defs.specs.Crossing.{fails, heap_start, serve_by, next_stage, next_mode, is_accepted, shadow_replied, noted_set, closes_call, reply_by, call_replied, after_crossing, is_last}
+use Rattle.nook_defs.specs.Crossing.{fails, heap_start, next_stage, next_mode, is_accepted, shadow_replied, noted_set, closes_call, call_replied, after_crossing, is_last}
 use Rattle.nook_defs.specs.Domain.{DomainBurst, Lent, buffer_of, lent_entries, entered_domain, plainly_entered, context_of, domain_burst, result_set, left_domain, collected_domain, loaded_domain, noted, opening_domain, first_argument, second_argument}
 use Rattle.nook_defs.specs.Entries.{is_buffer_of, without_buffer}
-use Rattle.nook_defs.specs.Log.{new_entry, with_call, with_answered_call, call_of_thread, change_entry, entered_call, after_entering, after_answering, after_acknowledging, is_blocked}
+use Rattle.nook_defs.specs.Log.{with_call, with_answered_call, call_of_thread, after_entering, after_answering, after_acknowledging, is_blocked}
+use Rattle.nook_defs.proofs.Cases.{change_entry, entered_by, entered_call, invoked_by, new_entry, reply_by, serve_by, stage_by, with_burst}
 use Rattle.nook_defs.specs.Runs.{state_of, step_of, state_after, state_from, IsRunFrom, IsRun}
 use Rattle.nook_defs.specs.Services.{checked}
-use Rattle.nook_defs.specs.Stages.{stage_due, is_given_up, stops, gives_up_part, collects, resets, loads_image, inits, replays_set, replays_open, resumes, stage_done, stage_by, stage_stepped, with_stage}
+use Rattle.nook_defs.specs.Stages.{stage_due, is_given_up, stops, gives_up_part, collects, resets, loads_image, inits, replays_set, replays_open, resumes, stage_done, stage_stepped, with_stage}
 use Rattle.nook_defs.specs.State.{DomainState, PartState}
-use Rattle.nook_defs.specs.Steps.{opening, enabled, is_running, is_ready, is_inside, can_enter, can_burst, faults_of_burst, with_burst, burst_stepped, after_arrival, stepped}
+use Rattle.nook_defs.specs.Steps.{opening, enabled, is_running, is_ready, is_inside, can_enter, can_burst, faults_of_burst, burst_stepped, after_arrival, stepped}
 use Rattle.part_laws.proofs.BurstKeeps.{split}
 use Rattle.part_laws.proofs.DomainFit.{burst_kept}
 use Rattle.part_laws.proofs.RunBound.{opening_tied}

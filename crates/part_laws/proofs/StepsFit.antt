@@ -15,18 +15,19 @@ use Rattle.nook_defs.specs.declared.steps.Stage.{Stage}
 use Rattle.nook_defs.specs.declared.steps.Stage.TheVariants as stage
 use Rattle.nook_defs.specs.declared.steps.Step.{Step}
 use Rattle.nook_defs.specs.declared.steps.Step.TheVariants as step
-use Rattle.nook_defs.specs.Calls.{Stepped, after_invoke, invoked_by, log_after_invoke, answer_in, queue_in, after_enter, entered_by, after_admit}
+use Rattle.nook_defs.specs.Calls.{Stepped, after_invoke, answer_in, queue_in, after_enter, after_admit}
 use Rattle.nook_defs.specs.Classes.{static_check, admit, init_place, open_place, set_place}
 use Rattle.nook_defs.specs.Crossing.{Crossed, after_crossing, heap_start}
 use Rattle.nook_defs.specs.Devices.{with_arrival, tail_of}
 use Rattle.nook_defs.specs.Domain.{DomainBurst, domain_burst, entered_domain, plainly_entered, stopped_domain, collected_domain, loaded_domain, opening_domain}
 use Rattle.nook_defs.specs.Entries.{is_borrow_of}
 use Rattle.nook_defs.specs.Isolation.{KeepsWithin, IsIsolatedStep, IsIsolatedFrom, IsIsolated}
-use Rattle.nook_defs.specs.Log.{new_entry, with_call, with_answered_call, after_entering, after_answering, change_entry, entered_call, held_call, is_call, call_of_thread, stop_calls, stop_queue, is_held}
+use Rattle.nook_defs.specs.Log.{with_call, with_answered_call, after_entering, after_answering, held_call, is_call, call_of_thread, stop_queue, is_held}
+use Rattle.nook_defs.proofs.Cases.{burst_step, change_entry, entered_by, entered_call, invoked_by, log_after_invoke, new_entry, stage_by, stop_calls, with_burst}
 use Rattle.nook_defs.specs.Runs.{step_of, state_after, state_from, IsRunFrom, IsRun}
-use Rattle.nook_defs.specs.Stages.{stage_due, with_stage, is_given_up, stops, gives_up_part, collects, with_reset, resets, loads_image, inits, replays_set, replays_open, resumes, stage_done, stage_by, stage_stepped}
+use Rattle.nook_defs.specs.Stages.{stage_due, with_stage, is_given_up, stops, gives_up_part, collects, with_reset, resets, loads_image, inits, replays_set, replays_open, resumes, stage_done, stage_stepped}
 use Rattle.nook_defs.specs.State.{CallLog, PartState}
-use Rattle.nook_defs.specs.Steps.{opening, enabled, can_invoke, faults_of_burst, with_burst, burst_step, burst_stepped, after_arrival, stepped}
+use Rattle.nook_defs.specs.Steps.{opening, enabled, can_invoke, faults_of_burst, burst_stepped, after_arrival, stepped}
 use Rattle.nook_defs.specs.Log.{opening_log}
 use Rattle.part_laws.proofs.BurstIsolation.{domain_within}
 use Rattle.part_laws.proofs.BurstKeeps.{split}

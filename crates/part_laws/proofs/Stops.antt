@@ -8,10 +8,11 @@ use Rattle.nook_defs.specs.declared.steps.Stage.TheVariants as stage
 use Rattle.nook_defs.specs.Classes.{is_write, static_check}
 use Rattle.part_laws.specs.Watch.{Watch, leaves}
 use Rattle.nook_defs.specs.Domain.{stopped_domain}
-use Rattle.nook_defs.specs.Ideal.{Ideal, Opened, ran, closes}
+use Rattle.nook_defs.specs.Ideal.{Ideal, Opened, ran}
 use Rattle.nook_defs.proofs.Changes.{stops_waiting}
 use Rattle.part_laws.specs.Allowed.{allows, allows_each}
-use Rattle.nook_defs.specs.Log.{shadow_answer, is_held, queue_after, with_answer, stop_answers, stop_calls, stop_queue}
+use Rattle.nook_defs.specs.Log.{shadow_answer, is_held, queue_after, with_answer, stop_answers, stop_queue}
+use Rattle.nook_defs.proofs.Cases.{closes, stop_calls}
 use Rattle.nook_defs.specs.Places.{at_number, change_number}
 use Rattle.nook_defs.specs.Stages.{stops}
 use Rattle.nook_defs.specs.State.{PartState}

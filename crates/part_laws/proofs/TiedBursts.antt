@@ -15,11 +15,12 @@ use Rattle.nook_defs.specs.declared.machine.Context.{Context}
 use Rattle.nook_defs.specs.Burst.{Burst, burst}
 use Rattle.nook_defs.specs.Classes.{init_place, open_place, set_place}
 use Rattle.nook_defs.specs.Crossing.{after_crossing}
-use Rattle.nook_defs.specs.Domain.{context_of, no_context, machine_of, after_burst, burst_by, domain_burst, entered_domain, plainly_entered, stopped_domain, collected_domain, loaded_domain}
-use Rattle.nook_defs.specs.Log.{held_call, call_of_thread, stop_calls, is_held}
-use Rattle.nook_defs.specs.Stages.{stage_due, with_stage, is_given_up, stops, gives_up_part, collects, with_reset, resets, loads_image, inits, replays_set, replays_open, resumes, stage_done, stage_by, stage_stepped}
+use Rattle.nook_defs.specs.Domain.{context_of, machine_of, after_burst, domain_burst, entered_domain, plainly_entered, stopped_domain, collected_domain, loaded_domain}
+use Rattle.nook_defs.specs.Log.{held_call, call_of_thread, is_held}
+use Rattle.nook_defs.proofs.Cases.{burst_by, burst_step, no_context, stage_by, stop_calls, with_burst}
+use Rattle.nook_defs.specs.Stages.{stage_due, with_stage, is_given_up, stops, gives_up_part, collects, with_reset, resets, loads_image, inits, replays_set, replays_open, resumes, stage_done, stage_stepped}
 use Rattle.nook_defs.specs.State.{DomainState, PartState}
-use Rattle.nook_defs.specs.Steps.{enabled, is_running, is_driven, is_inside, can_burst, can_stage, faults_of_burst, with_burst, burst_step, burst_stepped, stepped}
+use Rattle.nook_defs.specs.Steps.{enabled, is_running, is_driven, is_inside, can_burst, can_stage, faults_of_burst, burst_stepped, stepped}
 use Rattle.part_laws.proofs.BurstKeeps.{split}
 use Rattle.part_laws.proofs.EntriesFit.{filter_fits}
 use Rattle.part_laws.proofs.RunsDetermined.{found_thread}

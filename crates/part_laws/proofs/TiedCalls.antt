@@ -4,8 +4,9 @@ use Rattle.std.proofs.lemmas.Bool.{eqb-false, eq-eqb, ne_eqb}
 use Rattle.nook_defs.specs.declared.calls.CallEntry.{CallEntry}
 use Rattle.nook_defs.specs.declared.calls.Op.{Op}
 use Rattle.nook_defs.specs.declared.machine.Context.{Context}
-use Rattle.nook_defs.specs.Domain.{context_of, bursts_of, no_context}
-use Rattle.nook_defs.specs.Log.{is_of_thread, is_call, call_of_thread, new_entry, held_call, change_entry}
+use Rattle.nook_defs.specs.Domain.{context_of}
+use Rattle.nook_defs.specs.Log.{is_call, call_of_thread, held_call}
+use Rattle.nook_defs.proofs.Cases.{bursts_of, change_entry, is_of_thread, new_entry, no_context}
 use Rattle.part_laws.proofs.BurstKeeps.{split}
 use Rattle.part_laws.specs.Tied.{IsRising, AreApart}
 

@@ -18,9 +18,10 @@ use Rattle.nook_defs.specs.declared.machine.BurstEnd.TheVariants as ends
 use Rattle.nook_defs.specs.declared.machine.Context.{Context}
 use Rattle.nook_defs.specs.declared.machine.Service.{Service}
 use Rattle.nook_defs.specs.Classes.{accept}
-use Rattle.nook_defs.specs.Crossing.{Crossed, fails, failed_crossing, goes_on, is_last, heap_start, serve_by, next_stage, next_mode, is_accepted, closes_call, reply_by, after_crossing, noted_set}
-use Rattle.nook_defs.specs.Domain.{context_of, bursts_of, no_context, with_result, result_set, left_domain, noted, first_argument, second_argument}
-use Rattle.nook_defs.specs.Log.{call_of_thread, is_call, after_acknowledging, after_answering, queue_after, next_replay, replay_stream, replay_after}
+use Rattle.nook_defs.specs.Crossing.{Crossed, fails, failed_crossing, goes_on, is_last, heap_start, next_stage, next_mode, is_accepted, closes_call, after_crossing, noted_set}
+use Rattle.nook_defs.specs.Domain.{context_of, result_set, left_domain, noted, first_argument, second_argument}
+use Rattle.nook_defs.specs.Log.{call_of_thread, is_call, after_acknowledging, after_answering, queue_after, next_replay, replay_after}
+use Rattle.nook_defs.proofs.Cases.{bursts_of, no_context, replay_stream, reply_by, serve_by, with_result}
 use Rattle.nook_defs.specs.Services.{Served, checked, served}
 use Rattle.nook_defs.specs.Stages.{mode_after}
 use Rattle.nook_defs.specs.State.{DomainState, CallLog, PartState}

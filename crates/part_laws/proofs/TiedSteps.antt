@@ -12,11 +12,12 @@ use Rattle.nook_defs.specs.declared.steps.Mode.TheVariants as mode
 use Rattle.nook_defs.specs.declared.calls.Op.{Op}
 use Rattle.nook_defs.specs.declared.machine.Context.{Context}
 use Rattle.nook_defs.specs.Burst.{burst}
-use Rattle.nook_defs.specs.Calls.{Stepped, after_invoke, invoked_by, invoked_with, answer_in, queue_in, after_enter, entered_by, after_admit}
+use Rattle.nook_defs.specs.Calls.{Stepped, after_invoke, invoked_with, answer_in, queue_in, after_enter, after_admit}
 use Rattle.nook_defs.specs.Classes.{static_check, admit}
 use Rattle.nook_defs.specs.Devices.{tail_of}
 use Rattle.nook_defs.specs.Domain.{context_of, entered_domain, entry_context, arguments_of}
-use Rattle.nook_defs.specs.Log.{new_entry, with_call, with_answered_call, after_entering, after_answering, change_entry, entered_call, is_call, call_of_thread, is_blocked}
+use Rattle.nook_defs.specs.Log.{with_call, with_answered_call, after_entering, after_answering, is_call, call_of_thread, is_blocked}
+use Rattle.nook_defs.proofs.Cases.{change_entry, entered_by, entered_call, invoked_by, new_entry}
 use Rattle.nook_defs.specs.State.{DomainState, PartState}
 use Rattle.nook_defs.specs.Steps.{is_running, is_ready, can_invoke, can_enter, after_arrival}
 use Rattle.part_laws.proofs.BurstKeeps.{split}

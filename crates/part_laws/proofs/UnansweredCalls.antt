@@ -20,17 +20,19 @@ use Rattle.nook_defs.specs.declared.steps.Stage.{Stage}
 use Rattle.nook_defs.specs.declared.steps.Stage.TheVariants as stage
 use Rattle.nook_defs.specs.declared.steps.Step.{Step}
 use Rattle.nook_defs.specs.declared.steps.Step.TheVariants as step
-use Rattle.nook_defs.specs.Calls.{after_admit, answer_in, queue_in, entered_by, after_enter, after_invoke, invoked_by, invoked_with}
+use Rattle.nook_defs.specs.Calls.{after_admit, answer_in, queue_in, after_enter, after_invoke, invoked_with}
 use Rattle.nook_defs.specs.Classes.{static_check}
 use Rattle.nook_defs.specs.Crossing.{Crossed, after_crossing}
 use Rattle.nook_defs.specs.Devices.{head_of}
 use Rattle.nook_defs.specs.Domain.{DomainBurst, domain_burst}
 use Rattle.nook_defs.specs.Entries.{released}
-use Rattle.nook_defs.specs.Log.{IsNumbered, after_answering, call_of_thread, change_entry, after_entering, entered_call, gone_answers, held_call, is_held, is_of_thread, queue_after, shadow_answer, stop_answers, with_answer}
+use Rattle.nook_defs.specs.Log.{after_answering, call_of_thread, after_entering, gone_answers, held_call, is_held, queue_after, shadow_answer, stop_answers, with_answer}
+use Rattle.nook_defs.specs.Views.CallLogs.{IsNumbered}
+use Rattle.nook_defs.proofs.Cases.{burst_event, change_entry, entered_by, entered_call, invoked_by, is_of_thread, stage_by, with_burst}
 use Rattle.nook_defs.specs.Runs.{IsRunFrom, answer_among, event_of, state_after, state_from, step_of}
-use Rattle.nook_defs.specs.Stages.{collects, gives_up_part, inits, is_given_up, loads_image, replays_open, replays_set, resets, resumes, stage_by, stage_done, stage_due, stage_stepped, stops}
+use Rattle.nook_defs.specs.Stages.{collects, gives_up_part, inits, is_given_up, loads_image, replays_open, replays_set, resets, resumes, stage_done, stage_due, stage_stepped, stops}
 use Rattle.nook_defs.specs.State.{PartState}
-use Rattle.nook_defs.specs.Steps.{after_arrival, burst_event, burst_stepped, faults_of_burst, served_number, stepped, with_burst}
+use Rattle.nook_defs.specs.Steps.{after_arrival, burst_stepped, faults_of_burst, served_number, stepped}
 use Rattle.part_laws.proofs.CallNumbers.{AllOpen, CameFrom, HasEntry, InvokesAbove, KeepsCall, Quiet, Silent, LogStepped, all_bounds, none_call, numbered_bound, numbered_filter, numbered_map, open_both, open_filter, open_has, open_itself, open_map, open_weaker, other_call, small_calls, stepped_answered, stepped_at_once, stepped_changed, stepped_open, stepped_same}
 use Rattle.part_laws.proofs.OrderlyRuns.{ClosesCall, ClosesNone, crossing_crosses, served_is}
 use Rattle.part_laws.proofs.Places.{split}

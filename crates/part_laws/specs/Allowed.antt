@@ -19,7 +19,7 @@ use Rattle.nook_defs.specs.Runs.{state_after, step_of}
 use Rattle.nook_defs.specs.State.{PartState}
 use Rattle.nook_defs.specs.Steps.{opening}
 use Rattle.nook_defs.specs.Licence.{is_balanced, is_stage, same_stage, shadow_stage}
-use Rattle.nook_defs.specs.Contract.{is_empty}
+use Rattle.nook_defs.specs.Devices.{is_empty}
 
 -- The licence of losses and busy answers by the fold of the contract: what is proved first. Over a run it is the licence
 -- that nook_defs defines.

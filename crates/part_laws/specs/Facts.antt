@@ -9,7 +9,7 @@ use Rattle.nook_defs.specs.declared.steps.Stage.{Stage}
 use Rattle.nook_defs.specs.declared.steps.Stage.TheVariants as stage
 use Rattle.nook_defs.specs.Blocks.{has_block, words_for}
 use Rattle.nook_defs.specs.Classes.{conflicts, covers, defaults_of, is_recv, is_write, same_class, static_check}
-use Rattle.nook_defs.specs.Contract.{is_empty}
+use Rattle.nook_defs.specs.Devices.{is_empty}
 use Rattle.part_laws.specs.Views.{View, Past, Core, Call, cores, open_from, stage_of}
 
 -- What holds of a part beside its past, whatever the order of the steps, while its driver keeps the contract: one

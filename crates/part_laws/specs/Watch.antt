@@ -17,7 +17,8 @@ use Rattle.nook_defs.specs.declared.steps.Stage.TheVariants as stages
 use Rattle.nook_defs.specs.Blocks.{blank_blocks, get_blocks, has_block, holds_from, words_for}
 use Rattle.nook_defs.specs.Classes.{covers, defaults_of, is_write, is_next, is_play, sends}
 use Rattle.nook_defs.specs.Places.{at_number, change_number, number_where}
-use Rattle.nook_defs.specs.Contract.{is_empty, is_front, is_replay_of, is_replayed, sets}
+use Rattle.nook_defs.specs.Contract.{is_front, is_replay_of, is_replayed, sets}
+use Rattle.nook_defs.specs.Devices.{is_empty}
 
 -- The contract of a class as one fold, with every call that was made at the place of its number: what the recovery
 -- theorem is proved by. What has to be believed is the contract in nook_defs; over a run both break first at the same

@@ -1,7 +1,8 @@
 //! Laws of steps and of journals that are runs: what every part keeps, isolation and collection.
 
 ghost use Rattle.nook_defs.specs.Isolation.{IsIsolated};
-ghost use Rattle.nook_defs.specs.Runs.{IsRun, answered_at, event_of, state_after, state_of, step_of};
+ghost use Rattle.nook_defs.specs.Runs.{IsRun, event_of, state_after, state_of, step_of};
+ghost use Rattle.nook_defs.specs.Views.CallLogs.{answered_at};
 ghost use Rattle.nook_defs.specs.Steps.{enabled, opening, stepped};
 ghost use Rattle.nook_defs.specs.State.{PartState};
 ghost use Rattle.nook_defs.specs.Valid.{IsValidPart};

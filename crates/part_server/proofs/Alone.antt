@@ -1,12 +1,12 @@
 -- What a desk's seat may claim, from what a turn's seat may.
-use Rattle.std.proofs.Common.{◌≡◌, ℕ, ◌<◌, ◌≤◌, Bool, true, false, List, length, All, sym, ap, ◌∙◌, subst, arith}
+use Rattle.std.proofs.Common.{◌≡◌, ℕ, ◌<◌, ◌≤◌, Bool, true, false, List, length, All, refl, sym, ap, ◌∙◌, subst, arith}
 use Rattle.nook_defs.specs.declared.steps.Event.{Event}
 use Rattle.desk_like.specs.Desks.{Accounts}
 use Rattle.shares.specs.Shares.{Share, half, IsWhole}
 use Rattle.shares.proofs.Shares.{half_in, half_has, halves_apart}
 use Rattle.turn_lock.specs.Seats.{Tally}
-use Rattle.turn_lock.specs.Views.{took, committed, gave, halved, newcomer}
-use Rattle.part_server.specs.Turns.{seen_view}
+use Rattle.turn_lock.specs.Views.{took, halved, newcomer}
+use Rattle.part_server.specs.Turns.{ended, seen_view}
 use Rattle.part_server.proofs.Ends.{Vw}
 
 -- a desk's list begins empty
@@ -16,16 +16,15 @@ accounts_of v none t = record {
   all = λ alone place past low. t.all alone place (let begun = none in omega arith) low;
 }
 
--- a seat that gave the turn back as it took it, or with a commit
-pub given_accounts : (v z w : Vw) (all : List Event) → v.start ≡ 0 → z ≡ took v all → w ≡ gave z → Tally w → (w.start ≡ 0) × Accounts (seen_view w)
-given_accounts v z w all none taken given t =
-    let start : w.start ≡ 0 = ap (λ (x : Vw). x.start) given ∙ (ap (λ (x : Vw). x.start) taken ∙ none) in
-    (start, accounts_of w start t)
+ended_start : (b : Bool) (z : Vw) (more : List Event) → (ended b z more).start ≡ z.start
+ended_start true z more = refl
+ended_start false z more = refl
 
-pub committed_accounts : (v z w : Vw) (all more : List Event) → v.start ≡ 0 → z ≡ took v all → w ≡ gave (committed z more) → Tally w
+-- a seat that ended its turn
+pub ended_accounts : (v z w : Vw) (b : Bool) (all more : List Event) → v.start ≡ 0 → z ≡ took v all → w ≡ ended b z more → Tally w
     → (w.start ≡ 0) × Accounts (seen_view w)
-committed_accounts v z w all more none taken given t =
-    let start : w.start ≡ 0 = ap (λ (x : Vw). x.start) given ∙ (ap (λ (x : Vw). x.start) taken ∙ none) in
+ended_accounts v z w b all more none taken given t =
+    let start : w.start ≡ 0 = ap (λ (x : Vw). x.start) given ∙ (ended_start b z more ∙ (ap (λ (x : Vw). x.start) taken ∙ none)) in
     (start, accounts_of w start t)
 
 left_not_whole : (s : Share) → IsWhole (half false s) → ⊥

@@ -13,7 +13,8 @@ use Rattle.nook_defs.specs.declared.steps.Step.{Step}
 use Rattle.nook_defs.specs.declared.steps.Step.TheVariants as step
 use Rattle.nook_defs.specs.Log.{call_of_thread, opening_log}
 use Rattle.nook_defs.specs.Places.{at_number}
-use Rattle.nook_defs.specs.Runs.{IsRun, IsRunFrom, answer_at, answered_from, event_of, state_after, state_from, state_of, step_of}
+use Rattle.nook_defs.specs.Runs.{IsRun, IsRunFrom, answer_at, event_of, state_after, state_from, state_of, step_of}
+use Rattle.nook_defs.specs.Views.CallLogs.{answered_from}
 use Rattle.nook_defs.specs.State.{PartState}
 use Rattle.nook_defs.specs.Steps.{enabled, opening}
 use Rattle.nook_defs.specs.Valid.{IsValidPart}

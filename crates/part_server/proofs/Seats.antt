@@ -1,5 +1,6 @@
 -- One turn, as the code takes it.
 use Rattle.std.proofs.Common.{◌≡◌, ℕ, ◌+◌, ◌<◌, ◌^◌, Bool, true, false, Some, None, Result, Ok, Err, List, [], ◌∷◌, ◌++◌, length, drop, refl, sym, ap, ◌∙◌, subst, arith}
+use Rattle.std.specs.Prelude.{is_ok}
 use mathlib.Core.List.{IsPrefix}
 use Rattle.nook_defs.specs.declared.desks.DeskRefused.{DeskRefused}
 use Rattle.nook_defs.specs.declared.steps.Event.{Event}
@@ -7,18 +8,19 @@ use Rattle.nook_defs.specs.declared.calls.Op.{Op}
 use Rattle.nook_defs.specs.declared.scenario.PartSpec.{PartSpec}
 use Rattle.nook_defs.specs.declared.desks.Receipt.{Receipt}
 use Rattle.nook_defs.specs.declared.memory.NoMemory.{NoMemory}
-use Rattle.nook_defs.specs.Runs.{PartRun, IsRun, answered_from, state_of}
+use Rattle.nook_defs.specs.Runs.{PartRun, IsRun, state_of}
+use Rattle.nook_defs.specs.Views.CallLogs.{answered_from}
 use Rattle.nook_defs.specs.State.{PartState}
 use Rattle.nook_defs.specs.Valid.{IsValidPart}
-use Rattle.desk_like.specs.Desks.{DeskView, IsAt, Answers, HasOpen, ArriveEnds}
+use Rattle.desk_like.specs.Desks.{DeskView, IsAt, IsArrive, IsOther, Answers, HasOpen, ArriveEnds}
 use Rattle.part_core.specs.Kept.{IsKept}
 use Rattle.turn_lock.specs.Seats.{IsAlone}
 use Rattle.turn_lock.specs.Views.{took, committed, gave}
 use Rattle.part_server.specs.declared.waiting.Progress.{Progress}
 use Rattle.part_server.specs.declared.waiting.Progress.TheVariants as progress
 use Rattle.part_server.specs.declared.waiting.Waiting.{Waiting}
-use Rattle.part_server.specs.Turns.{InvokeGives, GoOnGives, FindGives, ArriveGives, SettleGives, LookGives, IsGoingOn, IsWaitingIn, seen_view, IsSeen, InvokeEnds, AdvanceEnds, FindEnds, SettlesOnce}
-use Rattle.part_server.proofs.Ends.{Vw, run_short, invoke_ends_ok, advance_ends_ok, arrive_ends_ok, settle_ends_ok, invoke_ends_err, advance_ends_err, found_ends, find_ends, arrive_ends_err, settle_ends_none, settle_ends_err, invoke_same, go_on_same, arrive_same, OneMore}
+use Rattle.part_server.specs.Turns.{InvokeGives, GoOnGives, FindGives, ArriveGives, SettleGives, LookGives, IsGoingOn, IsWaitingIn, seen_view, IsSeen, InvokeEnds, AdvanceEnds, FindEnds, SettlesOnce, IsGrown, ended, took_step}
+use Rattle.part_server.proofs.Ends.{Vw, run_short, invoke_ends_ok, advance_ends_ok, arrive_ends_ok, settle_ends_ok, invoke_ends_err, advance_ends_err, found_ends, find_ends, arrive_ends_err, settle_ends_none, settle_ends_err, invoke_same, go_on_same, arrive_same, OneMore, one_more, invoke_more, go_on_more}
 use Rattle.part_server.proofs.Opens.{still_open}
 
 -- the part r was taken through a seat, which knew v
@@ -31,9 +33,37 @@ pub record IsTaken (spec : PartSpec) (old v : Vw) (r : PartRun) : Type 0 where
 pub short_of : (q : PartRun) → IsKept q → length q.journal < 2 ^ 62
 short_of q k = run_short q.state.spec q.journal k.valid k.run
 
--- what a commit asks
-pub entry_of : (v : Vw) (z : Vw) (r q : PartRun) → OneMore r q → z ≡ took v r.journal → (e : Event) × (q.journal ≡ z.taken ++ e ∷ [])
+-- what the end of a turn asks
+entry_of : (v : Vw) (z : Vw) (r q : PartRun) → OneMore r q → z ≡ took v r.journal → (e : Event) × (q.journal ≡ z.taken ++ e ∷ [])
 entry_of v z r q m e = (m.event, m.journal ∙ ap (λ (x : Vw). x.taken ++ m.event ∷ []) (sym e))
+
+same_journal : (v z : Vw) (r q : PartRun) → q ≡ r → z ≡ took v r.journal → q.journal ≡ z.taken
+same_journal v z r q e taken = ap (λ (x : PartRun). x.journal) e ∙ ap (λ (x : Vw). x.taken) (sym taken)
+
+module _ (v z : Vw) (r q : PartRun) (taken : z ≡ took v r.journal) where
+  grown_by : (b b' : Bool) → b ≡ b' → IsGrown b' z.taken q.journal → IsGrown b z.taken q.journal
+  grown_by b b' e h = subst (λ (x : Bool). IsGrown x z.taken q.journal) (sym e) h
+
+  pub invoke_grows : (thread : ℕ) (o : Op) (x : Result Progress DeskRefused) (b : Bool) → b ≡ is_ok x → InvokeGives r q thread o x → IsGrown b z.taken q.journal
+  invoke_grows thread o (Ok p) b e h = grown_by b true e (entry_of v z r q (invoke_more r q thread o p h) taken)
+  invoke_grows thread o (Err x) b e h = grown_by b false e (same_journal v z r q (invoke_same r q thread o x h) taken)
+
+  pub go_on_grows : (w : Waiting) (x : Result Progress DeskRefused) (b : Bool) → b ≡ is_ok x → GoOnGives r q w x → IsGrown b z.taken q.journal
+  go_on_grows w (Ok p) b e h = grown_by b true e (entry_of v z r q (go_on_more r q w p h) taken)
+  go_on_grows w (Err x) b e h = grown_by b false e (same_journal v z r q (go_on_same r q w x h) taken)
+
+  pub arrive_grows : (frame : List ℕ) (x : Result Bool DeskRefused) (b : Bool) → b ≡ is_ok x → ArriveGives r q frame x → IsGrown b z.taken q.journal
+  arrive_grows frame (Ok kept) b e h = grown_by b true e (entry_of v z r q (one_more r q (IsArrive frame kept) h) taken)
+  arrive_grows frame (Err x) b e h = grown_by b false e (same_journal v z r q (arrive_same r q frame x h) taken)
+
+  pub settle_grows : (x : Result Bool NoMemory) (b : Bool) → b ≡ took_step x → SettleGives r q x → IsGrown b z.taken q.journal
+  settle_grows (Ok true) b e h = grown_by b true e (entry_of v z r q (one_more r q IsOther h) taken)
+  settle_grows (Ok false) b e h = grown_by b false e (same_journal v z r q h.0 taken)
+  settle_grows (Err x) b e h = grown_by b false e (same_journal v z r q h taken)
+
+-- what a seat knows behind the end of a turn
+pub ended_view : (v z w : Vw) (b b' : Bool) (all more : List Event) → w ≡ ended b z more → b ≡ b' → z ≡ took v all → w ≡ ended b' (took v all) more
+ended_view v z w b b' all more e same taken = e ∙ (ap (λ (x : Bool). ended x z more) same ∙ ap (λ (x : Vw). ended b' x more) taken)
 
 module _ (spec : PartSpec) (old v w : Vw) (r q : PartRun) (t : IsTaken spec old v r) (k : IsKept q) where
   abbrev Given : Type 0
@@ -45,22 +75,22 @@ module _ (spec : PartSpec) (old v w : Vw) (r q : PartRun) (t : IsTaken spec old 
   both : (P : DeskView → DeskView → Type 0) (x : Vw) → w ≡ x → P (seen_view v) (seen_view x) → P (seen_view old) (seen_view w)
   both P x e p = subst (λ (a : Vw). P (seen_view a) (seen_view w)) t.same (subst (λ (b : Vw). P (seen_view v) (seen_view b)) (sym e) p)
 
-  pub invoke_commits : (thread : ℕ) (o : Op) (p : Progress) → Given → InvokeGives r q thread o (Ok p) → InvokeEnds spec (seen_view old) (seen_view w) thread o (Ok p)
+  invoke_commits : (thread : ℕ) (o : Op) (p : Progress) → Given → InvokeGives r q thread o (Ok p) → InvokeEnds spec (seen_view old) (seen_view w) thread o (Ok p)
   invoke_commits thread o p e h =
       both (λ a b. InvokeEnds spec a b thread o (Ok p)) (gave (committed (took v r.journal) q.journal)) e
       (invoke_ends_ok spec v r q t.begins t.alone t.home k.state thread o p h)
 
-  pub advance_commits : (w0 : Waiting) (p : Progress) → Given → GoOnGives r q w0 (Ok p) → AdvanceEnds spec (seen_view old) (seen_view w) w0 (Ok p)
+  advance_commits : (w0 : Waiting) (p : Progress) → Given → GoOnGives r q w0 (Ok p) → AdvanceEnds spec (seen_view old) (seen_view w) w0 (Ok p)
   advance_commits w0 p e h =
       both (λ a b. AdvanceEnds spec a b w0 (Ok p)) (gave (committed (took v r.journal) q.journal)) e
       (advance_ends_ok spec v r q t.begins t.alone t.home k.state w0 p h)
 
-  pub arrive_commits : (frame : List ℕ) (kept : Bool) → Given → ArriveGives r q frame (Ok kept) → ArriveEnds spec (seen_view old) (seen_view w) frame (Ok kept)
+  arrive_commits : (frame : List ℕ) (kept : Bool) → Given → ArriveGives r q frame (Ok kept) → ArriveEnds spec (seen_view old) (seen_view w) frame (Ok kept)
   arrive_commits frame kept e h =
       both (λ a b. ArriveEnds spec a b frame (Ok kept)) (gave (committed (took v r.journal) q.journal)) e
       (arrive_ends_ok spec v r q t.begins t.alone t.home k.state frame kept h)
 
-  pub settle_commits : Given → SettleGives r q (Ok true) → SettlesOnce spec (seen_view old) (seen_view w) (Ok true)
+  settle_commits : Given → SettleGives r q (Ok true) → SettlesOnce spec (seen_view old) (seen_view w) (Ok true)
   settle_commits e h =
       both (λ a b. SettlesOnce spec a b (Ok true)) (gave (committed (took v r.journal) q.journal)) e
       (settle_ends_ok spec v r q t.begins t.alone t.home k.state h)
@@ -68,33 +98,54 @@ module _ (spec : PartSpec) (old v w : Vw) (r q : PartRun) (t : IsTaken spec old 
   kept_of : q ≡ r → IsKept r
   kept_of e = subst IsKept e k
 
-  pub invoke_returns : (thread : ℕ) (o : Op) (x : DeskRefused) → Returned → InvokeGives r q thread o (Err x)
+  invoke_returns : (thread : ℕ) (o : Op) (x : DeskRefused) → Returned → InvokeGives r q thread o (Err x)
       → InvokeEnds spec (seen_view old) (seen_view w) thread o (Err x)
   invoke_returns thread o x e h =
       both (λ a b. InvokeEnds spec a b thread o (Err x)) (gave (took v r.journal)) e
       (invoke_ends_err spec v r t.begins t.alone t.home (kept_of (invoke_same r q thread o x h)).state q thread o x h)
 
-  pub advance_returns : (w0 : Waiting) (x : DeskRefused) → Returned → HasOpen r.state w0.thread w0.call → GoOnGives r q w0 (Err x)
+  advance_returns : (w0 : Waiting) (x : DeskRefused) → Returned → HasOpen r.state w0.thread w0.call → GoOnGives r q w0 (Err x)
       → AdvanceEnds spec (seen_view old) (seen_view w) w0 (Err x)
   advance_returns w0 x e waits h =
       both (λ a b. AdvanceEnds spec a b w0 (Err x)) (gave (took v r.journal)) e
       (advance_ends_err spec v r t.begins t.alone t.home (kept_of (go_on_same r q w0 x h)).state q w0 x waits h)
 
-  pub arrive_returns : (frame : List ℕ) (x : DeskRefused) → Returned → ArriveGives r q frame (Err x)
+  arrive_returns : (frame : List ℕ) (x : DeskRefused) → Returned → ArriveGives r q frame (Err x)
       → ArriveEnds spec (seen_view old) (seen_view w) frame (Err x)
   arrive_returns frame x e h =
       both (λ a b. ArriveEnds spec a b frame (Err x)) (gave (took v r.journal)) e
       (arrive_ends_err spec v r t.begins t.alone t.home (kept_of (arrive_same r q frame x h)).state q frame x h)
 
-  pub settle_still : Returned → SettleGives r q (Ok false) → SettlesOnce spec (seen_view old) (seen_view w) (Ok false)
+  settle_still : Returned → SettleGives r q (Ok false) → SettlesOnce spec (seen_view old) (seen_view w) (Ok false)
   settle_still e h =
       both (λ a b. SettlesOnce spec a b (Ok false)) (gave (took v r.journal)) e
       (settle_ends_none spec v r t.begins t.alone t.home (kept_of h.0).state q h)
 
-  pub settle_refused : (x : NoMemory) → Returned → SettleGives r q (Err x) → SettlesOnce spec (seen_view old) (seen_view w) (Err x)
+  settle_refused : (x : NoMemory) → Returned → SettleGives r q (Err x) → SettlesOnce spec (seen_view old) (seen_view w) (Err x)
   settle_refused x e h =
       both (λ a b. SettlesOnce spec a b (Err x)) (gave (took v r.journal)) e
       (settle_ends_err spec v r t.begins t.alone t.home (kept_of h).state x)
+
+  pub invoke_ends : (thread : ℕ) (o : Op) (x : Result Progress DeskRefused) → w ≡ ended (is_ok x) (took v r.journal) q.journal
+      → InvokeGives r q thread o x → InvokeEnds spec (seen_view old) (seen_view w) thread o x
+  invoke_ends thread o (Ok p) e h = invoke_commits thread o p e h
+  invoke_ends thread o (Err x) e h = invoke_returns thread o x e h
+
+  pub advance_ends : (w0 : Waiting) (x : Result Progress DeskRefused) → w ≡ ended (is_ok x) (took v r.journal) q.journal
+      → HasOpen r.state w0.thread w0.call → GoOnGives r q w0 x → AdvanceEnds spec (seen_view old) (seen_view w) w0 x
+  advance_ends w0 (Ok p) e waits h = advance_commits w0 p e h
+  advance_ends w0 (Err x) e waits h = advance_returns w0 x e waits h
+
+  pub arrive_ends : (frame : List ℕ) (x : Result Bool DeskRefused) → w ≡ ended (is_ok x) (took v r.journal) q.journal
+      → ArriveGives r q frame x → ArriveEnds spec (seen_view old) (seen_view w) frame x
+  arrive_ends frame (Ok kept) e h = arrive_commits frame kept e h
+  arrive_ends frame (Err x) e h = arrive_returns frame x e h
+
+  pub settle_ends : (x : Result Bool NoMemory) → w ≡ ended (took_step x) (took v r.journal) q.journal
+      → SettleGives r q x → SettlesOnce spec (seen_view old) (seen_view w) x
+  settle_ends (Ok true) e h = settle_commits e h
+  settle_ends (Ok false) e h = settle_still e h
+  settle_ends (Err x) e h = settle_refused x e h
 
 -- a turn that only reads
 module _ (spec : PartSpec) (old v w : Vw) (r : PartRun) (t : IsTaken spec old v r) (k : IsKept r) where

@@ -28,9 +28,10 @@ use Rattle.nook_defs.specs.declared.machine.BurstEnd.{BurstEnd}
 use Rattle.nook_defs.specs.declared.machine.BurstEnd.TheVariants as ends
 use Rattle.nook_defs.specs.declared.machine.Service.{Service}
 use Rattle.nook_defs.specs.declared.machine.Service.TheVariants as service
-use Rattle.nook_defs.specs.Calls.{Stepped, after_invoke, invoked_by, answer_in, queue_in, after_enter, entered_by, after_admit}
-use Rattle.nook_defs.specs.Classes.{static_check, check_op, check_range, check_length, is_block_length, is_of_class, maximum_of, same_class, admit, admit_open, admit_holder, is_holder, entry_place, accept}
-use Rattle.nook_defs.specs.Crossing.{Crossed, fails, is_last, heap_start, serve_by, is_accepted, next_stage, closes_call, reply_answer, reply_by, call_replied, after_crossing}
+use Rattle.nook_defs.specs.Calls.{Stepped, after_invoke, answer_in, queue_in, after_enter, after_admit}
+use Rattle.nook_defs.proofs.Cases.{admit_open, entered_by, invoked_by, reply_by, serve_by, stage_by, with_burst}
+use Rattle.nook_defs.specs.Classes.{static_check, check_op, check_range, check_length, is_block_length, is_of_class, maximum_of, same_class, admit, admit_holder, is_holder, entry_place, accept}
+use Rattle.nook_defs.specs.Crossing.{Crossed, fails, is_last, heap_start, is_accepted, next_stage, closes_call, reply_answer, call_replied, after_crossing}
 use Rattle.nook_defs.specs.Devices.{head_of, tail_of}
 use Rattle.nook_defs.specs.Domain.{domain_burst, first_argument, second_argument}
 use Rattle.nook_defs.specs.Log.{call_of_thread, shadow_answer, frame_or_empty, queue_after, with_answer, stop_answers, stop_queue, gone_answers}
@@ -40,9 +41,9 @@ use Rattle.nook_defs.specs.Valid.{IsValidPart}
 use Rattle.nook_defs.specs.Answers.{one_answer}
 use Rattle.nook_defs.specs.Runs.{IsRun, IsRunFrom, answer_among, event_of, state_after, step_of}
 use Rattle.nook_defs.specs.Services.{needs, is_frame_length, tested_length, checked_frame, checked, served}
-use Rattle.nook_defs.specs.Stages.{stage_due, is_given_up, stops, gives_up_part, collects, resets, loads_image, inits, replays_set, replays_open, resumes, stage_by, stage_stepped}
+use Rattle.nook_defs.specs.Stages.{stage_due, is_given_up, stops, gives_up_part, collects, resets, loads_image, inits, replays_set, replays_open, resumes, stage_stepped}
 use Rattle.nook_defs.specs.State.{PartState}
-use Rattle.nook_defs.specs.Steps.{opening, stepped, burst_stepped, with_burst, faults_of_burst, after_arrival}
+use Rattle.nook_defs.specs.Steps.{opening, stepped, burst_stepped, faults_of_burst, after_arrival}
 use Rattle.part_laws.proofs.PartFacts.{open_read_count}
 use Rattle.part_laws.proofs.BurstKeeps.{split}
 use Rattle.part_laws.proofs.Served.{queue_stays}

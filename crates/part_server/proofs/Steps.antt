@@ -16,7 +16,8 @@ use Rattle.nook_defs.specs.Classes.{same_class}
 use Rattle.nook_defs.specs.Log.{call_of_thread}
 use Rattle.nook_defs.specs.Places.{at_number}
 use Rattle.std.specs.Option.{option_or}
-use Rattle.nook_defs.specs.Runs.{PartRun, IsRun, answer_at, answered_from, event_of, run_after, state_after, state_of, step_of, if_enabled, next_for, next_recovery, next_of_calls, next_any}
+use Rattle.nook_defs.specs.Runs.{PartRun, IsRun, answer_at, event_of, run_after, state_after, state_of, step_of, if_enabled, next_for, next_recovery, next_of_calls, next_any}
+use Rattle.nook_defs.specs.Views.CallLogs.{answered_from}
 use Rattle.nook_defs.specs.State.{PartState}
 use Rattle.nook_defs.specs.Steps.{can_invoke, enabled}
 use Rattle.nook_defs.specs.Valid.{IsValidPart}

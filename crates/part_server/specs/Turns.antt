@@ -11,9 +11,11 @@ use Rattle.nook_defs.specs.declared.steps.Step.{Step}
 use Rattle.nook_defs.specs.declared.steps.Step.TheVariants as step
 use Rattle.nook_defs.specs.declared.memory.NoMemory.{NoMemory}
 use Rattle.nook_defs.specs.declared.limits.TheConstants.{MOST_ANSWER_WORDS}
-use Rattle.nook_defs.specs.Runs.{PartRun, IsRun, answer_at, answered_from, next_any}
+use Rattle.nook_defs.specs.Runs.{PartRun, IsRun, answer_at, next_any}
+use Rattle.nook_defs.specs.Views.CallLogs.{answered_from}
 use Rattle.desk_like.specs.Desks.{DeskView, IsAt, IsInvoke, IsArrive, IsOther, Answers, Adds, AddsNothing, Waits, HasOpen, HasNoneOpen, CallEnds, ResumeEnds, state_seen}
 use Rattle.shares.specs.Shares.{whole}
+use Rattle.turn_lock.specs.Views.{committed, gave}
 use Rattle.turn_lock.specs.declared.view.View.{View}
 use Rattle.part_server.specs.Answers.{InvokesCall, Numbers}
 use Rattle.part_server.specs.declared.waiting.Progress.{Progress}
@@ -119,11 +121,26 @@ SettleGives old new (Ok true) = Grows old new IsOther
 SettleGives old new (Ok false) = (new ≡ old) × (next_any old.state ≡ None)
 SettleGives old new (Err e) = new ≡ old
 
+-- whether a step was taken
+abbrev pub took_step : Result Bool NoMemory → Bool
+took_step (Ok is_taken) = is_taken
+took_step (Err e) = false
+
+-- a turn added an event to the journal that was taken, or left it as it was
+abbrev pub IsGrown : Bool → List Event → List Event → Type 0
+IsGrown true taken journal = (event : Event) × (journal ≡ taken ++ event ∷ [])
+IsGrown false taken journal = journal ≡ taken
+
 -- ---- what a seat knows
 
 -- a seat of the turn that keeps the part
 abbrev pub SeatValue : Type 0
 SeatValue = Seat (Option PartRun) (View Event PartSpec)
+
+-- a seat ended its turn, with which the journal is this: it committed an event, or gave the part back
+abbrev pub ended : Bool → View Event PartSpec → List Event → View Event PartSpec
+ended true v journal = gave (committed v journal)
+ended false v journal = gave v
 
 -- of what a seat of a turn knows, what callers of a desk see
 abbrev pub seen_view : View Event PartSpec → DeskView

@@ -2,7 +2,7 @@
 
 ghost use Rattle.std.specs.Prelude.{◌≡◌, ◌+◌, ◌≤◌, None, Some, MatchOption, drop, false, length};
 ghost use Rattle.std.specs.List.{list_any};
-ghost use Rattle.nook_defs.specs.Runs.{answered_from};
+ghost use Rattle.nook_defs.specs.Views.CallLogs.{answered_from};
 ghost use Rattle.desk_like.specs.Desks.{IsAt};
 ghost use Rattle.part_server.specs.Answers.{InvokesCall, is_invocation};
 

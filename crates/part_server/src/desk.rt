@@ -1,6 +1,6 @@
 //! A part behind a desk.
 
-ghost use Rattle.std.specs.Prelude.{◌≡◌, ◌<◌, ◌≤◌, None, [], length, true, IfOk, OnOk};
+ghost use Rattle.std.specs.Prelude.{◌≡◌, ◌<◌, ◌≤◌, None, [], length, true, false, IfOk, OnOk};
 ghost use mathlib.Core.List.{IsPrefix};
 ghost use Rattle.desk_like.specs.Desks.{Accounts, ArriveEnds, CallEnds, IsAlone, Joins, ResumeEnds, Waits, halved_view, new_view, state_seen};
 ghost use Rattle.nook_defs.specs.Classes.{same_class};
@@ -8,7 +8,8 @@ ghost use Rattle.nook_defs.specs.Runs.{IsRun, next_any};
 ghost use Rattle.nook_defs.specs.declared.classes.Class.TheVariants as class;
 ghost use Rattle.part_core.specs.Kept.{IsKept};
 ghost use Rattle.part_server.specs.Desk.{IsDeskSeat, desk_spec, desk_view};
-ghost use Rattle.part_server.specs.Turns.{AdvanceEnds, FindEnds, FinishEnds, InvokeEnds, IsWaitingIn, SettlesOnce, opening_view};
+ghost use Rattle.part_server.specs.Turns.{AdvanceEnds, FindEnds, FinishEnds, InvokeEnds, IsGrown, IsWaitingIn, SettlesOnce, ended, opening_view, took_step};
+ghost use Rattle.turn_lock.specs.Seats.{IsSeatOf, Tally, seat_view};
 
 use crate::held::Held;
 use crate::seat::DeskSeat;
@@ -22,7 +23,7 @@ use nook_defs::memory::{NoMemory, Room};
 use part_core::Part;
 use std::alloc::Global;
 use std::sync::Wait;
-use turn_lock::Turn;
+use turn_lock::{Turn, TurnSeat};
 
 /// A part behind a desk. Threads share it by reference, and each works through a seat of its own.
 ///
@@ -105,6 +106,27 @@ impl PartDesk {
         self.turn.close(rt, seat.seat).into_part()
     }
 
+    /// Ends a turn: commits the event that was added in it, or gives the part back as it was taken.
+    #[tactic(auto, using(crate::proofs::Seats::short_of))]
+    fn end_turn(&self, seat: &mut TurnSeat<Held>, held: Held, is_added: bool)
+        requires seat { IsSeatOf self.now.turn seat.old }
+        requires turn { (seat_view seat.old).has ≡ true }
+        requires grown { IsGrown is_added (seat_view seat.old).taken held.journal }
+        requires home { held.state.spec ≡ desk_spec self.now }
+        requires kept { IsKept held }
+        ensures seat { IsSeatOf self.now.turn seat.new }
+        ensures view { seat_view seat.new ≡ ended is_added (seat_view seat.old) held.journal }
+        ensures free { (seat_view seat.new).has ≡ false }
+        ensures seen { (seat_view seat.new).seen ≡ held.journal }
+        ensures made { Tally (seat_view seat.new) }
+    {
+        if is_added {
+            self.turn.commit_and_give(seat, held);
+        } else {
+            self.turn.give_back(seat, held);
+        }
+    }
+
     /// One turn in which an operation is invoked.
     fn invoke<R: Wait>(
         &self,
@@ -123,16 +145,9 @@ impl PartDesk {
         ensures ends { InvokeEnds (desk_spec self.now) (desk_view seat.old) (desk_view seat.new) thread op result }
     {
         let mut held = self.turn.take(rt, &mut seat.seat);
-        match held.invoke(thread, op, room) {
-            Ok(progress) => {
-                self.turn.commit_and_give(&mut seat.seat, held);
-                Ok(progress)
-            }
-            Err(refused) => {
-                self.turn.give_back(&mut seat.seat, held);
-                Err(refused)
-            }
-        }
+        let invoked = held.invoke(thread, op, room);
+        self.end_turn(&mut seat.seat, held, invoked.is_ok());
+        invoked
     }
 
     /// One turn for an open call: its answer, where it has one by now, else a step.
@@ -152,21 +167,14 @@ impl PartDesk {
         let mut held = self.turn.take(rt, &mut seat.seat);
         let waiting = match held.look(waiting) {
             Ok(receipt) => {
-                self.turn.give_back(&mut seat.seat, held);
+                self.end_turn(&mut seat.seat, held, false);
                 return Ok(Progress::Answered(receipt));
             }
             Err(waiting) => waiting,
         };
-        match held.go_on(waiting) {
-            Ok(progress) => {
-                self.turn.commit_and_give(&mut seat.seat, held);
-                Ok(progress)
-            }
-            Err(refused) => {
-                self.turn.give_back(&mut seat.seat, held);
-                Err(refused)
-            }
-        }
+        let went_on = held.go_on(waiting);
+        self.end_turn(&mut seat.seat, held, went_on.is_ok());
+        went_on
     }
 
     /// Takes turn after turn until an open call is answered.
@@ -210,7 +218,7 @@ impl PartDesk {
     {
         let held = self.turn.take(rt, &mut seat.seat);
         let found = held.find(thread, room);
-        self.turn.give_back(&mut seat.seat, held);
+        self.end_turn(&mut seat.seat, held, false);
         found
     }
 
@@ -223,20 +231,9 @@ impl PartDesk {
         ensures ends { SettlesOnce (desk_spec self.now) (desk_view seat.old) (desk_view seat.new) result }
     {
         let mut held = self.turn.take(rt, &mut seat.seat);
-        match held.settle() {
-            Ok(true) => {
-                self.turn.commit_and_give(&mut seat.seat, held);
-                Ok(true)
-            }
-            Ok(false) => {
-                self.turn.give_back(&mut seat.seat, held);
-                Ok(false)
-            }
-            Err(refused) => {
-                self.turn.give_back(&mut seat.seat, held);
-                Err(refused)
-            }
-        }
+        let settled = held.settle();
+        self.end_turn(&mut seat.seat, held, took_step(settled));
+        settled
     }
 
     /// One turn in which a frame arrives. Tells whether the device's ring kept it.
@@ -256,16 +253,19 @@ impl PartDesk {
         ensures ends { ArriveEnds (desk_spec self.now) (desk_view seat.old) (desk_view seat.new) frame result }
     {
         let mut held = self.turn.take(rt, &mut seat.seat);
-        match held.arrive(frame) {
-            Ok(kept) => {
-                self.turn.commit_and_give(&mut seat.seat, held);
-                Ok(kept)
-            }
-            Err(refused) => {
-                self.turn.give_back(&mut seat.seat, held);
-                Err(refused)
-            }
-        }
+        let arrived = held.arrive(frame);
+        self.end_turn(&mut seat.seat, held, arrived.is_ok());
+        arrived
+    }
+}
+
+/// Whether a step was taken.
+fn took_step(settled: Result<bool, NoMemory>) -> bool
+    ensures { result ≡ took_step settled }
+{
+    match settled {
+        Ok(is_taken) => is_taken,
+        Err(NoMemory) => false,
     }
 }
 

@@ -2,7 +2,8 @@
 
 ghost use Rattle.std.specs.Prelude.{◌≡◌, ◌<◌, All, IfOk, IfSome, length, true};
 ghost use Rattle.nook_defs.specs.Classes.{entry_count, same_class};
-ghost use Rattle.nook_defs.specs.Valid.{AreWords, IsTextPlace, IsValidImage, IsValidPart};
+ghost use Rattle.nook_defs.specs.Valid.{AreWords, IsValidImage, IsValidPart};
+ghost use Rattle.nook_defs.specs.Views.Limits.{IsTextPlace};
 ghost use Rattle.part_server.specs.Desk.{IsDeskSeat, desk_spec};
 ghost use Rattle.part_server.specs.Tested.{tested_blocks};
 ghost use Rattle.nook_defs.specs.declared.classes.Class.TheVariants as class;

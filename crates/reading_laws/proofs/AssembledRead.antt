@@ -6,15 +6,18 @@ use Rattle.std.proofs.lemmas.Bool.{leb-true, ltb-true, ltb-false, and_parts}
 use Rattle.std.proofs.lemmas.List.{length-replicate}
 use Rattle.std.proofs.lemmas.List.Elements.{All-nil, All-cons, All-head, All-tail, All-push, All-set, All-replicate}
 use Rattle.std.proofs.Math.ListN.{length-set}
-use Rattle.nook_defs.specs.AsmLines.{Labels, first_of, definition_of, behind_definition, has_bad_token, at_most_wrong, behind_name, line_says, operands_with, operands_of, value_of, no_register, no_value, right_or_wrong, instr_statement, named_statement, bare_statement, word_statement, class_by, class_statement, place_among, entry_value, entry_by, entry_statement, directive_statement, statement_by, statement_of}
-use Rattle.nook_defs.specs.AsmTokens.{kind_of, is_register, lines_of, register_of, register_text, tokens_of}
-use Rattle.nook_defs.specs.Assembler.{Draft, all_given, assembled, at_line, draft_after, draft_from, fault_if, first_draft, first_places, image_with, is_above, is_out_of_range, is_second_given, is_second_label, known, labels_from, with_class, with_statement, with_word}
+use Rattle.nook_defs.specs.AsmLines.{Labels, first_of, definition_of, behind_definition, has_bad_token, behind_name, line_says, operands_with, operands_of, value_of, right_or_wrong, instr_statement, bare_statement, word_statement, class_statement, place_among, entry_value, entry_statement, directive_statement, statement_of}
+use Rattle.nook_defs.specs.Views.Assembling.{at_most_wrong, no_register, no_value, named_statement, class_by, entry_by, statement_by}
+use Rattle.nook_defs.specs.AsmTokens.{kind_of, is_register, lines_of, register_named, register_text, tokens_of}
+use Rattle.nook_defs.specs.Assembler.{Draft, all_given, assembled, at_line, draft_after, draft_from, fault_if, first_draft, first_cursor, image_with, is_above, is_out_of_range, is_second_given, is_second_label, known, labels_from, with_statement, with_word}
+use Rattle.nook_defs.specs.Views.Assembling.{with_class}
 use Rattle.nook_defs.specs.Classes.{entry_count}
 use Rattle.nook_defs.specs.Keys.{class_named, entry_keys}
 use Rattle.nook_defs.specs.Machine.{encode_of, word_of}
 use Rattle.nook_defs.specs.Mnemonics.{instr_with, form_of, mnemonic_named}
 use Rattle.nook_defs.specs.Results.{◌>>=◌}
-use Rattle.nook_defs.specs.Valid.{AreWords, IsTextPlace, IsValidImage, IsWord}
+use Rattle.nook_defs.specs.Valid.{AreWords, IsValidImage, IsWord}
+use Rattle.nook_defs.specs.Views.Limits.{IsTextPlace}
 use Rattle.nook_defs.specs.declared.assembler.AsmFault.{AsmFault}
 use Rattle.nook_defs.specs.declared.assembler.AsmKind.{AsmKind}
 use Rattle.nook_defs.specs.declared.assembler.AsmKind.TheVariants as fault
@@ -102,8 +105,8 @@ found_low p (r ∷ rs) h = let parts = and_parts (nat_le r 15) (list_all (λ r. 
     by_test true low later = low
     by_test false low later = later
 
-register_holds : (name : List ℕ) → IfSome (register_of name) (λ r. r ≤ 15)
-unfolding register_of
+register_holds : (name : List ℕ) → IfSome (register_named name) (λ r. r ≤ 15)
+unfolding register_named
 register_holds name = found_low (λ r. bytes_eq name (register_text r))
     (0 ∷ 1 ∷ 2 ∷ 3 ∷ 4 ∷ 5 ∷ 6 ∷ 7 ∷ 8 ∷ 9 ∷ 10 ∷ 11 ∷ 12 ∷ 13 ∷ 14 ∷ 15 ∷ []) refl
 
@@ -118,23 +121,23 @@ unfolding operands_of
 operands_hold labels form.Bare [] = with_holds no_register no_register no_value zero zero
 operands_hold labels form.Bare (a ∷ more) = tt
 operands_hold labels form.A [] = tt
-operands_hold labels form.A (a ∷ []) = with_holds (register_of a) no_register no_value (register_holds a) zero
+operands_hold labels form.A (a ∷ []) = with_holds (register_named a) no_register no_value (register_holds a) zero
 operands_hold labels form.A (a ∷ b ∷ more) = tt
 operands_hold labels form.Imm [] = tt
 operands_hold labels form.Imm (imm ∷ []) = with_holds no_register no_register (value_of labels imm) zero zero
 operands_hold labels form.Imm (imm ∷ b ∷ more) = tt
 operands_hold labels form.AB [] = tt
 operands_hold labels form.AB (a ∷ []) = tt
-operands_hold labels form.AB (a ∷ b ∷ []) = with_holds (register_of a) (register_of b) no_value (register_holds a) (register_holds b)
+operands_hold labels form.AB (a ∷ b ∷ []) = with_holds (register_named a) (register_named b) no_value (register_holds a) (register_holds b)
 operands_hold labels form.AB (a ∷ b ∷ c ∷ more) = tt
 operands_hold labels form.AImm [] = tt
 operands_hold labels form.AImm (a ∷ []) = tt
-operands_hold labels form.AImm (a ∷ imm ∷ []) = with_holds (register_of a) no_register (value_of labels imm) (register_holds a) zero
+operands_hold labels form.AImm (a ∷ imm ∷ []) = with_holds (register_named a) no_register (value_of labels imm) (register_holds a) zero
 operands_hold labels form.AImm (a ∷ imm ∷ c ∷ more) = tt
 operands_hold labels form.ABImm [] = tt
 operands_hold labels form.ABImm (a ∷ []) = tt
 operands_hold labels form.ABImm (a ∷ b ∷ []) = tt
-operands_hold labels form.ABImm (a ∷ b ∷ imm ∷ []) = with_holds (register_of a) (register_of b) (value_of labels imm) (register_holds a) (register_holds b)
+operands_hold labels form.ABImm (a ∷ b ∷ imm ∷ []) = with_holds (register_named a) (register_named b) (value_of labels imm) (register_holds a) (register_holds b)
 operands_hold labels form.ABImm (a ∷ b ∷ imm ∷ c ∷ more) = tt
 
 instr_or_wrong : (m : Mnemonic) (o : Option Operands) → IfSome o AreRegisters → IfOk (right_or_wrong (statement.Instr m) o) IsFit
@@ -374,7 +377,7 @@ pub assembled_is_valid : (text : List ℕ) → IfOk (assembled text) IsValidImag
 unfolding assembled
 assembled_is_valid text =
     let lines = lines_of text in
-    let labels = first_of (labels_from first_places lines) in
+    let labels = first_of (labels_from first_cursor lines) in
     chained IsFitDraft IsValidImage (draft_from labels 1 lines first_draft) (λ draft. at_line (length lines + 1) (image_with draft.class (all_given draft.entries) draft))
     (lines_kept labels 1 lines first_draft first_fits)
     (λ draft h. at_line_kept IsValidImage (length lines + 1) (image_with draft.class (all_given draft.entries) draft)

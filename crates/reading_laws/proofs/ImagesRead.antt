@@ -9,11 +9,13 @@ use Rattle.std.proofs.lemmas.Int.Digits.{digits_value-lt}
 use Rattle.std.proofs.lemmas.List.Elements.{All-nil, All-push}
 use Rattle.serde_json.specs.Data.{Data}
 use Rattle.nook_defs.specs.Classes.{entry_count}
-use Rattle.nook_defs.specs.ImageReading.{class_of, is_hex_digit, hex_word, word_of, words_of, places_from, entries_of, image_of}
+use Rattle.nook_defs.specs.ImageReading.{known_class, hex_word, words_of, places_from, entries_of, image_of}
+use Rattle.nook_defs.specs.Views.Readings.{is_hex_digit, text_word}
 use Rattle.nook_defs.specs.Keys.{entry_keys}
 use Rattle.nook_defs.specs.Reading.{bad, text_of, object_with, required, number_at}
 use Rattle.nook_defs.specs.Results.{◌>>=◌}
-use Rattle.nook_defs.specs.Valid.{AreWords, IsTextPlace, IsValidImage, IsWord}
+use Rattle.nook_defs.specs.Valid.{AreWords, IsValidImage, IsWord}
+use Rattle.nook_defs.specs.Views.Limits.{IsTextPlace}
 use Rattle.nook_defs.specs.declared.classes.Class.{Class}
 use Rattle.nook_defs.specs.declared.classes.Class.TheVariants as class
 use Rattle.nook_defs.specs.declared.scenario.Image.{Image}
@@ -40,11 +42,11 @@ hex_holds : (digits : List ℕ) → IfOk (hex_word digits) IsWord
 unfolding hex_word
 hex_holds digits = hex_by digits (length digits == 8 && list_all is_hex_digit digits) refl
 
-word_holds : (earlier : List ℕ) (d : Data) → IfOk (word_of earlier d) IsWord
+word_holds : (earlier : List ℕ) (d : Data) → IfOk (text_word earlier d) IsWord
 word_holds earlier d = passed IsWord (text_of d) hex_word (λ digits. hex_holds digits)
 
 words_hold : (d : Data) → IfOk (words_of d) (AreWords 2048)
-words_hold d = less (Listed (All IsWord) 0 2048) (AreWords 2048) (words_of d) (each_holds IsWord word_of 0 2048 word_holds d) (λ ws h. (h.2, h.0))
+words_hold d = less (Listed (All IsWord) 0 2048) (AreWords 2048) (words_of d) (each_holds IsWord text_word 0 2048 word_holds d) (λ ws h. (h.2, h.0))
 
 -- ---- entries
 
@@ -113,5 +115,5 @@ initial_then d c =
 pub image_is_valid : (d : Data) → IfOk (image_of d) IsValidImage
 unfolding image_of
 image_is_valid d =
-    passed IsValidImage (object_with (key.Class ∷ key.Data ∷ key.Entries ∷ key.Text ∷ []) d) (λ known. required key.Class class_of d >>= reads_initial d)
-    (λ known. passed IsValidImage (required key.Class class_of d) (reads_initial d) (initial_then d))
+    passed IsValidImage (object_with (key.Class ∷ key.Data ∷ key.Entries ∷ key.Text ∷ []) d) (λ known. required key.Class known_class d >>= reads_initial d)
+    (λ known. passed IsValidImage (required key.Class known_class d) (reads_initial d) (initial_then d))

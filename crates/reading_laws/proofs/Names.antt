@@ -12,11 +12,11 @@ use Rattle.nook_defs.specs.declared.input.InputFault.TheVariants as fault
 use Rattle.nook_defs.specs.declared.input.Refusal.{Refusal}
 use Rattle.reading_laws.proofs.Readings.{passed}
 
-or_false : (a b : Bool) → (a || b) ≡ false → (a ≡ false) × (b ≡ false)
+pub or_false : (a b : Bool) → (a || b) ≡ false → (a ≡ false) × (b ≡ false)
 or_false true b h = absurd (cc h)
 or_false false b h = (refl, h)
 
-not_true : (a : Bool) → not a ≡ true → a ≡ false
+pub not_true : (a : Bool) → not a ≡ true → a ≡ false
 not_true true h = absurd (cc h)
 not_true false h = refl
 
@@ -24,10 +24,10 @@ other_by : (a b : List ℕ) (test : Bool) → bytes_eq b a ≡ test → bytes_eq
 other_by a b false e h = e
 other_by a b true e h = let same : bytes_eq a b ≡ true = (bytes_eq-Decides a b).1 (sym ((bytes_eq-Decides b a).0 e)) in absurd (cc (same, h))
 
-other : (a b : List ℕ) → bytes_eq a b ≡ false → bytes_eq b a ≡ false
+pub other : (a b : List ℕ) → bytes_eq a b ≡ false → bytes_eq b a ≡ false
 other a b h = other_by a b (bytes_eq b a) refl h
 
-neither : (a b : Bool) → a ≡ false → b ≡ false → (a || b) ≡ false
+pub neither : (a b : Bool) → a ≡ false → b ≡ false → (a || b) ≡ false
 neither a b h k = rw (h, k) refl
 
 among_push : (names : List (List ℕ)) (last name : List ℕ) → is_among names name ≡ false → bytes_eq name last ≡ false → is_among (names ++ last ∷ []) name ≡ false

@@ -7,13 +7,17 @@ use Rattle.serde_json.specs.Data.{Data}
 use Rattle.serde_json.specs.Find.{get}
 use Rattle.nook_defs.specs.Assembler.{assembled}
 use Rattle.nook_defs.specs.Classes.{class_code, same_class}
-use Rattle.nook_defs.specs.ImageReading.{class_of, image_of, or_bad_asm, asm_of, driver_image, driver_of}
+use Rattle.nook_defs.specs.ImageReading.{known_class, image_of, or_bad_asm, driver_of}
+use Rattle.nook_defs.specs.Views.Readings.{asm_of, driver_image}
 use Rattle.nook_defs.specs.Keys.{key_text}
 use Rattle.nook_defs.specs.Names.{is_name}
-use Rattle.nook_defs.specs.PartReading.{is_among, name_of, fault_named, fault_keys, fault_kind, fault_of, faults_of, bad_block_of, bad_blocks_of, part_blocks, part_bad, frame_of, frames_of, part_arrivals, part_keys, part_names, part_of}
-use Rattle.nook_defs.specs.Reading.{bad, under, refuse_if, text_of, named_of, is_object, object_with, required, optional, number_of, number_at, number_or, list_of, numbers_of}
+use Rattle.nook_defs.specs.PartReading.{is_among, name_of, fault_named, fault_keys, fault_kind, fault_of, bad_block_of, part_blocks, part_bad, part_arrivals, part_keys, part_names, part_of}
+use Rattle.nook_defs.specs.Views.Readings.{faults_of, bad_blocks_of, frame_of, frames_of}
+use Rattle.nook_defs.specs.Reading.{bad, under, refuse_if, text_of, named_of, is_object, object_with, required, optional, whole_number, number_at, list_of, numbers_of}
+use Rattle.nook_defs.specs.Views.Readings.{number_or}
 use Rattle.nook_defs.specs.Results.{◌>>=◌}
-use Rattle.nook_defs.specs.Valid.{AreWords, IsWord, IsValidImage, IsValidKind, IsValidFault, IsValidBadBlock, IsValidFrame, FitsClass, IsValidPart, are_distinct}
+use Rattle.nook_defs.specs.Valid.{AreWords, IsWord, IsValidImage, IsValidKind, IsValidFault, IsValidBadBlock, FitsClass, IsValidPart, are_distinct}
+use Rattle.nook_defs.specs.Views.Limits.{IsValidFrame}
 use Rattle.nook_defs.specs.declared.assembler.AsmFault.{AsmFault}
 use Rattle.nook_defs.specs.declared.scenario.BadBlock.{BadBlock}
 use Rattle.nook_defs.specs.declared.classes.Class.{Class}
@@ -44,8 +48,8 @@ word_at_holds k d = less (IsBetween 0 4294967295) IsWord (number_at k 0 42949672
 
 pub numbers_hold : (least most : ℕ) (d : Data) → IfOk (numbers_of least most 4294967295 d) (Listed (All IsWord) least most)
 numbers_hold least most d =
-    each_holds IsWord (λ earlier. number_of 0 4294967295) least most
-    (λ earlier d'. less (IsBetween 0 4294967295) IsWord (number_of 0 4294967295 d') (number_holds 0 4294967295 d') a_word) d
+    each_holds IsWord (λ earlier. whole_number 0 4294967295) least most
+    (λ earlier d'. less (IsBetween 0 4294967295) IsWord (whole_number 0 4294967295 d') (number_holds 0 4294967295 d') a_word) d
 
 -- ---- faults
 
@@ -334,8 +338,8 @@ name_then earlier d c =
 part_holds : (version : ℕ) (earlier : List PartSpec) (d : Data) → IfOk (part_of version earlier d) (IsNewPart earlier)
 unfolding part_of
 part_holds version earlier d =
-    passed (IsNewPart earlier) (is_object d) (λ members. required key.Class class_of d >>= checks_part version d earlier)
-    (λ members. passed (IsNewPart earlier) (required key.Class class_of d) (checks_part version d earlier)
+    passed (IsNewPart earlier) (is_object d) (λ members. required key.Class known_class d >>= checks_part version d earlier)
+    (λ members. passed (IsNewPart earlier) (required key.Class known_class d) (checks_part version d earlier)
     (λ c. passed (IsNewPart earlier) (object_with (part_keys version c) d) (λ known. reads_name d earlier c) (λ known. name_then earlier d c)))
 
 -- ---- all parts

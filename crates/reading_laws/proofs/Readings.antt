@@ -6,7 +6,8 @@ use Rattle.std.proofs.lemmas.List.Elements.{All-nil, All-push}
 use Rattle.serde_json.specs.Data.{Data, Items, no_items, item}
 use Rattle.serde_json.specs.Find.{get, as_array, as_number, as_u64}
 use Rattle.nook_defs.specs.Keys.{key_text}
-use Rattle.nook_defs.specs.Reading.{bad, or_bad, under, refuse_if, number_of, number_at, number_or, required, optional, count_of, items_from, list_of, numbers_of}
+use Rattle.nook_defs.specs.Reading.{bad, or_bad, under, refuse_if, whole_number, number_at, required, optional, count_of, items_from, list_of, numbers_of}
+use Rattle.nook_defs.specs.Views.Readings.{number_or}
 use Rattle.nook_defs.specs.Results.{◌>>=◌}
 use Rattle.nook_defs.specs.declared.input.InputFault.TheVariants as fault
 use Rattle.nook_defs.specs.declared.input.Key.{Key}
@@ -73,15 +74,15 @@ within_by : (low high n : ℕ) (test : Bool) → (nat_lt n low || nat_lt high n)
 within_by low high n true e = tt
 within_by low high n false e = (ltb-false n low (or_false _ _ e).0, ltb-false high n (or_false _ _ e).1)
 
-pub number_holds : (low high : ℕ) (d : Data) → IfOk (number_of low high d) (IsBetween low high)
+pub number_holds : (low high : ℕ) (d : Data) → IfOk (whole_number low high d) (IsBetween low high)
 number_holds low high d = passed (IsBetween low high) (or_bad fault.WrongKind (option_and_then as_u64 (as_number d))) _
     (λ n. within_by low high n (nat_lt n low || nat_lt high n) refl)
 
 pub number_at_holds : (key : Key) (low high : ℕ) (d : Data) → IfOk (number_at key low high d) (IsBetween low high)
-number_at_holds key low high d = required_holds (IsBetween low high) key (number_of low high) d (number_holds low high)
+number_at_holds key low high d = required_holds (IsBetween low high) key (whole_number low high) d (number_holds low high)
 
 pub number_or_holds : (key : Key) (low high default : ℕ) (d : Data) → IsBetween low high default → IfOk (number_or key low high default d) (IsBetween low high)
-number_or_holds key low high default d h = optional_holds (IsBetween low high) key (number_of low high) default d (number_holds low high) h
+number_or_holds key low high default d h = optional_holds (IsBetween low high) key (whole_number low high) default d (number_holds low high) h
 
 -- ---- lists
 

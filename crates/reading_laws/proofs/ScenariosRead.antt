@@ -4,10 +4,13 @@ use Rattle.std.specs.Prelude.{Result, Ok, Err, IfOk, All, ⊤}
 use Rattle.std.proofs.lemmas.List.Elements.{All-nil, All-push}
 use Rattle.serde_json.specs.Data.{Data}
 use Rattle.nook_defs.specs.PartReading.{is_among, name_of, part_of, part_names}
-use Rattle.nook_defs.specs.Reading.{is_object, json_of, named_of, object_with, required, optional, number_of, number_at, list_of, numbers_of}
+use Rattle.nook_defs.specs.Reading.{is_object, json_of, named_of, object_with, required, optional, whole_number, number_at, list_of, numbers_of}
 use Rattle.nook_defs.specs.Results.{◌>>=◌}
-use Rattle.nook_defs.specs.ScenarioReading.{schedule_named, schedule_keys, picks_of, schedule_by, schedule_of, op_named, op_keys, word_at, op_words_of, op_by, op_of, thread_names, ops_of, thread_of, parts_of, threads_of, scenario_of, scenario_from}
-use Rattle.nook_defs.specs.Valid.{AreWords, IsWord, IsValidOp, IsValidPart, IsValidSchedule, IsValidStep, IsValidThread, IsValidScenario, are_distinct}
+use Rattle.nook_defs.specs.ScenarioReading.{schedule_named, schedule_keys, schedule_by, schedule_of, op_named, op_keys, op_words_of, op_by, op_of, thread_names, thread_of, scenario_of, scenario_from}
+use Rattle.nook_defs.specs.Reading.{word_at}
+use Rattle.nook_defs.specs.Views.Readings.{picks_of, ops_of, parts_of, threads_of}
+use Rattle.nook_defs.specs.Valid.{AreWords, IsWord, IsValidOp, IsValidPart, IsValidSchedule, IsValidThread, IsValidScenario, are_distinct}
+use Rattle.nook_defs.specs.Views.Limits.{IsValidStep}
 use Rattle.nook_defs.proofs.Changes.{IsPick}
 use Rattle.nook_defs.specs.declared.calls.Op.{Op}
 use Rattle.nook_defs.specs.declared.calls.Op.TheVariants as op
@@ -31,8 +34,8 @@ use Rattle.reading_laws.proofs.Readings.{chained, passed, less, required_holds, 
 
 picks_hold : (d : Data) → IfOk (picks_of d) (Listed (All IsPick) 0 65536)
 picks_hold d =
-    each_holds IsPick (λ earlier. number_of 0 65535) 0 65536
-    (λ earlier d'. less (IsBetween 0 65535) IsPick (number_of 0 65535 d') (number_holds 0 65535 d') (λ n h. omega (arith, h.1))) d
+    each_holds IsPick (λ earlier. whole_number 0 65535) 0 65536
+    (λ earlier d'. less (IsBetween 0 65535) IsPick (whole_number 0 65535 d') (number_holds 0 65535 d') (λ n h. omega (arith, h.1))) d
 
 schedule_by_holds : (name : ScheduleName) (d : Data) → IfOk (schedule_by name d) IsValidSchedule
 unfolding schedule_by

@@ -7,7 +7,8 @@ use Rattle.nook_defs.specs.declared.calls.Op.{Op}
 use Rattle.nook_defs.specs.declared.calls.Op.TheVariants as op
 use Rattle.nook_defs.specs.declared.steps.Stage.{Stage}
 use Rattle.nook_defs.specs.declared.steps.Stage.TheVariants as stage
-use Rattle.nook_defs.specs.Log.{shadow_answer, frame_or_empty, front_of, queue_after, with_answer, stop_answers, stop_queue, gone_answers}
+use Rattle.nook_defs.specs.Log.{shadow_answer, frame_or_empty, queue_after, with_answer, stop_answers, stop_queue, gone_answers}
+use Rattle.nook_defs.specs.Views.CallLogs.{front_of}
 use Rattle.shadow_proxy.specs.Front.{front_for}
 use Rattle.shadow_proxy.specs.Table.{queue_of}
 

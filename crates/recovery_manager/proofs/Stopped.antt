@@ -6,7 +6,8 @@ use Rattle.nook_defs.specs.declared.calls.CallEntry.{CallEntry}
 use Rattle.nook_defs.specs.declared.calls.Op.{Op}
 use Rattle.nook_defs.specs.declared.calls.Op.TheVariants as op
 use Rattle.nook_defs.specs.declared.steps.Stage.TheVariants as stage
-use Rattle.nook_defs.specs.Log.{IsNumbered, held_by_shadow, held_call, is_held, queue_after, shadow_answer, stop_answers, with_answer}
+use Rattle.nook_defs.specs.Log.{held_by_shadow, held_call, is_held, queue_after, shadow_answer, stop_answers, with_answer}
+use Rattle.nook_defs.specs.Views.CallLogs.{IsNumbered}
 use Rattle.nook_defs.specs.Runs.{answer_among}
 use Rattle.nook_defs.specs.State.{CallLog}
 use Rattle.shadow_log.specs.Stopped.{after_answers, is_unanswered}

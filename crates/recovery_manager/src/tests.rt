@@ -2,7 +2,7 @@
 
 ghost use Rattle.std.specs.Prelude.{◌≡◌};
 ghost use Rattle.nook_defs.specs.Devices.{tail_of};
-ghost use Rattle.nook_defs.specs.Log.{front_of};
+ghost use Rattle.nook_defs.specs.Views.CallLogs.{front_of};
 
 use crate::{following, stop};
 use nook_defs::calls::{Answer, CallAnswers, Op};
@@ -12,7 +12,6 @@ use nook_defs::outside::RxFront;
 use nook_defs::steps::Stage;
 use shadow_log::ShadowLog;
 use std::alloc::Global;
-use std::fmt::Write;
 use std::marker::Model;
 use std::test::Fail;
 
@@ -87,62 +86,76 @@ fn open_calls(alloc: Global) -> Result<ShadowLog, Fail> {
     Ok(log)
 }
 
-/// Answers in words, each behind its call's number.
-fn answers_in_words(alloc: Global, answers: &CallAnswers) -> Result<String, Fail> {
-    let mut text = String::new(alloc);
-    for (call, answer) in answers.as_slice() {
-        let name = match answer {
-            Answer::Done => "done",
-            Answer::Value(5) => "value5",
-            Answer::Frame(_) => "frame",
-            Answer::Empty => "empty",
-            Answer::Busy { stage: Stage::Stop } => "busy",
-            Answer::NotOpen => "not_open",
-            Answer::Gone { failures: 3 } => "gone3",
-            _ => "another",
-        };
-        write!(text, "{call} {name} ")?;
-    }
-    Ok(text)
+/// What the shadow's table answers: to each open call but the Read, the Write, the Close and the Set.
+fn by_table(alloc: Global) -> Result<CallAnswers, NoMemory> {
+    let busy = Answer::Busy { stage: Stage::Stop };
+    let answers = vec![in alloc;
+        (3, Answer::Done),
+        (4, Answer::Frame(word(alloc, 7)?)),
+        (5, busy),
+        (6, Answer::NotOpen),
+        (8, Answer::Value(5)),
+        (10, Answer::Empty),
+        (11, Answer::Empty),
+    ]?;
+    Ok(Items::from_vec(answers))
 }
 
-/// The numbers of the open calls, with a mark where one is Inside.
-fn open_in_words(alloc: Global, log: &ShadowLog) -> Result<String, Fail> {
-    let mut text = String::new(alloc);
+/// What each open call is answered at the third failure, which is past the limit.
+fn all_gone(alloc: Global) -> Result<CallAnswers, NoMemory> {
+    let mut answers = CallAnswers::new(alloc);
+    for call in 1..12u32 {
+        answers.push((call, Answer::Gone { failures: 3 }))?;
+    }
+    Ok(answers)
+}
+
+/// The numbers of the open calls, and whether each is Inside.
+fn open_in(alloc: Global, log: &ShadowLog) -> Result<Vec<(u32, bool)>, NoMemory> {
+    let mut open = Vec::new(alloc);
     for i in 0..log.open_count() {
         let entry = log.open_call(i);
-        let mark = if entry.inside { "!" } else { "" };
-        write!(text, "{}{mark} ", entry.call)?;
+        open.push((entry.call, entry.inside))?;
     }
-    Ok(text)
+    Ok(open)
 }
 
-/// What Stop answers with one frame in the queue, and then what stays open and how many frames are left.
-fn stopped(alloc: Global, failures: u32, limit: u32) -> Result<(String, String, usize), Fail> {
+/// What Stop leaves: its answers, the open calls and how many frames are in the queue.
+#[derive(Drop)]
+struct Stopped {
+    answers: CallAnswers,
+    open: Vec<(u32, bool)>,
+    frames: usize,
+}
+
+/// Stop with one frame in the queue.
+fn left_at_stop(alloc: Global, failures: u32, limit: u32) -> Result<Stopped, Fail> {
     let mut log = open_calls(alloc)?;
-    let mut frames = Vec::new(alloc);
-    frames.push(word(alloc, 7)?)?;
-    let mut queue = Queue { frames };
+    let mut queue = Queue {
+        frames: vec![in alloc; word(alloc, 7)?]?,
+    };
     let answers = stop(alloc, &mut log, &mut queue, failures, limit)?;
-    let answers = answers_in_words(alloc, &answers)?;
-    Ok((answers, open_in_words(alloc, &log)?, queue.frames.len()))
+    Ok(Stopped {
+        answers,
+        open: open_in(alloc, &log)?,
+        frames: queue.frames.len(),
+    })
 }
 
 #[test]
 fn answers_or_holds_at_stop(rt: HostRuntime) -> Result<(), Fail> {
-    let by_table = "3 done 4 frame 5 busy 6 not_open 8 value5 10 empty 11 empty ";
-    let all_gone =
-        "1 gone3 2 gone3 3 gone3 4 gone3 5 gone3 6 gone3 7 gone3 8 gone3 9 gone3 10 gone3 11 gone3 ";
-    for (failures, limit, want, want_open, left) in [
-        (1, 1, by_table, "1 2 7 9 ", 0),
-        (1, 4294967295, by_table, "1 2 7 9 ", 0),
-        (3, 2, all_gone, "", 1),
-    ] {
-        let (answers, open, frames) = stopped(rt.alloc(), failures, limit)?;
-        assert_eq!(rt; answers.as_str(), want, "{failures} of {limit}");
-        assert_eq!(rt; open.as_str(), want_open, "{failures} of {limit}");
-        assert_eq!(rt; frames, left, "{failures} of {limit}");
+    let alloc = rt.alloc();
+    let held = [(1, false), (2, false), (7, false), (9, false)];
+    for limit in [1, 4294967295] {
+        let left = left_at_stop(alloc, 1, limit)?;
+        assert_eq!(rt; left.answers, by_table(alloc)?, "1 of {limit}");
+        assert_eq!(rt; left.open.as_slice(), held.as_slice(), "1 of {limit}");
+        assert_eq!(rt; left.frames, 0, "1 of {limit}");
     }
+    let left = left_at_stop(alloc, 3, 2)?;
+    assert_eq!(rt; left.answers, all_gone(alloc)?);
+    assert!(rt; left.open.is_empty());
+    assert_eq!(rt; left.frames, 1);
     Ok(())
 }
 
@@ -159,7 +172,7 @@ fn goes_from_stop_to_resume(rt: HostRuntime) -> Result<(), Fail> {
         Stage::Resume,
     ] {
         let now = stage.ok_or("no stage")?;
-        assert!(rt; now == want);
+        assert_eq!(rt; now, want);
         stage = following(&now, &log);
     }
     assert!(rt; stage.is_none());

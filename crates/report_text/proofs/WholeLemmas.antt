@@ -19,7 +19,9 @@ use Rattle.nook_defs.specs.Devices.{medium_of}
 use Rattle.nook_defs.specs.Losses.{losses}
 use Rattle.nook_defs.specs.Pages.{object_words}
 use Rattle.nook_defs.specs.ReportLines.{event_lines, line_feed, spaced, with_list, with_number}
-use Rattle.nook_defs.specs.ReportText.{acts_of, acts_of_event, block_lines, config_line, contract_line, device_lines, failures_line, final_lines, has_break, has_given_up, losses_lines, object_line, object_lines, part_line, part_text, parts_text, played_line, report_text, status_line, status_of, taps_text, thread_line, threads_text, wire_line}
+use Rattle.nook_defs.specs.ReportText.{journal_acts, block_lines, contract_line, device_lines, final_lines, has_break, has_given_up, losses_lines, object_lines, part_line, part_text, parts_text, played_line, report_text, status_line, status_of, taps_text, threads_text, wire_line}
+use Rattle.nook_defs.specs.Views.Reporting.{config_line, failures_line, object_line, thread_line}
+use Rattle.nook_defs.specs.Views.Reporting.{acts_of_event}
 use Rattle.nook_defs.specs.Views.Room.{Kept}
 use Rattle.nook_defs.specs.Runs.{state_of}
 use Rattle.nook_defs.specs.Stages.{is_given_up}
@@ -46,17 +48,17 @@ rows_first place specs journals reports ends s journal r e more_specs more_journ
 
 -- ---- the rows are the text
 
-wire_text : (place : ℕ) (events : List Event) → each_text (event_text kind.Frames) place events ≡ flat_map wire_line (acts_of events)
+wire_text : (place : ℕ) (events : List Event) → each_text (event_text kind.Frames) place events ≡ flat_map wire_line (journal_acts events)
 wire_text place [] = refl
 wire_text place (e ∷ events) =
     ap (λ more. flat_map wire_line (acts_of_event e) ++ more) (wire_text (suc place) events)
-    ∙ sym (flat_map-append wire_line (acts_of_event e) (acts_of events))
+    ∙ sym (flat_map-append wire_line (acts_of_event e) (journal_acts events))
 
-played_text : (place : ℕ) (events : List Event) → each_text (event_text kind.Samples) place events ≡ flat_map played_line (acts_of events)
+played_text : (place : ℕ) (events : List Event) → each_text (event_text kind.Samples) place events ≡ flat_map played_line (journal_acts events)
 played_text place [] = refl
 played_text place (e ∷ events) =
     ap (λ more. flat_map played_line (acts_of_event e) ++ more) (played_text (suc place) events)
-    ∙ sym (flat_map-append played_line (acts_of_event e) (acts_of events))
+    ∙ sym (flat_map-append played_line (acts_of_event e) (journal_acts events))
 
 device_text : (c : Class) (events : List Event) (p : PartState) (medium : List (List ℕ)) → medium ≡ medium_of p.domain.device
     → device_rows c events medium ≡ device_lines c events p

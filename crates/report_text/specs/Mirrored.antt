@@ -6,7 +6,8 @@ use Rattle.nook_defs.specs.declared.mirror.MirrorAnswer.TheVariants as mirrored
 use Rattle.nook_defs.specs.declared.scenario.Scenario.{Scenario}
 use Rattle.nook_defs.specs.declared.scenario.ThreadSpec.{ThreadSpec}
 use Rattle.nook_defs.specs.ReportLines.{line_feed, with_list, with_number}
-use Rattle.nook_defs.specs.ReportText.{parts_text, status_line, taps_text, thread_line}
+use Rattle.nook_defs.specs.ReportText.{parts_text, status_line, taps_text}
+use Rattle.nook_defs.specs.Views.Reporting.{thread_line}
 use Rattle.report_text.specs.declared.whole_report.Report.{Report}
 use Rattle.report_text.specs.Whole.{parts_rows}
 use Rattle.report_text.specs.Writing.{each_text}

@@ -13,7 +13,9 @@ use Rattle.nook_defs.specs.Devices.{medium_of}
 use Rattle.nook_defs.specs.Losses.{losses}
 use Rattle.nook_defs.specs.Pages.{object_words}
 use Rattle.nook_defs.specs.ReportLines.{event_lines, line_feed, spaced, with_list, with_number}
-use Rattle.nook_defs.specs.ReportText.{acts_of_event, block_lines, config_line, contract_line, failures_line, losses_lines, object_line, part_line, played_line, status_line, status_of, taps_text, threads_text, wire_line}
+use Rattle.nook_defs.specs.ReportText.{block_lines, contract_line, losses_lines, part_line, played_line, status_line, status_of, taps_text, threads_text, wire_line}
+use Rattle.nook_defs.specs.Views.Reporting.{config_line, failures_line, object_line}
+use Rattle.nook_defs.specs.Views.Reporting.{acts_of_event}
 use Rattle.nook_defs.specs.Views.Room.{Kept}
 use Rattle.nook_defs.specs.Runs.{state_of}
 use Rattle.nook_defs.specs.State.{PartState}

@@ -1,11 +1,20 @@
 //! The report of a run: its lines, what it sums up, and its writing into a sink.
 #![tactic(auto)]
 
-pub mod line;
-pub mod pieces;
-pub mod report;
+mod line;
+mod pieces;
+mod report;
 #[cfg(test)]
 mod tests;
-pub mod whole_report;
-pub mod whole_text;
-pub mod write;
+mod whole_report;
+mod whole_text;
+mod write;
+
+pub use line::Line;
+pub use pieces::{push_acts_tail, push_number, push_outcome};
+pub use report::{Journals, Run};
+pub use whole_report::{PartEnd, PartEnds, PartReport, PartReports, Report, report_of};
+pub use whole_text::{write_final, write_mirror_report, write_report, write_taps};
+pub use write::{
+    WriteStop, event_line, write_part_line, write_status_line, write_text, write_threads,
+};

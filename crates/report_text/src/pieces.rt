@@ -2,13 +2,15 @@
 
 ghost use Rattle.std.specs.Prelude.{◌≡◌, [], ◌∷◌, ◌++◌, Option, OnOk};
 ghost use Rattle.nook_defs.specs.Keys.{class_text};
-ghost use Rattle.nook_defs.specs.ReportLines.{act_text, acts_tail, answer_tail, answer_text, answers_tail, cause_tail, cause_text, comma_words, end_text, event_text, failed_text, inner_words, kept_text, moved_text, op_text, released_tail, released_text, result_text, right_text, spaced, stage_text, trap_text, with_list, with_number, words_text};
+ghost use Rattle.nook_defs.specs.ReportLines.{act_text, acts_tail, answer_tail, answer_text, cause_tail, cause_text, end_text, event_text, inner_words, op_text, released_text, result_text, spaced, stage_text, trap_text, with_list, with_number};
+ghost use Rattle.nook_defs.specs.Views.Reporting.{answers_tail, comma_words, failed_text, kept_text, moved_text, released_tail, right_text, words_text};
 ghost use Rattle.report_text.specs.Mirrored.{mirror_answer_text};
 
 use crate::line::Line;
 use nook_defs::calls::{Answer, Op};
 use nook_defs::classes::Class;
 use nook_defs::entries::Entry;
+use nook_defs::keys::class_text;
 use nook_defs::lists::Words;
 use nook_defs::machine::{Act, Acts, TrapCause};
 use nook_defs::memory::NoMemory;
@@ -60,11 +62,7 @@ fn push_more_words(line: &mut Line, words: &[u32]) -> Result<(), NoMemory>
 pub fn push_class(line: &mut Line, class: Class) -> Result<(), NoMemory>
     ensures { OnOk result (line.new ≡ line.old ++ class_text class) }
 {
-    match class {
-        Class::Block => line.push("block"),
-        Class::Net => line.push("net"),
-        Class::Sound => line.push("sound"),
-    }
+    line.push(class_text(class))
 }
 
 /// An operation.
@@ -261,7 +259,7 @@ fn push_result(line: &mut Line, answer: Option<u32>, moved: &Words) -> Result<()
 fn push_moved(line: &mut Line, moved: &Words) -> Result<(), NoMemory>
     ensures { OnOk result (line.new ≡ line.old ++ moved_text moved.now) }
 {
-    if moved.len() == 0 {
+    if moved.is_empty() {
         return Ok(());
     }
     push_list(line, " ", moved)

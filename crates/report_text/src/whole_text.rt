@@ -3,7 +3,9 @@
 ghost use Rattle.std.specs.Prelude.{◌≡◌, ◌+◌, ◌^◌, ◌<◌, ◌++◌, ℕ, List, OnOk, bytes_eq, flat_map, length, replicate};
 ghost use Rattle.nook_defs.specs.Pages.{opening_object};
 ghost use Rattle.nook_defs.specs.ReportLines.{spaced};
-ghost use Rattle.nook_defs.specs.ReportText.{block_line, block_lines, config_line, contract_line, failures_line, final_lines, losses_lines, object_line, played_line, report_text, status_line, tap_line, tap_text, taps_text, threads_text, wire_line};
+ghost use Rattle.nook_defs.specs.ReportText.{block_lines, contract_line, final_lines, losses_lines, played_line, report_text, status_line, taps_text, threads_text, wire_line};
+ghost use Rattle.nook_defs.specs.Views.Reporting.{block_line, config_line, failures_line, object_line, tap_line};
+ghost use Rattle.nook_defs.specs.Views.Reporting.{tap_text};
 ghost use Rattle.nook_defs.specs.State.{PartState};
 ghost use Rattle.report_text.specs.Mirrored.{mirror_report_rows, mirror_report_text};
 ghost use Rattle.report_text.specs.Whole.{IsReport, ShowsState, device_rows, ending_rows, event_rows, event_text, final_rows, frame_counts, kept_counts, lists_of, lost_counts, part_rows, parts_rows, report_rows, sample_counts};
@@ -18,6 +20,7 @@ use crate::write::{
 };
 use nook_defs::classes::Class;
 use nook_defs::journal::Journal;
+use nook_defs::limits::BLOCK_WORDS;
 use nook_defs::lists::Words;
 use nook_defs::machine::Act;
 use nook_defs::memory::NoMemory;
@@ -64,9 +67,9 @@ fn all_zeros(words: &[u32]) -> bool
 
 /// Whether a block has 16 words, all 0.
 fn is_blank(words: &[u32]) -> bool
-    ensures { result ≡ bytes_eq words.now (replicate 16 0) }
+    ensures { result ≡ bytes_eq words.now (replicate BLOCK_WORDS 0) }
 {
-    words.len() == 16 && all_zeros(words)
+    words.len() == BLOCK_WORDS && all_zeros(words)
 }
 
 /// A kernel object, where it differs from what it held at first.

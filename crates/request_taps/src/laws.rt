@@ -2,7 +2,7 @@
 
 ghost use Rattle.std.specs.Prelude.{◌≡◌, ℕ, List, map};
 ghost use Rattle.nook_defs.specs.Listening.{Listening};
-ghost use Rattle.nook_defs.specs.Taps.{tap_result};
+ghost use Rattle.nook_defs.specs.Listening.{tap_result};
 ghost use Rattle.nook_defs.specs.declared.steps.Event.{Event};
 ghost use Rattle.request_taps.specs.Bus.{result_of, settled, told_all};
 

@@ -5,10 +5,11 @@
 
 mod boxed;
 mod bus;
-pub mod laws;
+mod laws;
 mod tap;
 #[cfg(test)]
 mod tests;
 
 pub use boxed::{Boxed, Held};
 pub use bus::{Bus, TapBus};
+pub use laws::every_bus_tells_the_totals;

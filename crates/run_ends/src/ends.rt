@@ -3,10 +3,11 @@
 ghost use Rattle.std.specs.Prelude.{◌≡◌, IfOk};
 ghost use Rattle.run_ends.specs.Ends.{end_of, objects_in};
 
+use nook_defs::limits::BLOCK_WORDS;
 use nook_defs::lists::{Frames, Items, Word};
 use nook_defs::memory::NoMemory;
 use part_core::Part;
-use report_text::whole_report::PartEnd;
+use report_text::PartEnd;
 use std::alloc::Global;
 
 /// What a part ends in: its kernel objects 1 to 12, its medium, its configuration and its failures.
@@ -36,7 +37,7 @@ fn objects_of(alloc: Global, part: &Part) -> Result<Frames, NoMemory>
 }
 
 /// The words of the blocks of a medium.
-fn blocks_of(alloc: Global, medium: &[[Word; 16]]) -> Result<Frames, NoMemory>
+fn blocks_of(alloc: Global, medium: &[[Word; BLOCK_WORDS]]) -> Result<Frames, NoMemory>
     ensures { IfOk result (λ blocks. blocks ≡ medium.now) }
 {
     let mut blocks = Frames::new(alloc);

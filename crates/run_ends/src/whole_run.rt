@@ -1,6 +1,5 @@
 //! What a whole run leaves.
-use report_text::report::Run;
-use report_text::whole_report::PartEnds;
+use report_text::{PartEnds, Run};
 
 /// What a whole run left: its journals, answers and totals, and what each part ends in.
 #[derive(Drop)]

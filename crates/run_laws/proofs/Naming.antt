@@ -1,8 +1,10 @@
 -- The line of an event names the event's step.
 use Rattle.std.proofs.Common.{◌≡◌, ℕ, ◌<◌, ◌==◌, ◌&&◌, nat_lt, true, is_none, Some, None, Option, List, [], ◌∷◌, ◌++◌, refl, sym, ap, ◌∙◌, arith, append_assoc, true≢false, bytes_eq, codes, decimal, if◌then◌else◌, eqb-true, ltb-true}
 use Rattle.std.proofs.lemmas.Bool.{and_parts}
-use Rattle.nook_defs.specs.Log.{call_of_thread, is_of_thread}
-use Rattle.nook_defs.specs.ReportLines.{answer_tail, answers_tail, event_line, event_text, kept_text, op_text, released_tail, stage_text, words_text}
+use Rattle.nook_defs.specs.Log.{call_of_thread}
+use Rattle.nook_defs.proofs.Cases.{is_of_thread}
+use Rattle.nook_defs.specs.ReportLines.{answer_tail, event_line, event_text, op_text, stage_text}
+use Rattle.nook_defs.specs.Views.Reporting.{answers_tail, kept_text, released_tail, words_text}
 use Rattle.nook_defs.specs.Runs.{step_of}
 use Rattle.nook_defs.specs.State.{PartState}
 use Rattle.nook_defs.specs.Steps.{enabled, is_inside, is_ready, is_running}

@@ -1,7 +1,8 @@
 -- The text of an event has no line feed.
 use Rattle.std.proofs.Common.{◌≡◌, ℕ, true, false, None, Some, Option, List, [], ◌∷◌, ◌++◌, ◌==◌, not, refl, codes, decimal}
 use Rattle.std.proofs.lemmas.Bool.{and_from, and_parts}
-use Rattle.nook_defs.specs.ReportLines.{act_text, acts_tail, answer_tail, answer_text, answers_tail, cause_tail, cause_text, comma_words, end_text, event_text, inner_words, kept_text, moved_text, op_text, released_tail, released_text, result_text, right_text, spaced, stage_text, trap_text, with_list, with_number, words_text}
+use Rattle.nook_defs.specs.ReportLines.{act_text, acts_tail, answer_tail, answer_text, cause_tail, cause_text, end_text, event_text, inner_words, op_text, released_text, result_text, spaced, stage_text, trap_text, with_list, with_number}
+use Rattle.nook_defs.specs.Views.Reporting.{answers_tail, comma_words, kept_text, moved_text, released_tail, right_text, words_text}
 use Rattle.nook_defs.specs.declared.machine.Act.{Act}
 use Rattle.nook_defs.specs.declared.machine.Act.TheVariants as act
 use Rattle.nook_defs.specs.declared.calls.Answer.{Answer}

@@ -20,16 +20,17 @@ use Rattle.nook_defs.specs.declared.machine.BadParam.{BadParam}
 use Rattle.nook_defs.specs.declared.machine.BurstEnd.{BurstEnd}
 use Rattle.nook_defs.specs.declared.machine.BurstEnd.TheVariants as ends
 use Rattle.nook_defs.specs.declared.machine.Service.{Service}
-use Rattle.nook_defs.specs.Calls.{Stepped, after_invoke, invoked_by, invoked_with, answer_in, queue_in, after_enter, entered_by, after_admit}
+use Rattle.nook_defs.specs.Calls.{Stepped, after_invoke, invoked_with, answer_in, queue_in, after_enter, after_admit}
 use Rattle.nook_defs.specs.Classes.{static_check, admit, accept}
-use Rattle.nook_defs.specs.Crossing.{Crossed, fails, is_last, serve_by, is_accepted, next_stage, shadow_replied, closes_call, reply_by, call_replied, after_crossing}
+use Rattle.nook_defs.specs.Crossing.{Crossed, fails, is_last, is_accepted, next_stage, shadow_replied, closes_call, call_replied, after_crossing}
 use Rattle.nook_defs.specs.Domain.{domain_burst}
-use Rattle.nook_defs.specs.Log.{is_call, call_of_thread, new_entry, with_call, with_answered_call, after_entering, after_answering, after_acknowledging, change_entry, entered_call, held_call, is_held, shadow_answer, queue_after, with_answer, stop_answers, gone_answers}
+use Rattle.nook_defs.specs.Log.{is_call, call_of_thread, with_call, with_answered_call, after_entering, after_answering, after_acknowledging, held_call, is_held, shadow_answer, queue_after, with_answer, stop_answers, gone_answers}
+use Rattle.nook_defs.proofs.Cases.{change_entry, entered_by, entered_call, invoked_by, new_entry, reply_by, serve_by, stage_by, with_burst}
 use Rattle.nook_defs.specs.Answers.{one_answer}
 use Rattle.nook_defs.specs.Runs.{answer_at, answer_among}
-use Rattle.nook_defs.specs.Stages.{stage_due, is_given_up, stops, gives_up_part, collects, resets, loads_image, inits, replays_set, replays_open, resumes, stage_done, stage_by, stage_stepped}
+use Rattle.nook_defs.specs.Stages.{stage_due, is_given_up, stops, gives_up_part, collects, resets, loads_image, inits, replays_set, replays_open, resumes, stage_done, stage_stepped}
 use Rattle.nook_defs.specs.State.{PartState}
-use Rattle.nook_defs.specs.Steps.{enabled, stepped, burst_stepped, with_burst, served_number, faults_of_burst, after_arrival}
+use Rattle.nook_defs.specs.Steps.{enabled, stepped, burst_stepped, served_number, faults_of_burst, after_arrival}
 use Rattle.part_laws.proofs.Answered.{AnswersCall, Shows, crossed_shows, no_call, none_below, shadow_says}
 use Rattle.part_laws.proofs.BurstKeeps.{split}
 use Rattle.part_laws.specs.Tied.{IsRising, AreApart, IsTied}

@@ -15,12 +15,13 @@ use Rattle.nook_defs.specs.declared.scenario.ThreadSpec.{ThreadSpec}
 use Rattle.nook_defs.specs.Log.{call_of_thread, opening_log}
 use Rattle.nook_defs.specs.Runs.{answer_at, event_of, if_enabled, next_for, next_recovery, next_of_calls, next_any, step_of}
 use Rattle.nook_defs.specs.Schedules.{Order, picked}
-use Rattle.nook_defs.specs.Simulation.{Choice, IsScheduledRun, RunningPart, Simulation, ThreadState, Waiting, actor_of, answer_table, answers_of, arrival, begins, choices_of, going_on, invocation, opening_part, opening_thread, runs, part_after, stepped_by, taken, threads_after}
+use Rattle.nook_defs.specs.Simulation.{Choice, IsScheduledRun, RunningPart, Simulation, ThreadState, Waiting, actor_of, answer_table, answers_of_thread, arrival, begins, choices_of, going_on, invocation, opening_part, opening_thread, runs, part_after, stepped_by, taken, threads_after}
 use Rattle.nook_defs.proofs.Changes.{taken_by}
 use Rattle.nook_defs.proofs.ChoicesInOrder.{part_choices, choices_in_order}
 use Rattle.nook_defs.specs.State.{PartState}
 use Rattle.nook_defs.specs.Steps.{enabled, opening}
-use Rattle.nook_defs.specs.Valid.{IsValidPart, IsValidScenario, IsValidStep, IsValidThread}
+use Rattle.nook_defs.specs.Valid.{IsValidPart, IsValidScenario, IsValidThread}
+use Rattle.nook_defs.specs.Views.Limits.{IsValidStep}
 use Rattle.part_laws.proofs.BurstKeeps.{split}
 use Rattle.part_laws.proofs.Counts.{step_counted}
 use Rattle.part_laws.proofs.Places.{from_map, get_set, length_map}
@@ -379,8 +380,8 @@ module _ (scenario : Scenario) (v : IsValidScenario scenario) (s : Simulation) (
   all_end : (n : ℕ) (specs : List ThreadSpec) (threads : List ThreadState) → AreThreadsOf s.parts n specs threads → n + length threads ≤ 16
       → ((k : ℕ) (t : ThreadState) → slice_get threads k ≡ Some t → HasNoStep s.parts (n + k) t.rest t.waiting)
       → AllByRecursion (IsValidThread (length scenario.parts)) specs
-      → (map (λ answers. map (λ a. a.0) answers) (map answers_of threads) ≡ map (λ t. map (λ o. o.0) t.ops) specs)
-      × (map length (map answers_of threads) ≡ map (λ t. length t.ops) specs)
+      → (map (λ answers. map (λ a. a.0) answers) (map answers_of_thread threads) ≡ map (λ t. map (λ o. o.0) t.ops) specs)
+      × (map length (map answers_of_thread threads) ≡ map (λ t. length t.ops) specs)
   all_end n [] [] are few none valid = (refl, refl)
   all_end n [] (t ∷ threads) are few none valid = absurd are
   all_end n (spec ∷ specs) [] are few none valid = absurd are

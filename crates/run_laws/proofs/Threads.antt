@@ -10,7 +10,7 @@ use Rattle.nook_defs.specs.declared.steps.Step.{Step}
 use Rattle.nook_defs.specs.declared.steps.Step.TheVariants as step
 use Rattle.nook_defs.specs.declared.scenario.ThreadSpec.{ThreadSpec}
 use Rattle.nook_defs.specs.Runs.{answer_at, event_of, step_of}
-use Rattle.nook_defs.specs.Simulation.{RunningPart, ThreadState, Waiting, started, told, threads_after, part_after}
+use Rattle.nook_defs.specs.Simulation.{RunningPart, ThreadState, Waiting, started, thread_after, threads_after, part_after}
 use Rattle.nook_defs.proofs.Changes.{settled_by, settled}
 use Rattle.nook_defs.specs.Steps.{enabled}
 use Rattle.part_laws.proofs.BurstKeeps.{split}
@@ -135,12 +135,12 @@ starts n part (event.Arrive frame kept) s own = record { order = refl; here = re
 thread_step : (parts : List RunningPart) (n : ℕ) (spec : ThreadSpec) (t : ThreadState) (part : ℕ) (seat : RunningPart) (s : Step)
     → slice_get parts part ≡ Some seat → IsTied seat.run.state → enabled seat.run.state s ≡ true → IsOwnOf n part t s → IsThreadOf parts n spec t
     → IsThreadOf (slice_set parts part (part_after s seat)) n spec
-    (told part (event_of seat.run.state s) (started n part (event_of seat.run.state s) t))
+    (thread_after part (event_of seat.run.state s) (started n part (event_of seat.run.state s) t))
 thread_step parts n spec t part seat s at tied may own is =
     let e = event_of seat.run.state s in
     let one = started n part e t in
     let begun : Started n part e t one = starts n part e t (subst (IsOwnOf n part t) (sym (step_named seat.run.state s)) own) in
-    let done : Settled part e one (told part e one) = settles part e one one.waiting refl in
+    let done : Settled part e one (thread_after part e one) = settles part e one one.waiting refl in
     record {
       order = done.order ∙ begun.order ∙ is.order;
       waits = λ k new h. by_place (get_set parts k part (part_after s seat) new h)
@@ -149,7 +149,7 @@ thread_step parts n spec t part seat s at tied may own is =
           ∙ ap (λ w. told_number (λ call. answer_at call e) (started_number n e w)) (is.waits part seat at)
           ∙ ap (told_number (λ call. answer_at call e)) begun.here
           ∙ done.here
-          ∙ ap (λ (m : ℕ). waits_in m (told part e one).waiting) (sym same.0))
+          ∙ ap (λ (m : ℕ). waits_in m (thread_after part e one).waiting) (sym same.0))
           (λ other.
           let apart : (part == k) ≡ false = ne_eqb part k (λ i. other.0 (sym i)) in
           is.waits k new other.1 ∙ begun.there k apart ∙ done.there k apart);
@@ -214,7 +214,7 @@ started_rest n part (event.Burst context call burst count end acts a failure) s 
 started_rest n part (event.Stage stage answers released) s = omega arith
 started_rest n part (event.Arrive frame kept) s = omega arith
 
-heard_rest : (n part : ℕ) (e : Event) (s : ThreadState) → length (told part e (started n part e s)).rest ≤ length s.rest
+heard_rest : (n part : ℕ) (e : Event) (s : ThreadState) → length (thread_after part e (started n part e s)).rest ≤ length s.rest
 heard_rest n part e s =
     subst (λ (xs : List (ℕ × Op)). length xs ≤ length s.rest) (sym (settled_rest part e (started n part e s) (started n part e s).waiting)) (started_rest n part e s)
 

@@ -4,9 +4,11 @@ use Rattle.std.specs.List.{flat_map}
 use Rattle.nook_defs.specs.Devices.{medium_of}
 use Rattle.nook_defs.specs.Pages.{object_words, opening_object}
 use Rattle.nook_defs.specs.ReportLines.{answer_text, line_feed, spaced, with_list, with_number}
-use Rattle.nook_defs.specs.ReportText.{acts_of, answer_lines, block_line, block_lines, config_line, contract_line, device_lines, failures_line, final_lines, losses_lines, object_line, object_lines, played_line, status_line, status_of, tap_line, tap_text, taps_text, thread_line, threads_text, wire_line}
+use Rattle.nook_defs.specs.ReportText.{journal_acts, answer_lines, block_lines, contract_line, device_lines, final_lines, losses_lines, object_lines, played_line, status_line, status_of, taps_text, threads_text, wire_line}
+use Rattle.nook_defs.specs.Views.Reporting.{block_line, config_line, failures_line, object_line, tap_line, thread_line}
+use Rattle.nook_defs.specs.Views.Reporting.{tap_text}
 use Rattle.nook_defs.specs.State.{PartState}
-use Rattle.nook_defs.specs.Taps.{tap_result}
+use Rattle.nook_defs.specs.Listening.{tap_result}
 use Rattle.nook_defs.specs.declared.machine.Act.{Act}
 use Rattle.nook_defs.specs.declared.machine.Act.TheVariants as act
 use Rattle.nook_defs.specs.declared.calls.Answer.{Answer}
@@ -108,8 +110,8 @@ played_behind (act.Register key value) = behind_none
 
 device_behind : (c : Class) (events : List Event) (p : PartState) → IsBehind (device_lines c events p)
 device_behind class.Block events p = blocks_behind 0 (medium_of p.domain.device)
-device_behind class.Net events p = acts_behind wire_line wire_behind (acts_of events)
-device_behind class.Sound events p = acts_behind played_line played_behind (acts_of events)
+device_behind class.Net events p = acts_behind wire_line wire_behind (journal_acts events)
+device_behind class.Sound events p = acts_behind played_line played_behind (journal_acts events)
 
 -- ---- the lines that each section has
 

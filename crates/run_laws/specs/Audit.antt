@@ -6,9 +6,9 @@ use Rattle.nook_defs.specs.Losses.{losses}
 use Rattle.nook_defs.specs.ReportLines.{event_line}
 use Rattle.nook_defs.specs.ReportText.{final_lines, part_line, status_line, status_of, taps_text, threads_text}
 use Rattle.nook_defs.specs.Runs.{event_of, next_any}
-use Rattle.nook_defs.specs.Simulation.{RunningPart, ThreadState, answers_of, opening_part, part_after, threads_after}
+use Rattle.nook_defs.specs.Simulation.{RunningPart, ThreadState, answers_of_thread, opening_part, part_after, threads_after}
 use Rattle.nook_defs.specs.Steps.{enabled}
-use Rattle.nook_defs.specs.Taps.{tap_result}
+use Rattle.nook_defs.specs.Listening.{tap_result}
 use Rattle.nook_defs.specs.declared.calls.Answer.{Answer}
 use Rattle.nook_defs.specs.declared.steps.Event.{Event}
 use Rattle.nook_defs.specs.declared.calls.Op.{Op}
@@ -165,7 +165,7 @@ pub record Done : Type 0 where
   pub answers : List (List (ℕ × Answer))
 
 abbrev pub done_of : Section → Done
-done_of s = record { journal = s.seat.run.journal; answers = map answers_of s.threads }
+done_of s = record { journal = s.seat.run.journal; answers = map answers_of_thread s.threads }
 
 abbrev pub answers_to : ℕ → Done → List (ℕ × Answer)
 answers_to thread d = slice_index_or d.answers thread []

@@ -7,9 +7,11 @@ use Rattle.std.proofs.lemmas.Bool.{ltb-true, leb-true, and_parts}
 use Rattle.std.proofs.lemmas.List.{length-replicate}
 use Rattle.std.proofs.lemmas.List.Elements.{All-nil, All-cons, All-push, All-map, All-weaker, All-replicate}
 use Rattle.std.proofs.lemmas.List.Sums.{AllPass-from_list_all}
-use Rattle.nook_defs.specs.Generated.{trap_at, generated_disk, frames_to, generated_link, generated_audio, generated_op, ops_to, generated_thread, generated}
-use Rattle.nook_defs.specs.References.{block_words, block_image, net_words, net_image, sound_words, sound_image}
-use Rattle.nook_defs.specs.Valid.{IsWord, AreWords, IsValidImage, IsValidFault, IsValidFrame, IsValidPart, IsValidStep, IsValidThread, IsValidScenario}
+use Rattle.nook_defs.specs.Generated.{generated_disk, frames_to, generated_link, generated_op, ops_to, generated_thread, generated}
+use Rattle.scenario_gen.specs.Pieces.{trap_at, generated_audio}
+use Rattle.nook_defs.specs.References.{block_image, block_words, net_image, net_words, sound_image, sound_words}
+use Rattle.nook_defs.specs.Valid.{IsWord, AreWords, IsValidImage, IsValidFault, IsValidPart, IsValidThread, IsValidScenario}
+use Rattle.nook_defs.specs.Views.Limits.{IsValidFrame, IsValidStep}
 use Rattle.nook_defs.specs.Names.{is_name}
 use Rattle.nook_defs.specs.declared.calls.Op.TheVariants as op
 
@@ -20,7 +22,7 @@ below n xs h = All-weaker (λ x. nat_lt x n ≡ true) (λ x. x < n) (λ x e. ltb
 within : (n : ℕ) (xs : List ℕ) → list_all (λ x. nat_le x n) xs ≡ true → All (λ x. x ≤ n) xs
 within n xs h = All-weaker (λ x. nat_le x n ≡ true) (λ x. x ≤ n) (λ x e. leb-true x n e) xs (AllPass-from_list_all (λ x. nat_le x n) xs h)
 
-block_is_valid : IsValidImage block_image
+pub block_is_valid : IsValidImage block_image
 block_is_valid = record {
   entries = refl;
   places = within 2047 block_image.entries refl;
@@ -28,7 +30,7 @@ block_is_valid = record {
   initial = (lit≤ tt, All-nil IsWord);
 }
 
-net_is_valid : IsValidImage net_image
+pub net_is_valid : IsValidImage net_image
 net_is_valid = record {
   entries = refl;
   places = within 2047 net_image.entries refl;
@@ -36,7 +38,7 @@ net_is_valid = record {
   initial = (lit≤ tt, All-nil IsWord);
 }
 
-sound_is_valid : IsValidImage sound_image
+pub sound_is_valid : IsValidImage sound_image
 sound_is_valid = record {
   entries = refl;
   places = within 2047 sound_image.entries refl;

@@ -1,7 +1,8 @@
 //! The generated scenario, from its parts and threads down to its operations.
 
 ghost use Rattle.std.specs.Prelude.{◌≡◌, ◌+◌, ◌*◌, ◌%◌, ◌<◌, ◌≤◌, [], ◌∷◌, ◌++◌, true, codes, decimal, replicate, map, IfOk};
-ghost use Rattle.nook_defs.specs.Generated.{frames_to, generated, generated_audio, generated_disk, generated_link, generated_op, generated_thread, ops_to, trap_at};
+ghost use Rattle.nook_defs.specs.Generated.{frames_to, generated, generated_disk, generated_link, generated_op, generated_thread, ops_to};
+ghost use Rattle.scenario_gen.specs.Pieces.{generated_audio, trap_at};
 ghost use Rattle.nook_defs.specs.Names.{is_name};
 ghost use Rattle.nook_defs.specs.Valid.{IsValidScenario};
 

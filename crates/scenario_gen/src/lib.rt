@@ -3,8 +3,9 @@
 #![tactic(auto)]
 
 mod generated;
-pub mod references;
+mod references;
 #[cfg(test)]
 mod tests;
 
 pub use generated::generate;
+pub use references::{block_driver, net_driver, sound_driver};

@@ -2,6 +2,7 @@
 
 ghost use Rattle.std.specs.Prelude.{◌≡◌, [], ◌∷◌, IfOk};
 ghost use Rattle.nook_defs.specs.References.{block_image, block_words, net_image, net_words, sound_image, sound_words};
+ghost use Rattle.nook_defs.specs.Valid.{IsValidImage};
 
 use nook_defs::classes::Class;
 use nook_defs::lists::{Items, Words};
@@ -44,8 +45,10 @@ const SOUND_TEXT: [u32; 42] = [
 ];
 
 /// A block driver: it reads and writes block by block, word by word.
+#[tactic(auto, using(crate::proofs::Limits::block_is_valid))]
 pub fn block_driver(alloc: Global) -> Result<Image, NoMemory>
-    ensures { IfOk result (λ made. made ≡ block_image) }
+    ensures made { IfOk result (λ made. made ≡ block_image) }
+    ensures valid { IfOk result IsValidImage }
 {
     Ok(Image {
         class: Class::Block,
@@ -63,8 +66,10 @@ fn block_text(alloc: Global) -> Result<Words, NoMemory>
 }
 
 /// A net driver: a received frame is handed up from the stack page.
+#[tactic(auto, using(crate::proofs::Limits::net_is_valid))]
 pub fn net_driver(alloc: Global) -> Result<Image, NoMemory>
-    ensures { IfOk result (λ made. made ≡ net_image) }
+    ensures made { IfOk result (λ made. made ≡ net_image) }
+    ensures valid { IfOk result IsValidImage }
 {
     Ok(Image {
         class: Class::Net,
@@ -82,8 +87,10 @@ fn net_text(alloc: Global) -> Result<Words, NoMemory>
 }
 
 /// A sound driver: each sample is played at once.
+#[tactic(auto, using(crate::proofs::Limits::sound_is_valid))]
 pub fn sound_driver(alloc: Global) -> Result<Image, NoMemory>
-    ensures { IfOk result (λ made. made ≡ sound_image) }
+    ensures made { IfOk result (λ made. made ≡ sound_image) }
+    ensures valid { IfOk result IsValidImage }
 {
     Ok(Image {
         class: Class::Sound,

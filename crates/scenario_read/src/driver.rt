@@ -3,7 +3,8 @@
 ghost use Rattle.std.specs.Prelude.{◌≡◌};
 ghost use Rattle.serde_json.specs.View.{view};
 ghost use Rattle.nook_defs.specs.Classes.{same_class};
-ghost use Rattle.nook_defs.specs.ImageReading.{asm_of, driver_image, driver_of, or_bad_asm};
+ghost use Rattle.nook_defs.specs.ImageReading.{driver_of, or_bad_asm};
+ghost use Rattle.nook_defs.specs.Views.Readings.{asm_of, driver_image};
 ghost use Rattle.nook_defs.specs.Assembler.{assembled};
 ghost use Rattle.nook_defs.specs.Keys.{key_text};
 ghost use Rattle.nook_defs.specs.declared.input.Key.TheVariants as key;
@@ -12,12 +13,12 @@ ghost use Rattle.scenario_read.specs.Gives.{Gives};
 
 use crate::fields::{check_keys, field, text_in};
 use crate::image::image_of;
-use crate::keys::key_text;
 use crate::stop::{ScenarioFault, at, bad_here};
 use driver_asm::{AsmError, assemble};
 use nook_defs::assembler::AsmFault;
 use nook_defs::classes::Class;
 use nook_defs::input::{InputFault, Key};
+use nook_defs::keys::key_text;
 use nook_defs::scenario::Image;
 use serde_json::Value;
 use std::alloc::Global;

@@ -4,7 +4,8 @@ ghost use Rattle.std.specs.Prelude.{◌≡◌};
 ghost use Rattle.serde_json.specs.View.{view};
 ghost use Rattle.nook_defs.specs.CampaignReading.{member_faults_of};
 ghost use Rattle.nook_defs.specs.Reading.{named_of, required};
-ghost use Rattle.nook_defs.specs.PartReading.{bad_block_of, bad_blocks_of, fault_kind, fault_named, fault_of, faults_of};
+ghost use Rattle.nook_defs.specs.PartReading.{bad_block_of, fault_kind, fault_named, fault_of};
+ghost use Rattle.nook_defs.specs.Views.Readings.{bad_blocks_of, faults_of};
 ghost use Rattle.nook_defs.specs.declared.input.Key.TheVariants as key;
 ghost use Rattle.scenario_read.specs.Gives.{Gives};
 

@@ -4,13 +4,15 @@ ghost use Rattle.std.specs.Prelude.{◌≡◌, ◌↔◌, All, IsTrue, IsSome, O
 ghost use Rattle.serde_json.specs.View.{view, members_view};
 ghost use Rattle.std.specs.BTreeMap.{keys};
 ghost use Rattle.serde_json.specs.Find.{as_object, get};
-ghost use Rattle.nook_defs.specs.Keys.{key_text, is_key};
-ghost use Rattle.nook_defs.specs.Reading.{all_known, bad, object_with, is_object, number_of, number_at, number_or, text_of};
+ghost use Rattle.nook_defs.specs.Keys.{key_text};
+ghost use Rattle.nook_defs.specs.Views.Readings.{is_key};
+ghost use Rattle.nook_defs.specs.Reading.{all_known, bad, object_with, is_object, whole_number, number_at, text_of};
+ghost use Rattle.nook_defs.specs.Views.Readings.{number_or};
 ghost use Rattle.scenario_read.specs.Gives.{Fails, Gives, IsMissing};
 
-use crate::keys::key_text;
 use crate::stop::{ScenarioFault, at, bad_here, missing};
 use nook_defs::input::{InputFault, Key};
+use nook_defs::keys::key_text;
 use serde_json::{Map, Value};
 use std::alloc::Global;
 
@@ -56,12 +58,7 @@ fn has_only_names(members: &Map<String, Value>, known: &[Key]) -> bool
 fn is_key(known: &[Key], name: &str) -> bool
     ensures { result ≡ is_key known.now name.now }
 {
-    for key in known {
-        if name == key_text(*key) {
-            return true;
-        }
-    }
-    false
+    known.iter().any(|key| name == key_text(*key))
 }
 
 /// The value under a key that must be there.
@@ -89,7 +86,7 @@ pub fn text_in<'a>(alloc: Global, value: &'a Value) -> Result<&'a str, ScenarioF
 
 /// A whole number from `low` to `high`.
 pub fn number_in(alloc: Global, value: &Value, low: u64, high: u64) -> Result<u64, ScenarioFault>
-    ensures { Gives result (number_of low high (view value.now)) }
+    ensures { Gives result (whole_number low high (view value.now)) }
 {
     match value.as_u64() {
         None => bad_here(alloc, InputFault::WrongKind),

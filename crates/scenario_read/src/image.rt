@@ -4,17 +4,18 @@ ghost use Rattle.std.specs.Prelude.{◌≡◌, [], IfOk, length, true};
 ghost use Rattle.std.specs.List.{list_all};
 ghost use Rattle.std.specs.Str.Parse.{digits_value};
 ghost use Rattle.serde_json.specs.View.{view};
-ghost use Rattle.nook_defs.specs.ImageReading.{class_of, entries_of, hex_word, image_from, image_of, is_hex_digit, places_from, word_of, words_of};
+ghost use Rattle.nook_defs.specs.ImageReading.{known_class, entries_of, hex_word, image_from, image_of, places_from, words_of};
+ghost use Rattle.nook_defs.specs.Views.Readings.{is_hex_digit, text_word};
 ghost use Rattle.nook_defs.specs.Valid.{IsValidImage};
 ghost use Rattle.scenario_read.specs.Gives.{Gives};
 
 use crate::fields::{check_keys, field, number_at, text_in};
-use crate::keys::{class_named, entry_keys};
 use crate::lists::{ItemReader, read_list};
 use crate::scenario::json_of;
 use crate::stop::{ScenarioFault, at, bad_here};
 use nook_defs::classes::Class;
 use nook_defs::input::{InputFault, Key};
+use nook_defs::keys::{class_named, entry_keys};
 use nook_defs::lists::{Items, Words};
 use nook_defs::memory_map::TEXT_WORDS;
 use nook_defs::scenario::Image;
@@ -47,7 +48,7 @@ pub fn image_of(alloc: Global, value: &Value) -> Result<Image, ScenarioFault>
     )?;
     let class = at(
         Key::Class,
-        class_of(alloc, field(alloc, value, Key::Class)?),
+        known_class(alloc, field(alloc, value, Key::Class)?),
     )?;
     let initial = at(Key::Data, words_of(alloc, field(alloc, value, Key::Data)?))?;
     let entries = at(
@@ -64,11 +65,11 @@ pub fn image_of(alloc: Global, value: &Value) -> Result<Image, ScenarioFault>
 }
 
 /// A class.
-pub fn class_of(alloc: Global, value: &Value) -> Result<Class, ScenarioFault>
-    ensures { Gives result (class_of (view value.now)) }
+pub fn known_class(alloc: Global, value: &Value) -> Result<Class, ScenarioFault>
+    ensures { Gives result (known_class (view value.now)) }
 {
     let name = text_in(alloc, value)?;
-    match class_named(name) {
+    match class_named(name.as_bytes()) {
         None => bad_here(alloc, InputFault::BadClass),
         Some(class) => Ok(class),
     }
@@ -108,7 +109,7 @@ struct HexReader;
 impl ItemReader for HexReader {
     type Item = u32;
 
-    ghost item_of = { λ _. word_of };
+    ghost item_of = { λ _. text_word };
 
     fn read(
         &self,

@@ -1,84 +1,12 @@
-//! The texts of keys, and names that stand for one of a few things.
+//! Which keys an object has, and names that stand for one of a few things.
 
 ghost use Rattle.std.specs.Prelude.{◌≡◌, ◌∷◌};
-ghost use Rattle.nook_defs.specs.Keys.{key_text, entry_keys, class_named};
 ghost use Rattle.nook_defs.specs.PartReading.{fault_named, fault_keys, part_keys};
 ghost use Rattle.nook_defs.specs.ScenarioReading.{schedule_named, schedule_keys, op_named, op_keys};
 ghost use Rattle.nook_defs.specs.declared.input.Key.TheVariants as key;
 
 use nook_defs::classes::Class;
 use nook_defs::input::{FaultName, Key, OpName, ScheduleName};
-
-/// The text of a key.
-pub fn key_text(key: Key) -> &'static str
-    ensures { result.now ≡ key_text key }
-{
-    match key {
-        Key::Address => "address",
-        Key::After => "after",
-        Key::Arrivals => "arrivals",
-        Key::Asm => "asm",
-        Key::Bad => "bad",
-        Key::Base => "base",
-        Key::Block => "block",
-        Key::Blocks => "blocks",
-        Key::Burst => "burst",
-        Key::Class => "class",
-        Key::Close => "close",
-        Key::Count => "count",
-        Key::Data => "data",
-        Key::Driver => "driver",
-        Key::Entries => "entries",
-        Key::Faults => "faults",
-        Key::First => "first",
-        Key::Frame => "frame",
-        Key::Get => "get",
-        Key::Image => "image",
-        Key::Init => "init",
-        Key::Key => "key",
-        Key::Kind => "kind",
-        Key::Limit => "limit",
-        Key::Name => "name",
-        Key::Op => "op",
-        Key::Open => "open",
-        Key::Ops => "ops",
-        Key::Part => "part",
-        Key::Parts => "parts",
-        Key::Picks => "picks",
-        Key::Play => "play",
-        Key::Poll => "poll",
-        Key::Read => "read",
-        Key::Register => "register",
-        Key::Samples => "samples",
-        Key::Schedule => "schedule",
-        Key::Send => "send",
-        Key::Set => "set",
-        Key::Start => "start",
-        Key::Text => "text",
-        Key::Threads => "threads",
-        Key::Value => "value",
-        Key::Version => "version",
-        Key::Write => "write",
-    }
-}
-
-/// The entries of a class, in the class's order.
-pub fn entry_keys(class: Class) -> &'static [Key]
-    ensures { result.now ≡ entry_keys class }
-{
-    match class {
-        Class::Block => &[Key::Init, Key::Read, Key::Write, Key::Get, Key::Set],
-        Class::Net => &[Key::Init, Key::Send, Key::Poll, Key::Get, Key::Set],
-        Class::Sound => &[
-            Key::Init,
-            Key::Open,
-            Key::Play,
-            Key::Close,
-            Key::Get,
-            Key::Set,
-        ],
-    }
-}
 
 /// The keys of a part of a class, in a scenario of a version.
 pub fn part_keys(version: u32, class: Class) -> &'static [Key]
@@ -150,19 +78,6 @@ pub fn op_keys(name: OpName) -> &'static [Key]
         OpName::Play => &[Key::Part, Key::Op, Key::Samples],
         OpName::Get => &[Key::Part, Key::Op, Key::Key],
         OpName::Set => &[Key::Part, Key::Op, Key::Key, Key::Value],
-    }
-}
-
-/// The class of a name.
-#[tactic(auto, unfolding(nook_defs::specs::Keys::class_named))]
-pub fn class_named(name: &str) -> Option<Class>
-    ensures { result ≡ class_named name.now }
-{
-    match name {
-        "block" => Some(Class::Block),
-        "net" => Some(Class::Net),
-        "sound" => Some(Class::Sound),
-        _ => None,
     }
 }
 

@@ -4,21 +4,21 @@
 //! value, or the same first fault at the same place.
 #![tactic(auto)]
 
-pub mod campaign;
-pub mod driver;
-pub mod faults;
-pub mod fields;
-pub mod image;
-pub mod keys;
-pub mod line;
-pub mod lists;
-pub mod names;
-pub mod ops;
-pub mod parts;
-pub mod scenario;
-pub mod schedule;
-pub mod stop;
-pub mod threads;
+mod campaign;
+mod driver;
+mod faults;
+mod fields;
+mod image;
+mod keys;
+mod line;
+mod lists;
+mod names;
+mod ops;
+mod parts;
+mod scenario;
+mod schedule;
+mod stop;
+mod threads;
 
 pub use campaign::read_campaign;
 pub use image::read_image;

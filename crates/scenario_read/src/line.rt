@@ -3,9 +3,9 @@
 ghost use Rattle.std.specs.Prelude.{◌≡◌, ◌∷◌, ◌++◌, codes, IfOk, OnOk, flat_map, string_bytes, decimal};
 ghost use Rattle.nook_defs.specs.Faults.{asm_number, fault_line, fault_text, path_text, step_text};
 
-use crate::keys::key_text;
 use nook_defs::assembler::AsmKind;
 use nook_defs::input::{InputFault, PathStep, Refusal};
+use nook_defs::keys::key_text;
 use nook_defs::memory::NoMemory;
 use std::alloc::Global;
 use std::fmt::Write;

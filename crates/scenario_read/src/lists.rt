@@ -2,7 +2,7 @@
 
 ghost use Rattle.std.specs.Prelude.{◌≡◌, ◌≤◌, [], length, Result};
 ghost use Rattle.serde_json.specs.View.{view, items_view};
-ghost use Rattle.nook_defs.specs.Reading.{items_from, list_of, number_of, numbers_of};
+ghost use Rattle.nook_defs.specs.Reading.{items_from, list_of, whole_number, numbers_of};
 ghost use Rattle.scenario_read.specs.Gives.{Gives};
 
 use crate::fields::number_in;
@@ -84,7 +84,7 @@ pub struct WordReader;
 impl ItemReader for WordReader {
     type Item = u32;
 
-    ghost item_of = { λ _ earlier. number_of 0 4294967295 };
+    ghost item_of = { λ _ earlier. whole_number 0 4294967295 };
 
     fn read(
         &self,
@@ -103,7 +103,7 @@ pub struct PickReader;
 impl ItemReader for PickReader {
     type Item = u16;
 
-    ghost item_of = { λ _ earlier. number_of 0 65535 };
+    ghost item_of = { λ _ earlier. whole_number 0 65535 };
 
     fn read(
         &self,

@@ -3,7 +3,8 @@
 ghost use Rattle.std.specs.Prelude.{◌≡◌};
 ghost use Rattle.serde_json.specs.View.{view};
 ghost use Rattle.nook_defs.specs.Reading.{named_of};
-ghost use Rattle.nook_defs.specs.ScenarioReading.{op_by, op_named, op_of, op_words_of, ops_of};
+ghost use Rattle.nook_defs.specs.ScenarioReading.{op_by, op_named, op_of, op_words_of};
+ghost use Rattle.nook_defs.specs.Views.Readings.{ops_of};
 ghost use Rattle.scenario_read.specs.Gives.{Gives};
 
 use crate::fields::{check_keys, check_object, field, number_at, word_at};
@@ -12,6 +13,7 @@ use crate::lists::{ItemReader, read_list, read_words};
 use crate::stop::{ScenarioFault, at, bad_here};
 use nook_defs::calls::{Op, PartOps};
 use nook_defs::input::{InputFault, Key, OpName};
+use nook_defs::limits::MOST_OPS;
 use nook_defs::lists::Words;
 use serde_json::Value;
 use std::alloc::Global;
@@ -20,7 +22,7 @@ use std::alloc::Global;
 pub fn ops_of(alloc: Global, value: &Value, parts: u32) -> Result<PartOps, ScenarioFault>
     ensures { Gives result (ops_of parts (view value.now)) }
 {
-    read_list(alloc, &OpReader { parts }, value, 0, 256)
+    read_list(alloc, &OpReader { parts }, value, 0, MOST_OPS)
 }
 
 /// Reads operations on parts below `parts`.

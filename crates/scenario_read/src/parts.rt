@@ -3,22 +3,26 @@
 ghost use Rattle.std.specs.Prelude.{◌≡◌, [], Ok};
 ghost use Rattle.serde_json.specs.View.{view};
 ghost use Rattle.nook_defs.specs.Reading.{optional};
-ghost use Rattle.nook_defs.specs.PartReading.{frame_of, frames_of, part_arrivals, part_bad, part_blocks, part_of, faults_of};
-ghost use Rattle.nook_defs.specs.ScenarioReading.{parts_of};
+ghost use Rattle.nook_defs.specs.PartReading.{part_arrivals, part_bad, part_blocks, part_of};
+ghost use Rattle.nook_defs.specs.Views.Readings.{frame_of, frames_of, faults_of};
+ghost use Rattle.nook_defs.specs.Views.Readings.{parts_of};
 ghost use Rattle.nook_defs.specs.declared.input.Key.TheVariants as key;
 ghost use Rattle.scenario_read.specs.Gives.{Gives};
 
 use crate::driver::driver_of;
 use crate::faults::{bad_blocks_of, faults_of};
 use crate::fields::{check_keys, check_object, field, number_at, number_or};
-use crate::image::class_of;
-use crate::keys::{key_text, part_keys};
+use crate::image::known_class;
+use crate::keys::part_keys;
 use crate::lists::{ItemReader, read_list, read_words};
 use crate::names::part_name;
 use crate::stop::{ScenarioFault, at};
 use nook_defs::classes::Class;
 use nook_defs::input::Key;
-use nook_defs::limits::{MOST_FAILURES, MOST_FRAME_WORDS, MOST_PARTS};
+use nook_defs::keys::key_text;
+use nook_defs::limits::{
+    MOST_ARRIVALS, MOST_DISK_BLOCKS, MOST_FAILURES, MOST_FRAME_WORDS, MOST_PARTS,
+};
 use nook_defs::lists::{Frames, Words};
 use nook_defs::scenario::{BadBlocks, Faults, PartSpec, Parts};
 use serde_json::Value;
@@ -65,7 +69,7 @@ fn part_of(
     check_object(alloc, value)?;
     let class = at(
         Key::Class,
-        class_of(alloc, field(alloc, value, Key::Class)?),
+        known_class(alloc, field(alloc, value, Key::Class)?),
     )?;
     check_keys(alloc, value, part_keys(version, class))?;
     let inside = field(alloc, value, Key::Name)?;
@@ -95,7 +99,7 @@ fn part_blocks(alloc: Global, value: &Value, class: Class) -> Result<u32, Scenar
 {
     match class {
         Class::Block => {
-            let blocks = number_at(alloc, value, Key::Blocks, 1, 256)?;
+            let blocks = number_at(alloc, value, Key::Blocks, 1, u64::from(MOST_DISK_BLOCKS))?;
             Ok(blocks as u32)
         }
         Class::Net | Class::Sound => Ok(0),
@@ -141,7 +145,7 @@ fn part_arrivals(alloc: Global, value: &Value, class: Class) -> Result<Frames, S
 fn frames_of(alloc: Global, value: &Value) -> Result<Frames, ScenarioFault>
     ensures { Gives result (frames_of (view value.now)) }
 {
-    read_list(alloc, &FrameReader, value, 0, 256)
+    read_list(alloc, &FrameReader, value, 0, MOST_ARRIVALS)
 }
 
 /// Reads frames of 1 to 64 words.

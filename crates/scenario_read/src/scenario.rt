@@ -10,12 +10,12 @@ ghost use Rattle.nook_defs.specs.declared.input.Key.TheVariants as key;
 ghost use Rattle.scenario_read.specs.Gives.{Fails, Gives};
 
 use crate::fields::{check_keys, field, number_at};
-use crate::keys::key_text;
 use crate::parts::parts_of;
 use crate::schedule::schedule_of;
 use crate::stop::{ScenarioFault, at, bad_here};
 use crate::threads::threads_of;
 use nook_defs::input::{InputFault, Key};
+use nook_defs::keys::key_text;
 use nook_defs::scenario::{Scenario, ScheduleSpec};
 use serde_json::Value;
 use std::alloc::Global;

@@ -3,7 +3,8 @@
 ghost use Rattle.std.specs.Prelude.{◌≡◌};
 ghost use Rattle.serde_json.specs.View.{view};
 ghost use Rattle.nook_defs.specs.Reading.{named_of};
-ghost use Rattle.nook_defs.specs.ScenarioReading.{picks_of, schedule_by, schedule_named, schedule_of};
+ghost use Rattle.nook_defs.specs.ScenarioReading.{schedule_by, schedule_named, schedule_of};
+ghost use Rattle.nook_defs.specs.Views.Readings.{picks_of};
 ghost use Rattle.scenario_read.specs.Gives.{Gives};
 
 use crate::fields::{check_keys, check_object, field, number_at};

@@ -2,7 +2,8 @@
 
 ghost use Rattle.std.specs.Prelude.{◌≡◌};
 ghost use Rattle.serde_json.specs.View.{view};
-ghost use Rattle.nook_defs.specs.ScenarioReading.{thread_of, threads_of};
+ghost use Rattle.nook_defs.specs.ScenarioReading.{thread_of};
+ghost use Rattle.nook_defs.specs.Views.Readings.{threads_of};
 ghost use Rattle.scenario_read.specs.Gives.{Gives};
 
 use crate::fields::{check_keys, field};

@@ -4,7 +4,7 @@ use Rattle.std.specs.Prelude.{⊤, Result, nat_lt, false, All}
 use Rattle.std.proofs.lemmas.Bool.{le-ltb}
 use Rattle.std.proofs.lemmas.List.Elements.{All-head, All-tail}
 use Rattle.serde_json.specs.Data.{Data}
-use Rattle.nook_defs.specs.Reading.{count_of, items_from, list_of, number_of, numbers_of}
+use Rattle.nook_defs.specs.Reading.{count_of, items_from, list_of, whole_number, numbers_of}
 use Rattle.nook_defs.specs.Valid.{AreWords, IsWord}
 use Rattle.nook_defs.specs.declared.input.Refusal.{Refusal}
 use Rattle.scenario_write.specs.ScenarioText.{items_with, list_data, number_data, numbers_data}
@@ -13,7 +13,7 @@ use Rattle.scenario_write.proofs.Sorted.{sorted, sorted_items}
 pub no_less : (n : ℕ) → nat_lt n 0 ≡ false
 no_less n = le-ltb n 0 (omega arith)
 
-pub number_back : (low high n : ℕ) → low ≤ n → n ≤ high → number_of low high (number_data n) ≡ Ok n
+pub number_back : (low high n : ℕ) → low ≤ n → n ≤ high → whole_number low high (number_data n) ≡ Ok n
 number_back low high n p q = rw (le-ltb n low p, le-ltb high n q) refl
 
 -- each item is read back behind those before it
@@ -44,8 +44,8 @@ reads_all of data_of P each earlier (x ∷ xs) h = (each x (All-head P x xs h), 
 pub numbers_back : (least most high : ℕ) (P : ℕ → Type 0) → ((n : ℕ) → P n → n ≤ high) → (ns : List ℕ) → least ≤ length ns → length ns ≤ most → All P ns
     → numbers_of least most high (sorted (numbers_data ns)) ≡ Ok ns
 numbers_back least most high P within ns low room h =
-    list_back (λ before. number_of 0 high) number_data least most ns low room
-    (reads_all (number_of 0 high) number_data P (λ n p. number_back 0 high n (omega arith) (within n p)) [] ns h)
+    list_back (λ before. whole_number 0 high) number_data least most ns low room
+    (reads_all (whole_number 0 high) number_data P (λ n p. number_back 0 high n (omega arith) (within n p)) [] ns h)
 
 pub word_within : (n : ℕ) → IsWord n → n ≤ 4294967295
 word_within n h = omega (arith, h)

@@ -11,10 +11,12 @@ use Rattle.nook_defs.specs.ImageReading.{driver_of, image_of}
 use Rattle.nook_defs.specs.ImageText.{image_data}
 use Rattle.nook_defs.specs.Keys.{class_named}
 use Rattle.nook_defs.specs.Names.{is_name}
-use Rattle.nook_defs.specs.PartReading.{bad_block_of, fault_of, frame_of, is_among, new_name, part_names, part_of}
+use Rattle.nook_defs.specs.PartReading.{bad_block_of, fault_of, is_among, new_name, part_names, part_of}
+use Rattle.nook_defs.specs.Views.Readings.{frame_of}
 use Rattle.nook_defs.specs.Reading.{list_of, numbers_of}
 use Rattle.nook_defs.specs.ScenarioReading.{op_of, thread_names, thread_of}
-use Rattle.nook_defs.specs.Valid.{IsValidBadBlock, IsValidFault, IsValidFrame, IsValidImage, IsValidPart, IsValidStep, IsValidThread, IsWord, are_distinct}
+use Rattle.nook_defs.specs.Valid.{IsValidBadBlock, IsValidFault, IsValidImage, IsValidPart, IsValidThread, IsWord, are_distinct}
+use Rattle.nook_defs.specs.Views.Limits.{IsValidFrame, IsValidStep}
 use Rattle.nook_defs.specs.declared.scenario.BadBlock.{BadBlock}
 use Rattle.nook_defs.specs.declared.classes.Class.{Class}
 use Rattle.nook_defs.specs.declared.classes.Class.TheVariants as class

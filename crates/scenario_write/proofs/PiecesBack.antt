@@ -3,7 +3,8 @@ use Rattle.std.proofs.Common.{◌≡◌, ℕ, ◌-◌, ◌<◌, ◌≤◌, Ok, r
 use Rattle.std.proofs.lemmas.Bool.{le-ltb}
 use Rattle.nook_defs.specs.PartReading.{bad_block_of, fault_kind, fault_named, fault_of}
 use Rattle.nook_defs.specs.ScenarioReading.{op_by, op_named, op_of, schedule_by, schedule_named, schedule_of}
-use Rattle.nook_defs.specs.Valid.{IsValidBadBlock, IsValidFault, IsValidKind, IsValidOp, IsValidSchedule, IsValidStep, IsWord}
+use Rattle.nook_defs.specs.Valid.{IsValidBadBlock, IsValidFault, IsValidKind, IsValidOp, IsValidSchedule, IsWord}
+use Rattle.nook_defs.specs.Views.Limits.{IsValidStep}
 use Rattle.nook_defs.proofs.Changes.{IsPick}
 use Rattle.nook_defs.specs.declared.scenario.BadBlock.{BadBlock}
 use Rattle.nook_defs.specs.declared.scenario.Fault.{Fault}

@@ -7,7 +7,8 @@ use Rattle.serde_json.specs.Data.{Data, Members, no_members}
 use Rattle.serde_json.specs.Read.{max_depth}
 use Rattle.nook_defs.proofs.NameText.{name_utf8}
 use Rattle.nook_defs.specs.Keys.{class_text, key_text}
-use Rattle.nook_defs.specs.Valid.{FitsClass, IsValidBadBlock, IsValidFault, IsValidFrame, IsValidKind, IsValidOp, IsValidPart, IsValidScenario, IsValidSchedule, IsValidStep, IsValidThread, IsWord}
+use Rattle.nook_defs.specs.Valid.{FitsClass, IsValidBadBlock, IsValidFault, IsValidKind, IsValidOp, IsValidPart, IsValidScenario, IsValidSchedule, IsValidThread, IsWord}
+use Rattle.nook_defs.specs.Views.Limits.{IsValidFrame, IsValidStep}
 use Rattle.nook_defs.proofs.Changes.{IsPick}
 use Rattle.nook_defs.specs.declared.scenario.BadBlock.{BadBlock}
 use Rattle.nook_defs.specs.declared.classes.Class.{Class}

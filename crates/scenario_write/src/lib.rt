@@ -1,7 +1,7 @@
 //! Scenarios as JSON: what is written for one reads as that scenario.
 #![tactic(auto)]
 
-pub mod laws;
+mod laws;
 mod lists;
 mod ops;
 mod parts;
@@ -9,4 +9,5 @@ mod scenario;
 #[cfg(test)]
 mod tests;
 
+pub use laws::scenarios_come_back;
 pub use scenario::{write_scenario, write_scenario_line};

@@ -74,7 +74,7 @@ fn has_bad(parts: &[PartSpec]) -> bool
     ensures { result ≡ has_bad parts.now }
 {
     for part in parts {
-        if part.bad.len() != 0 {
+        if !part.bad.is_empty() {
             return true;
         }
     }

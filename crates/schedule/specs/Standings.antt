@@ -1,5 +1,15 @@
-use Rattle.std.specs.Prelude.{◌≡◌, ℕ, ◌+◌, List, Option, Some, None, drop, slice_index}
-use Rattle.nook_defs.specs.Schedules.{listed, listed_pick, place_from, round_pick}
+use Rattle.std.specs.Prelude.{◌≡◌, ℕ, ◌+◌, nat_le, List, Option, Some, None, drop, position, slice_index, unwrap_or}
+use Rattle.nook_defs.specs.Schedules.{Order, round, drawn, listed, listed_pick, round_pick}
+
+-- the first enabled actor at or after the cursor, else the first
+abbrev pub place_from : ℕ → List ℕ → ℕ
+place_from cursor actors = unwrap_or (position (λ a. nat_le cursor a) actors) 0
+
+-- where an order stands that is a round robin
+abbrev pub cursor_of : Order → Option ℕ
+cursor_of (round cursor) = Some cursor
+cursor_of (drawn g) = None
+cursor_of (listed picks) = None
 
 -- the cursor behind the actor that a round robin picks
 abbrev pub cursor_after : ℕ → List ℕ → ℕ

@@ -1,8 +1,8 @@
 //! A schedule as it stands, and its picks.
 
 ghost use Rattle.std.specs.Prelude.{◌≡◌, ◌+◌, ◌<◌, ◌≤◌, IfSome, length, nat_le, position, ◌==◌};
-ghost use Rattle.nook_defs.specs.Schedules.{listed, listed_pick, opening_order, picked, place_from, round_pick};
-ghost use Rattle.schedule.specs.Standings.{IsNext, cursor_after};
+ghost use Rattle.nook_defs.specs.Schedules.{listed, listed_pick, opening_order, picked, round, round_pick};
+ghost use Rattle.schedule.specs.Standings.{IsNext, cursor_after, cursor_of, place_from};
 
 use nook_defs::lists::Picks;
 use nook_defs::scenario::ScheduleSpec;
@@ -50,6 +50,25 @@ impl Schedule {
             ScheduleSpec::Listed { picks } => Standing::Listed { picks, at: 0 },
         };
         Schedule { standing }
+    }
+
+    /// Of a round robin the number of the actor that is tried first: whoever knows which actors are enabled finds the next
+    /// one without a list of all.
+    pub fn cursor(&self) -> Option<u32>
+        ensures cursor { result ≡ cursor_of self.now }
+        ensures round { IfSome result (λ cursor. self.now ≡ round cursor) }
+    {
+        match self.standing {
+            Standing::Round { cursor } => Some(cursor),
+            Standing::Drawn { .. } | Standing::Listed { .. } => None,
+        }
+    }
+
+    /// The schedule goes on as a round robin that tries this actor first.
+    pub fn go_on_from(&mut self, cursor: u32)
+        ensures { self.new ≡ round cursor }
+    {
+        self.standing = Standing::Round { cursor };
     }
 
     /// The place in `actors` of the one that takes the next step. `actors` are the numbers of the enabled

@@ -3,7 +3,8 @@ use Rattle.std.proofs.Common.{◌≡◌, ℕ, suc, ◌+◌, ◌-◌, ◌≤◌, 
 use Rattle.std.proofs.lemmas.Bool.{eq-eqb, ne_eqb}
 use Rattle.nook_defs.specs.declared.steps.Stage.TheVariants as stage
 use Rattle.nook_defs.specs.State.{CallLog}
-use Rattle.nook_defs.specs.Log.{next_replay, replay_stream}
+use Rattle.nook_defs.specs.Log.{next_replay}
+use Rattle.nook_defs.proofs.Cases.{replay_stream}
 
 one_less : (key : ℕ) → key < 4 → 4 - key ≡ suc (4 - (key + 1))
 one_less key l = omega (arith, l)

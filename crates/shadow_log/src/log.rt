@@ -1,12 +1,14 @@
 //! The shadow's log.
 
 ghost use Rattle.std.specs.Prelude.{◌≡◌, ◌+◌, ◌-◌, ◌<◌, ◌≤◌, true, None, Some, MatchOption, length, map, option_map, slice_get, slice_index, slice_set, IfSome, IfOk, OnOk, OnErr};
-ghost use Rattle.nook_defs.specs.Log.{IsNumbered, acknowledged_call, after_answering, call_of_thread, after_entering, after_holding, held_call, is_touched, next_replay, no_call_open, with_answered_call, open_call, opening_log, replay_after, with_call};
+ghost use Rattle.nook_defs.specs.Log.{after_answering, call_of_thread, after_entering, held_call, next_replay, no_call_open, with_answered_call, open_call, opening_log, replay_after, with_call};
+ghost use Rattle.nook_defs.specs.Views.CallLogs.{IsNumbered, acknowledged_call, after_holding, is_touched};
 ghost use Rattle.shadow_log.specs.Places.{IsPlace};
 ghost use Rattle.shadow_log.specs.Stopped.{after_answers};
 
 use nook_defs::answers::answer_among;
 use nook_defs::calls::{Answer, CallEntry, Op};
+use nook_defs::limits::MOST_CALLS;
 use nook_defs::lists::Word;
 use nook_defs::memory::NoMemory;
 use nook_defs::steps::Stage;
@@ -24,7 +26,7 @@ pub struct ShadowLog {
 }
 
 impl Model for ShadowLog {
-    ghost use Rattle.nook_defs.specs.Log.{IsNumbered};
+    ghost use Rattle.nook_defs.specs.Views.CallLogs.{IsNumbered};
     ghost use Rattle.nook_defs.specs.State.{CallLog};
 
     ghost Value = { CallLog };
@@ -58,7 +60,7 @@ impl ShadowLog {
     /// A call that stays open: it is Held and was never Inside. Its number, one more than the last one given.
     #[tactic(auto, unfolding(nook_defs::specs::Log::with_call))]
     pub fn invoke(&mut self, thread: u8, op: Op) -> Result<u32, NoMemory>
-        requires { self.old.count < 100000 }
+        requires { self.old.count < MOST_CALLS }
         ensures ok { OnOk result (self.new ≡ with_call thread op self.old) }
         ensures number { IfOk result (λ call. call ≡ self.old.count + 1) }
         ensures err { OnErr result (self.new ≡ self.old) }
@@ -78,7 +80,7 @@ impl ShadowLog {
     /// A call that is answered at once: only its number is given.
     #[tactic(auto, unfolding(nook_defs::specs::Log::with_answered_call))]
     pub fn number(&mut self) -> u32
-        requires { self.old.count < 100000 }
+        requires { self.old.count < MOST_CALLS }
         ensures log { self.new ≡ with_answered_call self.old }
         ensures number { result ≡ self.old.count + 1 }
     {
@@ -100,7 +102,7 @@ impl ShadowLog {
     }
 
     /// The call is Held. It keeps its number and its attempts.
-    #[tactic(auto, unfolding(nook_defs::specs::Log::after_holding))]
+    #[tactic(auto, unfolding(nook_defs::specs::Views::CallLogs::after_holding))]
     pub fn held(&mut self, call: u32)
         ensures { self.new ≡ after_holding call self.old }
     {
@@ -111,7 +113,7 @@ impl ShadowLog {
 
     /// The driver's reply to the call was accepted. A Set goes into the record, an Open makes the call's thread
     /// the holder, a Close leaves none. The call stays open.
-    #[tactic(auto, unfolding(nook_defs::specs::Log::acknowledged_call, nook_defs::specs::Log::after_acknowledging))]
+    #[tactic(auto, unfolding(nook_defs::specs::Views::CallLogs::acknowledged_call, nook_defs::specs::Log::after_acknowledging))]
     pub fn acknowledge(&mut self, call: u32)
         ensures { self.new ≡ acknowledged_call call self.old }
     {

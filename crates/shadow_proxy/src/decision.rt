@@ -3,7 +3,7 @@
 use nook_defs::calls::Answer;
 
 /// What the shadow does with an operation in the driver's place.
-#[derive(Drop)]
+#[derive(Debug, PartialEq, Eq, Drop)]
 pub enum Proxy {
     /// It is answered.
     Answer(Answer),

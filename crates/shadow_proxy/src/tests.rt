@@ -47,43 +47,34 @@ fn some_log(alloc: Global) -> Result<ShadowLog, Fail> {
     Ok(log)
 }
 
-/// What the shadow does with a thread's operation, by its name.
-fn decided(alloc: Global, thread: u8, name: &str, has_front: bool) -> Result<&'static str, Fail> {
-    let log = some_log(alloc)?;
-    let op = op_of(alloc, name)?;
-    let front = if has_front { Some(words(alloc)?) } else { None };
-    Ok(match proxy(&op, thread, &log, &Stage::Reset, front) {
-        Proxy::Hold => "held",
-        Proxy::Answer(Answer::Done) => "done",
-        Proxy::Answer(Answer::Value(5)) => "value 5",
-        Proxy::Answer(Answer::Frame(_)) => "frame",
-        Proxy::Answer(Answer::Empty) => "empty",
-        Proxy::Answer(
-            Answer::Busy {
-                stage: Stage::Reset,
-            },
-        ) => "busy reset",
-        Proxy::Answer(Answer::NotOpen) => "not_open",
-        Proxy::Answer(_) => "another answer",
-    })
-}
-
 #[test]
 fn answers_or_holds_each_operation(rt: HostRuntime) -> Result<(), Fail> {
+    let busy = Answer::Busy {
+        stage: Stage::Reset,
+    };
     for (thread, name, has_front, want) in [
-        (4, "read", false, "held"),
-        (4, "write", false, "held"),
-        (4, "send", false, "done"),
-        (4, "recv", true, "frame"),
-        (4, "recv", false, "empty"),
-        (4, "open", false, "busy reset"),
-        (4, "play", false, "done"),
-        (5, "play", false, "not_open"),
-        (4, "close", false, "held"),
-        (4, "get", false, "value 5"),
-        (4, "set", false, "held"),
+        (4, "read", false, Proxy::Hold),
+        (4, "write", false, Proxy::Hold),
+        (4, "send", false, Proxy::Answer(Answer::Done)),
+        (
+            4,
+            "recv",
+            true,
+            Proxy::Answer(Answer::Frame(words(rt.alloc())?)),
+        ),
+        (4, "recv", false, Proxy::Answer(Answer::Empty)),
+        (4, "open", false, Proxy::Answer(busy)),
+        (4, "play", false, Proxy::Answer(Answer::Done)),
+        (5, "play", false, Proxy::Answer(Answer::NotOpen)),
+        (4, "close", false, Proxy::Hold),
+        (4, "get", false, Proxy::Answer(Answer::Value(5))),
+        (4, "set", false, Proxy::Hold),
     ] {
-        let decision = decided(rt.alloc(), thread, name, has_front)?;
+        let alloc = rt.alloc();
+        let log = some_log(alloc)?;
+        let op = op_of(alloc, name)?;
+        let front = if has_front { Some(words(alloc)?) } else { None };
+        let decision = proxy(&op, thread, &log, &Stage::Reset, front);
         assert_eq!(rt; decision, want, "{name} of thread {thread}");
     }
     Ok(())

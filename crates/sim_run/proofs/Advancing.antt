@@ -5,7 +5,7 @@ use Rattle.std.proofs.lemmas.List.{drop_more, get_or_default, take_more}
 use Rattle.nook_defs.specs.declared.steps.Event.{Event}
 use Rattle.nook_defs.specs.declared.memory.NoMemory.{NoMemory}
 use Rattle.nook_defs.specs.Schedules.{Order, picked}
-use Rattle.nook_defs.specs.Simulation.{Choice, RunningPart, Simulation, ThreadState, actor_of, choices_of, started, stepped_by, threads_after, told}
+use Rattle.nook_defs.specs.Simulation.{Choice, RunningPart, Simulation, ThreadState, actor_of, choices_of, started, stepped_by, threads_after, thread_after}
 use Rattle.part_laws.proofs.Places.{length_map}
 use Rattle.sim_run.proofs.Choosing.{actors_named, choices_found, choices_open}
 use Rattle.sim_run.proofs.Picking.{picked_within}
@@ -72,14 +72,14 @@ pick_is order order' parts threads actors place o a l p r h =
 
 heard_push : (thread part : ℕ) (e : Event) (threads : List ThreadState) (t : ThreadState)
     → threads_after thread part e (threads ++ t ∷ [])
-    ≡ threads_after thread part e threads ++ told part e (started (thread + length threads) part e t) ∷ []
-heard_push thread part e [] t = ap {B = List ThreadState} (λ (n : ℕ). told part e (started n part e t) ∷ []) (plus thread)
+    ≡ threads_after thread part e threads ++ thread_after part e (started (thread + length threads) part e t) ∷ []
+heard_push thread part e [] t = ap {B = List ThreadState} (λ (n : ℕ). thread_after part e (started n part e t) ∷ []) (plus thread)
   where
     plus : (n : ℕ) → n ≡ n + 0
     plus n = omega arith
 heard_push thread part e (x ∷ threads) t =
-    ap {B = List ThreadState} (λ xs. told part e (started thread part e x) ∷ xs) (heard_push (thread + 1) part e threads t
-    ∙ ap {B = List ThreadState} (λ (n : ℕ). threads_after (thread + 1) part e threads ++ told part e (started n part e t) ∷ []) (plus thread (length threads)))
+    ap {B = List ThreadState} (λ xs. thread_after part e (started thread part e x) ∷ xs) (heard_push (thread + 1) part e threads t
+    ∙ ap {B = List ThreadState} (λ (n : ℕ). threads_after (thread + 1) part e threads ++ thread_after part e (started n part e t) ∷ []) (plus thread (length threads)))
   where
     plus : (n k : ℕ) → n + 1 + k ≡ n + suc k
     plus n k = omega arith
@@ -89,7 +89,7 @@ heard_length thread part e [] = refl
 heard_length thread part e (x ∷ threads) = ap suc (heard_length (thread + 1) part e threads)
 
 pub heard_more : (part : ℕ) (e : Event) (threads now : List ThreadState) (i : ℕ) (d new : ThreadState) → i < length threads
-    → now ≡ threads_after 0 part e (take i threads) ++ drop i threads → new ≡ told part e (started i part e (get_or now i d))
+    → now ≡ threads_after 0 part e (take i threads) ++ drop i threads → new ≡ thread_after part e (started i part e (get_or now i d))
     → slice_set now i new ≡ threads_after 0 part e (take (i + 1) threads) ++ drop (i + 1) threads
 heard_more part e threads now i d new l h n =
     let count : length (take i threads) ≡ i = length-take-le i threads (omega arith) in
@@ -101,14 +101,14 @@ heard_more part e threads now i d new l h n =
     ap (λ xs. get_or xs i d) old
     ∙ ap (λ (k : ℕ). get_or (threads_after 0 part e (take i threads) ++ get_or threads i d ∷ drop (i + 1) threads) k d) (sym size)
     ∙ get_or-append_seam (threads_after 0 part e (take i threads)) (get_or threads i d) (drop (i + 1) threads) d in
-    let first : new ≡ told part e (started (0 + length (take i threads)) part e (get_or threads i d)) =
-    n ∙ ap (λ x. told part e (started i part e x)) here
-    ∙ ap (λ (k : ℕ). told part e (started k part e (get_or threads i d))) (plus i (length (take i threads)) count) in
+    let first : new ≡ thread_after part e (started (0 + length (take i threads)) part e (get_or threads i d)) =
+    n ∙ ap (λ x. thread_after part e (started i part e x)) here
+    ∙ ap (λ (k : ℕ). thread_after part e (started k part e (get_or threads i d))) (plus i (length (take i threads)) count) in
     ap (λ xs. slice_set xs i new) old
     ∙ ap (λ (k : ℕ). slice_set (threads_after 0 part e (take i threads) ++ get_or threads i d ∷ drop (i + 1) threads) k new) (sym size)
     ∙ set-append_seam (threads_after 0 part e (take i threads)) (get_or threads i d) (drop (i + 1) threads) new
     ∙ ap (λ (x : ThreadState). threads_after 0 part e (take i threads) ++ x ∷ drop (i + 1) threads) first
-    ∙ sym (append_assoc (threads_after 0 part e (take i threads)) (told part e (started (0 + length (take i threads)) part e (get_or threads i d)) ∷ []) (drop (i + 1) threads))
+    ∙ sym (append_assoc (threads_after 0 part e (take i threads)) (thread_after part e (started (0 + length (take i threads)) part e (get_or threads i d)) ∷ []) (drop (i + 1) threads))
     ∙ ap (λ xs. xs ++ drop (i + 1) threads) (sym (heard_push 0 part e (take i threads) (get_or threads i d)))
     ∙ ap (λ xs. threads_after 0 part e xs ++ drop (i + 1) threads) (sym (take_more threads i d l))
   where

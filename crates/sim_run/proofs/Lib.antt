@@ -3,6 +3,7 @@ pub mod Advancing
 pub mod Choosing
 pub mod Ending
 pub mod EndStates
+pub mod NextActor
 pub mod Picking
 pub mod Publishing
 pub mod Reaching

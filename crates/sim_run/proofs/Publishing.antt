@@ -8,7 +8,7 @@ use Rattle.nook_defs.specs.declared.scenario.Scenario.{Scenario}
 use Rattle.nook_defs.specs.Listening.{Listening, count_if, hears}
 use Rattle.nook_defs.specs.Runs.{event_of}
 use Rattle.nook_defs.specs.Simulation.{Choice, RunningPart, Simulation, begins, choices_of, journal_of, journals_of, opening_part, runs, part_after, taken}
-use Rattle.nook_defs.specs.Taps.{heard_events}
+use Rattle.nook_defs.specs.Listening.{heard_events}
 use Rattle.part_laws.proofs.BurstKeeps.{split}
 use Rattle.part_laws.proofs.Places.{get_set_other}
 use Rattle.sim_run.proofs.Choosing.{choices_open}

@@ -1,4 +1,5 @@
-use Rattle.std.specs.Prelude.{ℕ, Bool, is_some, ◌++◌, ◌+◌, ◌-◌, ◌/◌, ◌%◌, ◌==◌, nat_lt, if◌then◌else◌, Option, Some, None, List, [], ◌∷◌, length, slice_get}
+use Rattle.std.specs.Prelude.{ℕ, Bool, is_some, ◌++◌, ◌+◌, ◌-◌, ◌/◌, ◌%◌, ◌==◌, nat_le, nat_lt, if◌then◌else◌, Option, Some, None, List, [], ◌∷◌, find, length, slice_get}
+use Rattle.std.specs.Option.{option_or}
 use Rattle.nook_defs.specs.declared.calls.Op.{Op}
 use Rattle.nook_defs.specs.declared.steps.Step.{Step}
 use Rattle.nook_defs.specs.Runs.{next_recovery}
@@ -71,3 +72,13 @@ actors_of_threads thread parts (t ∷ threads) = actor_of_thread thread parts t 
 -- the actors that have a step, in rising order
 abbrev pub actors_in : List RunningPart → List ThreadState → List ℕ
 actors_in parts threads = actors_of_threads 0 parts threads ++ actors_of_seats (length threads) parts
+
+-- The next actor of a round robin.
+
+-- the first of some numbers that is at least so much
+abbrev pub first_from : ℕ → List ℕ → Option ℕ
+first_from least numbers = find (nat_le least) numbers
+
+-- the first number at or after a cursor, else the first
+abbrev pub next_from : ℕ → List ℕ → Option ℕ
+next_from cursor numbers = option_or (first_from cursor numbers) (first_from 0 numbers)

@@ -5,7 +5,7 @@ use Rattle.nook_defs.specs.Listening.{Listening}
 use Rattle.nook_defs.specs.Runs.{event_of}
 use Rattle.nook_defs.specs.Schedules.{picked}
 use Rattle.nook_defs.specs.Simulation.{Choice, RunningPart, Simulation, actor_of, choices_of, taken}
-use Rattle.nook_defs.specs.Taps.{heard_events}
+use Rattle.nook_defs.specs.Listening.{heard_events}
 use Rattle.request_taps.specs.Bus.{told_all}
 use Rattle.request_taps.specs.declared.tap.Tap.{Tap}
 use Rattle.run_ends.specs.Journals.{with_part}

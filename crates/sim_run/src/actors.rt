@@ -5,11 +5,12 @@
 
 ghost use Rattle.std.specs.Prelude.{◌≡◌, ◌+◌, ◌≤◌, ◌++◌, length, IfOk, OnOk, Some};
 ghost use Rattle.sim_run.specs.Able.{AreAble, able_actors};
-ghost use Rattle.sim_run.specs.Actors.{actors_of_seat, actors_of_seats, choice_at, choice_behind, choice_of_seat, named_if};
+ghost use Rattle.sim_run.specs.Actors.{actors_of_seat, actors_of_seats, choice_at, choice_behind, choice_of_seat, first_from, named_if, next_from};
 
 use crate::chosen::Chosen;
 use crate::script::Script;
 use crate::seat::Seat;
+use nook_defs::limits::{MOST_PARTS, MOST_THREADS};
 use nook_defs::memory::NoMemory;
 use std::alloc::Global;
 
@@ -19,7 +20,7 @@ pub fn able_threads(
     threads: &[Script],
     seats: &[Seat],
 ) -> Result<Vec<bool>, NoMemory>
-    requires { length threads.now ≤ 16 }
+    requires { length threads.now ≤ MOST_THREADS }
     ensures { IfOk result (λ able. AreAble seats.now threads.now able.items) }
 {
     let mut able = Vec::with_capacity(alloc, threads.len())?;
@@ -31,8 +32,8 @@ pub fn able_threads(
 
 /// Makes `ready` the numbers of the actors that have a step, in rising order; `able` tells which threads have one.
 pub fn list_ready(able: &[bool], seats: &[Seat], ready: &mut Vec<u16>) -> Result<(), NoMemory>
-    requires able { length able.now ≤ 16 }
-    requires seats { length seats.now ≤ 8 }
+    requires able { length able.now ≤ MOST_THREADS }
+    requires seats { length seats.now ≤ MOST_PARTS }
     ensures { OnOk result (ready.new.items ≡ able_actors 0 able.now ++ actors_of_seats (length able.now) seats.now) }
 {
     ready.clear();
@@ -42,7 +43,7 @@ pub fn list_ready(able: &[bool], seats: &[Seat], ready: &mut Vec<u16>) -> Result
 
 /// Adds the numbers of the threads that have a step.
 fn add_threads(able: &[bool], ready: &mut Vec<u16>) -> Result<(), NoMemory>
-    requires { length able.now ≤ 16 }
+    requires { length able.now ≤ MOST_THREADS }
     ensures { OnOk result (ready.new.items ≡ ready.old.items ++ able_actors 0 able.now) }
 {
     for (place, is_able) in able.iter().enumerate() {
@@ -53,8 +54,8 @@ fn add_threads(able: &[bool], ready: &mut Vec<u16>) -> Result<(), NoMemory>
 
 /// Adds the numbers of the parts' actors that have a step, of which the first part's first one is given.
 fn add_seats(first: u16, seats: &[Seat], ready: &mut Vec<u16>) -> Result<(), NoMemory>
-    requires first { first ≤ 16 }
-    requires seats { length seats.now ≤ 8 }
+    requires first { first ≤ MOST_THREADS }
+    requires seats { length seats.now ≤ MOST_PARTS }
     ensures { OnOk result (ready.new.items ≡ ready.old.items ++ actors_of_seats first seats.now) }
 {
     for (place, seat) in seats.iter().enumerate() {
@@ -90,7 +91,7 @@ pub fn choice_of(
     threads: &[Script],
     seats: &[Seat],
 ) -> Result<Option<Chosen>, NoMemory>
-    requires { length threads.now ≤ 16 }
+    requires { length threads.now ≤ MOST_THREADS }
     ensures { IfOk result (λ choice. choice ≡ choice_at seats.now threads.now actor) }
 {
     let place = actor as usize;
@@ -134,4 +135,67 @@ fn choice_of_seat(
         seat.arrival(alloc)?
     };
     Ok(Chosen::of_step(actor, part, step))
+}
+
+/// The next actor of a round robin: the first one at or after the cursor that has a step, else the first that has one.
+/// `able` tells which threads have one.
+pub fn next_ready(cursor: u32, able: &[bool], seats: &[Seat]) -> Option<u16>
+    requires able { length able.now ≤ 16 }
+    requires seats { length seats.now ≤ 8 }
+    ensures { result ≡ next_from cursor (able_actors 0 able.now ++ actors_of_seats (length able.now) seats.now) }
+{
+    first_ready(cursor, able, seats).or(first_ready(0, able, seats))
+}
+
+/// The first actor from a number on that has a step; `able` tells which threads have one.
+fn first_ready(least: u32, able: &[bool], seats: &[Seat]) -> Option<u16>
+    requires able { length able.now ≤ 16 }
+    requires seats { length seats.now ≤ 8 }
+    ensures { result ≡ first_from least (able_actors 0 able.now ++ actors_of_seats (length able.now) seats.now) }
+{
+    match first_thread(least, able) {
+        Some(actor) => Some(actor),
+        None => first_of_seats(least, able.len() as u16, seats),
+    }
+}
+
+/// The first thread from a number on that has a step.
+fn first_thread(least: u32, able: &[bool]) -> Option<u16>
+    requires { length able.now ≤ 16 }
+    ensures { result ≡ first_from least (able_actors 0 able.now) }
+{
+    for (place, is_able) in able.iter().enumerate() {
+        if *is_able && least <= place as u32 {
+            return Some(place as u16);
+        }
+    }
+    None
+}
+
+/// The first of the parts' actors from a number on that has a step; the first part's first actor is given.
+fn first_of_seats(least: u32, first: u16, seats: &[Seat]) -> Option<u16>
+    requires first { first ≤ 16 }
+    requires seats { length seats.now ≤ 8 }
+    ensures { result ≡ first_from least (actors_of_seats first seats.now) }
+{
+    for (place, seat) in seats.iter().enumerate() {
+        if let Some(actor) = first_of_seat(least, first + 2 * place as u16, seat) {
+            return Some(actor);
+        }
+    }
+    None
+}
+
+/// The first of a part's two actors from a number on that has a step; the first of the two is given.
+fn first_of_seat(least: u32, actor: u16, seat: &Seat) -> Option<u16>
+    requires { actor ≤ 100 }
+    ensures { result ≡ first_from least (actors_of_seat actor seat.now) }
+{
+    if seat.has_recovery() && least <= u32::from(actor) {
+        Some(actor)
+    } else if seat.has_arrival() && least <= u32::from(actor) + 1 {
+        Some(actor + 1)
+    } else {
+        None
+    }
 }

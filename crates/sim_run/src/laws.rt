@@ -3,7 +3,7 @@
 ghost use Rattle.std.specs.Prelude.{◌≡◌, ℕ, List, Some, slice_get};
 ghost use Rattle.nook_defs.specs.Listening.{Listening};
 ghost use Rattle.nook_defs.specs.Simulation.{IsScheduledRun, Simulation, begins, journals_of, runs};
-ghost use Rattle.nook_defs.specs.Taps.{heard_events};
+ghost use Rattle.nook_defs.specs.Listening.{heard_events};
 ghost use Rattle.nook_defs.specs.Valid.{IsValidScenario};
 ghost use Rattle.nook_defs.specs.declared.steps.Event.{Event};
 ghost use Rattle.nook_defs.specs.declared.scenario.Scenario.{Scenario};

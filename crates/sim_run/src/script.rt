@@ -4,7 +4,7 @@ ghost use Rattle.std.specs.Prelude.{drop, ◌≡◌, is_some, slice_get, IfOk, N
 ghost use Rattle.nook_defs.specs.Runs.{answer_among, answer_at};
 ghost use Rattle.sim_run.specs.Able.{concerns, is_invocation, looks_at};
 ghost use Rattle.sim_run.specs.Actors.{choice_when, has_step};
-ghost use Rattle.nook_defs.specs.Simulation.{going_on, invocation, opening_thread, started, told};
+ghost use Rattle.nook_defs.specs.Simulation.{going_on, invocation, opening_thread, started, thread_after};
 
 use crate::chosen::Chosen;
 use crate::seat::Seat;
@@ -117,7 +117,7 @@ impl<'a> Script<'a> {
         part: u32,
         event: &Event,
     ) -> Result<(), NoMemory>
-        ensures { OnOk result (self.new ≡ told part event.now (started thread part event.now self.old)) }
+        ensures { OnOk result (self.new ≡ thread_after part event.now (started thread part event.now self.old)) }
     {
         self.start(thread, part, event);
         self.settle(alloc, part, event)
@@ -141,7 +141,7 @@ impl<'a> Script<'a> {
 
     /// An answer to the open call is kept.
     fn settle(&mut self, alloc: Global, part: u32, event: &Event) -> Result<(), NoMemory>
-        ensures { OnOk result (self.new ≡ told part event.now self.old) }
+        ensures { OnOk result (self.new ≡ thread_after part event.now self.old) }
     {
         let Some(call) = self.waiting else {
             return Ok(());

@@ -16,7 +16,7 @@ use nook_defs::memory::NoMemory;
 use nook_defs::scenario::PartSpec;
 use nook_defs::steps::{Event, Step};
 use part_core::Part;
-use report_text::whole_report::PartEnd;
+use report_text::PartEnd;
 use run_ends::end_of;
 use std::alloc::Global;
 use std::marker::Model;

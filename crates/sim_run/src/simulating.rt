@@ -1,8 +1,8 @@
 //! A run as it stands: its schedule, its parts and its threads.
 
 ghost use Rattle.std.specs.Prelude.{◌≡◌, ◌≤◌, ◌<◌, false, All, IfOk, IfSome, OnOk, length, map, slice_get};
-ghost use Rattle.nook_defs.specs.Schedules.{picked};
-ghost use Rattle.nook_defs.specs.Simulation.{answer_table, answers_of, begins, journal_of, journals_of, opening_part, opening_thread, started, stepped_by, threads_after, told};
+ghost use Rattle.nook_defs.specs.Schedules.{picked, round};
+ghost use Rattle.nook_defs.specs.Simulation.{answer_table, answers_of_thread, begins, journal_of, journals_of, opening_part, opening_thread, started, stepped_by, threads_after, thread_after};
 ghost use Rattle.nook_defs.specs.Valid.{IsValidPart, IsValidScenario};
 ghost use Rattle.sim_run.specs.Able.{AreAble, AreAbleUpTo, concerns};
 ghost use Rattle.sim_run.specs.Actors.{has_step};
@@ -14,20 +14,20 @@ ghost use Rattle.request_taps.specs.Bus.{seen};
 ghost use Rattle.sim_run.specs.Reached.{IsOpenChoice, MayTake};
 ghost use Rattle.run_ends.specs.Journals.{events_in};
 
-use crate::actors::{able_threads, choice_of, list_ready};
+use crate::actors::{able_threads, choice_of, list_ready, next_ready};
 use crate::chosen::Chosen;
 use crate::script::Script;
 use crate::seat::Seat;
 use crate::whole_run::FoundBurst;
 use nook_defs::calls::AnswerTable;
+use nook_defs::limits::{MOST_PARTS, MOST_THREADS};
 use nook_defs::listeners::TapTotals;
 use nook_defs::lists::{Items, TryCopy};
 use nook_defs::memory::NoMemory;
 use nook_defs::outside::Listener;
 use nook_defs::scenario::{PartSpec, Scenario, ThreadSpec};
 use nook_defs::steps::{Event, Step};
-use report_text::report::{Journals, Run};
-use report_text::whole_report::PartEnds;
+use report_text::{Journals, PartEnds, Run};
 use request_taps::Bus;
 use run_ends::WholeRun;
 use schedule::Schedule;
@@ -50,13 +50,14 @@ pub struct Simulating<'a> {
 impl<'a> Model for Simulating<'a> {
     ghost use Rattle.std.specs.Prelude.{◌≤◌, length, IfSome};
     ghost use Rattle.nook_defs.specs.Simulation.{Simulation};
+    ghost use Rattle.nook_defs.specs.declared.limits.TheConstants.{MOST_PARTS, MOST_THREADS};
     ghost use Rattle.sim_run.specs.Able.{AreAble};
 
     ghost Value = { Simulation };
 
     ghost view = { λ s. record { order = s.schedule; parts = s.seats.items; threads = s.threads.items } };
 
-    ghost invariant = { λ s. (length s.seats.items ≤ 8) × (length s.threads.items ≤ 16)
+    ghost invariant = { λ s. (length s.seats.items ≤ MOST_PARTS) × (length s.threads.items ≤ MOST_THREADS)
         × IfSome s.able (λ able. AreAble s.seats.items s.threads.items able.items) };
 }
 
@@ -192,7 +193,7 @@ fn kept_or_found(
     seats: &[Seat],
 ) -> Result<Vec<bool>, NoMemory>
     requires kept { IfSome kept (λ able. AreAble seats.now threads.now able.items) }
-    requires threads { length threads.now ≤ 16 }
+    requires threads { length threads.now ≤ MOST_THREADS }
     ensures { IfOk result (λ able. AreAble seats.now threads.now able.items) }
 {
     match kept {
@@ -212,7 +213,8 @@ fn take_ends(alloc: Global, seats: &[Seat]) -> Result<PartEnds, NoMemory>
     Ok(made)
 }
 
-/// The choice that the schedule picks, where any actor has a step. `ready` becomes the actors that have one.
+/// The choice that the schedule picks, where any actor has a step. `ready` becomes the actors that have one, where the
+/// schedule looks at them all.
 fn pick(
     alloc: Global,
     schedule: &mut Schedule,
@@ -221,18 +223,44 @@ fn pick(
     able: &[bool],
     ready: &mut Vec<u16>,
 ) -> Result<Option<Chosen>, NoMemory>
-    requires threads { length threads.now ≤ 16 }
-    requires seats { length seats.now ≤ 8 }
+    requires threads { length threads.now ≤ MOST_THREADS }
+    requires seats { length seats.now ≤ MOST_PARTS }
     requires able { AreAble seats.now threads.now able.now }
     ensures { IfOk result (λ choice. IsPick
         (standing schedule.old seats.now threads.now) choice (standing schedule.new seats.now threads.now)) }
 {
+    if let Some(cursor) = schedule.cursor() {
+        return pick_next(alloc, schedule, cursor, threads, seats, able);
+    }
     list_ready(able, seats, ready)?;
     if ready.is_empty() {
         return Ok(None);
     }
     let place = pick_place(schedule, ready);
     choice_of(alloc, ready[place], threads, seats)
+}
+
+/// The choice that a round robin picks, where any actor has a step: of the first actor that has one from the cursor on.
+fn pick_next(
+    alloc: Global,
+    schedule: &mut Schedule,
+    cursor: u32,
+    threads: &[Script],
+    seats: &[Seat],
+    able: &[bool],
+) -> Result<Option<Chosen>, NoMemory>
+    requires round { schedule.old ≡ round cursor }
+    requires threads { length threads.now ≤ 16 }
+    requires seats { length seats.now ≤ 8 }
+    requires able { AreAble seats.now threads.now able.now }
+    ensures { IfOk result (λ choice. IsPick
+        (standing schedule.old seats.now threads.now) choice (standing schedule.new seats.now threads.now)) }
+{
+    let Some(actor) = next_ready(cursor, able, seats) else {
+        return Ok(None);
+    };
+    schedule.go_on_from(actor as u32 + 1);
+    choice_of(alloc, actor, threads, seats)
 }
 
 /// The place in a list that the schedule picks. There is one.
@@ -257,8 +285,8 @@ fn take<L: Listener>(
     chosen: Chosen,
 ) -> Result<(), NoMemory>
     requires choice { IsOpenChoice seats.old chosen }
-    requires seats { length seats.old ≤ 8 }
-    requires threads { length threads.old ≤ 16 }
+    requires seats { length seats.old ≤ MOST_PARTS }
+    requires threads { length threads.old ≤ MOST_THREADS }
     requires able { AreAble seats.old threads.old able.old }
     ensures heard { HearsChoice (made_of chosen (slice_get seats.old chosen.part)) result
         (map (seen L.listening) taps.old) (map (seen L.listening) taps.new) }
@@ -314,7 +342,7 @@ fn hear_all(
     part: u32,
     event: &Event,
 ) -> Result<(), NoMemory>
-    requires few { length threads.old ≤ 16 }
+    requires few { length threads.old ≤ MOST_THREADS }
     requires able { AreAbleUpTo 0 part event.now seats.now threads.old able.old }
     ensures threads { OnOk result (threads.new ≡ threads_after 0 part event.now threads.old) }
     ensures able { OnOk result (AreAble seats.now threads.new able.new) }
@@ -344,7 +372,7 @@ fn hear(
     event: &Event,
 ) -> Result<(), NoMemory>
     requires { concerns number part event.now thread.old ≡ false → able.old ≡ has_step number seats.now thread.old }
-    ensures thread { OnOk result (thread.new ≡ told part event.now (started number part event.now thread.old)) }
+    ensures thread { OnOk result (thread.new ≡ thread_after part event.now (started number part event.now thread.old)) }
     ensures able { OnOk result (able.new ≡ has_step number seats.now thread.new) }
 {
     if thread.is_concerned(number, part, event) {
@@ -367,7 +395,7 @@ fn take_journals(alloc: Global, seats: Vec<Seat>) -> Result<Journals, NoMemory>
 
 /// Each thread's answers.
 fn take_answers(alloc: Global, threads: Vec<Script>) -> Result<AnswerTable, NoMemory>
-    ensures { IfOk result (λ made. made ≡ map answers_of threads.entry.items) }
+    ensures { IfOk result (λ made. made ≡ map answers_of_thread threads.entry.items) }
 {
     let mut made = Items::new(alloc);
     for thread in threads {

@@ -9,7 +9,7 @@ use nook_defs::listeners::{CountListener, TapTotals};
 use nook_defs::memory::NoMemory;
 use nook_defs::scenario::Scenario;
 use nook_defs::steps::Event;
-use report_text::report::Journals;
+use report_text::Journals;
 use request_taps::Bus;
 use scenario_gen::generate;
 use std::alloc::Global;

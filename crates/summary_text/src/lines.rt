@@ -5,7 +5,7 @@ ghost use Rattle.nook_defs.specs.ReportText.{gen_line};
 
 use crate::summary::Summary;
 use nook_defs::memory::NoMemory;
-use report_text::line::Line;
+use report_text::Line;
 
 /// The line of a generated scenario.
 pub fn push_summary(line: &mut Line, summary: Summary) -> Result<(), NoMemory>

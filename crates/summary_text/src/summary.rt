@@ -6,8 +6,7 @@ ghost use Rattle.report_text.specs.Writing.{Wrote};
 use crate::lines::push_summary;
 use nook_defs::outside::Sink;
 use nook_defs::whole::write_all;
-use report_text::line::Line;
-use report_text::write::WriteStop;
+use report_text::{Line, WriteStop};
 use std::alloc::Global;
 
 /// What the line of a generated scenario tells: its number, the events and failures of all its parts, and the status

@@ -7,7 +7,7 @@ mod opening;
 mod publishing;
 mod running;
 
-pub use closing::{AllLeft, Left, leave, leave_all};
-pub use opening::{Opened, open_desks};
+pub use closing::{Left, leave};
+pub use opening::Opened;
 pub use publishing::publish_all;
 pub use running::run_threads;

@@ -6,13 +6,14 @@ ghost use Rattle.run_ends.specs.Journals.{events_in, with_part};
 ghost use Rattle.threaded_run.specs.Threaded.{in_parts};
 
 use nook_defs::journal::Journal;
+use nook_defs::limits::MOST_PARTS;
 use nook_defs::outside::Listener;
 use nook_defs::steps::Event;
 use request_taps::Bus;
 
 /// The taps hear the events of journals, one for each of up to 8 parts, part by part.
 pub fn publish_all<L: Listener>(taps: &mut Bus<L>, journals: &[Journal])
-    requires { length journals.now ≤ 8 }
+    requires { length journals.now ≤ MOST_PARTS }
     ensures { map (seen L.listening) taps.new ≡ told_all (in_parts 0 (map events_in journals.now)) (map (seen L.listening) taps.old) }
 {
     for part in 0..journals.len() {

@@ -1,7 +1,7 @@
 //! Sinks that fail on the way: the lines before are written, and the burst goes no further.
 
 use crate::tracing::{disk, sink_of, text_in, written};
-use report_text::write::WriteStop;
+use report_text::WriteStop;
 use sim_run::run_to_burst;
 use std::test::Fail;
 use turn_trace::trace_burst;

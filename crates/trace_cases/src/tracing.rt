@@ -7,7 +7,7 @@ use burst_trace::write_trace;
 use nook_defs::lists::Words;
 use nook_defs::scenario::Scenario;
 use nook_defs::streams_in_memory::ListSink;
-use report_text::write::WriteStop;
+use report_text::WriteStop;
 use scenario_read::read_scenario;
 use std::alloc::Global;
 use std::test::Fail;

@@ -10,7 +10,8 @@ use Rattle.nook_defs.specs.declared.machine.TrapCause.{TrapCause}
 use Rattle.nook_defs.specs.declared.machine.TrapCause.TheVariants as trap
 use Rattle.nook_defs.specs.declared.machine.BurstEnd.{BurstEnd}
 use Rattle.nook_defs.specs.declared.machine.BurstEnd.TheVariants as ends
-use Rattle.nook_defs.specs.Burst.{Struck, acts_of, past_trap, strikes_at, struck_machine, trap_of}
+use Rattle.nook_defs.specs.Burst.{Struck, acts_of, strikes_at, struck_machine, trap_of}
+use Rattle.nook_defs.proofs.Cases.{past_trap}
 use Rattle.nook_defs.specs.ReportLines.{line_feed}
 use Rattle.nook_defs.specs.Turn.{Machine, Turn, turn}
 use Rattle.report_text.proofs.WroteLemmas.{Progress, appends_whole, progress_halt, progress_start, progress_step, progress_stop}

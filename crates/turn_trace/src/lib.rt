@@ -2,12 +2,13 @@
 //! of its lines.
 #![tactic(auto)]
 
-pub mod laws;
+mod laws;
 mod lines;
 mod traced;
 mod tracing;
 mod writing;
 
+pub use laws::every_trace_tells_its_burst;
 pub use traced::TracedTurn;
 pub use tracing::trace_burst;
 pub use writing::{write_start, write_unstruck};

@@ -10,8 +10,7 @@ use nook_defs::lists::Word;
 use nook_defs::machine::Cpu;
 use nook_defs::memory::NoMemory;
 use nook_defs::scenario::{Fault, FaultKind};
-use report_text::line::Line;
-use report_text::pieces::{push_acts_tail, push_number};
+use report_text::{Line, push_acts_tail, push_number};
 use std::alloc::Global;
 
 /// The counter and the registers that a burst finds, those that are 0 left out.

@@ -16,8 +16,7 @@ use nook_defs::machine::{Cpu, TrapCause};
 use nook_defs::memory_map::TEXT_WORDS;
 use nook_defs::outside::Sink;
 use nook_defs::scenario::{Fault, FaultKind};
-use report_text::line::Line;
-use report_text::write::WriteStop;
+use report_text::{Line, WriteStop};
 use std::alloc::Global;
 
 /// What the faults of one place left: the faults behind them, and the trap that one of them is.

@@ -11,8 +11,7 @@ use crate::traced::TracedTurn;
 use nook_defs::machine::Cpu;
 use nook_defs::outside::Sink;
 use nook_defs::scenario::Fault;
-use report_text::line::Line;
-use report_text::write::{WriteStop, write_text};
+use report_text::{Line, WriteStop, write_text};
 use std::alloc::Global;
 
 /// Writes the counter and the registers that a burst finds, those that are 0 left out.

@@ -6,12 +6,12 @@ use Rattle.nook_defs.specs.declared.classes.Class.{Class}
 use Rattle.nook_defs.specs.declared.classes.Class.TheVariants.{Block, Net, Sound}
 use Rattle.nook_defs.specs.declared.calls.Op.{Op}
 use Rattle.nook_defs.specs.declared.calls.Op.TheVariants.{Read, Write, Send, Recv, Open, Play, Close, Get, Set}
-use Rattle.nook_defs.specs.Classes.{conflicts, clash, overlap, is_set, is_write, is_recv, is_of_stream, is_of_class, entry_count, entry_place, accept, blocks_of_op, first_of_op}
+use Rattle.nook_defs.specs.Classes.{conflicts, clash, share_block, is_set, is_write, is_recv, is_of_stream, is_of_class, entry_count, entry_place, accept, blocks_of_op, first_of_op}
 use Rattle.worked_rows.specs.EntryNames.{entry_name, entry_names}
 
 clash_symmetric : (c : Class) (a b : Op) → clash c a b ≡ clash c b a
 clash_symmetric Block a b =
-    ap (λ x. x && overlap a b) (or_comm (is_write a) (is_write b))
+    ap (λ x. x && share_block a b) (or_comm (is_write a) (is_write b))
     ∙ ap (λ x. (is_write b || is_write a) && x)
     (and_comm (nat_lt (first_of_op a) (first_of_op b + blocks_of_op b)) (nat_lt (first_of_op b) (first_of_op a + blocks_of_op a)))
 clash_symmetric Net a b = and_comm (is_recv a) (is_recv b)

@@ -15,7 +15,7 @@ use Rattle.nook_defs.specs.declared.steps.Stage.{Stage}
 use Rattle.nook_defs.specs.declared.steps.Stage.TheVariants as stage
 use Rattle.nook_defs.specs.declared.clause.Clause.{Clause}
 use Rattle.nook_defs.specs.declared.clause.Clause.TheVariants.{UnaskedStore, OtherStore, UnstoredWrite, OtherRead, UnaskedFrame, SecondFrame, UnsentSend, OutOfOrder, LeftInRing, OtherSample, UnplayedPlay, UnaskedRegister, UnmadeSet, OtherGet, UnseenFailure}
-use Rattle.nook_defs.specs.Contract.{first_break, number_of}
+use Rattle.nook_defs.specs.Contract.{first_break, clause_number}
 
 -- Worked cases of the contract: events that break a clause, and like events that keep all of them.
 
@@ -75,7 +75,7 @@ row clause class before bad good = record { clause = clause; class = class; befo
 -- the one breaks its clause first, and the other breaks nothing
 abbrev pub IsJudged : Case → Type 0
 IsJudged c =
-    (first_break c.class 4 (c.before ++ c.bad ∷ []) ≡ Some (record { event = suc (length c.before); clause = number_of c.clause }))
+    (first_break c.class 4 (c.before ++ c.bad ∷ []) ≡ Some (record { event = suc (length c.before); clause = clause_number c.clause }))
     × (first_break c.class 4 (c.before ++ c.good ∷ []) ≡ None)
 
 -- each clause in its turn; clause 13 speaks of two kinds of calls

@@ -1,7 +1,7 @@
-use Rattle.std.specs.Prelude.{ℕ, List, [], ◌∷◌, ◌++◌, take, replicate, codes, Result}
+use Rattle.std.specs.Prelude.{ℕ, List, [], ◌∷◌, ◌++◌, take, replicate, codes, Result, Ok, Err}
 use Rattle.serde_json.specs.Written.{compact_text}
 use Rattle.nook_defs.specs.Disassembler.{disassembled}
-use Rattle.nook_defs.specs.Faults.{told}
+use Rattle.nook_defs.specs.Faults.{fault_line}
 use Rattle.nook_defs.specs.ImageReading.{image_from, image_from_asm}
 use Rattle.nook_defs.specs.ImageText.{image_data, image_text}
 use Rattle.nook_defs.specs.References.{block_words}
@@ -15,6 +15,11 @@ use Rattle.nook_defs.specs.declared.scenario.Scenario.{Scenario}
 use Rattle.nook_defs.specs.declared.scenario.ScheduleSpec.TheVariants as schedule
 use Rattle.nook_defs.specs.declared.input.Refusal.{Refusal}
 use Rattle.worked_rows.specs.Drivers.{failing_block_image}
+
+-- what is written: the text of what was read, or the fault's line
+abbrev pub told : {T : Type 0} → (T → List ℕ) → Result T Refusal → List ℕ
+told text (Ok read) = text read
+told text (Err refusal) = fault_line refusal
 
 -- what is told of an input: nothing where it is right, else its first fault
 abbrev pub told_fault : {T : Type 0} → Result T Refusal → List ℕ

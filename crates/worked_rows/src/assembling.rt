@@ -2,7 +2,7 @@
 #![tactic(auto, unfolding(nook_defs::proofs::InputOnLiterals::input_on_literals))]
 
 ghost use Rattle.std.specs.Prelude.{ℕ, ◌<◌, ◌^◌, ◌≡◌, ◌∷◌, ◌++◌, [], Ok, Err, Some, codes, replicate};
-ghost use Rattle.nook_defs.specs.AsmLines.{no_labels};
+ghost use Rattle.nook_defs.specs.Views.Assembling.{no_labels};
 ghost use Rattle.nook_defs.specs.Assembler.{first_draft, draft_after, assembled};
 ghost use Rattle.nook_defs.specs.Disassembler.{disassembled};
 ghost use Rattle.nook_defs.specs.Machine.{decode_of, encode_of};

@@ -43,8 +43,8 @@ abbrev pub write_fails : ListedSink → Bool
 write_fails s = nat_le s.room (length s.bytes) || is_listed s.failing (one_more s.calls)
 
 -- how many bytes of a piece the next write takes, where it does not fail
-abbrev pub taken : ListedSink → List ℕ → ℕ
-taken s piece = min (length piece) (s.room - length s.bytes)
+abbrev pub bytes_taken : ListedSink → List ℕ → ℕ
+bytes_taken s piece = min (length piece) (s.room - length s.bytes)
 
 -- a write failed: it claims to have taken nothing, or says so
 abbrev pub IsRefusal : {E : Type 0} → Bool → Result ℕ E → Type 0

@@ -1,5 +1,5 @@
 use Rattle.std.proofs.Common.{◌≡◌, ◌+◌, ◌≤◌, ◌++◌, drop, map}
-use Rattle.nook_defs.specs.Assembler.{first_places, labels_from}
+use Rattle.nook_defs.specs.Assembler.{first_cursor, labels_from}
 use Rattle.driver_asm.proofs.passes.labels_of.Given as goal
 
 abbrev pub invariant-loop-line : goal.invariant-loop-line
@@ -8,5 +8,5 @@ invariant-loop-line l = record {
   text : l.at.text ≤ l.line-index;
   initial : l.at.initial ≤ l.line-index;
   labels : l.labels ++ labels_from l.at (map (λ line. line.now) (drop l.line-index l.lines))
-      ≡ labels_from first_places (map (λ line. line.now) l.lines);
+      ≡ labels_from first_cursor (map (λ line. line.now) l.lines);
 }

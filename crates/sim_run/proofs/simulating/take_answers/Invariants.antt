@@ -1,6 +1,6 @@
 use Rattle.std.proofs.Common.{◌≡◌, map}
-use Rattle.nook_defs.specs.Simulation.{answers_of}
+use Rattle.nook_defs.specs.Simulation.{answers_of_thread}
 use Rattle.sim_run.proofs.simulating.take_answers.Given as goal
 
 abbrev pub invariant-loop-thread : goal.invariant-loop-thread
-invariant-loop-thread l = l.made ≡ map answers_of l.yielded
+invariant-loop-thread l = l.made ≡ map answers_of_thread l.yielded

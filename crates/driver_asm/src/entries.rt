@@ -1,0 +1,30 @@
+//! The place of an entry by its name.
+
+ghost use Rattle.std.specs.Prelude.{◌≡◌, ◌^◌, ◌<◌, length};
+ghost use Rattle.nook_defs.specs.AsmLines.{place_among};
+ghost use Rattle.nook_defs.specs.Keys.{entry_keys};
+
+use nook_defs::classes::Class;
+use nook_defs::input::Key;
+use nook_defs::keys::{entry_keys, key_text};
+
+/// The place of an entry's name among the entries of a class.
+#[tactic(auto, using(crate::proofs::EntryLines::few_entries))]
+pub fn entry_place(class: Class, name: &[u8]) -> Option<u32>
+    ensures { result ≡ place_among 0 (entry_keys class) name.now }
+{
+    place_in(entry_keys(class), name)
+}
+
+/// The place of a name among some entries.
+fn place_in(entries: &[Key], name: &[u8]) -> Option<u32>
+    requires { length entries.now < 2 ^ 32 }
+    ensures { result ≡ place_among 0 entries.now name.now }
+{
+    for place in 0..entries.len() {
+        if name == key_text(entries[place]).as_bytes() {
+            return Some(place as u32);
+        }
+    }
+    None
+}

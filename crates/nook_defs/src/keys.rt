@@ -1,0 +1,105 @@
+//! The texts of keys, the classes' names, and the entries of each class: the one table that whatever reads or writes
+//! them uses.
+
+ghost use Rattle.std.specs.Prelude.{◌≡◌, length};
+ghost use Rattle.nook_defs.specs.Classes.{entry_count};
+ghost use Rattle.nook_defs.specs.Keys.{class_named, class_text, entry_keys, key_text};
+
+use crate::classes::Class;
+use crate::input::Key;
+
+/// A class's name.
+pub fn class_text(class: Class) -> &'static str
+    ensures { result.now ≡ class_text class }
+{
+    match class {
+        Class::Block => "block",
+        Class::Net => "net",
+        Class::Sound => "sound",
+    }
+}
+
+/// The class of a name.
+#[tactic(auto, unfolding(crate::specs::Keys::class_named))]
+pub fn class_named(name: &[u8]) -> Option<Class>
+    ensures { result ≡ class_named name.now }
+{
+    match name {
+        b"block" => Some(Class::Block),
+        b"net" => Some(Class::Net),
+        b"sound" => Some(Class::Sound),
+        _ => None,
+    }
+}
+
+/// The text of a key.
+pub fn key_text(key: Key) -> &'static str
+    ensures { result.now ≡ key_text key }
+{
+    match key {
+        Key::Address => "address",
+        Key::After => "after",
+        Key::Arrivals => "arrivals",
+        Key::Asm => "asm",
+        Key::Bad => "bad",
+        Key::Base => "base",
+        Key::Block => "block",
+        Key::Blocks => "blocks",
+        Key::Burst => "burst",
+        Key::Class => "class",
+        Key::Close => "close",
+        Key::Count => "count",
+        Key::Data => "data",
+        Key::Driver => "driver",
+        Key::Entries => "entries",
+        Key::Faults => "faults",
+        Key::First => "first",
+        Key::Frame => "frame",
+        Key::Get => "get",
+        Key::Image => "image",
+        Key::Init => "init",
+        Key::Key => "key",
+        Key::Kind => "kind",
+        Key::Limit => "limit",
+        Key::Name => "name",
+        Key::Op => "op",
+        Key::Open => "open",
+        Key::Ops => "ops",
+        Key::Part => "part",
+        Key::Parts => "parts",
+        Key::Picks => "picks",
+        Key::Play => "play",
+        Key::Poll => "poll",
+        Key::Read => "read",
+        Key::Register => "register",
+        Key::Samples => "samples",
+        Key::Schedule => "schedule",
+        Key::Send => "send",
+        Key::Set => "set",
+        Key::Start => "start",
+        Key::Text => "text",
+        Key::Threads => "threads",
+        Key::Value => "value",
+        Key::Version => "version",
+        Key::Write => "write",
+    }
+}
+
+/// The entries of a class, in the class's order.
+pub fn entry_keys(class: Class) -> &'static [Key]
+    ensures entries { result.now ≡ entry_keys class }
+    ensures count { length result.now ≡ entry_count class }
+{
+    match class {
+        Class::Block => &[Key::Init, Key::Read, Key::Write, Key::Get, Key::Set],
+        Class::Net => &[Key::Init, Key::Send, Key::Poll, Key::Get, Key::Set],
+        Class::Sound => &[
+            Key::Init,
+            Key::Open,
+            Key::Play,
+            Key::Close,
+            Key::Get,
+            Key::Set,
+        ],
+    }
+}

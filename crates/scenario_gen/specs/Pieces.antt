@@ -1,0 +1,14 @@
+use Rattle.std.specs.Prelude.{ℕ, codes}
+use Rattle.nook_defs.specs.Generated.{generated_part}
+use Rattle.nook_defs.specs.References.{sound_image}
+use Rattle.nook_defs.specs.Types.{Fault, PartSpec}
+use Rattle.nook_defs.specs.declared.classes.Class.TheVariants as class
+use Rattle.nook_defs.specs.declared.scenario.FaultKind.TheVariants as strikes
+
+-- a trap in a burst, after 40 turns
+abbrev pub trap_at : ℕ → Fault
+trap_at burst = record { burst = burst; after = 40; kind = strikes.Trap }
+
+-- a sound part
+abbrev pub generated_audio : PartSpec
+generated_audio = generated_part (codes "audio") class.Sound sound_image

@@ -1,5 +1,6 @@
 -- How all workers end.
-use Rattle.std.specs.Prelude.{◌≡◌, ℕ, ◌+◌, ◌<◌, ◌≤◌, ◌⊎◌, List, [], ◌∷◌, length, slice_get, slice_index_or, Some, Result, Ok, Err}
+use Rattle.std.specs.Prelude.{◌≡◌, ℕ, ◌+◌, ◌<◌, ◌≤◌, ◌⊎◌, List, [], ◌∷◌, length, slice_get, slice_index_or, Some}
+use Rattle.std.specs.Prelude.{Result, Ok, Err}
 use Rattle.nook_defs.specs.declared.desks.DeskRefused.{DeskRefused}
 use Rattle.nook_defs.specs.declared.desks.DeskRefused.TheVariants as refused
 use Rattle.nook_defs.specs.declared.calls.Op.{Op}
@@ -11,7 +12,9 @@ use Rattle.app_threads.specs.declared.stop.WorkerStop.{WorkerStop}
 use Rattle.app_threads.specs.declared.stop.WorkerStop.TheVariants as stop
 use Rattle.app_threads.specs.declared.work.Work.{Work}
 use Rattle.app_threads.specs.declared.work.Work.TheVariants as work
-use Rattle.app_threads.specs.Workers.{AreReceipts, AreRising, AreRows, AreRuns, AtDesks, Gains, Grows, IsArrivalRefused, IsCallRefused, IsNotOwn, StayAlone, count_on, frames_at, invokes_at, invokes_by, invokes_of_all}
+use Rattle.app_threads.specs.Workers.{AreReceipts, AreRising, AreRows, AreRuns, AtDesks, Gains, Grows, IsArrivalRefused}
+use Rattle.app_threads.specs.Workers.{IsCallRefused, IsNotOwn, StayAlone, count_on, frames_at, invokes_at, invokes_by}
+use Rattle.app_threads.specs.Workers.{invokes_of_all}
 use Rattle.app_threads.specs.Works.{all_works, ops_of}
 
 -- there is a receipt for each operation of the thread
@@ -31,31 +34,37 @@ abbrev pub count_on_all : ℕ → List ThreadSpec → ℕ
 count_on_all part [] = 0
 count_on_all part (script ∷ scripts) = count_on part script.ops + count_on_all part scripts
 
--- Of what was added through a desk's seat, each thread invoked at most as many operations as its script has on the desk,
--- and no other thread any; all invocations together are at most as many as those operations, and at most so many frames
--- arrived
+-- Of what was added through a desk's seat, each thread invoked at most as many operations as its script has on the
+-- desk, and no other thread any; all invocations together are at most as many as those operations, and at most so many
+-- frames arrived
 pub record AtMost (scripts : List ThreadSpec) (frames : List (List ℕ)) (desk : ℕ) (old new : DeskView) : Type 0 where
   pub places : List ℕ
   pub grows : Grows old new places
-  pub invoked : (thread : ℕ) → length (invokes_by thread new.seen places) ≤ count_on desk (ops_of (slice_get scripts thread))
+  pub invoked : (thread : ℕ) → length (invokes_by thread new.seen places)
+      ≤ count_on desk (ops_of (slice_get scripts thread))
   pub invoked_in_all : length (invokes_at new.seen places) ≤ count_on_all desk scripts
   pub arrived : length (frames_at new.seen places) ≤ length frames
 
-module _ (specs : List PartSpec) (scripts : List ThreadSpec) (arrivals : List (List (List ℕ))) (olds news : List DeskView) where
-  -- Each thread has its row of receipts. Of what was added through a desk's seat, the invocations are exactly those of the
-  -- receipts, thread by thread, and the frames that arrived are exactly the desk's arrivals, in order, at places that rise
+module _ (specs : List PartSpec) (scripts : List ThreadSpec) (arrivals : List (List (List ℕ)))
+    (olds news : List DeskView) where
+  -- Each thread has its row of receipts. Of what was added through a desk's seat, the invocations are exactly those of
+  -- the receipts, thread by thread, and the frames that arrived are exactly the desk's arrivals, in order, at places
+  -- that rise
   pub record AreFinished (table : List (List Receipt)) : Type 0 where
     pub rows : AreRows news scripts table
-    pub rising : (thread : ℕ) (script : ThreadSpec) (row : List Receipt) → slice_get scripts thread ≡ Some script → slice_get table thread ≡ Some row → AreRising olds script.ops row
+    pub rising : (thread : ℕ) (script : ThreadSpec) (row : List Receipt) → slice_get scripts thread ≡ Some script
+        → slice_get table thread ≡ Some row → AreRising olds script.ops row
     pub gains : AtDesks (λ d v w. Gains v w (invokes_of_all d scripts table) (slice_index_or arrivals d [])) olds news
     pub arrived : AtDesks (λ d v w. HasArrived v w (slice_index_or arrivals d [])) olds news
 
-  -- a thread was refused, and each with a smaller number finished its script; an open call was not invoked by any worker
+  -- a thread was refused, and each with a smaller number finished its script; an open call was not invoked by any
+  -- worker
   pub record IsThreadRefused (thread place part : ℕ) (refusal : DeskRefused) : Type 0 where
     pub script : ThreadSpec
     pub there : slice_get scripts thread ≡ Some script
     pub refusal_is : IsCallRefused specs olds news script.ops thread place part refusal
-    pub foreign : (call : ℕ) (v w : DeskView) → refusal ≡ refused.OpenCall call → slice_get olds part ≡ Some v → slice_get news part ≡ Some w → IsNotOwn call v w
+    pub foreign : (call : ℕ) (v w : DeskView) → refusal ≡ refused.OpenCall call → slice_get olds part ≡ Some v
+        → slice_get news part ≡ Some w → IsNotOwn call v w
     pub sooner : (t : ℕ) (s : ThreadSpec) → t < thread → slice_get scripts t ≡ Some s → HasRow olds news t s.ops
 
   -- a desk's arrivals were refused; each thread finished its script, and the arrivals of each desk before it came in
@@ -64,7 +73,8 @@ module _ (specs : List PartSpec) (scripts : List ThreadSpec) (arrivals : List (L
     pub there : slice_get arrivals part ≡ Some frames
     pub refusal_is : IsArrivalRefused specs olds news frames place part refusal
     pub threads : (t : ℕ) (s : ThreadSpec) → slice_get scripts t ≡ Some s → HasRow olds news t s.ops
-    pub sooner : (d : ℕ) (fs : List (List ℕ)) (v w : DeskView) → d < part → slice_get arrivals d ≡ Some fs → slice_get olds d ≡ Some v → slice_get news d ≡ Some w → HasArrived v w fs
+    pub sooner : (d : ℕ) (fs : List (List ℕ)) (v w : DeskView) → d < part → slice_get arrivals d ≡ Some fs
+        → slice_get olds d ≡ Some v → slice_get news d ≡ Some w → HasArrived v w fs
 
   -- the worker of a work was refused: a thread's, or that of a desk's arrivals
   abbrev pub IsRefused : Work → ℕ → ℕ → DeskRefused → Type 0

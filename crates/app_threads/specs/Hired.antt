@@ -31,15 +31,18 @@ module _ {D S : Type 0} (is_seat : D → S → Type 0) (spec : D → PartSpec) (
     pub work : IsWork scripts arrivals worker.work
 
   -- it has done its work, and its seats have the shares that they had
-  pub record IsDone (scripts : List ThreadSpec) (arrivals : List (List (List ℕ))) (worker : Worker S) (done : Done S) : Type 0 where
+  pub record IsDone (scripts : List ThreadSpec) (arrivals : List (List (List ℕ))) (worker : Worker S)
+      (done : Done S) : Type 0 where
     pub seats : AreSeats is_seat desks done.seats.items
-    pub ends : WorkEnds (map spec desks) scripts arrivals (map view worker.seats.items) worker.work (map view done.seats.items) done.end
+    pub ends : WorkEnds (map spec desks) scripts arrivals (map view worker.seats.items) worker.work
+        (map view done.seats.items) done.end
     pub shares : KeepShares (map view worker.seats.items) (map view done.seats.items)
 
 -- the first of the ends that is a stop
 abbrev pub StopsAt : List (Result (List Receipt) WorkerStop) → WorkerStop → Type 0
 StopsAt ends why =
-    (rows : List (List Receipt)) × (later : List (Result (List Receipt) WorkerStop)) × (ends ≡ map (λ row. Ok row) rows ++ Err why ∷ later)
+    (rows : List (List Receipt)) × (later : List (Result (List Receipt) WorkerStop))
+    × (ends ≡ map (λ row. Ok row) rows ++ Err why ∷ later)
 
 -- all rows, or the first stop; want of memory may come anywhere
 abbrev pub RowsEnd : List (Result (List Receipt) WorkerStop) → Result (List (List Receipt)) WorkerStop → Type 0

@@ -1,5 +1,6 @@
 -- One step of a worker, as its seats' views show it.
-use Rattle.std.specs.Prelude.{◌≡◌, ℕ, ◌⊎◌, Bool, true, List, [], ◌∷◌, length, slice_get, slice_set, Some, Result, Ok, Err}
+use Rattle.std.specs.Prelude.{◌≡◌, ℕ, ◌⊎◌, Bool, true, List, [], ◌∷◌, length, slice_get, slice_set, Some, Result, Ok}
+use Rattle.std.specs.Prelude.{Err}
 use Rattle.nook_defs.specs.declared.calls.Op.{Op}
 use Rattle.nook_defs.specs.declared.scenario.PartSpec.{PartSpec}
 use Rattle.nook_defs.specs.declared.desks.Receipt.{Receipt}
@@ -11,7 +12,8 @@ use Rattle.app_threads.specs.declared.stop.WorkerStop.TheVariants as stop
 use Rattle.app_threads.specs.declared.work.Work.TheVariants as work
 
 -- one seat changed so, and no other changed
-pub record IsStepAt (specs : List PartSpec) (olds news : List DeskView) (part : ℕ) (Ends : PartSpec → DeskView → DeskView → Type 0) : Type 0 where
+pub record IsStepAt (specs : List PartSpec) (olds news : List DeskView) (part : ℕ)
+    (Ends : PartSpec → DeskView → DeskView → Type 0) : Type 0 where
   pub spec : PartSpec
   pub old : DeskView
   pub new : DeskView
@@ -58,12 +60,14 @@ TakesIn specs olds others news =
     (length others ≡ length olds)
     × (length specs ≡ length olds)
     × (length news ≡ length olds)
-    × ((d : ℕ) (spec : PartSpec) (v o w : DeskView) → slice_get specs d ≡ Some spec → slice_get olds d ≡ Some v → slice_get others d ≡ Some o → slice_get news d ≡ Some w → TakesInOne spec v o w)
+    × ((d : ℕ) (spec : PartSpec) (v o w : DeskView) → slice_get specs d ≡ Some spec → slice_get olds d ≡ Some v
+    → slice_get others d ≡ Some o → slice_get news d ≡ Some w → TakesInOne spec v o w)
 
 -- the seats took the seats of several workers in, one worker after another
 abbrev pub TakeAllIn : List PartSpec → List DeskView → List (List DeskView) → List DeskView → Type 0
 TakeAllIn specs olds [] news = news ≡ olds
-TakeAllIn specs olds (others ∷ workers) news = (mids : List DeskView) × TakesIn specs olds others mids × TakeAllIn specs mids workers news
+TakeAllIn specs olds (others ∷ workers) news =
+    (mids : List DeskView) × TakesIn specs olds others mids × TakeAllIn specs mids workers news
 
 -- ---- where a point of a desk's share is
 

@@ -1,5 +1,6 @@
 -- What workers are to do at desks, and what the desks' seats know afterwards.
-use Rattle.std.specs.Prelude.{◌≡◌, ℕ, ◌<◌, ◌≤◌, ◌==◌, if◌then◌else◌, Bool, true, false, List, [], ◌∷◌, ◌++◌, length, slice_get, slice_index_or, All, Option, Some, None, Result, Ok, Err, is_some}
+use Rattle.std.specs.Prelude.{◌≡◌, ℕ, ◌<◌, ◌≤◌, ◌==◌, if◌then◌else◌, Bool, true, false, List, [], ◌∷◌, ◌++◌, length}
+use Rattle.std.specs.Prelude.{slice_get, slice_index_or, All, Option, Some, None, Result, Ok, Err, is_some}
 use Rattle.std.specs.List.{filter, filter_map}
 use mathlib.Core.List.{IsPrefix}
 use Rattle.nook_defs.specs.declared.calls.Answer.{Answer}
@@ -13,11 +14,13 @@ use Rattle.nook_defs.specs.declared.calls.Op.{Op}
 use Rattle.nook_defs.specs.declared.scenario.PartSpec.{PartSpec}
 use Rattle.nook_defs.specs.declared.desks.Receipt.{Receipt}
 use Rattle.nook_defs.specs.declared.scenario.ThreadSpec.{ThreadSpec}
-use Rattle.nook_defs.specs.declared.limits.TheConstants.{MOST_ARRIVALS, MOST_CALLS, MOST_FRAME_WORDS, MOST_OPS, MOST_THREADS}
+use Rattle.nook_defs.specs.declared.limits.TheConstants.{MOST_ARRIVALS, MOST_CALLS, MOST_FRAME_WORDS, MOST_OPS}
+use Rattle.nook_defs.specs.declared.limits.TheConstants.{MOST_THREADS}
 use Rattle.nook_defs.specs.Places.{at_number}
 use Rattle.nook_defs.specs.Runs.{IsRun, state_of}
 use Rattle.nook_defs.specs.State.{PartState}
-use Rattle.desk_like.specs.Desks.{Accounts, Answers, DeskView, HasNoneOpen, HasOpen, IsAlone, IsAt, IsReceipt, IsRisingFrom}
+use Rattle.desk_like.specs.Desks.{Accounts, Answers, DeskView, HasNoneOpen, HasOpen, IsAlone, IsAt, IsReceipt}
+use Rattle.desk_like.specs.Desks.{IsRisingFrom}
 use Rattle.app_threads.specs.declared.stop.WorkerStop.{WorkerStop}
 use Rattle.app_threads.specs.declared.stop.WorkerStop.TheVariants as stop
 use Rattle.app_threads.specs.declared.work.Work.TheVariants as work
@@ -55,7 +58,8 @@ pub record Grows (old new : DeskView) (places : List ℕ) : Type 0 where
   pub made : new.made ≡ old.made ++ places
   pub there : All (λ place. is_some (at_number place new.seen) ≡ true) places
 
--- of what was added through a seat, these are the places of the invocations, and these the frames that arrived, in order
+-- of what was added through a seat, these are the places of the invocations, and these the frames that arrived, in
+-- order
 pub record Gains (old new : DeskView) (invokes : List ℕ) (frames : List (List ℕ)) : Type 0 where
   pub places : List ℕ
   pub grows : Grows old new places
@@ -98,11 +102,13 @@ MadeBy thread old new = old.made ≡ [] → All (λ place. IsAt new.seen place (
 
 -- the same, and it was answered
 abbrev pub Owns : ℕ → DeskView → DeskView → Type 0
-Owns thread old new = old.made ≡ [] → All (λ place. IsAt new.seen place (λ e. IsBy thread e × IsAnsweredIn new.seen e)) new.made
+Owns thread old new =
+    old.made ≡ [] → All (λ place. IsAt new.seen place (λ e. IsBy thread e × IsAnsweredIn new.seen e)) new.made
 
 -- the call was invoked at none of the places that a seat gained
 abbrev pub IsNotOwn : ℕ → DeskView → DeskView → Type 0
-IsNotOwn call old new = (places : List ℕ) × (new.made ≡ old.made ++ places) × All (λ place. IsAt new.seen place (IsNoInvoke call)) places
+IsNotOwn call old new =
+    (places : List ℕ) × (new.made ≡ old.made ++ places) × All (λ place. IsAt new.seen place (IsNoInvoke call)) places
 
 -- a seat gained at most so much, and what was invoked through a new seat was invoked by this thread
 abbrev pub GrewBy : ℕ → ℕ → ℕ → DeskView → DeskView → Type 0
@@ -128,7 +134,8 @@ KeepsShare old new = new.share ≡ old.share
 abbrev pub AreSeats : {D S : Type 0} → (D → S → Type 0) → List D → List S → Type 0
 AreSeats {D} {S} is_seat desks seats =
     (length seats ≡ length desks)
-    × ((i : ℕ) (d : D) (s : S) → i < length desks → d ≡ slice_index_or desks i d → s ≡ slice_index_or seats i s → is_seat d s)
+    × ((i : ℕ) (d : D) (s : S) → i < length desks → d ≡ slice_index_or desks i d → s ≡ slice_index_or seats i s
+    → is_seat d s)
 
 -- the seat is the desk's at this place
 abbrev pub IsSeatAt : {D S : Type 0} → (D → S → Type 0) → List D → ℕ → S → Type 0
@@ -154,7 +161,8 @@ KeepShares olds news = AtDesks (λ d v w. KeepsShare v w) olds news
 
 -- what each seat has seen is a run of its desk's part
 abbrev pub AreRuns : List PartSpec → List DeskView → Type 0
-AreRuns specs views = (d : ℕ) (spec : PartSpec) (v : DeskView) → slice_get specs d ≡ Some spec → slice_get views d ≡ Some v → IsRun spec v.seen
+AreRuns specs views = (d : ℕ) (spec : PartSpec) (v : DeskView) → slice_get specs d ≡ Some spec
+    → slice_get views d ≡ Some v → IsRun spec v.seen
 
 -- the desk at this place has a network part
 abbrev pub IsNetAt : List PartSpec → ℕ → Type 0
@@ -166,7 +174,8 @@ NameDesks count ops = All (λ o. o.0 < count) ops
 
 -- at most 16 scripts of at most 256 operations, which name desks
 abbrev pub AreScripts : ℕ → List ThreadSpec → Type 0
-AreScripts count scripts = (length scripts ≤ MOST_THREADS) × All (λ (script : ThreadSpec). (length script.ops ≤ MOST_OPS) × NameDesks count script.ops) scripts
+AreScripts count scripts = (length scripts ≤ MOST_THREADS)
+    × All (λ (script : ThreadSpec). (length script.ops ≤ MOST_OPS) × NameDesks count script.ops) scripts
 
 -- frames of 1 to 64 words
 abbrev pub AreFrames : List (List ℕ) → Type 0
@@ -176,7 +185,8 @@ AreFrames frames = All (λ frame. (1 ≤ length frame) × (length frame ≤ MOST
 abbrev pub AreArrivals : List PartSpec → List (List (List ℕ)) → Type 0
 AreArrivals specs arrivals =
     (length arrivals ≡ length specs)
-    × ((d : ℕ) (frames : List (List ℕ)) → slice_get arrivals d ≡ Some frames → (length frames ≤ MOST_ARRIVALS) × AreFrames frames × (0 < length frames → IsNetAt specs d))
+    × ((d : ℕ) (frames : List (List ℕ)) → slice_get arrivals d ≡ Some frames
+    → (length frames ≤ MOST_ARRIVALS) × AreFrames frames × (0 < length frames → IsNetAt specs d))
 
 -- ---- receipts
 
@@ -197,7 +207,8 @@ AreReceipts views thread _ _ = ⊥
 abbrev pub AreRows : List DeskView → List ThreadSpec → List (List Receipt) → Type 0
 AreRows views scripts rows =
     (length rows ≡ length scripts)
-    × ((thread : ℕ) (script : ThreadSpec) (row : List Receipt) → slice_get scripts thread ≡ Some script → slice_get rows thread ≡ Some row → AreReceipts views thread script.ops row)
+    × ((thread : ℕ) (script : ThreadSpec) (row : List Receipt) → slice_get scripts thread ≡ Some script
+    → slice_get rows thread ≡ Some row → AreReceipts views thread script.ops row)
 
 -- where the receipts of a thread's operations on a part were invoked
 abbrev pub invokes_of : ℕ → List (ℕ × Op) → List Receipt → List ℕ
@@ -218,8 +229,10 @@ AreRising olds ops receipts =
 
 -- ---- refusals
 
--- the cause holds after a list of events that begins with all that the desk's seat had seen and begins what it has seen now
-pub record IsRefusedAt (specs : List PartSpec) (olds news : List DeskView) (part : ℕ) (Cause : PartState → Type 0) : Type 0 where
+-- the cause holds after a list of events that begins with all that the desk's seat had seen and begins what it has seen
+-- now
+pub record IsRefusedAt (specs : List PartSpec) (olds news : List DeskView) (part : ℕ)
+    (Cause : PartState → Type 0) : Type 0 where
   pub spec : PartSpec
   pub old : DeskView
   pub new : DeskView
@@ -244,13 +257,15 @@ ArriveCause (refused.NoMemory None) p = Unit {0}
 ArriveCause _ p = ⊥
 
 -- a thread's call for this operation of its script was refused
-pub record IsCallRefused (specs : List PartSpec) (olds news : List DeskView) (ops : List (ℕ × Op)) (thread place part : ℕ) (refusal : DeskRefused) : Type 0 where
+pub record IsCallRefused (specs : List PartSpec) (olds news : List DeskView) (ops : List (ℕ × Op))
+    (thread place part : ℕ) (refusal : DeskRefused) : Type 0 where
   pub op : Op
   pub operation : slice_get ops place ≡ Some (part, op)
   pub cause : IsRefusedAt specs olds news part (CallCause thread refusal)
 
 -- the arrival of this frame at a desk was refused
-pub record IsArrivalRefused (specs : List PartSpec) (olds news : List DeskView) (frames : List (List ℕ)) (place part : ℕ) (refusal : DeskRefused) : Type 0 where
+pub record IsArrivalRefused (specs : List PartSpec) (olds news : List DeskView) (frames : List (List ℕ))
+    (place part : ℕ) (refusal : DeskRefused) : Type 0 where
   pub frame : place < length frames
   pub cause : IsRefusedAt specs olds news part (ArriveCause refusal)
 
@@ -276,19 +291,23 @@ abbrev pub count_on : ℕ → List (ℕ × Op) → ℕ
 count_on part ops = length (filter (λ o. o.0 == part) ops)
 
 -- a thread's worker did these operations
-pub record DoesOps (olds news : List DeskView) (thread : ℕ) (ops : List (ℕ × Op)) (receipts : List Receipt) : Type 0 where
+pub record DoesOps (olds news : List DeskView) (thread : ℕ) (ops : List (ℕ × Op))
+    (receipts : List Receipt) : Type 0 where
   pub receipts_are : AreReceipts news thread ops receipts
   pub does : AtDesks (λ d v w. Does v w (invokes_of d ops receipts) []) olds news
   pub own : AtDesks (λ d v w. Owns thread v w) olds news
 
-abbrev pub ScriptEnds : List PartSpec → List DeskView → List DeskView → ℕ → List (ℕ × Op) → Result (List Receipt) WorkerStop → Type 0
-ScriptEnds specs olds news thread ops (Ok receipts) = DoesOps olds news thread ops receipts × AtDesks (λ d v w. MadeBy thread v w) olds news
+abbrev pub ScriptEnds : List PartSpec → List DeskView → List DeskView → ℕ → List (ℕ × Op)
+    → Result (List Receipt) WorkerStop → Type 0
+ScriptEnds specs olds news thread ops (Ok receipts) =
+    DoesOps olds news thread ops receipts × AtDesks (λ d v w. MadeBy thread v w) olds news
 ScriptEnds specs olds news thread ops (Err (stop.Refused t place part refusal)) =
     AtDesks (λ d v w. GrewBy thread (count_on d ops) 0 v w) olds news
     × (t ≡ work.Script thread)
     × IsCallRefused specs olds news ops thread place part refusal
     × KnowsOpen specs olds news thread part refusal
-ScriptEnds specs olds news thread ops (Err stop.NoMemory) = AtDesks (λ d v w. GrewBy thread (count_on d ops) 0 v w) olds news
+ScriptEnds specs olds news thread ops (Err stop.NoMemory) =
+    AtDesks (λ d v w. GrewBy thread (count_on d ops) 0 v w) olds news
 
 -- a number that no thread has: a worker of arrivals makes no thread's calls
 abbrev pub no_thread : ℕ
@@ -298,10 +317,12 @@ no_thread = 255
 abbrev pub DoesFrames : List DeskView → List DeskView → ℕ → List (List ℕ) → Type 0
 DoesFrames olds news part frames = AtDesks (λ d v w. Does v w [] (if part == d then frames else [])) olds news
 
-abbrev pub ArrivalsEnd : List PartSpec → List DeskView → List DeskView → ℕ → List (List ℕ) → Result (List Receipt) WorkerStop → Type 0
+abbrev pub ArrivalsEnd : List PartSpec → List DeskView → List DeskView → ℕ → List (List ℕ)
+    → Result (List Receipt) WorkerStop → Type 0
 ArrivalsEnd specs olds news part frames (Ok receipts) =
     (receipts ≡ []) × DoesFrames olds news part frames × AtDesks (λ d v w. MadeBy no_thread v w) olds news
 ArrivalsEnd specs olds news part frames (Err (stop.Refused t place p refusal)) =
-    AtDesks (λ d v w. GrewBy no_thread 0 (length (if part == d then frames else [])) v w) olds news × (t ≡ work.Arrivals part) × (p ≡ part) × IsArrivalRefused specs olds news frames place part refusal
+    AtDesks (λ d v w. GrewBy no_thread 0 (length (if part == d then frames else [])) v w) olds news
+    × (t ≡ work.Arrivals part) × (p ≡ part) × IsArrivalRefused specs olds news frames place part refusal
 ArrivalsEnd specs olds news part frames (Err stop.NoMemory) =
     AtDesks (λ d v w. GrewBy no_thread 0 (length (if part == d then frames else [])) v w) olds news

@@ -1,5 +1,6 @@
 -- Which workers there are, what each is to do, and how it ends.
-use Rattle.std.specs.Prelude.{◌≡◌, ℕ, ◌+◌, ◌<◌, ◌==◌, if◌then◌else◌, List, [], ◌∷◌, ◌++◌, length, slice_get, slice_index_or, Option, Some, None, Result, Ok, Err}
+use Rattle.std.specs.Prelude.{◌≡◌, ℕ, ◌+◌, ◌<◌, ◌==◌, if◌then◌else◌, List, [], ◌∷◌, ◌++◌, length, slice_get}
+use Rattle.std.specs.Prelude.{slice_index_or, Option, Some, None, Result, Ok, Err}
 use Rattle.nook_defs.specs.declared.desks.DeskRefused.{DeskRefused}
 use Rattle.nook_defs.specs.declared.calls.Op.{Op}
 use Rattle.nook_defs.specs.declared.scenario.PartSpec.{PartSpec}
@@ -10,7 +11,8 @@ use Rattle.app_threads.specs.declared.stop.WorkerStop.{WorkerStop}
 use Rattle.app_threads.specs.declared.stop.WorkerStop.TheVariants as stop
 use Rattle.app_threads.specs.declared.work.Work.{Work}
 use Rattle.app_threads.specs.declared.work.Work.TheVariants as work
-use Rattle.app_threads.specs.Workers.{AreReceipts, AtDesks, Does, GrewBy, IsArrivalRefused, IsCallRefused, KnowsOpen, MadeBy, count_on, invokes_of, no_thread}
+use Rattle.app_threads.specs.Workers.{AreReceipts, AtDesks, Does, GrewBy, IsArrivalRefused, IsCallRefused, KnowsOpen}
+use Rattle.app_threads.specs.Workers.{MadeBy, count_on, invokes_of, no_thread}
 
 -- a work for each script, from the thread with this number on
 abbrev pub script_works : ℕ → List ThreadSpec → List Work
@@ -53,21 +55,26 @@ IsWork scripts arrivals (work.Script thread) = thread < length scripts
 IsWork scripts arrivals (work.Arrivals part) = part < length arrivals
 
 -- a worker was refused at this place of its work
-abbrev pub IsWorkRefused : List PartSpec → List ThreadSpec → List (List (List ℕ)) → List DeskView → List DeskView → Work → ℕ → ℕ → DeskRefused → Type 0
+abbrev pub IsWorkRefused : List PartSpec → List ThreadSpec → List (List (List ℕ)) → List DeskView → List DeskView → Work
+    → ℕ → ℕ → DeskRefused → Type 0
 IsWorkRefused specs scripts arrivals olds news (work.Script thread) place part refusal =
-    IsCallRefused specs olds news (ops_of (slice_get scripts thread)) thread place part refusal × KnowsOpen specs olds news thread part refusal
+    IsCallRefused specs olds news (ops_of (slice_get scripts thread)) thread place part refusal
+    × KnowsOpen specs olds news thread part refusal
 IsWorkRefused specs scripts arrivals olds news (work.Arrivals p) place part refusal =
     (part ≡ p) × IsArrivalRefused specs olds news (slice_index_or arrivals part []) place part refusal
 
 -- how a worker ends
-abbrev pub WorkEnds : List PartSpec → List ThreadSpec → List (List (List ℕ)) → List DeskView → Work → List DeskView → Result (List Receipt) WorkerStop → Type 0
+abbrev pub WorkEnds : List PartSpec → List ThreadSpec → List (List (List ℕ)) → List DeskView → Work → List DeskView
+    → Result (List Receipt) WorkerStop → Type 0
 WorkEnds specs scripts arrivals olds k news (Ok receipts) =
     AreReceipts news (thread_of k) (ops_for scripts k) receipts
     × AtDesks (λ d v w. Does v w (invokes_of d (ops_for scripts k) receipts) (frames_for d arrivals k)) olds news
     × AtDesks (λ d v w. MadeBy (thread_of k) v w) olds news
 WorkEnds specs scripts arrivals olds k news (Err (stop.Refused own place part refusal)) =
-    AtDesks (λ d v w. GrewBy (thread_of k) (count_on d (ops_for scripts k)) (length (frames_for d arrivals k)) v w) olds news
+    AtDesks (λ d v w. GrewBy (thread_of k) (count_on d (ops_for scripts k)) (length (frames_for d arrivals k)) v w) olds
+    news
     × (own ≡ k)
     × IsWorkRefused specs scripts arrivals olds news k place part refusal
 WorkEnds specs scripts arrivals olds k news (Err stop.NoMemory) =
-    AtDesks (λ d v w. GrewBy (thread_of k) (count_on d (ops_for scripts k)) (length (frames_for d arrivals k)) v w) olds news
+    AtDesks (λ d v w. GrewBy (thread_of k) (count_on d (ops_for scripts k)) (length (frames_for d arrivals k)) v w) olds
+    news

@@ -30,7 +30,8 @@ fn arrive_next<R: Wait, D: DeskLike>(
     requires some { 1 ≤ length frame.now }
     requires fits { length frame.now ≤ MOST_FRAME_WORDS }
     ensures seats { AreSeats D.is_seat desks.now seats.new }
-    ensures ends { IsStepAt (map D.spec desks.now) (map D.view seats.old) (map D.view seats.new) part (λ spec old new. NextArrivalEnds spec old new place part frame.now result) }
+    ensures ends { IsStepAt (map D.spec desks.now) (map D.view seats.old) (map D.view seats.new) part
+        (λ spec old new. NextArrivalEnds spec old new place part frame.now result) }
 {
     match arrive_at(rt, alloc, desks, seats, part, frame) {
         Ok(kept) => Ok(kept),
@@ -58,7 +59,8 @@ pub fn run_arrivals<R: Wait, D: DeskLike>(
     requires frames { AreFrames frames.now }
     requires net { 0 < length frames.now → IsNetAt (map D.spec desks.now) part }
     ensures seats { AreSeats D.is_seat desks.now seats.new }
-    ensures ends { ArrivalsEnd (map D.spec desks.now) (map D.view seats.old) (map D.view seats.new) part frames.now result }
+    ensures ends { ArrivalsEnd (map D.spec desks.now) (map D.view seats.old)
+        (map D.view seats.new) part frames.now result }
     ensures shares { KeepShares (map D.view seats.old) (map D.view seats.new) }
 {
     for place in 0..frames.len() {

@@ -5,8 +5,6 @@ mod arrivals;
 mod script;
 mod seats;
 mod stop;
-#[cfg(test)]
-mod tests;
 mod work;
 mod workers;
 

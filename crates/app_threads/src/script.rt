@@ -30,7 +30,8 @@ fn call_next<R: Wait, D: DeskLike>(
     requires thread { thread < MOST_THREADS }
     requires part { part < length desks.now }
     ensures seats { AreSeats D.is_seat desks.now seats.new }
-    ensures ends { IsStepAt (map D.spec desks.now) (map D.view seats.old) (map D.view seats.new) part (λ spec old new. NextCallEnds spec old new thread place part op.now result) }
+    ensures ends { IsStepAt (map D.spec desks.now) (map D.view seats.old) (map D.view seats.new) part
+        (λ spec old new. NextCallEnds spec old new thread place part op.now result) }
 {
     match call_at(rt, alloc, desks, seats, thread, part, op) {
         Ok(receipt) => Ok(receipt),
@@ -58,7 +59,8 @@ pub fn run_script<R: Wait, D: DeskLike, G: Gate>(
     requires short { length ops.now ≤ MOST_OPS }
     requires parts { NameDesks (length desks.now) ops.now }
     ensures seats { AreSeats D.is_seat desks.now seats.new }
-    ensures ends { ScriptEnds (map D.spec desks.now) (map D.view seats.old) (map D.view seats.new) thread ops.now result }
+    ensures ends { ScriptEnds (map D.spec desks.now) (map D.view seats.old)
+        (map D.view seats.new) thread ops.now result }
     ensures shares { KeepShares (map D.view seats.old) (map D.view seats.new) }
 {
     let mut receipts = Receipts::new(alloc);

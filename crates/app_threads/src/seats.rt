@@ -28,7 +28,8 @@ pub fn call_at<R: Wait, D: DeskLike>(
     requires thread { thread < MOST_THREADS }
     requires part { part < length desks.now }
     ensures seats { AreSeats D.is_seat desks.now seats.new }
-    ensures ends { IsStepAt (map D.spec desks.now) (map D.view seats.old) (map D.view seats.new) part (λ spec old new. CallEnds spec old new thread op.now result) }
+    ensures ends { IsStepAt (map D.spec desks.now) (map D.view seats.old) (map D.view seats.new) part
+        (λ spec old new. CallEnds spec old new thread op.now result) }
 {
     let at = part as usize;
     desks[at].call(rt, alloc, &mut seats[at], thread, op)
@@ -49,7 +50,8 @@ pub fn arrive_at<R: Wait, D: DeskLike>(
     requires some { 1 ≤ length frame.now }
     requires fits { length frame.now ≤ MOST_FRAME_WORDS }
     ensures seats { AreSeats D.is_seat desks.now seats.new }
-    ensures ends { IsStepAt (map D.spec desks.now) (map D.view seats.old) (map D.view seats.new) part (λ spec old new. ArriveEnds spec old new frame.now result) }
+    ensures ends { IsStepAt (map D.spec desks.now) (map D.view seats.old) (map D.view seats.new) part
+        (λ spec old new. ArriveEnds spec old new frame.now result) }
 {
     let at = part as usize;
     desks[at].arrive(rt, alloc, &mut seats[at], frame)
@@ -61,7 +63,8 @@ fn split_at<D: DeskLike>(desks: &[D], seats: &mut [D::Seat], at: usize) -> D::Se
     requires at { at < length desks.now }
     ensures seats { AreSeats D.is_seat desks.now seats.new }
     ensures made { IsSeatAt D.is_seat desks.now at result }
-    ensures splits { IsStepAt (map D.spec desks.now) (map D.view seats.old) (map D.view seats.new) at (λ spec old new. Splits old new (D.view result)) }
+    ensures splits { IsStepAt (map D.spec desks.now) (map D.view seats.old) (map D.view seats.new) at
+        (λ spec old new. Splits old new (D.view result)) }
 {
     desks[at].split(&mut seats[at])
 }
@@ -93,7 +96,8 @@ fn join_at<D: DeskLike>(desks: &[D], seats: &mut [D::Seat], at: usize, other: D:
     requires at { at < length desks.now }
     requires other { IsSeatAt D.is_seat desks.now at other }
     ensures seats { AreSeats D.is_seat desks.now seats.new }
-    ensures joins { IsStepAt (map D.spec desks.now) (map D.view seats.old) (map D.view seats.new) at (λ spec old new. TakesInOne spec old (D.view other) new) }
+    ensures joins { IsStepAt (map D.spec desks.now) (map D.view seats.old) (map D.view seats.new) at
+        (λ spec old new. TakesInOne spec old (D.view other) new) }
 {
     desks[at].join(&mut seats[at], other);
 }
@@ -103,7 +107,8 @@ pub fn join_all<D: DeskLike>(desks: &[D], seats: &mut [D::Seat], mut others: Vec
     requires seats { AreSeats D.is_seat desks.now seats.old }
     requires others { AreSeats D.is_seat desks.now others.items }
     ensures seats { AreSeats D.is_seat desks.now seats.new }
-    ensures joins { TakesIn (map D.spec desks.now) (map D.view seats.old) (map D.view others.items) (map D.view seats.new) }
+    ensures joins { TakesIn (map D.spec desks.now) (map D.view seats.old) (map D.view others.items)
+        (map D.view seats.new) }
 {
     while let Some(other) = others.pop() {
         let at = others.len();

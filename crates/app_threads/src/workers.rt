@@ -35,8 +35,10 @@ fn hire<D: DeskLike>(
     ensures seats { AreSeats D.is_seat desks.now seats.new }
     ensures same { AtDesks Same (map D.view seats.old) (map D.view seats.new) }
     ensures accounts { KeepAccounts (map D.view seats.old) (map D.view seats.new) }
-    ensures hired { IfOk result (λ workers. Each (IsHired D.is_seat D.spec D.view desks.now (map D.view seats.old)) works.now workers.items) }
-    ensures spread { IfOk result (λ workers. Spread (map D.view seats.old) (map D.view seats.new) (map (λ worker. map D.view worker.seats.items) workers.items)) }
+    ensures hired { IfOk result (λ workers. Each
+        (IsHired D.is_seat D.spec D.view desks.now (map D.view seats.old)) works.now workers.items) }
+    ensures spread { IfOk result (λ workers. Spread (map D.view seats.old) (map D.view seats.new)
+        (map (λ worker. map D.view worker.seats.items) workers.items)) }
 {
     let mut workers = Vec::new(alloc);
     for at in 0..works.len() {
@@ -65,7 +67,8 @@ fn work_at<R: Wait, D: DeskLike, G: Gate>(
     requires arrivals { AreArrivals (map D.spec desks.now) arrivals.now }
     requires work { IsWork scripts.now arrivals.now work }
     ensures seats { AreSeats D.is_seat desks.now seats.new }
-    ensures ends { WorkEnds (map D.spec desks.now) scripts.now arrivals.now (map D.view seats.old) work (map D.view seats.new) result }
+    ensures ends { WorkEnds (map D.spec desks.now) scripts.now arrivals.now (map D.view seats.old) work
+        (map D.view seats.new) result }
     ensures shares { KeepShares (map D.view seats.old) (map D.view seats.new) }
 {
     match work {
@@ -112,15 +115,19 @@ fn run_all<R: Threads + Wait + Sync, D: DeskLike, G: Gate>(
 ) -> Result<Vec<Done<D::Seat>>, NoMemory>
     requires scripts { AreScripts (length desks.now) scripts.now }
     requires arrivals { AreArrivals (map D.spec desks.now) arrivals.now }
-    requires ready { All (λ worker. IsReady D.is_seat D.spec D.view desks.now scripts.now arrivals.now worker) workers.items }
-    ensures { IfOk result (λ done. Each (IsDone D.is_seat D.spec D.view desks.now scripts.now arrivals.now) workers.items done.items) }
+    requires ready { All (λ worker. IsReady D.is_seat D.spec D.view desks.now scripts.now arrivals.now worker)
+        workers.items }
+    ensures { IfOk result (λ done. Each (IsDone D.is_seat D.spec D.view desks.now scripts.now arrivals.now)
+        workers.items done.items) }
 {
     let done = thread::map_vec(
         rt,
         workers,
         &|worker: Worker<D::Seat>| -> Done<D::Seat>
-            requires { AreScripts (length desks.now) scripts.now × AreArrivals (map D.spec desks.now) arrivals.now × IsReady D.is_seat D.spec D.view desks.now scripts.now arrivals.now worker }
-            ensures { IsDone D.is_seat D.spec D.view desks.entry.now scripts.entry.now arrivals.entry.now worker result }
+            requires { AreScripts (length desks.now) scripts.now × AreArrivals (map D.spec desks.now) arrivals.now
+                × IsReady D.is_seat D.spec D.view desks.now scripts.now arrivals.now worker }
+            ensures { IsDone D.is_seat D.spec D.view desks.entry.now scripts.entry.now arrivals.entry.now worker
+                result }
         { work_off(rt, alloc, desks, scripts, arrivals, gate, worker) },
     )?;
     Ok(done)
@@ -136,7 +143,8 @@ fn take_in<D: DeskLike>(
     requires seats { AreSeats D.is_seat desks.now seats.old }
     requires workers { All (λ done. AreSeats D.is_seat desks.now done.seats.items) workers.items }
     ensures seats { AreSeats D.is_seat desks.now seats.new }
-    ensures joins { OnOk result (TakeAllIn (map D.spec desks.now) (map D.view seats.old) (map (λ done. map D.view done.seats.items) workers.items) (map D.view seats.new)) }
+    ensures joins { OnOk result (TakeAllIn (map D.spec desks.now) (map D.view seats.old)
+        (map (λ done. map D.view done.seats.items) workers.items) (map D.view seats.new)) }
     ensures ends { IfOk result (λ ends. ends.items ≡ map (λ done. done.end) workers.items) }
     ensures accounts { KeepAccounts (map D.view seats.old) (map D.view seats.new) }
 {
@@ -170,9 +178,9 @@ fn rows_of(
 /// thread number is told, and workers of arrivals come after all threads, in the order of their desks. After a table or
 /// a refusal the seats have taken all the workers' seats in: they know all that was seen and added through these, and
 /// those that were alone before are alone again. After a refusal no seat gained more calls of a thread than its script
-/// has on that desk, nor more arrivals than the desk's list. After `NoMemory` some workers may not have run, and what was
-/// added through the seats of those that did may not be known. Whatever the answer, a seat that accounted for all that
-/// was added through it (`Accounts`) does so still.
+/// has on that desk, nor more arrivals than the desk's list. After `NoMemory` some workers may not have run, and what
+/// was added through the seats of those that did may not be known. Whatever the answer, a seat that accounted for all
+/// that was added through it (`Accounts`) does so still.
 pub fn run_workers<R: Threads + Wait + Sync, D: DeskLike, G: Gate>(
     rt: &R,
     alloc: Global,
@@ -187,7 +195,8 @@ pub fn run_workers<R: Threads + Wait + Sync, D: DeskLike, G: Gate>(
     requires scripts { AreScripts (length desks.now) scripts.now }
     requires arrivals { AreArrivals (map D.spec desks.now) arrivals.now }
     ensures seats { AreSeats D.is_seat desks.now seats.new }
-    ensures ends { WorkersEnd (map D.spec desks.now) scripts.now arrivals.now (map D.view seats.old) (map D.view seats.new) result }
+    ensures ends { WorkersEnd (map D.spec desks.now) scripts.now arrivals.now (map D.view seats.old)
+        (map D.view seats.new) result }
     ensures accounts { KeepAccounts (map D.view seats.old) (map D.view seats.new) }
 {
     let works = works_of(alloc, scripts, arrivals)?;

@@ -30,8 +30,8 @@ pub fn every_scheduled_run_fits()
 {}
 
 /// Journals that fit a valid scenario are what a run by threads leaves, with the answers that they give each script in
-/// its order. In a scenario that is not valid an operation may be on a part that is not there: it has no answer. So what
-/// is promised of a run by threads holds of every scheduled run too.
+/// its order. In a scenario that is not valid an operation may be on a part that is not there: it has no answer. So
+/// what is promised of a run by threads holds of every scheduled run too.
 pub fn every_fitting_run_is_threaded()
     ensures { (scenario : Scenario) (journals : List (List Event)) → IsValidScenario scenario
         → AllFit scenario.threads 0 scenario.parts journals
@@ -39,8 +39,8 @@ pub fn every_fitting_run_is_threaded()
         (answers_in_order 0 scenario.threads (sections_of scenario.threads 0 scenario.parts journals)) }
 {}
 
-/// What a run by threads leaves of a valid scenario fits, and its report is theirs with what the program's own listeners
-/// count of them.
+/// What a run by threads leaves of a valid scenario fits, and its report is theirs with what the program's own
+/// listeners count of them.
 pub fn every_threaded_run_fits()
     ensures fits { (scenario : Scenario) (journals : List (List Event)) (answers : List (List (ℕ × Answer)))
         → IsValidScenario scenario → AreRuns scenario.parts journals → IsThreaded scenario journals answers

@@ -30,7 +30,8 @@ head_line place spec burst context call =
 -- how the burst ended, as its event shows it: its turns, its end, its acts, its answer and its failure
 abbrev pub end_line : ℕ → End → List Act → Option Answer → Option FailCause → List ℕ
 end_line count end acts answer failure =
-    with_number (codes "n") count ++ (codes " " ++ ((end_text end ++ (acts_tail acts ++ (answer_tail answer ++ cause_tail failure))) ++ line_feed))
+    with_number (codes "n") count ++ (codes " "
+    ++ ((end_text end ++ (acts_tail acts ++ (answer_tail answer ++ cause_tail failure))) ++ line_feed))
 
 -- the burst of a context, from the domain as it stands before
 abbrev pub traced_in : Context → List Fault → DomainState → TracedBurst

@@ -5,7 +5,8 @@ ghost use Rattle.nook_defs.specs.Steps.{faults_of_burst};
 ghost use Rattle.nook_defs.specs.Valid.{IsValidScenario};
 ghost use Rattle.report_text.specs.Writing.{Wrote};
 ghost use Rattle.turn_trace.specs.Lines.{step_lines, unstruck_lines};
-ghost use Rattle.burst_trace.specs.Text.{burst_lines, end_line, event_end, event_trace, head_line, inside_of, last_lines, part_lines, trace_by, trace_lines, traced_in};
+ghost use Rattle.burst_trace.specs.Text.{burst_lines, end_line, event_end, event_trace, head_line, inside_of};
+ghost use Rattle.burst_trace.specs.Text.{last_lines, part_lines, trace_by, trace_lines, traced_in};
 ghost use Rattle.burst_trace.specs.Writing.{Traces, WroteTrace};
 
 use domain_call::Domain;
@@ -24,11 +25,11 @@ use std::alloc::Global;
 use turn_trace::{trace_burst, write_start, write_unstruck};
 
 /// Writes the trace of burst number `burst` of the part at a place, counted from 0, in the scheduled run of a valid
-/// scenario: what the burst finds, a line for each turn and each fault that strikes, how it ends, and the faults that do
-/// not strike. Tells whether the run has such a part and the part such a burst; where not, nothing is written.
+/// scenario: what the burst finds, a line for each turn and each fault that strikes, how it ends, and the faults that
+/// do not strike. Tells whether the run has such a part and the part such a burst; where not, nothing is written.
 ///
-/// The scenario runs up to that burst and no further. The burst is then done once, from the domain as it stood, and each
-/// line is written when it is made.
+/// The scenario runs up to that burst and no further. The burst is then done once, from the domain as it stood, and
+/// each line is written when it is made.
 ///
 /// # Errors
 ///
@@ -41,7 +42,8 @@ pub fn write_trace<K: Sink>(
     sink: &mut K,
 ) -> Result<bool, WriteStop>
     requires { IsValidScenario scenario.now }
-    ensures written { Traces scenario.now place burst (K.held sink.old) (K.held sink.new) (K.count sink.old) (K.count sink.new) result }
+    ensures written { Traces scenario.now place burst (K.held sink.old) (K.held sink.new) (K.count sink.old)
+        (K.count sink.new) result }
     ensures untouched { result ≡ Ok false → sink.new ≡ sink.old }
 {
     let Some(spec) = scenario.parts.as_slice().get(place as usize) else {
@@ -118,7 +120,8 @@ fn write_part<K: Sink>(
 
 /// The faults of a part in the order in which they strike.
 fn script_of(alloc: Global, spec: &PartSpec) -> Result<FaultScript, NoMemory>
-    ensures { IfOk result (λ script. (burst : ℕ) → faults_of_burst burst script ≡ faults_of_burst burst spec.now.faults) }
+    ensures { IfOk result (λ script. (burst : ℕ)
+        → faults_of_burst burst script ≡ faults_of_burst burst spec.now.faults) }
 {
     FaultScript::new(spec.faults.copy(alloc)?)
 }
@@ -165,7 +168,8 @@ fn write_inside<K: Sink>(
     write_last(alloc, event, unstruck, sink)
 }
 
-/// Writes what a burst of a context finds, and its steps as they are taken. The faults that do not strike are handed back.
+/// Writes what a burst of a context finds, and its steps as they are taken. The faults that do not strike are handed
+/// back.
 fn write_burst<'a, K: Sink>(
     alloc: Global,
     inside: &Context,
@@ -205,7 +209,8 @@ fn write_last<K: Sink>(
     unstruck: &[Fault],
     sink: &mut K,
 ) -> Result<(), WriteStop>
-    ensures { Wrote (K.held sink.old) (K.held sink.new) (K.count sink.old) (K.count sink.new) result (last_lines (event_end event.now) unstruck.now) }
+    ensures { Wrote (K.held sink.old) (K.held sink.new) (K.count sink.old) (K.count sink.new) result
+        (last_lines (event_end event.now) unstruck.now) }
 {
     write_end(alloc, event, sink)?;
     write_unstruck(alloc, sink, unstruck)
@@ -213,7 +218,8 @@ fn write_last<K: Sink>(
 
 /// Writes how the burst of an event ended.
 fn write_end<K: Sink>(alloc: Global, event: &Event, sink: &mut K) -> Result<(), WriteStop>
-    ensures { Wrote (K.held sink.old) (K.held sink.new) (K.count sink.old) (K.count sink.new) result (event_end event.now) }
+    ensures { Wrote (K.held sink.old) (K.held sink.new) (K.count sink.old) (K.count sink.new) result
+        (event_end event.now) }
 {
     let mut line = Line::new(alloc);
     push_event_end(&mut line, event)?;

@@ -1,7 +1,9 @@
-use Rattle.std.specs.Prelude.{ℕ, ◌≡◌, ◌<◌, ◌&&◌, Bool, Option, Some, None, List, [], ◌∷◌, map, filter, nat_le, nat_lt, Vec, vec_len, vec_capacity, if◌then◌else◌}
+use Rattle.std.specs.Prelude.{ℕ, ◌≡◌, ◌<◌, ◌&&◌, Bool, Option, Some, None, List, [], ◌∷◌, map, filter, nat_le, nat_lt}
+use Rattle.std.specs.Prelude.{Vec, vec_len, vec_capacity, if◌then◌else◌}
 use Rattle.std.specs.BTreeMap.{get}
 use Rattle.std.specs.Ordering.{nat_cmp}
-use Rattle.claim_index.specs.Claims.{takes_all, is_reading, is_writing, takes_frames, takes_stream, first_claimed, end_claimed}
+use Rattle.claim_index.specs.Claims.{takes_all, is_reading, is_writing, takes_frames, takes_stream, first_claimed}
+use Rattle.claim_index.specs.Claims.{end_claimed}
 use Rattle.claim_index.specs.declared.by_block.ByBlock.{ByBlock}
 use Rattle.claim_index.specs.declared.claimants.Claimants.{Claimants}
 use Rattle.claim_index.specs.declared.claim.Claim.{Claim}

@@ -1,6 +1,7 @@
 //! The calls that claim each block.
 
-ghost use Rattle.std.specs.Prelude.{◌≡◌, ◌++◌, ◌∷◌, [], ℕ, true, not, ◌==◌, filter, slice_get, if◌then◌else◌, OnOk, OnErr};
+ghost use Rattle.std.specs.Prelude.{◌≡◌, ◌++◌, ◌∷◌, [], ℕ, true, not, ◌==◌, filter, slice_get, if◌then◌else◌, OnOk};
+ghost use Rattle.std.specs.Prelude.{OnErr};
 ghost use Rattle.claim_index.specs.Indexed.{HasRoomAt, is_within, least, numbers_at};
 
 use crate::claimants::first_of;
@@ -8,8 +9,8 @@ use nook_defs::memory::NoMemory;
 use std::alloc::Global;
 use std::collections::BTreeMap;
 
-/// Of each block the numbers of the calls that claim it, in the order in which they came. A block that is claimed no more
-/// keeps its empty list.
+/// Of each block the numbers of the calls that claim it, in the order in which they came. A block that is claimed no
+/// more keeps its empty list.
 #[derive(Drop)]
 pub struct ByBlock {
     numbers: BTreeMap<u64, Vec<u32>>,
@@ -25,10 +26,12 @@ impl ByBlock {
         }
     }
 
-    /// The call is added at each block. It takes its memory first: after `NoMemory` each block has the calls that it had.
+    /// The call is added at each block. It takes its memory first: after `NoMemory` each block has the calls that it
+    /// had.
     pub fn add(&mut self, alloc: Global, first: u64, end: u64, call: u32) -> Result<(), NoMemory>
         ensures ok { OnOk result ((block : ℕ) → numbers_at block self.new
-            ≡ (if is_within first end block then numbers_at block self.old ++ call ∷ [] else numbers_at block self.old)) }
+            ≡ (if is_within first end block then numbers_at block self.old ++ call ∷ []
+            else numbers_at block self.old)) }
         ensures err { OnErr result ((block : ℕ) → numbers_at block self.new ≡ numbers_at block self.old) }
     {
         self.make_rooms(alloc, first, end)?;
@@ -39,7 +42,8 @@ impl ByBlock {
     /// The call claims none of the blocks any more. It takes no memory.
     pub fn remove(&mut self, first: u64, end: u64, call: u32)
         ensures { (block : ℕ) → numbers_at block self.new
-            ≡ (if is_within first end block then filter (λ n. not (n == call)) (numbers_at block self.old) else numbers_at block self.old) }
+            ≡ (if is_within first end block then filter (λ n. not (n == call)) (numbers_at block self.old)
+            else numbers_at block self.old) }
     {
         for block in first..end {
             self.remove_at(block, call);
@@ -81,7 +85,8 @@ impl ByBlock {
     fn push(&mut self, first: u64, end: u64, call: u32)
         requires { (block : ℕ) → is_within first end block ≡ true → HasRoomAt block self.old }
         ensures { (block : ℕ) → numbers_at block self.new
-            ≡ (if is_within first end block then numbers_at block self.old ++ call ∷ [] else numbers_at block self.old) }
+            ≡ (if is_within first end block then numbers_at block self.old ++ call ∷ []
+            else numbers_at block self.old) }
     {
         for block in first..end {
             self.push_at(block, call);
@@ -101,7 +106,8 @@ impl ByBlock {
 
     fn remove_at(&mut self, block: u64, call: u32)
         ensures { (other : ℕ) → numbers_at other self.new
-            ≡ (if other == block then filter (λ n. not (n == call)) (numbers_at other self.old) else numbers_at other self.old) }
+            ≡ (if other == block then filter (λ n. not (n == call)) (numbers_at other self.old)
+            else numbers_at other self.old) }
     {
         if let Some(numbers) = self.numbers.get_mut(&block) {
             numbers.retain(|number| *number != call);

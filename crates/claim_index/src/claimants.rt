@@ -1,7 +1,9 @@
 //! The open calls by what they claim.
 
-ghost use Rattle.std.specs.Prelude.{◌≡◌, ◌≤◌, ◌++◌, ◌∷◌, ◌&&◌, ◌==◌, [], ℕ, Bool, List, Some, false, filter, not, slice_get, OnOk, OnErr};
-ghost use Rattle.claim_index.specs.Claims.{AreRising, HasBlocks, HaveBlocks, clashes, claim_by, conflict, first_that, takes_all, without_call};
+ghost use Rattle.std.specs.Prelude.{◌≡◌, ◌≤◌, ◌++◌, ◌∷◌, ◌&&◌, ◌==◌, [], ℕ, Bool, List, Some, false, filter, not};
+ghost use Rattle.std.specs.Prelude.{slice_get, OnOk, OnErr};
+ghost use Rattle.claim_index.specs.Claims.{AreRising, HasBlocks, HaveBlocks, clashes, claim_by, conflict, first_that};
+ghost use Rattle.claim_index.specs.Claims.{takes_all, without_call};
 ghost use Rattle.claim_index.specs.Indexed.{AreByBlock, AreClaimantsOf, is_touched, least};
 
 use crate::by_block::ByBlock;
@@ -36,8 +38,10 @@ impl Claimants {
 
     /// A claim more, of a call behind the others. It takes its memory first: after `NoMemory` the claims are as before.
     pub fn add(&mut self, alloc: Global, claim: Claim) -> Result<(), NoMemory>
-        ensures ok { OnOk result ((claims : List Claim) → AreClaimantsOf claims self.old → AreClaimantsOf (claims ++ claim ∷ []) self.new) }
-        ensures err { OnErr result ((claims : List Claim) → AreClaimantsOf claims self.old → AreClaimantsOf claims self.new) }
+        ensures ok { OnOk result ((claims : List Claim) → AreClaimantsOf claims self.old
+            → AreClaimantsOf (claims ++ claim ∷ []) self.new) }
+        ensures err { OnErr result ((claims : List Claim) → AreClaimantsOf claims self.old
+            → AreClaimantsOf claims self.new) }
     {
         let call = claim.call;
         match claim.on {
@@ -100,7 +104,8 @@ impl Claimants {
 /// The smallest number of a call of a kind that claims one of the blocks from `first` up to `end`.
 fn first_among(by_block: &ByBlock, first: u64, end: u64) -> Option<u32>
     requires { first ≤ end }
-    ensures { (kind : Claimed → Bool) (claims : List Claim) → AreByBlock kind claims by_block.now → AreRising 0 claims → HaveBlocks claims
+    ensures { (kind : Claimed → Bool) (claims : List Claim) → AreByBlock kind claims by_block.now → AreRising 0 claims
+        → HaveBlocks claims
         → result ≡ first_that (λ o. kind o && is_touched first end o) claims }
 {
     let mut found = None;

@@ -1,7 +1,8 @@
 //! The index of the open calls' claims.
 
 ghost use Rattle.std.specs.Prelude.{◌≡◌, ◌<◌, ◌++◌, ◌∷◌, [], List, Some, OnOk, OnErr};
-ghost use Rattle.claim_index.specs.Claims.{AreBelow, AreRising, HasBlocks, blocker_of, claim_by, claims_of, conflict, first_blocking, first_that, without_call};
+ghost use Rattle.claim_index.specs.Claims.{AreBelow, AreRising, HasBlocks, blocker_of, claim_by, claims_of, conflict};
+ghost use Rattle.claim_index.specs.Claims.{first_blocking, first_that, without_call};
 ghost use Rattle.claim_index.specs.Indexed.{number_before};
 ghost use Rattle.nook_defs.specs.Log.{open_call};
 ghost use Rattle.nook_defs.specs.declared.calls.CallEntry.{CallEntry};
@@ -71,8 +72,8 @@ impl ClaimIndex {
         }
     }
 
-    /// The open call with the smallest number that the open call has to wait for in a part of the class: it came earlier,
-    /// and their claims conflict. None exactly where there is none, or the call is not open.
+    /// The open call with the smallest number that the open call has to wait for in a part of the class: it came
+    /// earlier, and their claims conflict. None exactly where there is none, or the call is not open.
     pub fn first_conflict(&self, class: Class, call: u32) -> Option<u32>
         ensures claims { result ≡ first_blocking class (claim_by call self.now) self.now }
         ensures calls { (pending : List CallEntry) → self.now ≡ claims_of pending

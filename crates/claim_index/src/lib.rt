@@ -8,8 +8,6 @@ mod by_block;
 mod claim;
 mod claimants;
 mod index;
-#[cfg(test)]
-mod tests;
 
 pub use claim::{Claim, Claimed};
 pub use index::ClaimIndex;

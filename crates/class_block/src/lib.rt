@@ -43,6 +43,3 @@ pub fn accept(op: &Op, status: u32) -> Accept
     }
     Accept::Fail(FailCause::BadReply { status })
 }
-
-#[cfg(test)]
-mod tests;

@@ -41,6 +41,3 @@ pub fn accept(op: &Op, status: u32) -> Accept
         _ => unreachable!(),
     }
 }
-
-#[cfg(test)]
-mod tests;

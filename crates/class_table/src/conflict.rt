@@ -1,7 +1,8 @@
 //! Conflicts: of two open calls whose operations conflict, the later waits for the earlier.
 
 ghost use Rattle.std.specs.Prelude.{◌≡◌, ℕ, ◌+◌};
-ghost use Rattle.nook_defs.specs.Classes.{clash, conflicts, first_of_op, is_of_stream, is_recv, is_set, is_write, share_block};
+ghost use Rattle.nook_defs.specs.Classes.{clash, conflicts, first_of_op, is_of_stream, is_recv, is_set, is_write};
+ghost use Rattle.nook_defs.specs.Classes.{share_block};
 ghost use Rattle.nook_defs.specs.declared.classes.Class.{Class};
 ghost use Rattle.nook_defs.specs.declared.calls.Op.{Op};
 

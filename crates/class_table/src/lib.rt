@@ -13,6 +13,3 @@ pub use config::{default_of, defaults_of, maximum_of};
 pub use conflict::{conflicts, conflicts_are_symmetric};
 pub use entry::{entry_place, init_place, open_place, set_place};
 pub use operation::{blocks_of_op, first_of_op, is_of_class, static_check};
-
-#[cfg(test)]
-mod tests;

@@ -1,7 +1,8 @@
 //! The static check: what is wrong with an operation whatever its part's state.
 
 ghost use Rattle.std.specs.Prelude.{◌≡◌, ◌+◌, ◌<◌, ◌≤◌, ◌^◌, IsNone};
-ghost use Rattle.nook_defs.specs.Classes.{blocks_of_op, check_length, check_op, check_range, first_of_op, is_of_class, static_check};
+ghost use Rattle.nook_defs.specs.Classes.{blocks_of_op, check_length, check_op, check_range, first_of_op, is_of_class};
+ghost use Rattle.nook_defs.specs.Classes.{static_check};
 
 use crate::config::maximum_of;
 use nook_defs::calls::{Answer, Op};

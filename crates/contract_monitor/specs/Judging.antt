@@ -1,4 +1,5 @@
-use Rattle.std.specs.Prelude.{ℕ, Bool, false, List, [], ◌∷◌, find, length, Option, Some, None, nat_lt, ◌==◌, ◌||◌, not, if◌then◌else◌, slice_index, bytes_eq}
+use Rattle.std.specs.Prelude.{ℕ, Bool, false, List, [], ◌∷◌, find, length, Option, Some, None, nat_lt, ◌==◌, ◌||◌, not}
+use Rattle.std.specs.Prelude.{if◌then◌else◌, slice_index, bytes_eq}
 use Rattle.std.specs.List.{list_any}
 use Rattle.nook_defs.specs.declared.machine.Act.{Act}
 use Rattle.nook_defs.specs.declared.machine.Act.TheVariants as act
@@ -10,8 +11,13 @@ use Rattle.nook_defs.specs.declared.calls.Op.{Op}
 use Rattle.nook_defs.specs.declared.calls.Op.TheVariants.{Read, Write, Send, Recv, Play, Get, Set}
 use Rattle.nook_defs.specs.Blocks.{get_blocks, has_block, holds_from}
 use Rattle.nook_defs.specs.declared.clause.Clause.{Clause}
-use Rattle.nook_defs.specs.declared.clause.Clause.TheVariants.{UnaskedStore, OtherStore, UnstoredWrite, OtherRead, UnaskedFrame, SecondFrame, UnsentSend, LeftInRing, OtherSample, UnplayedPlay, UnaskedRegister, UnmadeSet, OtherGet, UnseenFailure}
-use Rattle.nook_defs.specs.Contract.{Deed, Known, OpenCall, replies, replays, all_clauses, breaks, deeds_of, is_asked, is_broken_by, is_next_of, is_send_of, clause_number, play_inside, may_store, stores_other}
+use Rattle.nook_defs.specs.declared.clause.Clause.TheVariants.{UnaskedStore, OtherStore, UnstoredWrite, OtherRead}
+use Rattle.nook_defs.specs.declared.clause.Clause.TheVariants.{UnaskedFrame, SecondFrame, UnsentSend, LeftInRing}
+use Rattle.nook_defs.specs.declared.clause.Clause.TheVariants.{OtherSample, UnplayedPlay, UnaskedRegister, UnmadeSet}
+use Rattle.nook_defs.specs.declared.clause.Clause.TheVariants.{OtherGet, UnseenFailure}
+use Rattle.nook_defs.specs.Contract.{Deed, Known, OpenCall, replies, replays, all_clauses, breaks, deeds_of, is_asked}
+use Rattle.nook_defs.specs.Contract.{is_broken_by, is_next_of, is_send_of, clause_number, play_inside, may_store}
+use Rattle.nook_defs.specs.Contract.{stores_other}
 use Rattle.nook_defs.specs.Devices.{is_empty}
 
 -- the clause with the smaller number
@@ -65,7 +71,8 @@ act_broken k c a = None
 -- a reply with this answer, of a call of this operation
 abbrev pub reply_broken : Known → OpenCall → Op → Answer → Option Clause
 reply_broken k c (Write first words) answer.Done = unless (holds_from 0 (Write first words) k.medium) UnstoredWrite
-reply_broken k c (Read first count) (answer.Blocks words) = unless (bytes_eq words (get_blocks k.medium first count)) OtherRead
+reply_broken k c (Read first count) (answer.Blocks words) =
+    unless (bytes_eq words (get_blocks k.medium first count)) OtherRead
 reply_broken k c (Send frame) answer.Done = unless (nat_lt 0 c.sent) UnsentSend
 reply_broken k c Recv a = unless (is_empty k.ring || c.handed) LeftInRing
 reply_broken k c (Play samples) answer.Done = unless (c.played == length samples) UnplayedPlay

@@ -1,4 +1,5 @@
-use Rattle.std.specs.Prelude.{ℕ, suc, Bool, List, [], ◌∷◌, ◌++◌, filter, fold, length, drop, Option, Some, None, ◌+◌, ◌-◌, ◌==◌, not, if◌then◌else◌}
+use Rattle.std.specs.Prelude.{ℕ, suc, Bool, List, [], ◌∷◌, ◌++◌, filter, fold, length, drop, Option, Some, None, ◌+◌}
+use Rattle.std.specs.Prelude.{◌-◌, ◌==◌, not, if◌then◌else◌}
 use Rattle.std.specs.List.{list_any}
 use Rattle.nook_defs.specs.declared.machine.Act.{Act}
 use Rattle.nook_defs.specs.declared.machine.Act.TheVariants as act
@@ -13,9 +14,12 @@ use Rattle.nook_defs.specs.declared.calls.Op.{Op}
 use Rattle.nook_defs.specs.declared.steps.Stage.{Stage}
 use Rattle.nook_defs.specs.declared.steps.Stage.TheVariants as stage
 use Rattle.nook_defs.specs.Answers.{answers_of}
-use Rattle.nook_defs.specs.Contract.{Deed, Known, acts, after_deed, after_failure, after_stage, change_call, crossing_deeds, deeds_of, during, hands_up, is_answered_in, known_first, new_call, replays, replies}
+use Rattle.nook_defs.specs.Contract.{Deed, Known, acts, after_deed, after_failure, after_stage, change_call}
+use Rattle.nook_defs.specs.Contract.{crossing_deeds, deeds_of, during, hands_up, is_answered_in, known_first, new_call}
+use Rattle.nook_defs.specs.Contract.{replays, replies}
 use Rattle.nook_defs.proofs.Changes.{enter_call, unplayed, unsent}
-use Rattle.nook_defs.specs.Losses.{FramePlaces, Tally, handed_result, in_driver, in_ring, is_busy, is_received, lost_by, new_tally, no_places, one_if, places_reset, tallies_after, tallies_during}
+use Rattle.nook_defs.specs.Losses.{FramePlaces, Tally, handed_result, in_driver, in_ring, is_busy, is_received, lost_by}
+use Rattle.nook_defs.specs.Losses.{new_tally, no_places, one_if, places_reset, tallies_after, tallies_during}
 use Rattle.contract_monitor.specs.Calls.{change_tally, tally_played, tally_sent}
 
 -- what is counted: Sends and samples that were lost, answers Busy; frames that arrived, that were answered, that the
@@ -65,8 +69,17 @@ shorter_after k e = record (known_during k e)
 -- ---- counts
 
 abbrev pub no_counts : Counts
-no_counts = record
-    { sends = 0; samples = 0; busy = 0; arrived = 0; received = 0; taken = 0; refused = 0; lost = 0; places = no_places }
+no_counts = record {
+  sends = 0;
+  samples = 0;
+  busy = 0;
+  arrived = 0;
+  received = 0;
+  taken = 0;
+  refused = 0;
+  lost = 0;
+  places = no_places;
+}
 
 abbrev pub sends_lost : Tally → ℕ
 sends_lost t = unsent t.op t.sent
@@ -126,7 +139,8 @@ told n = record {
 
 -- what an event counts, but for its answers
 abbrev pub counts_during : Counts → Event → Counts
-counts_during n (event.Burst context call burst count e done a failure) = count_handed (handed_result e) (fold count_act n done)
+counts_during n (event.Burst context call burst count e done a failure) =
+    count_handed (handed_result e) (fold count_act n done)
 counts_during n (event.Stage s answers released) = count_stage s n
 counts_during n (event.Arrive frame kept) = count_arrival kept n
 counts_during n e = n

@@ -1,6 +1,7 @@
 //! The blocks of a disk, as the contract compares them.
 
-ghost use Rattle.std.specs.Prelude.{◌≡◌, ◌++◌, ◌*◌, [], length, take, drop, replicate, slice_get, slice_set, unwrap_or, IfOk, OnOk};
+ghost use Rattle.std.specs.Prelude.{◌≡◌, ◌++◌, ◌*◌, [], length, take, drop, replicate, slice_get, slice_set, unwrap_or};
+ghost use Rattle.std.specs.Prelude.{IfOk, OnOk};
 ghost use Rattle.nook_defs.specs.Blocks.{blank_blocks, get_blocks, has_block, holds_from, words_for};
 ghost use Rattle.nook_defs.specs.Classes.{covers};
 ghost use Rattle.contract_monitor.specs.Questions.{holds_block};

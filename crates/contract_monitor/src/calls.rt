@@ -1,8 +1,10 @@
 //! The calls that are open, in the order in which they were made, with what the contract and the losses know of them.
 
-ghost use Rattle.std.specs.Prelude.{◌≡◌, ◌+◌, ◌<◌, ◌==◌, None, Some, MatchOption, OnOk, IfOk, map, filter, find, length, not, slice_get, if◌then◌else◌};
+ghost use Rattle.std.specs.Prelude.{◌≡◌, ◌+◌, ◌<◌, ◌==◌, None, Some, MatchOption, OnOk, IfOk, map, filter, find};
+ghost use Rattle.std.specs.Prelude.{length, not, slice_get, if◌then◌else◌};
 ghost use Rattle.std.specs.List.{list_any};
-ghost use Rattle.nook_defs.specs.Contract.{call_of, change_first, is_answered_in, is_playing, leave_call, new_call, play_inside, played_more};
+ghost use Rattle.nook_defs.specs.Contract.{call_of, change_first, is_answered_in, is_playing, leave_call, new_call};
+ghost use Rattle.nook_defs.specs.Contract.{play_inside, played_more};
 ghost use Rattle.nook_defs.specs.Losses.{new_tally};
 ghost use Rattle.contract_monitor.specs.Calls.{open_calls, open_change, open_of, tally_calls, tally_change, tally_of};
 
@@ -99,8 +101,10 @@ pub fn copy_calls(alloc: Global, calls: &[Call]) -> Result<Vec<Call>, NoMemory>
 
 /// The call with a number, where it is open.
 pub fn find_call(calls: &[Call], number: u32) -> Option<&Call>
-    ensures opened { MatchOption result (call_of number (map open_of calls.now) ≡ None) (λ c. call_of number (map open_of calls.now) ≡ Some (open_of c.now)) }
-    ensures tallied { MatchOption result (find (λ t. t.number == number) (map tally_of calls.now) ≡ None) (λ c. find (λ t. t.number == number) (map tally_of calls.now) ≡ Some (tally_of c.now)) }
+    ensures opened { MatchOption result (call_of number (map open_of calls.now) ≡ None)
+        (λ c. call_of number (map open_of calls.now) ≡ Some (open_of c.now)) }
+    ensures tallied { MatchOption result (find (λ t. t.number == number) (map tally_of calls.now) ≡ None)
+        (λ c. find (λ t. t.number == number) (map tally_of calls.now) ≡ Some (tally_of c.now)) }
 {
     for call in calls {
         if call.number == number {
@@ -112,8 +116,10 @@ pub fn find_call(calls: &[Call], number: u32) -> Option<&Call>
 
 /// Changes the call with a number, where it is open.
 pub fn change_calls(calls: &mut Vec<Call>, number: u32, change: Change) -> Result<(), NoMemory>
-    ensures opened { OnOk result (map open_of calls.new.items ≡ open_calls change number (map open_of calls.old.items)) }
-    ensures tallied { OnOk result (map tally_of calls.new.items ≡ tally_calls change number (map tally_of calls.old.items)) }
+    ensures opened { OnOk result (map open_of calls.new.items
+        ≡ open_calls change number (map open_of calls.old.items)) }
+    ensures tallied { OnOk result (map tally_of calls.new.items
+        ≡ tally_calls change number (map tally_of calls.old.items)) }
 {
     for i in 0..calls.len() {
         change_if(&mut calls[i], number, change)?;
@@ -123,8 +129,10 @@ pub fn change_calls(calls: &mut Vec<Call>, number: u32, change: Change) -> Resul
 
 /// Changes a call, if it has this number.
 fn change_if(call: &mut Call, number: u32, change: Change) -> Result<(), NoMemory>
-    ensures opened { OnOk result (open_of call.new ≡ (if call.old.number == number then open_change change (open_of call.old) else open_of call.old)) }
-    ensures tallied { OnOk result (tally_of call.new ≡ (if call.old.number == number then tally_change change (tally_of call.old) else tally_of call.old)) }
+    ensures opened { OnOk result (open_of call.new
+        ≡ (if call.old.number == number then open_change change (open_of call.old) else open_of call.old)) }
+    ensures tallied { OnOk result (tally_of call.new
+        ≡ (if call.old.number == number then tally_change change (tally_of call.old) else tally_of call.old)) }
 {
     if call.number == number {
         change_one(call, change)?;
@@ -178,7 +186,8 @@ fn is_playing(call: &Call) -> bool
 
 /// The first Play that is Inside.
 pub fn find_playing(calls: &[Call]) -> Option<&Call>
-    ensures { MatchOption result (play_inside (map open_of calls.now) ≡ None) (λ c. play_inside (map open_of calls.now) ≡ Some (open_of c.now)) }
+    ensures { MatchOption result (play_inside (map open_of calls.now) ≡ None)
+        (λ c. play_inside (map open_of calls.now) ≡ Some (open_of c.now)) }
 {
     for call in calls {
         if is_playing(call) {
@@ -190,7 +199,8 @@ pub fn find_playing(calls: &[Call]) -> Option<&Call>
 
 /// A sample more of the first Play that is Inside was played.
 pub fn play_one(calls: &mut Vec<Call>) -> Result<(), NoMemory>
-    ensures opened { OnOk result (map open_of calls.new.items ≡ change_first is_playing played_more (map open_of calls.old.items)) }
+    ensures opened { OnOk result (map open_of calls.new.items
+        ≡ change_first is_playing played_more (map open_of calls.old.items)) }
     ensures tallied { OnOk result (map tally_of calls.new.items ≡ map tally_of calls.old.items) }
 {
     for i in 0..calls.len() {
@@ -212,8 +222,10 @@ fn play_more(call: &mut Call) -> Result<(), NoMemory>
 
 /// The call with a number is open no more.
 pub fn close_call(calls: &mut Vec<Call>, number: u32)
-    ensures opened { map open_of calls.new.items ≡ filter (λ c. not (number == c.number)) (map open_of calls.old.items) }
-    ensures tallied { map tally_of calls.new.items ≡ filter (λ t. not (number == t.number)) (map tally_of calls.old.items) }
+    ensures opened { map open_of calls.new.items
+        ≡ filter (λ c. not (number == c.number)) (map open_of calls.old.items) }
+    ensures tallied { map tally_of calls.new.items
+        ≡ filter (λ t. not (number == t.number)) (map tally_of calls.old.items) }
 {
     calls.retain(|call| number != call.number);
 }
@@ -232,8 +244,10 @@ fn is_answered(answers: &[(u32, Answer)], number: u32) -> bool
 
 /// Calls that are answered are open no more.
 pub fn close_calls(calls: &mut Vec<Call>, answers: &[(u32, Answer)])
-    ensures opened { map open_of calls.new.items ≡ filter (λ c. not (is_answered_in answers.now c)) (map open_of calls.old.items) }
-    ensures tallied { map tally_of calls.new.items ≡ filter (λ t. not (list_any (λ a. a.0 == t.number) answers.now)) (map tally_of calls.old.items) }
+    ensures opened { map open_of calls.new.items
+        ≡ filter (λ c. not (is_answered_in answers.now c)) (map open_of calls.old.items) }
+    ensures tallied { map tally_of calls.new.items
+        ≡ filter (λ t. not (list_any (λ a. a.0 == t.number) answers.now)) (map tally_of calls.old.items) }
 {
     calls.retain(|call| !is_answered(answers, call.number));
 }

@@ -4,7 +4,8 @@ ghost use Rattle.std.specs.Prelude.{◌≡◌, ◌∷◌, [], fold, map, OnOk};
 ghost use Rattle.nook_defs.specs.Answers.{one_answer};
 ghost use Rattle.nook_defs.specs.Losses.{handed_result, is_busy, is_done, is_received, lost_by, one_if};
 ghost use Rattle.contract_monitor.specs.Calls.{tally_of};
-ghost use Rattle.contract_monitor.specs.Keeping.{count_answer, count_handed, kept_answered, kept_arrival, kept_enter, kept_invoke, samples_lost, sends_lost, with_counts};
+ghost use Rattle.contract_monitor.specs.Keeping.{count_answer, count_handed, kept_answered, kept_arrival, kept_enter};
+ghost use Rattle.contract_monitor.specs.Keeping.{kept_invoke, samples_lost, sends_lost, with_counts};
 
 use crate::calls::{Call, Change, change_calls, close_call, close_calls, find_call, more};
 use crate::known::Known;
@@ -70,7 +71,8 @@ impl Known {
 
     /// Counts answers of calls that are open still.
     fn count_answers(&mut self, answers: &[(u32, Answer)]) -> Result<(), NoMemory>
-        ensures { OnOk result (self.new ≡ with_counts (fold (count_answer self.old.tallies) self.old.counts answers.now) self.old) }
+        ensures { OnOk result (self.new ≡ with_counts
+            (fold (count_answer self.old.tallies) self.old.counts answers.now) self.old) }
     {
         for answer in answers {
             self.count_answer(answer.0, &answer.1)?;
@@ -99,7 +101,8 @@ impl Known {
 
     /// Counts the answer of a call that is open still.
     fn count_answer(&mut self, call: u32, answer: &Answer) -> Result<(), NoMemory>
-        ensures { OnOk result (self.new ≡ with_counts (count_answer self.old.tallies self.old.counts (call, answer.now)) self.old) }
+        ensures { OnOk result (self.new ≡ with_counts
+            (count_answer self.old.tallies self.old.counts (call, answer.now)) self.old) }
     {
         let sends = lost_sends(&self.calls, call, answer);
         let samples = lost_samples(&self.calls, call, answer);

@@ -30,7 +30,8 @@ impl Known {
         failure: &Option<FailCause>,
     ) -> Result<Option<Clause>, NoMemory>
         ensures kept { OnOk result (self.new ≡ kept_crossing call end.now answer.now failure.now self.old) }
-        ensures broken { IfOk result (λ clause. clause ≡ first_broken call self.old.known (crossing_deeds end.now answer.now failure.now)) }
+        ensures broken { IfOk result (λ clause. clause
+            ≡ first_broken call self.old.known (crossing_deeds end.now answer.now failure.now)) }
     {
         let broken = self.see_end(call, end, answer, failure)?;
         self.count_handed(end)?;
@@ -48,8 +49,10 @@ impl Known {
         answer: &Option<Answer>,
         failure: &Option<FailCause>,
     ) -> Result<Option<Clause>, NoMemory>
-        ensures kept { OnOk result (self.new ≡ with_known (fold (kept_deed call) self.old.known (crossing_deeds end.now answer.now failure.now)) self.old) }
-        ensures broken { IfOk result (λ clause. clause ≡ first_broken call self.old.known (crossing_deeds end.now answer.now failure.now)) }
+        ensures kept { OnOk result (self.new
+            ≡ with_known (fold (kept_deed call) self.old.known (crossing_deeds end.now answer.now failure.now)) self.old) }
+        ensures broken { IfOk result (λ clause. clause
+            ≡ first_broken call self.old.known (crossing_deeds end.now answer.now failure.now)) }
     {
         match end {
             End::Service {
@@ -77,7 +80,8 @@ impl Known {
 
     /// A frame is handed up.
     fn see_handed(&mut self, call: u32, moved: &Words) -> Result<Option<Clause>, NoMemory>
-        ensures kept { OnOk result (self.new ≡ with_known (kept_deed call self.old.known (hands_up moved.now)) self.old) }
+        ensures kept { OnOk result (self.new
+            ≡ with_known (kept_deed call self.old.known (hands_up moved.now)) self.old) }
         ensures broken { IfOk result (λ clause. clause ≡ first_broken call self.old.known (hands_up moved.now ∷ [])) }
     {
         let due = match self.pending.pop_front() {
@@ -90,7 +94,8 @@ impl Known {
 
     /// A reply is accepted.
     fn see_reply(&mut self, call: u32, answer: &Option<Answer>) -> Result<Option<Clause>, NoMemory>
-        ensures kept { OnOk result (self.new ≡ with_known (fold (kept_deed call) self.old.known (reply_deeds answer.now)) self.old) }
+        ensures kept { OnOk result (self.new
+            ≡ with_known (fold (kept_deed call) self.old.known (reply_deeds answer.now)) self.old) }
         ensures broken { IfOk result (λ clause. clause ≡ first_broken call self.old.known (reply_deeds answer.now)) }
     {
         match answer {
@@ -105,7 +110,8 @@ impl Known {
 
     /// The smallest clause that is broken by a call's answer.
     fn judge_reply(&self, call: u32, answer: &Answer) -> Result<Option<Clause>, NoMemory>
-        ensures { IfOk result (λ clause. clause ≡ reply_broken_of self.now.known (call_of call self.now.known.calls) answer.now) }
+        ensures { IfOk result (λ clause. clause
+            ≡ reply_broken_of self.now.known (call_of call self.now.known.calls) answer.now) }
     {
         match find_call(&self.calls, call) {
             Some(call) => self.judge_answer(call, answer),
@@ -115,7 +121,8 @@ impl Known {
 
     /// The smallest clause that is broken by the answer of this call.
     fn judge_answer(&self, call: &Call, answer: &Answer) -> Result<Option<Clause>, NoMemory>
-        ensures { IfOk result (λ clause. clause ≡ reply_broken self.now.known (open_of call.now) call.now.op answer.now) }
+        ensures { IfOk result (λ clause. clause
+            ≡ reply_broken self.now.known (open_of call.now) call.now.op answer.now) }
     {
         match &call.op {
             Op::Read { first, count } => self.judge_read(call, *first, *count, answer),
@@ -146,7 +153,8 @@ impl Known {
         count: u32,
         answer: &Answer,
     ) -> Result<Option<Clause>, NoMemory>
-        ensures { IfOk result (λ clause. clause ≡ reply_broken self.now.known (open_of call.now) (Op.Read first count) answer.now) }
+        ensures { IfOk result (λ clause. clause
+            ≡ reply_broken self.now.known (open_of call.now) (Op.Read first count) answer.now) }
     {
         match answer {
             Answer::Blocks(words) => {

@@ -206,7 +206,8 @@ impl Known {
         failure: &Option<FailCause>,
     ) -> Result<Option<Clause>, NoMemory>
         ensures kept { OnOk result (self.new ≡ kept_burst call acts.now end.now answer.now failure.now self.old) }
-        ensures broken { IfOk result (λ clause. clause ≡ first_broken call self.old.known (deeds_of acts.now end.now answer.now failure.now)) }
+        ensures broken { IfOk result (λ clause. clause
+            ≡ first_broken call self.old.known (deeds_of acts.now end.now answer.now failure.now)) }
     {
         let at_acts = self.see_acts(call, acts)?;
         let at_crossing = self.see_crossing(call, end, answer, failure)?;

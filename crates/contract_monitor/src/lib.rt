@@ -10,8 +10,6 @@ mod counting;
 mod crossings;
 mod known;
 mod monitor;
-#[cfg(test)]
-mod tests;
 mod watching;
 
 pub use monitor::Monitor;

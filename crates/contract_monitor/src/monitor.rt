@@ -57,8 +57,8 @@ impl Monitor {
         })
     }
 
-    /// The monitor that has seen these events, in order. It wants half the time and memory that a `see` for each of them
-    /// does, since no event is seen twice: a monitor that wants memory is given up.
+    /// The monitor that has seen these events, in order. It wants half the time and memory that a `see` for each of
+    /// them does, since no event is seen twice: a monitor that wants memory is given up.
     pub fn of_events(
         alloc: Global,
         class: Class,
@@ -76,7 +76,8 @@ impl Monitor {
 
     /// One event more; after NoMemory the monitor is of no use.
     fn see_or_give_up(&mut self, event: &Event) -> Result<(), NoMemory>
-        ensures { OnOk result ((class : Class) (size : ℕ) (events : List Event) → StandsFor class size events self.old → StandsFor class size (events ++ event.now ∷ []) self.new) }
+        ensures { OnOk result ((class : Class) (size : ℕ) (events : List Event) → StandsFor class size events self.old
+            → StandsFor class size (events ++ event.now ∷ []) self.new) }
     {
         let seen = more(self.seen, 1)?;
         self.spare = None;
@@ -90,7 +91,8 @@ impl Monitor {
     /// NoMemory it is as it was. A count that has no room in 64 bits is refused as memory is.
     pub fn see(&mut self, event: &Event) -> Result<(), NoMemory>
         ensures after { OnOk result (self.new ≡ after_event event.now self.old) }
-        ensures stands { OnOk result ((class : Class) (size : ℕ) (events : List Event) → StandsFor class size events self.old → StandsFor class size (events ++ event.now ∷ []) self.new) }
+        ensures stands { OnOk result ((class : Class) (size : ℕ) (events : List Event)
+            → StandsFor class size events self.old → StandsFor class size (events ++ event.now ∷ []) self.new) }
         ensures err { OnErr result (self.new ≡ self.old) }
     {
         let seen = more(self.seen, 1)?;
@@ -106,7 +108,8 @@ impl Monitor {
     /// The first event that breaks a clause of the class's contract, with the smallest clause that it breaks.
     pub fn first_break(&self) -> Option<Break>
         ensures value { result ≡ self.now.broken }
-        ensures stands { (class : Class) (size : ℕ) (events : List Event) → StandsFor class size events self.now → result ≡ first_break class size events }
+        ensures stands { (class : Class) (size : ℕ) (events : List Event) → StandsFor class size events self.now
+            → result ≡ first_break class size events }
     {
         self.broken
     }
@@ -114,7 +117,8 @@ impl Monitor {
     /// What was lost, and where frames went.
     pub fn losses(&self) -> Losses
         ensures value { result ≡ told self.now.kept.counts }
-        ensures stands { (class : Class) (size : ℕ) (events : List Event) → StandsFor class size events self.now → result ≡ losses events }
+        ensures stands { (class : Class) (size : ℕ) (events : List Event) → StandsFor class size events self.now
+            → result ≡ losses events }
     {
         self.known.losses()
     }

@@ -3,7 +3,8 @@
 ghost use Rattle.std.specs.Prelude.{◌≡◌, map, slice_index};
 ghost use Rattle.std.specs.List.{list_any};
 ghost use Rattle.nook_defs.specs.Classes.{is_next, sends};
-ghost use Rattle.nook_defs.specs.Contract.{call_of, is_next_of, is_replay_of, is_replayed, is_send_of, is_setting, play_inside, sets, may_store, stores_other};
+ghost use Rattle.nook_defs.specs.Contract.{call_of, is_next_of, is_replay_of, is_replayed, is_send_of, is_setting};
+ghost use Rattle.nook_defs.specs.Contract.{play_inside, sets, may_store, stores_other};
 ghost use Rattle.contract_monitor.specs.Calls.{open_of};
 ghost use Rattle.contract_monitor.specs.Judging.{had_frame};
 

@@ -1,5 +1,6 @@
 -- What a caller of a desk knows of the desk's part, and what each call adds to it.
-use Rattle.std.specs.Prelude.{◌≡◌, ℕ, ◌<◌, ◌≤◌, Bool, true, false, List, [], ◌∷◌, ◌++◌, ◌⊎◌, length, All, Contains, Some, None, Result, Ok, Err}
+use Rattle.std.specs.Prelude.{◌≡◌, ℕ, ◌<◌, ◌≤◌, Bool, true, false, List, [], ◌∷◌, ◌++◌, ◌⊎◌, length, All, Contains}
+use Rattle.std.specs.Prelude.{Some, None, Result, Ok, Err}
 use mathlib.Core.List.{IsPrefix}
 use Rattle.nook_defs.specs.declared.limits.TheConstants.{MOST_CALLS}
 use Rattle.nook_defs.specs.declared.calls.Answer.{Answer}
@@ -28,8 +29,8 @@ pub record DeskView : Type 0 where
 abbrev pub IsAlone : DeskView → Type 0
 IsAlone v = IsWhole v.share
 
--- what is so of every seat between two calls: what was added through it lies in what it has seen, and a seat that is the
--- only one added all of that, itself or by the seats that it took in
+-- what is so of every seat between two calls: what was added through it lies in what it has seen, and a seat that is
+-- the only one added all of that, itself or by the seats that it took in
 pub record Accounts (v : DeskView) : Type 0 where
   pub within : All (λ place. (0 < place) × (place ≤ length v.seen)) v.made
   pub all : IsAlone v → (place : ℕ) → 0 < place → place ≤ length v.seen → Contains v.made place
@@ -123,7 +124,8 @@ HasNoneOpen p thread = call_of_thread thread p.log.pending ≡ None
 abbrev pub CallEnds : PartSpec → DeskView → DeskView → ℕ → Op → Result Receipt DeskRefused → Type 0
 CallEnds spec old new thread op (Ok receipt) =
     Invokes old new receipt.call thread op receipt.at_invoke × IsReceipt new.seen thread op receipt
-CallEnds spec old new thread op (Err (refused.OpenCall call)) = AddsNothing old new × HasOpen (state_seen spec new) thread call
+CallEnds spec old new thread op (Err (refused.OpenCall call)) =
+    AddsNothing old new × HasOpen (state_seen spec new) thread call
 CallEnds spec old new thread op (Err refused.TooManyCalls) =
     AddsNothing old new × HasNoneOpen (state_seen spec new) thread × ((state_seen spec new).log.count ≡ MOST_CALLS)
 CallEnds spec old new thread op (Err (refused.NoMemory None)) = AddsNothing old new
@@ -150,7 +152,8 @@ ResumeEnds spec old new thread (Err _) = ⊥
 abbrev pub ArriveEnds : PartSpec → DeskView → DeskView → List ℕ → Result Bool DeskRefused → Type 0
 ArriveEnds spec old new frame (Ok kept) =
     (place : ℕ) × Adds old new (place ∷ []) × IsAt new.seen place (IsArrive frame kept)
-ArriveEnds spec old new frame (Err refused.TooManyArrivals) = AddsNothing old new × ((state_seen spec new).arrived ≡ MOST_CALLS)
+ArriveEnds spec old new frame (Err refused.TooManyArrivals) =
+    AddsNothing old new × ((state_seen spec new).arrived ≡ MOST_CALLS)
 ArriveEnds spec old new frame (Err (refused.NoMemory None)) = AddsNothing old new
 ArriveEnds spec old new frame (Err _) = ⊥
 
@@ -164,8 +167,8 @@ halved_view v = record v { share = half false v.share }
 abbrev pub new_view : DeskView → DeskView
 new_view v = record { seen = v.seen; made = []; share = half true v.share }
 
--- a seat took another in: it has seen the longer of the two lists, which both begin, and the places and shares are those
--- of both
+-- a seat took another in: it has seen the longer of the two lists, which both begin, and the places and shares are
+-- those of both
 pub record Joins (old other new : DeskView) : Type 0 where
   pub seen : IsPrefix old.seen new.seen
   pub other_seen : IsPrefix other.seen new.seen

@@ -35,9 +35,9 @@ pub trait DeskLike: Sync {
 
     /// Invokes an operation for a thread below 16 and waits until it is answered, by itself or by another caller.
     ///
-    /// `OpenCall` comes exactly where the thread has an open call when it would invoke, and `TooManyCalls` exactly where
-    /// the part has 100,000 calls then; both add nothing, as does `NoMemory` that names no call. `NoMemory` that names a
-    /// call leaves it invoked and open.
+    /// `OpenCall` comes exactly where the thread has an open call when it would invoke, and `TooManyCalls` exactly
+    /// where the part has 100,000 calls then; both add nothing, as does `NoMemory` that names no call. `NoMemory` that
+    /// names a call leaves it invoked and open.
     fn call<R: Wait>(
         &self,
         rt: &R,
@@ -82,8 +82,8 @@ pub trait DeskLike: Sync {
         ensures run { IsRun (spec self.now) (view seat.new).seen }
         ensures accounts { Accounts (view seat.new) };
 
-    /// Takes another seat in: the seat has then seen the longer of the two lists, and the places and shares of both are its
-    /// own. A seat into which all that was split from it came back is alone again.
+    /// Takes another seat in: the seat has then seen the longer of the two lists, and the places and shares of both are
+    /// its own. A seat into which all that was split from it came back is alone again.
     fn join(&self, seat: &mut Self::Seat, other: Self::Seat)
         requires seat { is_seat self.now seat.old }
         requires other { is_seat self.now other }

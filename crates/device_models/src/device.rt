@@ -2,7 +2,8 @@
 
 ghost use Rattle.std.specs.Prelude.{◌≡◌, ◌<◌, ◌≤◌, ℕ, List, length, IfOk, IsNone};
 ghost use Rattle.nook_defs.specs.Classes.{defaults_of};
-ghost use Rattle.nook_defs.specs.Devices.{has_room, input_of, kind_output, medium_of, opening_device, output_of, reset_device, speaker_output, with_arrival};
+ghost use Rattle.nook_defs.specs.Devices.{has_room, input_of, kind_output, medium_of, opening_device, output_of};
+ghost use Rattle.nook_defs.specs.Devices.{reset_device, speaker_output, with_arrival};
 ghost use Rattle.nook_defs.specs.Views.Ports.{class_of, class_of_kind, defaults_for, device_of, given_by, IsTaken};
 ghost use Rattle.device_models.specs.Kept.{IsKept};
 ghost use Rattle.nook_defs.specs.declared.devices.DeviceKind.TheVariants as speaker;
@@ -72,7 +73,8 @@ impl Device {
     /// A net device with an empty ring.
     #[tactic(auto, unfolding(nook_defs::specs::Devices::opening_device))]
     pub fn net(alloc: Global) -> Result<Device, NoMemory>
-        ensures { (blocks : ℕ) (bad : List BadBlock) → IfOk result (λ made. made ≡ opening_device Class.Net blocks bad (defaults_of Class.Net)) }
+        ensures { (blocks : ℕ) (bad : List BadBlock)
+            → IfOk result (λ made. made ≡ opening_device Class.Net blocks bad (defaults_of Class.Net)) }
     {
         let kind = DeviceKind::Link(Link {
             length: 0,
@@ -92,7 +94,8 @@ impl Device {
     /// A sound device. It takes no memory.
     #[tactic(auto, unfolding(nook_defs::specs::Devices::opening_device))]
     pub fn sound() -> Device
-        ensures { (blocks : ℕ) (bad : List BadBlock) → result ≡ opening_device Class.Sound blocks bad (defaults_of Class.Sound) }
+        ensures { (blocks : ℕ) (bad : List BadBlock)
+            → result ≡ opening_device Class.Sound blocks bad (defaults_of Class.Sound) }
     {
         Device {
             state: DeviceState {

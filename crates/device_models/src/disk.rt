@@ -5,7 +5,8 @@
 
 ghost use Rattle.std.specs.Prelude.{◌≡◌, ◌<◌, ◌∷◌, ◌++◌, ℕ, List, [], length, replicate, true, IfOk, IsNone};
 ghost use Rattle.device_models.specs.Kept.{IsKeptDisk};
-ghost use Rattle.nook_defs.specs.Devices.{command_act, commanded, disk_input, disk_output, is_command, is_failing, reset_kind};
+ghost use Rattle.nook_defs.specs.Devices.{command_act, commanded, disk_input, disk_output, is_command, is_failing};
+ghost use Rattle.nook_defs.specs.Devices.{reset_kind};
 ghost use Rattle.nook_defs.specs.Views.Ports.{device_of, given_by, IsTaken};
 ghost use Rattle.nook_defs.specs.declared.devices.DeviceKind.TheVariants as kinds;
 
@@ -53,7 +54,8 @@ pub fn input(disk: &mut Disk, port: u32) -> Option<Word>
 pub fn output(disk: &mut Disk, port: u32, word: Word, acts: &mut ActLog) -> bool
     requires kept { IsKeptDisk disk.old }
     requires room { length acts.old < MOST_ACTS }
-    ensures taken { (registers : List ℕ) → IsTaken (disk_output port word (device_of registers (kinds.Disk disk.old)) disk.old) result
+    ensures taken { (registers : List ℕ) → IsTaken
+        (disk_output port word (device_of registers (kinds.Disk disk.old)) disk.old) result
         acts.old acts.new (device_of registers (kinds.Disk disk.old)) (device_of registers (kinds.Disk disk.new)) }
     ensures kept { IsKeptDisk disk.new }
 {

@@ -8,5 +8,6 @@ ghost use Rattle.nook_defs.specs.declared.devices.DeviceState.{DeviceState};
 /// A law: whatever its driver does at a port, a device stays of its class.
 pub fn ports_keep_the_class()
     ensures input { (port : ℕ) (d : DeviceState) → class_of (device_given (input_of port d) d) ≡ class_of d }
-    ensures output { (port word : ℕ) (d : DeviceState) → class_of (device_after (output_of port word d) d) ≡ class_of d }
+    ensures output { (port word : ℕ) (d : DeviceState)
+        → class_of (device_after (output_of port word d) d) ≡ class_of d }
 {}

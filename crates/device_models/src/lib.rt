@@ -11,6 +11,3 @@ mod link;
 
 pub use device::Device;
 pub use laws::ports_keep_the_class;
-
-#[cfg(test)]
-mod tests;

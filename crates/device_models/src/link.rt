@@ -50,7 +50,8 @@ fn next_reading(link: &Link) -> u32
 /// the transmit buffer.
 pub fn output(link: &mut Link, port: u32, word: Word, acts: &mut ActLog) -> bool
     requires { length acts.old < MOST_ACTS }
-    ensures { (registers : List ℕ) → IsTaken (link_output port word (device_of registers (kinds.Link link.old)) link.old) result
+    ensures { (registers : List ℕ) → IsTaken
+        (link_output port word (device_of registers (kinds.Link link.old)) link.old) result
         acts.old acts.new (device_of registers (kinds.Link link.old)) (device_of registers (kinds.Link link.new)) }
 {
     match port {
@@ -79,7 +80,8 @@ pub fn output(link: &mut Link, port: u32, word: Word, acts: &mut ActLog) -> bool
 /// frame leave, where there is one; any other word does nothing.
 fn command(link: &mut Link, word: Word, acts: &mut ActLog)
     requires { length acts.old < MOST_ACTS }
-    ensures { (registers : List ℕ) → IsTaken (link_command word (device_of registers (kinds.Link link.old)) link.old) true
+    ensures { (registers : List ℕ) → IsTaken
+        (link_command word (device_of registers (kinds.Link link.old)) link.old) true
         acts.old acts.new (device_of registers (kinds.Link link.old)) (device_of registers (kinds.Link link.new)) }
 {
     match word {

@@ -1,3 +1,4 @@
 pub mod Own
 pub mod Rights
 pub mod Shown
+pub mod Texts

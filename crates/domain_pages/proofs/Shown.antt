@@ -26,7 +26,7 @@ unfolding shown
 shown_at table frames text initial k h = get_or-map-range_with_len (word_at table frames text initial) 0 8192 k k 0 h (omega arith)
 
 -- a list that has these words is what is shown
-shown_by : (table : List Bool) (frames text initial xs : List ℕ) → length xs ≡ 8192 → ((k : ℕ) → k < 8192 → get_or xs k 0 ≡ word_at table frames text initial k) → shown table frames text initial ≡ xs
+pub shown_by : (table : List Bool) (frames text initial xs : List ℕ) → length xs ≡ 8192 → ((k : ℕ) → k < 8192 → get_or xs k 0 ≡ word_at table frames text initial k) → shown table frames text initial ≡ xs
 unfolding shown
 shown_by table frames text initial xs long h = sym (fill_by_all (word_at table frames text initial) xs 8192 0 long h)
 
@@ -110,13 +110,13 @@ map_of table frames text initial lent =
     record { words = shown table frames text initial; lent = lent; own = take 115 table }
 
 -- a word is written: a vector's items are given back as they stand in the slice that was lent
-pub map_put : (table now : List Bool) (frames items own text initial : List ℕ) (lent : List Bool) (a v : ℕ) → items ≡ own → now ≡ set table (a / 64) true → shown now own text initial ≡ set (shown table frames text initial) a v → map_of now items text initial lent ≡ page_written (map_of table frames text initial lent) a v
-map_put table now frames items own text initial lent a v back got words =
-    rw (back, words, got, own_put table (a / 64)) refl
+pub map_put : (table now : List Bool) (frames items own text texts written initial : List ℕ) (lent : List Bool) (a v : ℕ) → items ≡ own → texts ≡ written → now ≡ set table (a / 64) true → shown now own written initial ≡ set (shown table frames text initial) a v → map_of now items texts initial lent ≡ page_written (map_of table frames text initial lent) a v
+map_put table now frames items own text texts written initial lent a v back texts_back got words =
+    rw (back, texts_back, words, got, own_put table (a / 64)) refl
 
 -- a vector's items after a slice of them was written
-pub items_back : (v : Vec ℕ) (ws : List ℕ) → length v.items ≡ 8192 → length ws ≡ 8192 → (with_items v ws).items ≡ ws
-items_back v ws size same = with_items_is v ws (omega (arith, v.ok.0))
+pub items_back : (n : ℕ) (v : Vec ℕ) (ws : List ℕ) → length v.items ≡ n → length ws ≡ n → (with_items v ws).items ≡ ws
+items_back n v ws size same = with_items_is v ws (omega (arith, v.ok.0))
 
 -- at first
 
@@ -138,10 +138,10 @@ low_zero : (k : ℕ) → k < 7360 → get_or (opening_memory []) k 0 ≡ 0
 unfolding opening_memory
 low_zero k low = get_or_append_left (replicate 7360 0) (padded_words 64 [] ++ opening_objects 1 12) 0 k low ∙ get_or-replicate 7360 k 0 0 low
 
-image_low : (text initial : List ℕ) (k : ℕ) → k < 2048 → image_word text initial k ≡ get_or text k 0
+pub image_low : (text initial : List ℕ) (k : ℕ) → k < 2048 → image_word text initial k ≡ get_or text k 0
 image_low text initial k low = grind arith
 
-image_high : (text initial : List ℕ) (k : ℕ) → 2048 ≤ k → image_word text initial k ≡ get_or initial (k - 2048) 0
+pub image_high : (text initial : List ℕ) (k : ℕ) → 2048 ≤ k → image_word text initial k ≡ get_or initial (k - 2048) 0
 image_high text initial k high = grind arith
 
 image_none : (k : ℕ) → image_word [] [] k ≡ 0
@@ -167,7 +167,7 @@ shown_opening frames begun =
 
 -- a load
 
-padded_at : (n : ℕ) (words : List ℕ) (k : ℕ) → k < n → get_or (padded_words n words) k 0 ≡ get_or words k 0
+pub padded_at : (n : ℕ) (words : List ℕ) (k : ℕ) → k < n → get_or (padded_words n words) k 0 ≡ get_or words k 0
 padded_at n words k within = elim (cases_lt k (length words)) [
   | inl low ↦ get_or_append_left words _ 0 k low
   | inr high ↦
@@ -242,7 +242,7 @@ table_done = refl
 -- many words
 
 -- a word of memory in which words were put
-words_at : (start : ℕ) (words memory : List ℕ) (k : ℕ) → start + length words ≤ length memory → (k < start → get_or (with_words start words memory) k 0 ≡ get_or memory k 0) × (start ≤ k → k < start + length words → get_or (with_words start words memory) k 0 ≡ get_or words (k - start) 0) × (start + length words ≤ k → get_or (with_words start words memory) k 0 ≡ get_or memory k 0)
+pub words_at : (start : ℕ) (words memory : List ℕ) (k : ℕ) → start + length words ≤ length memory → (k < start → get_or (with_words start words memory) k 0 ≡ get_or memory k 0) × (start ≤ k → k < start + length words → get_or (with_words start words memory) k 0 ≡ get_or words (k - start) 0) × (start + length words ≤ k → get_or (with_words start words memory) k 0 ≡ get_or memory k 0)
 words_at start words memory k within =
     let front = take start memory in
     let rest = drop (start + length words) memory in

@@ -29,6 +29,11 @@ pub record IsFramed (table : List Bool) (frames : List ℕ) : Type 0 where
   pub frames_all : length frames ≡ MEMORY_WORDS
   pub objects : (page : ℕ) → OWN_PAGES ≤ page → page < PAGES → slice_index_or table page false ≡ true
 
+-- the text has all its words, and they are those that are shown
+pub record IsText (table : List Bool) (frames text initial : List ℕ) : Type 0 where
+  pub size : length text ≡ TEXT_WORDS
+  pub same : (k : ℕ) → k < TEXT_WORDS → word_at table frames text initial k ≡ slice_index text k
+
 -- the page has one of n words from an address on
 abbrev pub has_some : ℕ → ℕ → ℕ → Bool
 has_some start n page = nat_lt 0 n && (nat_le (start / PAGE_WORDS) page && nat_le page ((start + n - 1) / PAGE_WORDS))

@@ -2,7 +2,7 @@
 
 ghost use Rattle.std.specs.Prelude.{◌≡◌, ◌+◌, ◌*◌, ◌/◌, ◌<◌, ◌≤◌, ◌⊎◌, ◌&&◌, ◌||◌, nat_le, nat_lt, ℕ, [], List, true, false, length, take, slice_index, slice_index_or, slice_set, IfOk};
 ghost use Rattle.nook_defs.specs.Pages.{opening_memory, padded_words, with_words};
-ghost use Rattle.domain_pages.specs.Frames.{has_some, image_word, word_at, shown, opening_table, IsFramed, with_own};
+ghost use Rattle.domain_pages.specs.Frames.{has_some, image_word, word_at, shown, opening_table, IsFramed, IsText, with_own};
 
 use nook_defs::lists::Word;
 use nook_defs::memory::NoMemory;
@@ -82,9 +82,42 @@ fn own(table: &mut [bool; PAGES], frames: &mut [Word], text: &[Word], initial: &
     }
 }
 
+/// Writes the word at an address, into the frame of its page, and into the text where it is of text.
+#[tactic(auto, using(crate::proofs::Texts::shown_put_text, crate::proofs::Texts::text_put))]
+pub fn put(
+    table: &mut [bool; PAGES],
+    frames: &mut [Word],
+    text: &mut [Word],
+    initial: &[Word],
+    address: usize,
+    word: Word,
+)
+    requires address { address < MEMORY_WORDS }
+    requires frames { length frames.old ≡ MEMORY_WORDS }
+    requires text { IsText table.old frames.old text.old initial.now }
+    ensures table { table.new ≡ slice_set table.old (address / PAGE_WORDS) true }
+    ensures size { length frames.new ≡ MEMORY_WORDS }
+    ensures framed { IsFramed table.old frames.old → IsFramed table.new frames.new }
+    ensures text { IsText table.new frames.new text.new initial.now }
+    ensures words { shown table.new frames.new text.new initial.now ≡ slice_set (shown table.old frames.old text.old initial.now) address word }
+{
+    put_in_frame(table, frames, text, initial, address, word);
+    put_in_text(text, address, word);
+}
+
+/// Writes a word of text; an address behind the text has none.
+fn put_in_text(text: &mut [Word], address: usize, word: Word)
+    requires { length text.old ≡ TEXT_WORDS }
+    ensures { text.new ≡ slice_set text.old address word }
+{
+    if address < TEXT_LEN {
+        text[address] = word;
+    }
+}
+
 /// Writes the word at an address, into the frame of its page.
 #[tactic(auto, using(crate::proofs::Shown::shown_put, crate::proofs::Shown::framed_put))]
-pub fn put(
+fn put_in_frame(
     table: &mut [bool; PAGES],
     frames: &mut [Word],
     text: &[Word],
@@ -139,7 +172,7 @@ fn own_all(
 }
 
 /// Writes these words from an address on, and then zeros, `count` words in all.
-fn write_all(frames: &mut [Word], start: usize, words: &[Word], count: usize)
+pub fn write_all(frames: &mut [Word], start: usize, words: &[Word], count: usize)
     requires within { start + count ≤ length frames.old }
     requires fits { length words.now ≤ count }
     ensures { frames.new ≡ with_words start (padded_words count words.now) frames.old }
@@ -149,8 +182,33 @@ fn write_all(frames: &mut [Word], start: usize, words: &[Word], count: usize)
     frames[end..start + count].fill(0);
 }
 
-/// Writes `count` words from an address on: these words and then zeros. Each page is given its frame once.
+/// Writes `count` words from an address on: these words and then zeros. Each page is given its frame once, and what is of
+/// text is written there too.
+#[tactic(auto, using(crate::proofs::Texts::shown_put_all_text, crate::proofs::Texts::text_put_all))]
 pub fn put_all(
+    table: &mut [bool; PAGES],
+    frames: &mut [Word],
+    text: &mut [Word],
+    initial: &[Word],
+    start: usize,
+    words: &[Word],
+    count: usize,
+)
+    requires within { start + count ≤ MEMORY_WORDS }
+    requires frames { length frames.old ≡ MEMORY_WORDS }
+    requires text { IsText table.old frames.old text.old initial.now }
+    requires fits { length words.now ≤ count }
+    ensures framed { IsFramed table.old frames.old → IsFramed table.new frames.new }
+    ensures text { IsText table.new frames.new text.new initial.now }
+    ensures words { shown table.new frames.new text.new initial.now ≡ with_words start (padded_words count words.now) (shown table.old frames.old text.old initial.now) }
+    ensures own { take OWN_PAGES table.new ≡ with_own start count (take OWN_PAGES table.old) }
+{
+    put_in_frames(table, frames, text, initial, start, words, count);
+    show_text(text, frames, start, count);
+}
+
+/// Writes `count` words from an address on, into the frames of their pages.
+fn put_in_frames(
     table: &mut [bool; PAGES],
     frames: &mut [Word],
     text: &[Word],
@@ -163,11 +221,27 @@ pub fn put_all(
     requires frames { length frames.old ≡ MEMORY_WORDS }
     requires fits { length words.now ≤ count }
     ensures framed { IsFramed table.old frames.old → IsFramed table.new frames.new }
+    ensures size { length frames.new ≡ MEMORY_WORDS }
+    ensures table { (page : ℕ) → page < PAGES → slice_index_or table.new page false ≡ has_some start count page || slice_index_or table.old page false }
     ensures words { shown table.new frames.new text.now initial.now ≡ with_words start (padded_words count words.now) (shown table.old frames.old text.now initial.now) }
     ensures own { take OWN_PAGES table.new ≡ with_own start count (take OWN_PAGES table.old) }
 {
     own_all(table, frames, text, initial, start, count);
     write_all(frames, start, words, count);
+}
+
+/// The text shows what the frames of its pages hold, at each of `count` addresses from one on that is of text.
+fn show_text(text: &mut [Word], frames: &[Word], start: usize, count: usize)
+    requires within { start + count ≤ MEMORY_WORDS }
+    requires text { length text.old ≡ TEXT_WORDS }
+    requires frames { length frames.now ≡ MEMORY_WORDS }
+    ensures size { length text.new ≡ TEXT_WORDS }
+    ensures inside { (k : ℕ) → k < TEXT_WORDS → start ≤ k → k < start + count → slice_index text.new k ≡ slice_index frames.now k }
+    ensures outside { (k : ℕ) → (k < start) ⊎ (start + count ≤ k) → slice_index text.new k ≡ slice_index text.old k }
+{
+    for address in start..TEXT_LEN.min(start + count) {
+        text[address] = frames[address];
+    }
 }
 
 /// The table in which only the kernel objects have frames.

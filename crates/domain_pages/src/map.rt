@@ -5,7 +5,7 @@ ghost use Rattle.nook_defs.specs.Pages.{read_word, fetch_word, padded_words, wit
 ghost use Rattle.nook_defs.specs.Views.PageMap.{opening_pages, may_change, page_written, driver_written, pages_loaded};
 ghost use Rattle.domain_pages.specs.Frames.{with_own};
 
-use crate::frames::{opening_frames, opening_table, put, put_all, word_at};
+use crate::frames::{opening_frames, opening_table, put, put_all, word_at, write_all};
 use nook_defs::limits::CONTEXTS;
 use nook_defs::lists::{Items, TryCopy, Word, Words};
 use nook_defs::memory::{NoMemory, Room};
@@ -22,7 +22,8 @@ use std::marker::Model;
 #[derive(Drop)]
 pub struct PageMap {
     alloc: Global,
-    text: Words,
+    /// The words of text as they are shown: so a turn fetches without a look at the table.
+    text: Vec<Word>,
     initial: Words,
     table: [bool; PAGES],
     frames: Vec<Word>,
@@ -33,17 +34,17 @@ impl Model for PageMap {
     ghost use Rattle.std.specs.Prelude.{take};
     ghost use Rattle.nook_defs.specs.Views.PageMap.{PageMap};
     ghost use Rattle.nook_defs.specs.declared.memory_map.TheConstants.{OWN_PAGES};
-    ghost use Rattle.domain_pages.specs.Frames.{shown, IsFramed};
+    ghost use Rattle.domain_pages.specs.Frames.{shown, IsFramed, IsText};
 
     ghost Value = { PageMap };
 
     ghost view = { λ s. record {
-      words = shown s.table s.frames.items s.text s.initial;
+      words = shown s.table s.frames.items s.text.items s.initial;
       lent = s.lent;
       own = take OWN_PAGES s.table;
     } };
 
-    ghost invariant = { λ s. IsFramed s.table s.frames.items };
+    ghost invariant = { λ s. IsFramed s.table s.frames.items × IsText s.table s.frames.items s.text.items s.initial };
 }
 
 impl PageMap {
@@ -52,10 +53,11 @@ impl PageMap {
     pub fn new(alloc: Global) -> Result<PageMap, NoMemory>
         ensures { IfOk result (λ made. made ≡ opening_pages) }
     {
+        let text = vec![in alloc; 0; TEXT_WORDS as usize]?;
         let frames = opening_frames(alloc)?;
         Ok(PageMap {
             alloc,
-            text: Words::new(alloc),
+            text,
             initial: Words::new(alloc),
             table: opening_table(),
             frames,
@@ -79,7 +81,7 @@ impl PageMap {
         ensures { result ≡ fetch_word self.now.words address }
     {
         if address < TEXT_WORDS {
-            Some(self.word(address))
+            Some(self.text[address as usize])
         } else {
             None
         }
@@ -142,7 +144,7 @@ impl PageMap {
         put(
             &mut self.table,
             &mut self.frames,
-            self.text.as_slice(),
+            &mut self.text,
             self.initial.as_slice(),
             address as usize,
             word,
@@ -162,7 +164,7 @@ impl PageMap {
         put_all(
             &mut self.table,
             &mut self.frames,
-            self.text.as_slice(),
+            &mut self.text,
             self.initial.as_slice(),
             start as usize,
             words,
@@ -207,9 +209,13 @@ impl PageMap {
         ensures ok { OnOk result (self.new ≡ pages_loaded image.now self.old) }
         ensures err { OnErr result (self.new ≡ self.old) }
     {
-        let text = image.text.copy(self.alloc)?;
         let initial = image.initial.copy(self.alloc)?;
-        self.text = text;
+        write_all(
+            &mut self.text,
+            0,
+            image.text.as_slice(),
+            TEXT_WORDS as usize,
+        );
         self.initial = initial;
         self.table = opening_table();
         Ok(())
@@ -227,7 +233,7 @@ impl PageMap {
 
 impl TryCopy for PageMap {
     fn copy(&self, alloc: Global) -> Result<PageMap, NoMemory> {
-        let text = self.text.copy(alloc)?;
+        let text = Vec::from_slice(alloc, self.text.as_slice())?;
         let initial = self.initial.copy(alloc)?;
         let frames = Vec::from_slice(alloc, self.frames.as_slice())?;
         Ok(PageMap {

@@ -37,7 +37,8 @@ behind_draft rest (Err kind) = []
 unfoldable pub makers : Section → Labels → ℕ → List (List ℕ) → Draft → List ℕ
 makers in_section labels line [] draft = []
 makers in_section labels line (first ∷ more) draft = behind_draft
-    (λ next. if_longer line (words_in in_section draft) (words_in in_section next) ++ makers in_section labels (line + 1) more next)
+    (λ next. if_longer line (words_in in_section draft) (words_in in_section next)
+    ++ makers in_section labels (line + 1) more next)
     (draft_after labels line (tokens_of first) draft)
 
 -- the image of a text with the lines of its words, counted from 1, and its labels in the order of their definitions;

@@ -1,8 +1,10 @@
 //! The second pass's draft: what the lines so far have given.
 
-ghost use Rattle.std.specs.Prelude.{◌≡◌, ◌-◌, ◌<◌, ◌≤◌, [], ◌∷◌, ◌++◌, ◌||◌, IfOk, IfSome, Ok, true, false, length, slice_get};
+ghost use Rattle.std.specs.Prelude.{◌≡◌, ◌-◌, ◌<◌, ◌≤◌, [], ◌∷◌, ◌++◌, ◌||◌, IfOk, IfSome, Ok, true, false, length};
+ghost use Rattle.std.specs.Prelude.{slice_get};
 ghost use Rattle.nook_defs.specs.AsmLines.{definition_of, first_of};
-ghost use Rattle.nook_defs.specs.Assembler.{all_given, draft_after, is_above, first_draft, image_with, is_out_of_range, is_second_given, is_second_label, known, with_statement, with_word};
+ghost use Rattle.nook_defs.specs.Assembler.{all_given, draft_after, is_above, first_draft, image_with, is_out_of_range};
+ghost use Rattle.nook_defs.specs.Assembler.{is_second_given, is_second_label, known, with_statement, with_word};
 ghost use Rattle.nook_defs.specs.Views.Assembling.{is_given, with_class};
 ghost use Rattle.driver_asm.specs.Answers.{Takes};
 ghost use Rattle.driver_asm.specs.Lexing.{has_registers};
@@ -38,7 +40,13 @@ impl Model for Draft {
 
     ghost Value = { specs.Draft };
 
-    ghost view = { λ s. record { class = s.class; entries = s.entries.items; in_section = s.in_section; text = s.text; initial = s.initial } };
+    ghost view = { λ s. record {
+      class = s.class;
+      entries = s.entries.items;
+      in_section = s.in_section;
+      text = s.text;
+      initial = s.initial;
+    } };
 }
 
 impl Draft {

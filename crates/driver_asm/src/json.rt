@@ -58,7 +58,8 @@ fn members(
     text: Value,
 ) -> Result<Value, AllocError>
     ensures { IfOk result (λ value. view value ≡ object (member (codes "class") (string class.now)
-        (member (codes "data") (view initial) (member (codes "entries") (view entries) (member (codes "text") (view text) no_members))))) }
+        (member (codes "data") (view initial)
+        (member (codes "entries") (view entries) (member (codes "text") (view text) no_members))))) }
 {
     json!(in alloc; {"class": class, "data": initial, "entries": entries, "text": text})
 }

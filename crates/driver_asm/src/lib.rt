@@ -15,8 +15,6 @@ mod operands;
 mod passes;
 mod pieces;
 mod statements;
-#[cfg(test)]
-mod tests;
 mod texts;
 mod tokens;
 

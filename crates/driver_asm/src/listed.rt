@@ -61,7 +61,8 @@ pub fn assemble_listed(alloc: Global, text: &[u8]) -> Result<Listed, AsmError>
 
 /// The second pass: the draft after all lines, and which of them made its words.
 fn made_of(alloc: Global, labels: &LabelTable, lines: &[&[u8]]) -> Result<Made, AsmError>
-    ensures { MakesAll result (first_of labels.now) (map (λ line. line.now) lines.now) (draft_from (first_of labels.now) 1 (map (λ line. line.now) lines.now) first_draft) }
+    ensures { MakesAll result (first_of labels.now) (map (λ line. line.now) lines.now)
+        (draft_from (first_of labels.now) 1 (map (λ line. line.now) lines.now) first_draft) }
 {
     let mut made = Made {
         draft: Draft::new(alloc),

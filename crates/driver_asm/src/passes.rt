@@ -4,7 +4,8 @@ ghost use Rattle.std.specs.Prelude.{◌≡◌, ◌+◌, ◌<◌, ◌^◌, ◌++�
 ghost use Rattle.nook_defs.specs.AsmLines.{definition_of, first_of, line_says};
 ghost use Rattle.nook_defs.specs.Views.Assembling.{no_labels};
 ghost use Rattle.nook_defs.specs.AsmTokens.{tokens_of};
-ghost use Rattle.nook_defs.specs.Assembler.{all_given, label_of, cursor_after, assembled, at_line, draft_after, draft_from, first_draft, first_cursor, image_with, labels_from};
+ghost use Rattle.nook_defs.specs.Assembler.{all_given, label_of, cursor_after, assembled, at_line, draft_after};
+ghost use Rattle.nook_defs.specs.Assembler.{draft_from, first_draft, first_cursor, image_with, labels_from};
 ghost use Rattle.nook_defs.specs.Views.Assembling.{next_line};
 ghost use Rattle.nook_defs.specs.declared.assembler.AsmKind.{AsmKind};
 ghost use Rattle.driver_asm.specs.Answers.{Gives, Takes};
@@ -67,7 +68,8 @@ fn behind_line(
     requires text { at.text < 2 ^ 63 }
     requires initial { at.initial < 2 ^ 63 }
     ensures labels { OnOk result (labels.new ≡ labels.old ++ label_of (definition_of (tokens_of line.now)) at) }
-    ensures places { IfOk result (λ next. next ≡ next_line (cursor_after (line_says no_labels None at.in_section (tokens_of line.now)) at)) }
+    ensures places { IfOk result (λ next. next
+        ≡ next_line (cursor_after (line_says no_labels None at.in_section (tokens_of line.now)) at)) }
 {
     let tokens = tokens_of(alloc, line)?;
     define_label(alloc, labels, &at, &tokens)?;

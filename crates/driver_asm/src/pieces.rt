@@ -28,7 +28,8 @@ fn cut_at_line_feeds(alloc: Global, text: &[u8]) -> Result<Vec<&[u8]>, AllocErro
 
 /// Takes the last piece away, where it is empty.
 fn drop_empty_last(pieces: &mut Vec<&[u8]>)
-    ensures { map (λ piece. piece.now) pieces.new.items ≡ without_empty_last (map (λ piece. piece.now) pieces.old.items) }
+    ensures { map (λ piece. piece.now) pieces.new.items
+        ≡ without_empty_last (map (λ piece. piece.now) pieces.old.items) }
 {
     if let Some(last) = pieces.pop() {
         if !last.is_empty() {

@@ -1,8 +1,13 @@
 //! What a line says, or the smallest of its faults that hang on the line alone.
 
-ghost use Rattle.std.specs.Prelude.{◌≡◌, ◌≤◌, length, drop, IfOk, IfSome, Result, Some, None, true, false, if◌then◌else◌, map, option_map};
-ghost use Rattle.nook_defs.specs.AsmLines.{bare_statement, behind_definition, behind_name, class_statement, definition_of, directive_statement, entry_statement, entry_value, has_bad_token, instr_statement, is_definition, line_says, operands_of, right_or_wrong, statement_of, word_statement};
-ghost use Rattle.nook_defs.specs.Views.Assembling.{at_most_wrong, class_by, entry_by, is_bad, named_statement, statement_by};
+ghost use Rattle.std.specs.Prelude.{◌≡◌, ◌≤◌, length, drop, IfOk, IfSome, Result, Some, None, true, false};
+ghost use Rattle.std.specs.Prelude.{if◌then◌else◌, map, option_map};
+ghost use Rattle.nook_defs.specs.AsmLines.{bare_statement, behind_definition, behind_name, class_statement};
+ghost use Rattle.nook_defs.specs.AsmLines.{definition_of, directive_statement, entry_statement, entry_value};
+ghost use Rattle.nook_defs.specs.AsmLines.{has_bad_token, instr_statement, is_definition, line_says, operands_of};
+ghost use Rattle.nook_defs.specs.AsmLines.{right_or_wrong, statement_of, word_statement};
+ghost use Rattle.nook_defs.specs.Views.Assembling.{at_most_wrong, class_by, entry_by, is_bad, named_statement};
+ghost use Rattle.nook_defs.specs.Views.Assembling.{statement_by};
 ghost use Rattle.nook_defs.specs.AsmTokens.{but_last, is_register, kind_of};
 ghost use Rattle.nook_defs.specs.AsmLines.{first_of, place_among};
 ghost use Rattle.nook_defs.specs.Keys.{class_named, entry_keys};
@@ -42,7 +47,8 @@ fn text_statement(
     mnemonic: Mnemonic,
     rest: &[Token],
 ) -> Result<Statement, AsmKind>
-    ensures says { result ≡ right_or_wrong (statement.Instr mnemonic) (operands_of (first_of labels.now) (form_of mnemonic) rest.now) }
+    ensures says { result ≡ right_or_wrong (statement.Instr mnemonic)
+        (operands_of (first_of labels.now) (form_of mnemonic) rest.now) }
     ensures registers { IfOk result (λ says. has_registers says ≡ true) }
 {
     match operands_of(labels, form_of(mnemonic), rest) {
@@ -134,7 +140,8 @@ fn entry_by(
     name: &Token,
     more: &[Token],
 ) -> Result<Statement, AsmKind>
-    ensures says { result ≡ entry_by (first_of labels.now) (kind_of name.now) (place_among 0 (entry_keys class) name.now) more.now }
+    ensures says { result ≡ entry_by (first_of labels.now) (kind_of name.now)
+        (place_among 0 (entry_keys class) name.now) more.now }
     ensures registers { IfOk result (λ says. has_registers says ≡ true) }
 {
     match name.kind() {
@@ -236,7 +243,8 @@ pub fn definition_of<'a>(tokens: &[Token<'a>]) -> Option<&'a [u8]>
 
 /// The name that a token defines.
 fn defined_name<'a>(token: &Token<'a>) -> Option<&'a [u8]>
-    ensures { option_map (λ name. name.now) result ≡ (if is_definition (kind_of token.now) then Some (but_last token.now) else None) }
+    ensures { option_map (λ name. name.now) result
+        ≡ (if is_definition (kind_of token.now) then Some (but_last token.now) else None) }
 {
     if token.is_definition() {
         Some(but_last(token.bytes()))

@@ -2,7 +2,8 @@
 
 ghost use Rattle.std.specs.Prelude.{◌≡◌, ◌∷◌, ◌++◌, [], codes, decimal, flat_map, map, IfOk, OnOk, Ok, string_bytes};
 ghost use Rattle.nook_defs.specs.AsmTokens.{register_text};
-ghost use Rattle.nook_defs.specs.Disassembler.{disassembled, entry_lines, image_lines, initial_lines, line_body, line_text, operand_tokens, text_tokens, word_tokens};
+ghost use Rattle.nook_defs.specs.Disassembler.{disassembled, entry_lines, image_lines, initial_lines, line_body};
+ghost use Rattle.nook_defs.specs.Disassembler.{line_text, operand_tokens, text_tokens, word_tokens};
 ghost use Rattle.nook_defs.specs.Views.Assembling.{class_tokens, instr_tokens, later_token};
 ghost use Rattle.nook_defs.specs.Assembler.{assembled};
 ghost use Rattle.nook_defs.specs.Valid.{IsValidImage};
@@ -87,7 +88,8 @@ fn push_register(text: &mut String, register: u8) -> Result<(), NoMemory>
 /// Adds the lines of the entries.
 #[tactic(auto, using(crate::proofs::EntryLines::no_places))]
 fn push_entries(text: &mut String, entries: &[Key], places: &[Word]) -> Result<(), NoMemory>
-    ensures { OnOk result (string_bytes text.new ≡ string_bytes text.old ++ flat_map line_text (entry_lines entries.now places.now)) }
+    ensures { OnOk result (string_bytes text.new
+        ≡ string_bytes text.old ++ flat_map line_text (entry_lines entries.now places.now)) }
 {
     let mut rest = places;
     for entry in entries {
@@ -104,7 +106,8 @@ fn push_entries(text: &mut String, entries: &[Key], places: &[Word]) -> Result<(
 
 /// Adds the line of an entry.
 fn push_entry(text: &mut String, name: &str, place: Word) -> Result<(), NoMemory>
-    ensures { OnOk result (string_bytes text.new ≡ string_bytes text.old ++ line_text (codes ".entry" ∷ name.now ∷ decimal place ∷ [])) }
+    ensures { OnOk result (string_bytes text.new
+        ≡ string_bytes text.old ++ line_text (codes ".entry" ∷ name.now ∷ decimal place ∷ [])) }
 {
     text.push_str(".entry")?;
     push_token(text, name)?;
@@ -115,7 +118,8 @@ fn push_entry(text: &mut String, name: &str, place: Word) -> Result<(), NoMemory
 
 /// Adds a line for each text word.
 fn push_text_words(text: &mut String, words: &[Word]) -> Result<(), NoMemory>
-    ensures { OnOk result (string_bytes text.new ≡ string_bytes text.old ++ flat_map line_text (map text_tokens words.now)) }
+    ensures { OnOk result (string_bytes text.new
+        ≡ string_bytes text.old ++ flat_map line_text (map text_tokens words.now)) }
 {
     for word in words {
         push_text_word(text, *word)?;
@@ -156,7 +160,8 @@ pub fn push_text_word(text: &mut String, word: Word) -> Result<(), NoMemory>
 
 /// Adds the line of an instruction.
 fn push_instr(text: &mut String, instr: Instr) -> Result<(), NoMemory>
-    ensures { OnOk result (string_bytes text.new ≡ string_bytes text.old ++ line_text (instr_tokens (fields_of instr))) }
+    ensures { OnOk result (string_bytes text.new
+        ≡ string_bytes text.old ++ line_text (instr_tokens (fields_of instr))) }
 {
     push_instr_body(text, instr)?;
     text.push_str("\n")?;
@@ -165,7 +170,8 @@ fn push_instr(text: &mut String, instr: Instr) -> Result<(), NoMemory>
 
 /// Adds an instruction without a line feed.
 fn push_instr_body(text: &mut String, instr: Instr) -> Result<(), NoMemory>
-    ensures { OnOk result (string_bytes text.new ≡ string_bytes text.old ++ line_body (instr_tokens (fields_of instr))) }
+    ensures { OnOk result (string_bytes text.new
+        ≡ string_bytes text.old ++ line_body (instr_tokens (fields_of instr))) }
 {
     let fields = fields_of(instr);
     text.push_str(mnemonic_text(fields.mnemonic))?;
@@ -174,7 +180,8 @@ fn push_instr_body(text: &mut String, instr: Instr) -> Result<(), NoMemory>
 
 /// Adds the operands of a form, each behind a token.
 fn push_operands(text: &mut String, which: Form, fields: &Fields) -> Result<(), NoMemory>
-    ensures { OnOk result (string_bytes text.new ≡ string_bytes text.old ++ flat_map later_token (operand_tokens which fields.now)) }
+    ensures { OnOk result (string_bytes text.new
+        ≡ string_bytes text.old ++ flat_map later_token (operand_tokens which fields.now)) }
 {
     match which {
         Form::Bare => Ok(()),
@@ -194,7 +201,9 @@ fn push_operands(text: &mut String, which: Form, fields: &Fields) -> Result<(), 
 
 /// Adds both registers.
 fn push_registers(text: &mut String, fields: &Fields) -> Result<(), NoMemory>
-    ensures { OnOk result (string_bytes text.new ≡ string_bytes text.old ++ flat_map later_token (register_text fields.now.a ∷ register_text fields.now.b ∷ [])) }
+    ensures { OnOk result (string_bytes text.new
+        ≡ string_bytes text.old ++ flat_map later_token (register_text fields.now.a ∷ register_text fields.now.b
+        ∷ [])) }
 {
     push_register(text, fields.a)?;
     push_register(text, fields.b)
@@ -223,7 +232,8 @@ fn push_word_body(text: &mut String, word: Word) -> Result<(), NoMemory>
 
 /// Adds the lines of the initial words, where there are any.
 fn push_initial_words(text: &mut String, words: &[Word]) -> Result<(), NoMemory>
-    ensures { OnOk result (string_bytes text.new ≡ string_bytes text.old ++ flat_map line_text (initial_lines words.now)) }
+    ensures { OnOk result (string_bytes text.new
+        ≡ string_bytes text.old ++ flat_map line_text (initial_lines words.now)) }
 {
     if words.is_empty() {
         return Ok(());
@@ -234,7 +244,8 @@ fn push_initial_words(text: &mut String, words: &[Word]) -> Result<(), NoMemory>
 
 /// Adds a line for each word.
 fn push_words(text: &mut String, words: &[Word]) -> Result<(), NoMemory>
-    ensures { OnOk result (string_bytes text.new ≡ string_bytes text.old ++ flat_map line_text (map word_tokens words.now)) }
+    ensures { OnOk result (string_bytes text.new
+        ≡ string_bytes text.old ++ flat_map line_text (map word_tokens words.now)) }
 {
     for word in words {
         push_word(text, *word)?;

@@ -1,9 +1,13 @@
 //! Lines and tokens.
 
-ghost use Rattle.std.specs.Prelude.{◌≡◌, ◌≤◌, ◌==◌, ◌-◌, ◌&&◌, ◌<◌, ◌+◌, ◌*◌, min, true, ℕ, List, IfOk, IfSome, take, drop, take_while, filter, map, length, slice_index, codes, bytes_eq, Some, None, if◌then◌else◌};
+ghost use Rattle.std.specs.Prelude.{◌≡◌, ◌≤◌, ◌==◌, ◌-◌, ◌&&◌, ◌<◌, ◌+◌, ◌*◌, min, true, ℕ, List, IfOk, IfSome, take};
+ghost use Rattle.std.specs.Prelude.{drop, take_while, filter, map, length, slice_index, codes, bytes_eq, Some, None};
+ghost use Rattle.std.specs.Prelude.{if◌then◌else◌};
 ghost use Rattle.std.specs.Char.{is_digit, digit_value};
 ghost use Rattle.std.specs.List.{list_all, slice_split};
-ghost use Rattle.nook_defs.specs.AsmTokens.{is_separator, is_not_empty, is_letter, is_letter_or_digit, is_label_name, is_numeral, numeral_value, but_last, kind_of, register_named, is_register, lines_of, tokens_of, without_empty_last};
+ghost use Rattle.nook_defs.specs.AsmTokens.{is_separator, is_not_empty, is_letter, is_letter_or_digit, is_label_name};
+ghost use Rattle.nook_defs.specs.AsmTokens.{is_numeral, numeral_value, but_last, kind_of, register_named, is_register};
+ghost use Rattle.nook_defs.specs.AsmTokens.{lines_of, tokens_of, without_empty_last};
 ghost use Rattle.nook_defs.specs.Views.Assembling.{is_before_comment, is_line_feed};
 ghost use Rattle.nook_defs.specs.declared.assembler.TokenKind.TheVariants as kind;
 ghost use Rattle.driver_asm.specs.Lexing.{numeral};

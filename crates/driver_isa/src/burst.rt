@@ -106,7 +106,7 @@ fn run_turns<B: Bus>(
         }
         pending = struck.rest;
         let stop = next_stop(pending, count);
-        let run = run_straight(counter, count, stop, pending, registers, bus, acts);
+        let run = run_until(counter, count, stop, pending, registers, bus, acts);
         count = run.count;
         counter = run.counter;
         if let Some(end) = run.end {
@@ -118,6 +118,36 @@ fn run_turns<B: Bus>(
         }
     }
     stopped(MOST_TURNS, counter, TrapCause::Hang)
+}
+
+/// Turns up to a crossing or the place `stop`; no fault is due before that.
+#[inline(always)]
+fn run_until<B: Bus>(
+    first: Word,
+    before: u32,
+    stop: u32,
+    pending: &[Fault],
+    registers: &mut [Word; 16],
+    bus: &mut B,
+    acts: &mut ActLog,
+) -> Run
+    requires room { length acts.old < MOST_ACTS }
+    requires some { before < stop }
+    requires within { stop ≤ MOST_TURNS }
+    requires quiet { (k : ℕ) → before ≤ k → k < stop → is_due k pending.now ≡ false }
+    ensures went { burst_from (MOST_TURNS - before) (B.entries bus.old) pending.now (machine_of (cpu_of first registers.old) (B.words bus.old) (B.device bus.old)) acts.old
+        ≡ past_run result.count (B.entries bus.new) pending.now (machine_of (cpu_of result.counter registers.new) (B.words bus.new) (B.device bus.new)) acts.new result.end }
+    ensures room { result.end ≡ None → length acts.new < MOST_ACTS }
+    ensures further { before < result.count }
+    ensures within { result.count ≤ stop }
+    ensures entries { B.entries bus.new ≡ B.entries bus.old }
+    ensures held { B.held bus.new ≡ B.held bus.old }
+{
+    let mut run = run_straight(first, before, stop, pending, registers, bus, acts);
+    while run.end.is_none() && run.count < stop {
+        run = run_straight(run.counter, run.count, stop, pending, registers, bus, acts);
+    }
+    run
 }
 
 /// Turns in a row up to a jump, a crossing or the place `stop`; no fault is due before that.

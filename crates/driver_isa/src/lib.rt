@@ -6,8 +6,6 @@
 mod burst;
 mod bus;
 mod code;
-#[cfg(test)]
-mod tests;
 mod turn;
 
 pub use burst::{BurstDone, run_burst};

@@ -1,3 +1,4 @@
+pub mod Placings
 pub mod Rows
 pub mod Struck
 pub mod Tables

@@ -1,11 +1,10 @@
 -- The row of a report is the row of the run.
 use Rattle.std.proofs.Common.{◌≡◌, ◌∙◌, refl, sym, subst, ap, ℕ, ◌+◌, List, [], ◌∷◌, map}
 use Rattle.std.specs.Prelude.{Result, Ok, Err, IfOk}
-use Rattle.fault_campaign.specs.Sums.{failures_in, lost_in}
+use Rattle.fault_campaign.specs.Sums.{lost_in}
 use Rattle.nook_defs.specs.Campaigns.{IsRowOf, gone_count, lost_count, row_of}
 use Rattle.nook_defs.specs.ReportText.{events_count, failures_count, status_of}
 use Rattle.nook_defs.specs.Views.Room.{Kept}
-use Rattle.nook_defs.specs.Runs.{state_of}
 use Rattle.nook_defs.specs.Simulation.{answer_table, journals_of}
 use Rattle.nook_defs.specs.declared.steps.Event.{Event}
 use Rattle.nook_defs.specs.declared.campaign.MemberRow.{MemberRow}
@@ -13,23 +12,14 @@ use Rattle.nook_defs.specs.declared.scenario.PartSpec.{PartSpec}
 use Rattle.nook_defs.specs.declared.scenario.Scenario.{Scenario}
 use Rattle.nook_defs.specs.declared.memory.NoMemory.{NoMemory}
 use Rattle.nook_defs.specs.Listening.{Listening}
-use Rattle.report_text.specs.Whole.{HaveEnds, IsReport, summaries}
+use Rattle.report_text.specs.Whole.{HaveEnds, IsReport, failures_in, summaries}
+use Rattle.report_text.proofs.WholeLemmas.{same_failures}
 use Rattle.report_text.specs.declared.report.Run.{Run}
 use Rattle.report_text.specs.declared.whole_report.PartEnd.{PartEnd}
 use Rattle.report_text.specs.declared.whole_report.Report.{Report}
 use Rattle.request_taps.specs.declared.tap.Tap.{Tap}
 use Rattle.run_ends.specs.Journals.{AreRuns, events_in}
 use Rattle.sim_run.specs.Whole.{IsSimulated}
-
-same_failures : (specs : List PartSpec) (journals : List (Kept Event)) (ends : List PartEnd) → HaveEnds specs journals ends
-    → failures_in (summaries specs journals ends) ≡ failures_count specs (map events_in journals)
-unfolding failures_count
-same_failures [] journals ends h = refl
-same_failures (s ∷ specs) [] ends h = refl
-same_failures (s ∷ specs) (journal ∷ journals) [] h = absurd h
-same_failures (s ∷ specs) (journal ∷ journals) (e ∷ ends) h =
-    let first : e.failures ≡ (state_of s journal.list).failures = h.0.failures in
-    rw (first, same_failures specs journals ends h.1) refl
 
 -- one journal a part, so that no journal's losses are left out
 same_losses : (specs : List PartSpec) (journals : List (Kept Event)) (ends : List PartEnd) → HaveEnds specs journals ends

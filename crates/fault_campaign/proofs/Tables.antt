@@ -1,6 +1,6 @@
 -- The rows of a campaign: each valid campaign has them, and has them once.
-use Rattle.std.proofs.Common.{◌≡◌, ◌∙◌, refl, sym, subst, ap, List, [], ◌∷◌, ◌++◌, length, map}
-use Rattle.std.specs.Prelude.{Result, Ok, Err, IfOk, MatchResult, All, Contains}
+use Rattle.std.proofs.Common.{◌≡◌, ◌∙◌, refl, sym, ap, List, [], ◌∷◌, ◌++◌, length}
+use Rattle.std.specs.Prelude.{All}
 use Rattle.std.specs.List.{AllByRecursion, AllZip}
 use Rattle.std.proofs.lemmas.List.Elements.{recursion_from_All}
 use Rattle.std.proofs.lemmas.Slice.Zip.{AllZip-long}
@@ -11,7 +11,6 @@ use Rattle.nook_defs.specs.declared.campaign.Campaign.{Campaign}
 use Rattle.nook_defs.specs.declared.scenario.Fault.{Fault}
 use Rattle.nook_defs.specs.declared.campaign.MemberRow.{MemberRow}
 use Rattle.nook_defs.specs.declared.scenario.Scenario.{Scenario}
-use Rattle.nook_defs.specs.declared.memory.NoMemory.{NoMemory}
 use Rattle.reading_laws.proofs.Members.{member_is_valid}
 use Rattle.sim_run.proofs.Ending.{scheduled_ends, scheduled_once}
 
@@ -78,22 +77,3 @@ rows_split campaign (fault ∷ front) more (row ∷ rows) h =
 
 pub as_many : (campaign : Campaign) (faults : List Fault) (rows : List MemberRow) → AreRows campaign faults rows → length rows ≡ length faults
 as_many campaign faults rows h = AllZip-long (λ fault row. IsRowOf (member campaign fault) row) faults rows h
-
--- ---- rows that all came out
-
-pub all_made : {X Y : Type 0} (E : Type 0) (P : X → Y → Type 0) (xs : List X) (ys : List Y)
-    → AllZip (λ x (r : Result Y E). IfOk r (P x)) xs (map Ok ys) → AllZip P xs ys
-all_made E P [] [] h = tt
-all_made E P [] (y ∷ ys) h = absurd h
-all_made E P (x ∷ xs) [] h = absurd h
-all_made E P (x ∷ xs) (y ∷ ys) h = (h.0, all_made E P xs ys h.1)
-
-pub made_of : {V : Type 0} (items : V → List MemberRow) (campaign : Campaign) (faults : List Fault) (xs : List (Result MemberRow NoMemory))
-    (v : Result V NoMemory) → AllZip (λ fault r. IfOk r (IsRowOf (member campaign fault))) faults xs
-    → MatchResult v (λ made. (ys : List MemberRow) × (xs ≡ map Ok ys) × (items made ≡ ys)) (λ e. Contains xs (Err e))
-    → IfOk v (λ made. AreRows campaign faults (items made))
-made_of items campaign faults xs (Err e) all h = tt
-made_of items campaign faults xs (Ok made) all h =
-    subst (AreRows campaign faults) (sym h.2)
-    (all_made NoMemory (λ fault. IsRowOf (member campaign fault)) faults h.0
-    (subst (AllZip (λ fault r. IfOk r (IsRowOf (member campaign fault))) faults) h.1 all))

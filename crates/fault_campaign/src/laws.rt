@@ -12,5 +12,6 @@ pub fn every_campaign_has_a_table()
 
 /// A campaign has at most one table.
 pub fn every_campaign_has_one_table()
-    ensures { (campaign : Campaign) (rows others : List MemberRow) → IsTable campaign rows → IsTable campaign others → rows ≡ others }
+    ensures { (campaign : Campaign) (rows others : List MemberRow) → IsTable campaign rows → IsTable campaign others
+        → rows ≡ others }
 {}

@@ -6,6 +6,7 @@
 mod laws;
 mod lines;
 mod member;
+mod placing;
 mod row;
 mod running;
 mod tally;

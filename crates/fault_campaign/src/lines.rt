@@ -3,13 +3,12 @@
 ghost use Rattle.std.specs.Prelude.{◌≡◌, ◌+◌, ◌^◌, ◌<◌, ◌++◌, OnOk, length};
 ghost use Rattle.fault_campaign.specs.Tallies.{counts_text};
 ghost use Rattle.nook_defs.specs.Campaigns.{row_line, row_lines};
-ghost use Rattle.nook_defs.specs.ReportLines.{with_number};
 ghost use Rattle.report_text.specs.Writing.{Wrote};
 
 use nook_defs::campaign::MemberRow;
 use nook_defs::memory::NoMemory;
 use nook_defs::outside::Sink;
-use report_text::{Line, WriteStop, write_text};
+use report_text::{Line, WriteStop, push_number, write_text};
 use std::alloc::Global;
 
 /// Writes the lines of rows, the first of them number `first`.
@@ -20,7 +19,8 @@ pub fn write_rows<K: Sink>(
     rows: &[MemberRow],
 ) -> Result<(), WriteStop>
     requires { first + length rows.now < 2 ^ 64 }
-    ensures { Wrote (K.held sink.old) (K.held sink.new) (K.count sink.old) (K.count sink.new) result (row_lines first rows.now) }
+    ensures { Wrote (K.held sink.old) (K.held sink.new) (K.count sink.old) (K.count sink.new) result
+        (row_lines first rows.now) }
 {
     let mut line = Line::new(alloc);
     push_rows(&mut line, first, rows)?;
@@ -58,12 +58,4 @@ fn push_counts(line: &mut Line, row: &MemberRow) -> Result<(), NoMemory>
     push_number(line, " gone ", row.gone)?;
     push_number(line, " lost ", row.lost)?;
     line.push("\n")
-}
-
-/// Adds a word and a number behind it.
-pub fn push_number(line: &mut Line, word: &str, number: u64) -> Result<(), NoMemory>
-    ensures { OnOk result (line.new ≡ line.old ++ with_number word.now number) }
-{
-    line.push(word)?;
-    line.number(number)
 }

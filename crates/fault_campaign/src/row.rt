@@ -1,11 +1,11 @@
 //! The row of a member, from the report of its run.
 
 ghost use Rattle.std.specs.Prelude.{◌≡◌, ◌+◌, IfOk, map};
-ghost use Rattle.fault_campaign.specs.Sums.{failures_in, lost_in};
+ghost use Rattle.fault_campaign.specs.Sums.{lost_in};
 ghost use Rattle.nook_defs.specs.Campaigns.{gone_count, gone_in, is_gone_answer, row_of};
 ghost use Rattle.nook_defs.specs.ReportText.{events_count};
 ghost use Rattle.nook_defs.specs.declared.scenario.Scenario.{Scenario};
-ghost use Rattle.report_text.specs.Whole.{IsReport};
+ghost use Rattle.report_text.specs.Whole.{IsReport, failures_in};
 ghost use Rattle.run_ends.specs.Journals.{AreRuns, events_in};
 
 use nook_defs::calls::{Answer, PartAnswers};
@@ -17,8 +17,10 @@ use report_text::{PartReport, Report};
 /// The row of a run's report: its status, and what its parts and threads come to. A sum that has no room in 64 bits is
 /// refused as memory is, which no run that fits in memory reaches.
 pub fn row_of(report: &Report) -> Result<MemberRow, NoMemory>
-    ensures { (scenario : Scenario) → IsReport scenario report.now → AreRuns scenario.parts (map events_in report.now.run.journals)
-        → IfOk result (λ row. row ≡ row_of scenario.parts (map events_in report.now.run.journals) report.now.run.answers) }
+    ensures { (scenario : Scenario) → IsReport scenario report.now
+        → AreRuns scenario.parts (map events_in report.now.run.journals)
+        → IfOk result (λ row. row ≡ row_of scenario.parts
+        (map events_in report.now.run.journals) report.now.run.answers) }
 {
     let events = count_events(report.run.journals.as_slice())?;
     let failures = count_failures(report.parts.as_slice())?;

@@ -1,21 +1,24 @@
 //! The runs of members, side by side.
 
 ghost use Rattle.std.specs.Prelude.{All, IfOk};
+ghost use Rattle.fault_campaign.specs.Placed.{ArePlaced, AreTold, IsPlaced};
 ghost use Rattle.nook_defs.specs.Campaigns.{AreRows, IsRowOf, IsTable, IsValidCampaign, member};
 ghost use Rattle.nook_defs.specs.Valid.{IsValidFault, IsValidScenario};
 
 use crate::member::member_of;
+use crate::placing::{Share, Told, place_all};
 use crate::row::row_of;
 use nook_defs::campaign::{Campaign, MemberRow, Table};
 use nook_defs::lists::Items;
 use nook_defs::memory::NoMemory;
 use nook_defs::scenario::{Fault, Scenario};
-use rayon::prelude::*;
+use rayon::current_num_threads;
 use report_text::report_of;
 use request_taps::TapBus;
 use sim_run::simulate;
 use std::alloc::{AllocError, Global};
-use std::thread::Threads;
+use std::sync::atomic::{AtomicUsize, Ordering};
+use std::thread::{Threads, map_indices};
 
 /// Runs a campaign: its table, one row for each fault in the faults' order, each of the scheduled run of the base with
 /// that fault behind the struck part's own. The members run side by side; the table is that of one thread, whatever
@@ -42,31 +45,90 @@ pub fn run_members<R: Threads + Sync>(
     requires faults { All IsValidFault faults.now }
     ensures { IfOk result (AreRows campaign.now faults.now) }
 {
-    let rows = collect_rows(rt, alloc, campaign, faults)??;
+    let shares = share_members(rt, alloc, campaign, faults)?;
+    let slots = place_all(alloc, faults.len(), shares.as_slice())?;
+    let rows = fill_rows(alloc, campaign, faults, slots.as_slice())?;
     Ok(Items::from_vec(rows))
 }
 
-/// The rows of the members with some faults. A member is much work, so that two are worth a thread each.
-fn collect_rows<R: Threads + Sync>(
+/// Runs the members with some faults by a worker for each processor. Whoever has ended a member takes the next, so that
+/// no processor is idle while members are left.
+fn share_members<R: Threads + Sync>(
     rt: &R,
     alloc: Global,
     campaign: &Campaign,
     faults: &[Fault],
-) -> Result<Result<Vec<MemberRow>, NoMemory>, AllocError>
+) -> Result<Vec<Share>, AllocError>
     requires valid { IsValidCampaign campaign.now }
     requires faults { All IsValidFault faults.now }
-    ensures { IfOk result (λ rows. IfOk rows (λ made. AreRows campaign.now faults.now made.items)) }
+    ensures { IfOk result (λ shares. All (AreTold campaign.now faults.now) shares.items) }
 {
-    faults
-        .par_iter()
-        .map(
-            |fault: &Fault| -> Result<MemberRow, NoMemory>
-                requires { IsValidCampaign campaign.now × IsValidFault fault.now }
-                ensures { IfOk result (IsRowOf (member campaign.entry.now fault.now)) }
-            { run_member(alloc, campaign, *fault) },
-        )
-        .with_min_len(1)
-        .collect(rt, alloc)
+    let next = AtomicUsize::new(0);
+    let workers = current_num_threads(rt).min(faults.len());
+    map_indices(
+        rt,
+        alloc,
+        workers,
+        &|_worker: usize| -> Share
+            requires { IsValidCampaign campaign.now × All IsValidFault faults.now }
+            ensures { AreTold campaign.entry.now faults.entry.now result }
+        { work(alloc, campaign, faults, &next) },
+    )
+}
+
+/// Takes the next member and runs it, until there is none.
+fn work(alloc: Global, campaign: &Campaign, faults: &[Fault], next: &AtomicUsize) -> Share
+    requires valid { IsValidCampaign campaign.now }
+    requires faults { All IsValidFault faults.now }
+    ensures { AreTold campaign.now faults.now result }
+{
+    let mut rows = Items::new(alloc);
+    for _ in 0..faults.len() {
+        let place = next.fetch_add(1, Ordering::Relaxed);
+        if place >= faults.len() {
+            break;
+        }
+        let row = run_member(alloc, campaign, faults[place])?;
+        rows.push(Told { place, row })?;
+    }
+    Ok(rows)
+}
+
+/// The rows of the members with some faults, from the slots that the workers filled.
+fn fill_rows(
+    alloc: Global,
+    campaign: &Campaign,
+    faults: &[Fault],
+    slots: &[Option<MemberRow>],
+) -> Result<Vec<MemberRow>, NoMemory>
+    requires valid { IsValidCampaign campaign.now }
+    requires faults { All IsValidFault faults.now }
+    requires placed { ArePlaced campaign.now faults.now slots.now }
+    ensures { IfOk result (λ rows. AreRows campaign.now faults.now rows.items) }
+{
+    let mut rows = Vec::with_capacity(alloc, faults.len())?;
+    for place in 0..faults.len() {
+        rows.push(fill_row(alloc, campaign, faults[place], slots[place])?)?;
+    }
+    Ok(rows)
+}
+
+/// The row of the member with a fault. It is in the slot; a member that no worker took would be run here.
+fn fill_row(
+    alloc: Global,
+    campaign: &Campaign,
+    fault: Fault,
+    slot: Option<MemberRow>,
+) -> Result<MemberRow, NoMemory>
+    requires valid { IsValidCampaign campaign.now }
+    requires fault { IsValidFault fault }
+    requires placed { IsPlaced campaign.now fault slot }
+    ensures { IfOk result (IsRowOf (member campaign.now fault)) }
+{
+    match slot {
+        Some(row) => Ok(row),
+        None => run_member(alloc, campaign, fault),
+    }
 }
 
 /// The row of the member with a fault.

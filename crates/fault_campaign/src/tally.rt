@@ -5,14 +5,13 @@ ghost use Rattle.fault_campaign.specs.Tallies.{tally_of, tally_text};
 ghost use Rattle.nook_defs.specs.declared.campaign.MemberRow.{MemberRow};
 ghost use Rattle.report_text.specs.Writing.{Wrote};
 
-use crate::lines::push_number;
 use nook_defs::campaign::MemberRow;
 use nook_defs::memory::NoMemory;
 use nook_defs::outside::Sink;
-use report_text::{Line, WriteStop, write_text};
+use report_text::{Line, ReportStatus, WriteStop, push_number, write_text};
 use std::alloc::Global;
 
-/// How many rows there are, and how many of them have status 0, 1 and 7.
+/// How many rows there are, and how many of them have each status.
 #[derive(Clone, Copy, Debug, PartialEq, Eq)]
 pub struct Tally {
     pub members: u64,
@@ -50,18 +49,19 @@ impl Tally {
         ensures { (done : List MemberRow) → self.old ≡ tally_of done → self.new ≡ tally_of (done ++ row.now ∷ []) }
     {
         self.members += 1;
-        match row.status {
-            0 => self.kept += 1,
-            1 => self.given_up += 1,
-            7 => self.broken += 1,
-            _ => {}
+        match ReportStatus::of_number(row.status) {
+            Some(ReportStatus::Kept) => self.kept += 1,
+            Some(ReportStatus::GivenUp) => self.given_up += 1,
+            Some(ReportStatus::Broken) => self.broken += 1,
+            None => {}
         }
     }
 }
 
 /// Writes the last line of a table.
 pub fn write_tally<K: Sink>(alloc: Global, sink: &mut K, tally: Tally) -> Result<(), WriteStop>
-    ensures { Wrote (K.held sink.old) (K.held sink.new) (K.count sink.old) (K.count sink.new) result (tally_text tally) }
+    ensures { Wrote (K.held sink.old) (K.held sink.new) (K.count sink.old) (K.count sink.new) result
+        (tally_text tally) }
 {
     let mut line = Line::new(alloc);
     push_tally(&mut line, tally)?;

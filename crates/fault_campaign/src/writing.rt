@@ -21,8 +21,8 @@ use std::thread::Threads;
 /// many small ones would cost more than they do.
 const BATCH: usize = 1024;
 
-/// Runs a campaign and writes its table. The rows of a batch of 1,024 members are written as soon as these have ended, and
-/// no longer kept. After a fault of the sink or `NoMemory` the sink has gained a front of the table's text.
+/// Runs a campaign and writes its table. The rows of a batch of 1,024 members are written as soon as these have ended,
+/// and no longer kept. After a fault of the sink or `NoMemory` the sink has gained a front of the table's text.
 pub fn write_campaign<R: Threads + Sync, K: Sink>(
     rt: &R,
     alloc: Global,
@@ -78,10 +78,13 @@ fn write_batch<R: Threads + Sync, K: Sink>(
 ) -> Result<(), WriteStop>
     requires valid { IsValidCampaign campaign.now }
     requires faults { All IsValidFault faults.now }
-    requires counted { (done : List MemberRow) × (tally.old ≡ tally_of done) × (length done + length faults.now < 2 ^ 63) }
+    requires counted { (done : List MemberRow) × (tally.old ≡ tally_of done)
+        × (length done + length faults.now < 2 ^ 63) }
     ensures written { (done rows : List MemberRow) → tally.old ≡ tally_of done → AreRows campaign.now faults.now rows
-        → Wrote (K.held sink.old) (K.held sink.new) (K.count sink.old) (K.count sink.new) result (row_lines (length done + 1) rows) }
-    ensures counted { OnOk result ((done rows : List MemberRow) → tally.old ≡ tally_of done → AreRows campaign.now faults.now rows
+        → Wrote (K.held sink.old) (K.held sink.new) (K.count sink.old) (K.count sink.new) result
+        (row_lines (length done + 1) rows) }
+    ensures counted { OnOk result ((done rows : List MemberRow) → tally.old ≡ tally_of done
+        → AreRows campaign.now faults.now rows
         → tally.new ≡ tally_of (done ++ rows)) }
 {
     let rows = run_members(rt, alloc, campaign, faults)?;

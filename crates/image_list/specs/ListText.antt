@@ -12,8 +12,8 @@ use Rattle.nook_defs.specs.declared.memory_map.TheConstants.{DATA_START}
 use Rattle.driver_asm.specs.Listed.{listed}
 use Rattle.driver_asm.specs.declared.listed.Listed.{Listed}
 
--- The listing of an assembler text, as lines of tokens: its words with their addresses and their lines, its labels and its
--- entries.
+-- The listing of an assembler text, as lines of tokens: its words with their addresses and their lines, its labels and
+-- its entries.
 
 -- a word of the image: where it stands, and the line that made it
 pub record Row : Type 0 where
@@ -23,7 +23,8 @@ pub record Row : Type 0 where
 
 -- words in order, the first of them at an address, each with its line
 abbrev pub rows_from : ℕ → List ℕ → List ℕ → List Row
-rows_from address (word ∷ words) (line ∷ lines) = record { address = address; word = word; line = line } ∷ rows_from (address + 1) words lines
+rows_from address (word ∷ words) (line ∷ lines) =
+    record { address = address; word = word; line = line } ∷ rows_from (address + 1) words lines
 rows_from address _ _ = []
 
 -- the words of the text, and the initial words; those come behind the 2,048 words that a text may have

@@ -11,8 +11,10 @@ ghost use Rattle.image_list.specs.ListText.{initial_rows, list_text, text_rows};
 /// the order of the words.
 pub fn every_word_is_listed()
     ensures image { (text : List ℕ) (l : Listed) → listed text ≡ Ok l → assembled text ≡ Ok l.image }
-    ensures text { (text : List ℕ) (l : Listed) → listed text ≡ Ok l → map (λ row. row.word) (text_rows l) ≡ l.image.text }
-    ensures initial { (text : List ℕ) (l : Listed) → listed text ≡ Ok l → map (λ row. row.word) (initial_rows l) ≡ l.image.initial }
+    ensures text { (text : List ℕ) (l : Listed) → listed text ≡ Ok l
+        → map (λ row. row.word) (text_rows l) ≡ l.image.text }
+    ensures initial { (text : List ℕ) (l : Listed) → listed text ≡ Ok l
+        → map (λ row. row.word) (initial_rows l) ≡ l.image.initial }
 {}
 
 /// A text that does not assemble is refused with the fault that assembling it has.

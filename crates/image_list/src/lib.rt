@@ -3,8 +3,6 @@
 
 mod laws;
 mod listing;
-#[cfg(test)]
-mod tests;
 
 pub use laws::{every_word_is_listed, faults_are_the_assemblers};
 pub use listing::write_list;

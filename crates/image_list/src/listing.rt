@@ -5,7 +5,8 @@ ghost use Rattle.nook_defs.specs.Disassembler.{line_text};
 ghost use Rattle.nook_defs.specs.Keys.{key_text};
 ghost use Rattle.nook_defs.specs.Views.Assembling.{later_token};
 ghost use Rattle.driver_asm.specs.Answers.{Gives};
-ghost use Rattle.image_list.specs.ListText.{entry_tokens, label_tokens, list_lines, list_text, listed_entries, named_entries, row_tokens, rows_from, word_says};
+ghost use Rattle.image_list.specs.ListText.{entry_tokens, label_tokens, list_lines, list_text, listed_entries};
+ghost use Rattle.image_list.specs.ListText.{named_entries, row_tokens, rows_from, word_says};
 
 use driver_asm::{AsmError, Listed, assemble_listed, push_digits, push_text_word, push_word};
 use itoa::Buffer;
@@ -47,8 +48,10 @@ fn text_of(alloc: Global, listed: &Listed) -> Result<Words8, NoMemory>
 
 /// A line for each word.
 fn rows_of(alloc: Global, listed: &Listed) -> Result<String, NoMemory>
-    ensures { IfOk result (λ text. string_bytes text ≡ flat_map line_text (map (row_tokens Section.Text) (rows_from 0 listed.now.image.text listed.now.text_lines))
-        ++ flat_map line_text (map (row_tokens Section.Data) (rows_from DATA_START listed.now.image.initial listed.now.initial_lines))) }
+    ensures { IfOk result (λ text. string_bytes text
+        ≡ flat_map line_text (map (row_tokens Section.Text) (rows_from 0 listed.now.image.text listed.now.text_lines))
+        ++ flat_map line_text (map (row_tokens Section.Data)
+        (rows_from DATA_START listed.now.image.initial listed.now.initial_lines))) }
 {
     let mut text = String::new(alloc);
     let image = &listed.image;
@@ -79,7 +82,9 @@ fn push_rows(
     lines: &[u64],
 ) -> Result<(), NoMemory>
     requires { first ≤ DATA_START }
-    ensures { OnOk result (string_bytes text.new ≡ string_bytes text.old ++ flat_map line_text (map (row_tokens section) (rows_from first words.now lines.now))) }
+    ensures { OnOk result (string_bytes text.new
+        ≡ string_bytes text.old ++ flat_map line_text
+        (map (row_tokens section) (rows_from first words.now lines.now))) }
 {
     let mut address = first;
     let mut rest = lines;
@@ -104,7 +109,9 @@ fn push_row(
     word: Word,
     line: u64,
 ) -> Result<(), NoMemory>
-    ensures { OnOk result (string_bytes text.new ≡ string_bytes text.old ++ line_text (row_tokens section (record { address = address; word = word; line = line }))) }
+    ensures { OnOk result (string_bytes text.new
+        ≡ string_bytes text.old
+        ++ line_text (row_tokens section (record { address = address; word = word; line = line }))) }
 {
     write!(text, "{address} ")?;
     push_digits(text, 8, word)?;
@@ -152,7 +159,8 @@ fn push_entries(text: &mut Vec<u8>, image: &Image) -> Result<(), NoMemory>
 /// Adds a line for each of some entries and its address.
 #[tactic(auto, using(crate::proofs::Rows::no_addresses))]
 fn push_addresses(text: &mut Vec<u8>, entries: &[Key], addresses: &[Word]) -> Result<(), NoMemory>
-    ensures { OnOk result (text.new.items ≡ text.old.items ++ flat_map line_text (named_entries (map key_text entries.now) addresses.now)) }
+    ensures { OnOk result (text.new.items ≡ text.old.items
+        ++ flat_map line_text (named_entries (map key_text entries.now) addresses.now)) }
 {
     let mut rest = addresses;
     for entry in entries {

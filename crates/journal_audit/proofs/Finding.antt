@@ -8,6 +8,7 @@ use Rattle.nook_defs.specs.declared.scenario.Scenario.{Scenario}
 use Rattle.nook_defs.specs.declared.steps.Step.{Step}
 use Rattle.run_laws.specs.Audit.{Auditing, Done, Section, after_event, after_line, after_step, first_unfit, is_ended, is_line_of, is_numbered, is_over, lines_of, opening_section, section_after, step_named}
 use Rattle.journal_audit.proofs.Lines.{Fronted, fronted, unended_line, unfit_here}
+use Rattle.journal_audit.proofs.Taken.{not_true}
 use Rattle.journal_audit.specs.Found.{at_last, between, found_from, inside}
 use Rattle.journal_audit.specs.Placed.{HasNoLine, IsNextLine, Place, begin_unended, feeds, past}
 use Rattle.journal_audit.specs.Sections.{IsAfter}
@@ -16,10 +17,6 @@ use Rattle.journal_audit.specs.declared.stop.Stop.{Stop}
 use Rattle.journal_audit.specs.declared.stop.Stop.TheVariants as stops
 
 -- ---- the next line
-
-not_true : (b : Bool) → not b ≡ true → b ≡ false
-not_true true h = absurd (cc)
-not_true false h = refl
 
 unfit_lines : (scenario : Scenario) (a : Auditing) (number : ℕ) (lines : List (List ℕ)) → is_over a ≡ false → begin_unended lines ≡ true
     → first_unfit scenario a number lines ≡ Some number

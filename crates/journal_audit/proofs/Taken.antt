@@ -39,7 +39,7 @@ taken_other c (Err stops.Fault) text byte w e = record {
 }
 taken_other c (Err stops.NoMemory) text byte w e = absurd (w.enough refl)
 
-not_true : (b : Bool) → not b ≡ true → b ≡ false
+pub not_true : (b : Bool) → not b ≡ true → b ≡ false
 not_true true h = absurd (cc)
 not_true false h = refl
 

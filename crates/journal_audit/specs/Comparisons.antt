@@ -18,8 +18,8 @@ list_of (Some byte) = byte ∷ []
 abbrev pub written_in : Comparison → List ℕ
 written_in c = take c.at c.text ++ list_of c.wrong
 
--- what such a sink tells that it holds: the length of the text, the text, and what was written behind it, so that a write
--- which is told by this alone keeps the text
+-- what such a sink tells that it holds: the length of the text, the text, and what was written behind it, so that a
+-- write which is told by this alone keeps the text
 abbrev pub held_in : Comparison → List ℕ
 held_in c = length c.text ∷ (c.text ++ written_in c)
 

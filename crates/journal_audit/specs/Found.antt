@@ -24,7 +24,8 @@ at_last sections due = record { sections = sections; standing = None; due = due;
 
 -- the sections of these parts are past: what is kept sums them up, and from a place on, where these parts are still to
 -- come, an auditor finds what was to be found
-pub record ArePast (scenario : Scenario) (specs coming : List PartSpec) (found : Option ℕ) (p : Place) (t : Tallied) : Type 0 where
+pub record ArePast (scenario : Scenario) (specs coming : List PartSpec) (found : Option ℕ) (p : Place)
+    (t : Tallied) : Type 0 where
   pub sections : List Done
   pub sums : SumsUp specs sections t
   pub same : found ≡ found_from scenario (between sections coming) p

@@ -1,5 +1,6 @@
 -- Where an audit stands in a report.
-use Rattle.std.specs.Prelude.{◌≡◌, ◌≤◌, ℕ, suc, ◌+◌, ◌==◌, if◌then◌else◌, Bool, false, true, not, List, [], ◌∷◌, ◌++◌, drop, take, length}
+use Rattle.std.specs.Prelude.{◌≡◌, ◌≤◌, ℕ, suc, ◌+◌, ◌==◌, if◌then◌else◌, Bool, false, true, not, List, [], ◌∷◌, ◌++◌}
+use Rattle.std.specs.Prelude.{drop, take, length}
 use Rattle.run_laws.specs.Audit.{is_ended, is_numbered, lines_of}
 
 -- what has not been read, and the number of the line that comes next

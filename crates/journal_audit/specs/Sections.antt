@@ -1,5 +1,6 @@
 -- A thread on one part, as the audit keeps it, and what a line of an event does to a section.
-use Rattle.std.specs.Prelude.{◌≡◌, ℕ, ◌-◌, ◌==◌, Bool, true, false, List, [], ◌∷◌, Option, Some, None, All, length, slice_get}
+use Rattle.std.specs.Prelude.{◌≡◌, ℕ, ◌-◌, ◌==◌, Bool, true, false, List, [], ◌∷◌, Option, Some, None, All, length}
+use Rattle.std.specs.Prelude.{slice_get}
 use Rattle.run_laws.specs.Audit.{Section}
 use Rattle.nook_defs.specs.Simulation.{ThreadState, Waiting, part_after}
 use Rattle.nook_defs.specs.Steps.{enabled}

@@ -9,8 +9,8 @@ OnUnfit (Ok value) holds = Unit {0}
 OnUnfit (Err (stop.Unfit line)) holds = holds line
 OnUnfit (Err stop.NoMemory) holds = Unit {0}
 
--- a check that was to find something from here on: this holds where it went on, and where it stopped at a line it is that
--- line that was to be found
+-- a check that was to find something from here on: this holds where it went on, and where it stopped at a line it is
+-- that line that was to be found
 abbrev pub Leads : {T : Type 0} → Result T Stop → Option ℕ → Type 0 → Type 0
 Leads (Ok value) found holds = holds
 Leads (Err (stop.Unfit line)) found holds = found ≡ Some line

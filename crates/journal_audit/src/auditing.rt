@@ -1,6 +1,7 @@
 //! The audit of a report, line by line.
 
-ghost use Rattle.std.specs.Prelude.{◌≡◌, ◌<◌, ◌++◌, ◌∷◌, [], ℕ, List, None, Option, true, false, IfOk, OnOk, bytes_eq, length};
+ghost use Rattle.std.specs.Prelude.{◌≡◌, ◌<◌, ◌++◌, ◌∷◌, [], ℕ, List, None, Option, true, false, IfOk, OnOk, bytes_eq};
+ghost use Rattle.std.specs.Prelude.{length};
 ghost use Rattle.run_laws.specs.Audit.{Done, audited, is_numbered, opening_audit, opening_section};
 ghost use Rattle.journal_audit.specs.Found.{ArePast, at_last, between, found_from, inside};
 ghost use Rattle.journal_audit.specs.Placed.{IsEnding};
@@ -24,10 +25,10 @@ use report_text::{WriteStop, write_part_line};
 use std::alloc::Global;
 
 /// Checks a printed report line by line, along the steps that its lines name, with no trust in the run that printed it.
-/// None where every line fits and none is missing; else the number of the first line that does not fit, from 1, or one more
-/// than there are lines where lines are missing. A line fits where it is that of a step which its part may take, or one of
-/// those that stand behind the events; a rest without a line feed does not. The part whose section is read is kept in
-/// memory with its journal; of those before it the threads' answers stay, and no text.
+/// None where every line fits and none is missing; else the number of the first line that does not fit, from 1, or one
+/// more than there are lines where lines are missing. A line fits where it is that of a step which its part may take,
+/// or one of those that stand behind the events; a rest without a line feed does not. The part whose section is read is
+/// kept in memory with its journal; of those before it the threads' answers stay, and no text.
 pub fn audit(alloc: Global, scenario: &Scenario, report: &[u8]) -> Result<Option<u64>, NoMemory>
     requires { IsValidScenario scenario.now }
     ensures exact { IfOk result (λ found. found ≡ audited scenario.now report.now) }
@@ -61,7 +62,8 @@ fn check_parts(
     requires valid { IsValidScenario scenario.now }
     requires none { SumsUp [] [] tally.old }
     ensures { Leads result (found_from scenario.now (opening_audit scenario.now) cursor.old)
-        (ArePast scenario.now scenario.now.parts [] (found_from scenario.now (opening_audit scenario.now) cursor.old) cursor.new tally.new) }
+        (ArePast scenario.now scenario.now.parts []
+        (found_from scenario.now (opening_audit scenario.now) cursor.old) cursor.new tally.new) }
 {
     let specs = scenario.parts.as_slice();
     for place in 0..specs.len() {
@@ -173,7 +175,8 @@ fn is_numbered(line: &[u8]) -> bool
 
 /// Checks that nothing stands behind the last line.
 fn check_end(cursor: &Cursor) -> Result<(), Stop>
-    ensures { (scenario : Given) (sections : List Done) → Checks result (found_from scenario (at_last sections []) cursor.now) None }
+    ensures { (scenario : Given) (sections : List Done)
+        → Checks result (found_from scenario (at_last sections []) cursor.now) None }
 {
     if cursor.rest().is_empty() {
         return Ok(());

@@ -28,7 +28,8 @@ impl<'a> Model for Comparing<'a> {
 
     ghost view = { λ s. record { text = s.text.now; at = s.at; wrong = s.wrong; faults = s.faults } };
 
-    ghost invariant = { λ s. (s.at ≤ length s.text.now) × (is_other s.wrong (drop s.at s.text.now) ≡ true) × (s.wrong ≡ None → s.faults ≡ 0) };
+    ghost invariant = { λ s. (s.at ≤ length s.text.now) × (is_other s.wrong (drop s.at s.text.now) ≡ true)
+        × (s.wrong ≡ None → s.faults ≡ 0) };
 }
 
 impl<'a> Comparing<'a> {
@@ -100,7 +101,8 @@ fn common_front(piece: &[u8], text: &[u8]) -> usize
     ensures within { result ≤ length piece.now }
     ensures fits { result ≤ length text.now }
     ensures same { take result piece.now ≡ take result text.now }
-    ensures other { result < length piece.now → begins_with (slice_index piece.now result) (drop result text.now) ≡ false }
+    ensures other { result < length piece.now
+        → begins_with (slice_index piece.now result) (drop result text.now) ≡ false }
 {
     let most = piece.len().min(text.len());
     for i in 0..most {

@@ -1,6 +1,7 @@
 //! Where an audit stands in a report.
 
-ghost use Rattle.std.specs.Prelude.{◌≡◌, ◌+◌, ◌==◌, ◌<◌, ◌≤◌, IfOk, MatchOption, OnOk, ℕ, List, None, Some, count_by, length};
+ghost use Rattle.std.specs.Prelude.{◌≡◌, ◌+◌, ◌==◌, ◌<◌, ◌≤◌, IfOk, MatchOption, OnOk, ℕ, List, None, Some, count_by};
+ghost use Rattle.std.specs.Prelude.{length};
 ghost use Rattle.std.specs.List.{position};
 ghost use Rattle.journal_audit.specs.Comparisons.{held_in, untouched};
 ghost use Rattle.journal_audit.specs.Placed.{past, Departs, Follows, HasNoLine, IsNextLine};
@@ -85,10 +86,12 @@ impl<'a> Cursor<'a> {
     ) -> Result<(), Stop>
         requires { compared.now.text ≡ self.old.rest }
         ensures ok { OnOk result ((text : List ℕ)
-            → Wrote (Some (held_in (untouched self.old.rest))) (Some (held_in compared.now)) 0 compared.now.faults written text
+            → Wrote (Some (held_in (untouched self.old.rest)))
+            (Some (held_in compared.now)) 0 compared.now.faults written text
             → Follows text self.old self.new) }
         ensures unfit { OnUnfit result (λ line. (text : List ℕ)
-            → Wrote (Some (held_in (untouched self.old.rest))) (Some (held_in compared.now)) 0 compared.now.faults written text
+            → Wrote (Some (held_in (untouched self.old.rest)))
+            (Some (held_in compared.now)) 0 compared.now.faults written text
             → Departs text self.old line) }
     {
         if written == Err(WriteStop::NoMemory) {

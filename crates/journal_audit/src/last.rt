@@ -1,6 +1,7 @@
 //! The lines behind the sections: the threads with their answers, the program's own listeners, the status.
 
-ghost use Rattle.std.specs.Prelude.{◌≡◌, ◌≤◌, ◌++◌, [], ◌∷◌, ℕ, List, IfOk, MatchOption, if◌then◌else◌, length, map, slice_index_or, slice_set};
+ghost use Rattle.std.specs.Prelude.{◌≡◌, ◌≤◌, ◌++◌, [], ◌∷◌, ℕ, List, IfOk, MatchOption, if◌then◌else◌, length, map};
+ghost use Rattle.std.specs.Prelude.{slice_index_or, slice_set};
 ghost use Rattle.run_laws.specs.Audit.{Done, answers_in_order, in_script_order};
 ghost use Rattle.journal_audit.specs.Found.{at_last, between, found_from};
 ghost use Rattle.journal_audit.specs.Stopping.{Checks};
@@ -8,6 +9,7 @@ ghost use Rattle.journal_audit.specs.Tallies.{SumsUp, answers_in};
 ghost use Rattle.nook_defs.specs.ReportText.{status_line, taps_text, threads_text};
 ghost use Rattle.nook_defs.specs.declared.calls.Answer.{Answer};
 ghost use Rattle.nook_defs.specs.declared.scenario.Scenario.{Scenario};
+ghost use Rattle.report_text.specs.Statuses.{status_number};
 ghost use Rattle.report_text.specs.Writing.{Wrote};
 
 use crate::comparing::Comparing;
@@ -21,7 +23,7 @@ use nook_defs::lists::{Items, TryCopy};
 use nook_defs::memory::NoMemory;
 use nook_defs::outside::Sink;
 use nook_defs::scenario::ThreadSpec;
-use report_text::{WriteStop, write_status_line, write_taps, write_threads};
+use report_text::{ReportStatus, WriteStop, write_status_line, write_taps, write_threads};
 use std::alloc::Global;
 use std::marker::Model;
 
@@ -35,7 +37,8 @@ pub fn check_last(
     requires { length threads.now ≤ MOST_THREADS }
     ensures { (scenario : Scenario) (sections : List Done) → scenario.threads ≡ threads.now
         → SumsUp scenario.parts sections tally.now
-        → Checks result (found_from scenario (between sections []) cursor.old) (found_from scenario (at_last sections []) cursor.new) }
+        → Checks result (found_from scenario (between sections []) cursor.old)
+        (found_from scenario (at_last sections []) cursor.new) }
 {
     let answers = answers_in_order(alloc, threads, tally.answers())?;
     let taps = tally.taps(alloc)?;
@@ -58,15 +61,15 @@ fn write_last<K: Sink>(
     threads: &[ThreadSpec],
     answers: &[PartAnswers],
     taps: &TapTotals,
-    status: u32,
+    status: ReportStatus,
 ) -> Result<(), WriteStop>
     requires { length threads.now ≤ MOST_THREADS }
     ensures { Wrote (K.held sink.old) (K.held sink.new) (K.count sink.old) (K.count sink.new) result
-        (threads_text 0 threads.now answers.now ++ (taps_text 0 taps.now ++ status_line status)) }
+        (threads_text 0 threads.now answers.now ++ (taps_text 0 taps.now ++ status_line (status_number status))) }
 {
     write_threads(alloc, sink, 0, threads, answers)?;
     write_taps(alloc, sink, taps.as_slice())?;
-    write_status_line(alloc, sink, status)
+    write_status_line(alloc, sink, status.number())
 }
 
 /// Each thread's answers in the order of its script.
@@ -134,7 +137,8 @@ impl<'a> Given<'a> {
     /// Takes the next answer of a part; none where no answer is left.
     fn take(&mut self, part: u32) -> Option<&'a (u32, Answer)>
         ensures { MatchOption result (slice_index_or self.old part [] ≡ [])
-            (λ answer. (more : List (ℕ × Answer)) × (slice_index_or self.old part [] ≡ answer.now ∷ more) × (self.new ≡ slice_set self.old part more)) }
+            (λ answer. (more : List (ℕ × Answer)) × (slice_index_or self.old part [] ≡ answer.now ∷ more)
+            × (self.new ≡ slice_set self.old part more)) }
     {
         let part = part as usize;
         if part >= self.lists.len() {

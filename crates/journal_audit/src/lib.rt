@@ -1,7 +1,7 @@
 //! The audit of a printed report: whether each of its lines fits a scenario, with no trust in the run that printed it.
 //!
-//! Each part is run anew along the steps that the lines of its section name, one part at a time. What the lines behind a
-//! section's events have to be is written into a sink that compares and keeps nothing.
+//! Each part is run anew along the steps that the lines of its section name, one part at a time. What the lines behind
+//! a section's events have to be is written into a sink that compares and keeps nothing.
 #![tactic(auto)]
 
 mod auditing;
@@ -13,8 +13,6 @@ mod script;
 mod section;
 mod stop;
 mod tally;
-#[cfg(test)]
-mod tests;
 mod words;
 
 pub use auditing::audit;

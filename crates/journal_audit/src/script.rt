@@ -1,6 +1,7 @@
 //! What a thread asks of one part: the operations that it has not invoked, its open call and its answers.
 
-ghost use Rattle.std.specs.Prelude.{drop, ◌≡◌, ℕ, true, List, ◌∷◌, [], None, IfOk, MatchOption, OnOk, filter, if◌then◌else◌};
+ghost use Rattle.std.specs.Prelude.{drop, ◌≡◌, ℕ, true, List, ◌∷◌, [], None, IfOk, MatchOption, OnOk, filter};
+ghost use Rattle.std.specs.Prelude.{if◌then◌else◌};
 ghost use Rattle.run_laws.specs.Audit.{is_on, is_through, thread_on};
 ghost use Rattle.nook_defs.specs.Runs.{answer_among, answer_at};
 ghost use Rattle.nook_defs.specs.Simulation.{started, thread_after};
@@ -33,7 +34,14 @@ impl<'a> Model for Script<'a> {
 
     ghost Value = { OnPart };
 
-    ghost view = { λ s. record { part = s.part; state = record { rest = filter (is_on s.part) s.rest.now; waiting = waiting_on s.part s.waiting; answers = s.answers } } };
+    ghost view = { λ s. record {
+      part = s.part;
+      state = record {
+        rest = filter (is_on s.part) s.rest.now;
+        waiting = waiting_on s.part s.waiting;
+        answers = s.answers;
+      };
+    } };
 
     ghost invariant = { λ s. is_at s.part s.rest.now ≡ true };
 }
@@ -73,7 +81,8 @@ impl<'a> Script<'a> {
     /// kept.
     pub fn hear(&mut self, alloc: Global, thread: u8, event: &Event) -> Result<(), NoMemory>
         ensures part { self.new.part ≡ self.old.part }
-        ensures state { OnOk result (self.new.state ≡ thread_after self.old.part event.now (started thread self.old.part event.now self.old.state)) }
+        ensures state { OnOk result (self.new.state
+            ≡ thread_after self.old.part event.now (started thread self.old.part event.now self.old.state)) }
     {
         self.start(thread, event);
         self.settle(alloc, event)
@@ -98,7 +107,8 @@ impl<'a> Script<'a> {
     /// An answer to the open call is kept.
     fn settle(&mut self, alloc: Global, event: &Event) -> Result<(), NoMemory>
         ensures part { self.new.part ≡ self.old.part }
-        ensures state { OnOk result (self.new ≡ with_state self.old (thread_after self.old.part event.now self.old.state)) }
+        ensures state { OnOk result (self.new
+            ≡ with_state self.old (thread_after self.old.part event.now self.old.state)) }
     {
         let Some(call) = self.waiting else {
             return Ok(());

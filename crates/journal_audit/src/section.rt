@@ -1,7 +1,8 @@
 //! The section of one part: the part as the lines so far leave it.
 
 ghost use Rattle.std.specs.Prelude.{◌≡◌, ◌<◌, ◌≤◌, ℕ, IfOk, OnOk, Some, bytes_eq, codes, length, map};
-ghost use Rattle.run_laws.specs.Audit.{after_event, are_through, arrival_of, context_in, if_burst, if_entered, if_invoked, is_complete, opening_section, step_named, thread_on};
+ghost use Rattle.run_laws.specs.Audit.{after_event, are_through, arrival_of, context_in, if_burst, if_entered};
+ghost use Rattle.run_laws.specs.Audit.{if_invoked, is_complete, opening_section, step_named, thread_on};
 ghost use Rattle.nook_defs.specs.ReportLines.{event_line};
 ghost use Rattle.nook_defs.specs.Runs.{state_of};
 ghost use Rattle.nook_defs.specs.Simulation.{answers_of_thread, coming_after, threads_after};
@@ -22,8 +23,8 @@ use report_text::event_line;
 use std::alloc::Global;
 use std::marker::Model;
 
-/// A part as the lines of its section so far leave it, with the frames that have not arrived and what each thread asks of
-/// it.
+/// A part as the lines of its section so far leave it, with the frames that have not arrived and what each thread asks
+/// of it.
 #[derive(Drop)]
 pub struct Section<'a> {
     place: u32,
@@ -41,9 +42,15 @@ impl<'a> Model for Section<'a> {
 
     ghost Value = { Sectioned };
 
-    ghost view = { λ s. record { place = s.place; spec = s.spec.now; seat = record { run = s.part; coming = s.coming.now }; threads = map state_in s.threads.items } };
+    ghost view = { λ s. record {
+      place = s.place;
+      spec = s.spec.now;
+      seat = record { run = s.part; coming = s.coming.now };
+      threads = map state_in s.threads.items;
+    } };
 
-    ghost invariant = { λ s. (s.part.state.spec ≡ s.spec.now) × AreOn s.place s.threads.items × (length s.threads.items ≤ MOST_THREADS) };
+    ghost invariant = { λ s. (s.part.state.spec ≡ s.spec.now) × AreOn s.place s.threads.items
+        × (length s.threads.items ≤ MOST_THREADS) };
 }
 
 impl<'a> Section<'a> {
@@ -58,8 +65,8 @@ impl<'a> Section<'a> {
         requires valid { IsValidPart spec.now }
         ensures { IfOk result (λ section. section ≡ opening_section threads.now place spec.now) }
     {
-        let part = Part::new(alloc, spec.copy(alloc)?)?;
         let threads = threads_on(alloc, place, threads)?;
+        let part = Part::new(alloc, spec.copy(alloc)?)?;
         Ok(Section {
             place,
             spec,
@@ -120,8 +127,8 @@ impl<'a> Section<'a> {
         Ok(Some(Step::Arrive { frame }))
     }
 
-    /// Takes the step that a line of an event names, and tells whether the line fits: the step may be taken, and the line is
-    /// that of its event. Where it does not fit, or memory was wanting, the section is of no use any more.
+    /// Takes the step that a line of an event names, and tells whether the line fits: the step may be taken, and the
+    /// line is that of its event. Where it does not fit, or memory was wanting, the section is of no use any more.
     pub fn after_event(&mut self, alloc: Global, line: &[u8]) -> Result<bool, NoMemory>
         ensures { IfOk result (λ fits. IsAfter fits (after_event self.old line.now) self.new) }
     {
@@ -181,7 +188,8 @@ impl<'a> Section<'a> {
         self.part.journal().as_slice()
     }
 
-    /// Whether all operations on the part were invoked and answered, all frames have arrived, and the part has no step left.
+    /// Whether all operations on the part were invoked and answered, all frames have arrived, and the part has no step
+    /// left.
     #[tactic(auto, unfolding(run_laws::specs::Audit::is_complete))]
     pub fn is_complete(&self) -> bool
         ensures { result ≡ is_complete self.now }
@@ -279,7 +287,8 @@ fn newest(part: &Part) -> &Event
 fn hear_all(alloc: Global, threads: &mut [Script], event: &Event) -> Result<(), NoMemory>
     requires few { length threads.old ≤ MOST_THREADS }
     ensures parts { (part : ℕ) → AreOn part threads.old → AreOn part threads.new }
-    ensures states { (part : ℕ) → AreOn part threads.old → OnOk result (map state_in threads.new ≡ threads_after 0 part event.now (map state_in threads.old)) }
+    ensures states { (part : ℕ) → AreOn part threads.old
+        → OnOk result (map state_in threads.new ≡ threads_after 0 part event.now (map state_in threads.old)) }
 {
     for place in 0..threads.len() {
         threads[place].hear(alloc, place as u8, event)?;

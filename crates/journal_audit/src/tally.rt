@@ -6,6 +6,7 @@ ghost use Rattle.nook_defs.specs.Runs.{state_of};
 ghost use Rattle.nook_defs.specs.Stages.{is_given_up};
 ghost use Rattle.nook_defs.specs.declared.scenario.PartSpec.{PartSpec};
 ghost use Rattle.journal_audit.specs.Tallies.{SumsUp, judged_in};
+ghost use Rattle.report_text.specs.Statuses.{status_number};
 ghost use Rattle.request_taps.specs.Bus.{result_of, seen, settled, told_all};
 
 use crate::section::Section;
@@ -15,7 +16,7 @@ use nook_defs::lists::Items;
 use nook_defs::memory::NoMemory;
 use nook_defs::outside::Listener;
 use nook_defs::steps::Event;
-use report_text::PartReport;
+use report_text::{PartReport, ReportStatus};
 use request_taps::Bus;
 use std::alloc::Global;
 use std::marker::Model;
@@ -33,8 +34,8 @@ const BURSTS: u8 = 4;
 
 const ANSWERS: u8 = 64;
 
-/// What is kept of the sections that are over: the answers, what the program's own listeners heard, and whether some part
-/// broke its contract or was given up.
+/// What is kept of the sections that are over: the answers, what the program's own listeners heard, and whether some
+/// part broke its contract or was given up.
 #[derive(Drop)]
 pub struct Tally {
     answers: Items<AnswerTable>,
@@ -50,7 +51,12 @@ impl Model for Tally {
 
     ghost Value = { Tallied };
 
-    ghost view = { λ s. record { answers = s.answers; taps = map (seen ⟦<CountListener as Listener>⟧.listening) s.taps; broken = s.broken; given_up = s.given_up } };
+    ghost view = { λ s. record {
+      answers = s.answers;
+      taps = map (seen ⟦<CountListener as Listener>⟧.listening) s.taps;
+      broken = s.broken;
+      given_up = s.given_up;
+    } };
 }
 
 impl Tally {
@@ -77,7 +83,8 @@ impl Tally {
         requires judged { judged.now ≡ judged_in section }
         ensures { (specs : List PartSpec) (sections : List Done) → length specs ≡ section.entry.place
             → SumsUp specs sections self.old
-            → OnOk result (SumsUp (specs ++ section.entry.spec ∷ []) (sections ++ done_of section.entry ∷ []) self.new) }
+            → OnOk result (SumsUp (specs ++ section.entry.spec ∷ [])
+            (sections ++ done_of section.entry ∷ []) self.new) }
     {
         hear_all(&mut self.taps, section.place() as u8, section.events());
         self.broken |= judged.first_break.is_some();
@@ -100,17 +107,11 @@ impl Tally {
         self.taps.totals(alloc)
     }
 
-    /// The status: 7 where a part broke its contract, else 1 where a part was given up, else 0.
-    pub fn status(&self) -> u32
-        ensures { result ≡ (if self.now.broken then 7 else if self.now.given_up then 1 else 0) }
+    /// The status of a report of the sections.
+    pub fn status(&self) -> ReportStatus
+        ensures { status_number result ≡ (if self.now.broken then 7 else if self.now.given_up then 1 else 0) }
     {
-        if self.broken {
-            7
-        } else if self.given_up {
-            1
-        } else {
-            0
-        }
+        ReportStatus::of(self.broken, self.given_up)
     }
 }
 
@@ -124,7 +125,8 @@ fn is_given_up(section: &Section) -> bool
 
 /// The program's own listeners.
 fn own_taps(alloc: Global) -> Result<Bus<CountListener>, NoMemory>
-    ensures { IfOk result (λ taps. map (seen ⟦<CountListener as Listener>⟧.listening) taps ≡ map settled own_listeners) }
+    ensures { IfOk result (λ taps. map (seen ⟦<CountListener as Listener>⟧.listening) taps
+        ≡ map settled own_listeners) }
 {
     let listeners = vec![in alloc;
         CountListener::new(ALL_PARTS, FAILURES, ENOUGH),

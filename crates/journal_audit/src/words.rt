@@ -6,7 +6,8 @@ ghost use Rattle.run_laws.specs.Audit.{context_in, word_at};
 
 use nook_defs::limits::CONTEXTS;
 
-/// The word at a place of a line, from 0, between blanks; empty where there is none. The line feed is a part of the last.
+/// The word at a place of a line, from 0, between blanks; empty where there is none. The line feed is a part of the
+/// last.
 pub fn word_at(place: u32, line: &[u8]) -> &[u8]
     ensures { result.now ≡ word_at place line.now }
 {

@@ -5,8 +5,6 @@
 
 mod queue;
 mod services;
-#[cfg(test)]
-mod tests;
 
 pub use queue::RxQueue;
 pub use services::{Served, serve};

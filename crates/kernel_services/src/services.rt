@@ -38,7 +38,8 @@ pub fn serve(
     requires passed { can_serve service ≡ true }
     requires moved { MOST_FRAME_WORDS ≤ moved }
     requires frame { MOST_FRAME_WORDS ≤ frame }
-    ensures served { served tracker.old.heap_start service pages.old.words tracker.old.entries queue.old ≡ outcome pages.new.words tracker.new.entries queue.new result }
+    ensures served { served tracker.old.heap_start service pages.old.words tracker.old.entries queue.old
+        ≡ outcome pages.new.words tracker.new.entries queue.new result }
     ensures heap { tracker.new.heap_start ≡ tracker.old.heap_start }
     ensures loans { pages.new.lent ≡ pages.old.lent }
     ensures own { pages.new.own ≡ own_served tracker.old.heap_start service tracker.old.entries pages.old.own }
@@ -74,7 +75,9 @@ fn told(answer: Word, moved: Room<Word>) -> Served
 /// The lowest start of `n` free heap words, 0 where there is none.
 fn alloc(n: u32, tracker: &mut Tracker, moved: Room<Word>) -> Served
     requires { n ≤ DATA_WORDS }
-    ensures served { (memory : List ℕ) (queue : List (List ℕ)) → alloc_served n (free_start tracker.old.heap_start n tracker.old.entries) memory tracker.old.entries queue ≡ outcome memory tracker.new.entries queue result }
+    ensures served { (memory : List ℕ) (queue : List (List ℕ))
+        → alloc_served n (free_start tracker.old.heap_start n tracker.old.entries) memory tracker.old.entries queue
+        ≡ outcome memory tracker.new.entries queue result }
     ensures heap { tracker.new.heap_start ≡ tracker.old.heap_start }
 {
     match tracker.alloc(n) {
@@ -94,10 +97,13 @@ fn borrow(
 ) -> Served
     requires object { object ≤ LAST_OBJECT }
     requires room { OBJECT_WORDS ≤ copied }
-    ensures served { (queue : List (List ℕ)) → borrow_served object (free_start tracker.old.heap_start OBJECT_WORDS tracker.old.entries) pages.old.words tracker.old.entries queue ≡ outcome pages.new.words tracker.new.entries queue result }
+    ensures served { (queue : List (List ℕ))
+        → borrow_served object (free_start tracker.old.heap_start OBJECT_WORDS tracker.old.entries) pages.old.words
+        tracker.old.entries queue ≡ outcome pages.new.words tracker.new.entries queue result }
     ensures heap { tracker.new.heap_start ≡ tracker.old.heap_start }
     ensures loans { pages.new.lent ≡ pages.old.lent }
-    ensures own { pages.new.own ≡ own_copied (free_start tracker.old.heap_start OBJECT_WORDS tracker.old.entries) pages.old.own }
+    ensures own { pages.new.own ≡ own_copied
+        (free_start tracker.old.heap_start OBJECT_WORDS tracker.old.entries) pages.old.own }
 {
     let Some(start) = tracker.borrow(object) else {
         return told(0, moved);
@@ -112,7 +118,9 @@ fn borrow(
 fn give_back(object: u32, pages: &mut PageMap, tracker: &mut Tracker, moved: Room<Word>) -> Served
     requires object { object ≤ LAST_OBJECT }
     requires room { OBJECT_WORDS ≤ moved }
-    ensures served { (queue : List (List ℕ)) → give_back_served object (borrow_start object tracker.old.entries) pages.old.words tracker.old.entries queue ≡ outcome pages.new.words tracker.new.entries queue result }
+    ensures served { (queue : List (List ℕ))
+        → give_back_served object (borrow_start object tracker.old.entries) pages.old.words tracker.old.entries queue
+        ≡ outcome pages.new.words tracker.new.entries queue result }
     ensures heap { tracker.new.heap_start ≡ tracker.old.heap_start }
     ensures loans { pages.new.lent ≡ pages.old.lent }
     ensures own { pages.new.own ≡ pages.old.own }
@@ -141,7 +149,9 @@ fn hand_up(
     requires within { start + len ≤ MEMORY_WORDS }
     requires moved { MOST_FRAME_WORDS ≤ moved }
     requires frame { MOST_FRAME_WORDS ≤ frame }
-    ensures { (entries : List Entry) → frame_served (slice_range pages.now.words start (start + len)) pages.now.words entries queue.old ≡ outcome pages.now.words entries queue.new result }
+    ensures { (entries : List Entry)
+        → frame_served (slice_range pages.now.words start (start + len)) pages.now.words entries queue.old
+        ≡ outcome pages.now.words entries queue.new result }
 {
     let words = pages.words(start, len, moved);
     let taken = queue.offer(words.copy_in_room(frame).fitted());

@@ -1,5 +1,6 @@
 -- What contracts see of a mirror, what holds of each, and how an operation ends.
-use Rattle.std.specs.Prelude.{◌≡◌, ℕ, ◌||◌, ◌==◌, if◌then◌else◌, Bool, true, false, List, [], Some, None, Result, Ok, Err, is_some, ◌∷◌}
+use Rattle.std.specs.Prelude.{◌≡◌, ℕ, ◌||◌, ◌==◌, if◌then◌else◌, Bool, true, false, List, [], Some, None, Result, Ok}
+use Rattle.std.specs.Prelude.{Err, is_some, ◌∷◌}
 use Rattle.nook_defs.specs.declared.classes.Class.TheVariants.{Block}
 use Rattle.nook_defs.specs.declared.mirror.MirrorAnswer.{MirrorAnswer}
 use Rattle.nook_defs.specs.declared.mirror.MirrorAnswer.TheVariants as mirror

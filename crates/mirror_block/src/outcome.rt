@@ -1,7 +1,8 @@
 //! Who stays, and what a mirror answers, by what the sides said.
 
 ghost use Rattle.std.specs.Prelude.{◌≡◌};
-ghost use Rattle.mirror_block.specs.Rule.{after_asking, after_failed_write, after_read, after_write, failed_block, failed_read, is_done, read_answer, stays_after_read, words_read};
+ghost use Rattle.mirror_block.specs.Rule.{after_asking, after_failed_write, after_read, after_write, failed_block};
+ghost use Rattle.mirror_block.specs.Rule.{failed_read, is_done, read_answer, stays_after_read, words_read};
 ghost use Rattle.mirror_block.specs.Outcomes.{Decides};
 
 use nook_defs::calls::{Answer, Op};

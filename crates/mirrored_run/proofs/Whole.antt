@@ -32,6 +32,7 @@ use Rattle.report_text.specs.declared.whole_report.PartEnd.{PartEnd}
 use Rattle.report_text.specs.Whole.{HaveEnds}
 use Rattle.run_ends.specs.Journals.{AreRuns, events_in}
 use Rattle.mirrored_run.specs.declared.running.Unheard.{Unheard}
+use Rattle.threaded_run.proofs.Working.{new_accounts, new_alone}
 use Rattle.threaded_run.specs.Leaving.{GoesOn, IsLeft}
 use Rattle.mirrored_run.specs.Hearing.{HearAllOrNothing}
 use Rattle.nook_defs.specs.Listening.{Listening}
@@ -188,21 +189,12 @@ both_valid scenario l r e valid =
 
 -- ---- the sides
 
-alone_at_first : IsAlone opening_view
-alone_at_first point = refl
-
-accounts_at_first : Accounts opening_view
-accounts_at_first = record {
-  within = λ k d lt. absurd (omega arith);
-  all = λ alone place past low. absurd (omega arith);
-}
-
 pub new_side : (s t : PartSpec) (blocks : ℕ) (v : DeskView) → s ≡ t → t.class ≡ class.Block → t.blocks ≡ blocks → v ≡ opening_view → IsNewSide s blocks v
 new_side s t blocks v e c b o = record {
   class = ap (λ (x : PartSpec). x.class) e ∙ c;
   size = ap (λ (x : PartSpec). x.blocks) e ∙ b;
-  alone = subst IsAlone (sym o) alone_at_first;
-  accounts = subst Accounts (sym o) accounts_at_first;
+  alone = subst IsAlone (sym o) new_alone;
+  accounts = subst Accounts (sym o) new_accounts;
   seen = ap (λ (x : DeskView). x.seen) o;
 }
 

@@ -3,8 +3,6 @@
 
 mod running;
 mod serving;
-#[cfg(test)]
-mod tests;
 mod which;
 
 pub use running::{Mirrored, run_mirror};

@@ -6,10 +6,9 @@ ghost use Rattle.mirrored_run.specs.Hearing.{HearAllOrNothing};
 ghost use Rattle.mirrored_run.specs.Mirrors.{IsMirrorRun, is_mirror, is_single, ops_of_thread};
 ghost use Rattle.mirrored_run.specs.Serving.{HasServed};
 ghost use Rattle.mirrored_run.specs.Unheard.{IsWholeRun};
-ghost use Rattle.nook_defs.specs.Valid.{IsValidPart, IsValidScenario};
+ghost use Rattle.nook_defs.specs.Valid.{IsValidScenario};
 ghost use Rattle.nook_defs.specs.declared.steps.Event.{Event};
 ghost use Rattle.part_server.specs.Desk.{IsDeskSeat, desk_spec, desk_view};
-ghost use Rattle.part_server.specs.Turns.{opening_view};
 ghost use Rattle.report_text.specs.Whole.{HaveEnds};
 ghost use Rattle.request_taps.specs.Bus.{result_of, seen, told_all};
 ghost use Rattle.run_ends.specs.Journals.{AreRuns, events_in};
@@ -19,19 +18,17 @@ use crate::serving::serve_first;
 use mirror_block::Mirror;
 use nook_defs::calls::AnswerTable;
 use nook_defs::limits::MOST_OPS;
-use nook_defs::lists::TryCopy;
 use nook_defs::memory::NoMemory;
 use nook_defs::mirror::MirrorAnswers;
 use nook_defs::outside::Listener;
 use nook_defs::scenario::{PartSpec, Scenario, ThreadSpec};
-use part_core::Part;
 use part_server::{DeskSeat, PartDesk};
 use report_text::{Journals, PartEnds, Run};
 use request_taps::Bus;
 use run_ends::WholeRun;
 use std::alloc::Global;
 use std::sync::Wait;
-use threaded_run::{Left, leave, publish_all};
+use threaded_run::{Left, leave, open_desk, publish_all};
 
 /// What the run of a mirror left: its journals, totals and ends (with no answers of threads), and the mirror's answers.
 #[derive(Drop)]
@@ -125,8 +122,8 @@ fn run_pair<R: Wait>(
     requires parts { scenario.now.parts ≡ left.now ∷ right.now ∷ [] }
     ensures { IfOk result (IsWholeRun scenario.now) }
 {
-    let (left_desk, left_seat) = open(alloc, left)?;
-    let (right_desk, right_seat) = open(alloc, right)?;
+    let (left_desk, left_seat) = open_desk(alloc, left)?;
+    let (right_desk, right_seat) = open_desk(alloc, right)?;
     let threads = scenario.threads.as_slice();
     let served = serve_over(
         rt,
@@ -141,17 +138,6 @@ fn run_pair<R: Wait>(
     let left_part = leave(rt, alloc, left_desk, served.left)?;
     let right_part = leave(rt, alloc, right_desk, served.right)?;
     gather(alloc, left_part, right_part, served.answers)
-}
-
-/// A desk for a valid part, and the one seat at it.
-fn open(alloc: Global, spec: &PartSpec) -> Result<(PartDesk, DeskSeat), NoMemory>
-    requires { IsValidPart spec.now }
-    ensures seat { IfOk result (λ made. IsDeskSeat made.0 made.1) }
-    ensures spec { IfOk result (λ made. desk_spec made.0 ≡ spec.now) }
-    ensures view { IfOk result (λ made. desk_view made.1 ≡ opening_view) }
-{
-    let part = Part::new(alloc, spec.copy(alloc)?)?;
-    PartDesk::new(alloc, part)
 }
 
 /// Serves the operations of the first thread, at most 256, by a mirror of so many blocks over two desks.

@@ -1,5 +1,5 @@
 -- The writing of reports and of summaries ends as the status tells.
-use Rattle.std.proofs.Common.{◌≡◌, ℕ, ◌^◌, ◌<◌, ◌≤◌, Bool, true, false, if◌then◌else◌, List, [], ◌∷◌, length, map, Result, Ok, Err, IfOk, refl, sym, ap, ◌∙◌, subst, arith}
+use Rattle.std.proofs.Common.{◌≡◌, ℕ, ◌^◌, ◌<◌, ◌≤◌, Bool, true, false, if◌then◌else◌, List, [], ◌∷◌, length, map, Result, Ok, Err, IfOk, refl, sym, ap, ◌∙◌, subst, arith, true≢false}
 use Rattle.nook_defs.specs.declared.steps.Event.{Event}
 use Rattle.nook_defs.specs.declared.scenario.PartSpec.{PartSpec}
 use Rattle.nook_defs.specs.declared.scenario.Scenario.{Scenario}
@@ -8,13 +8,16 @@ use Rattle.nook_defs.specs.Listening.{Listening}
 use Rattle.nook_defs.specs.Generated.{generated}
 use Rattle.nook_defs.specs.ReportText.{events_count, failures_count, gen_line, has_break, has_given_up, report_text, status_of, summary_line}
 use Rattle.nook_defs.specs.Views.Room.{Kept}
-use Rattle.nook_defs.specs.Runs.{state_of}
 use Rattle.nook_defs.specs.Simulation.{begins, journals_of}
 use Rattle.nook_defs.specs.Valid.{IsValidScenario}
-use Rattle.report_text.specs.Whole.{HaveEnds, IsReport, summaries}
+use Rattle.report_text.specs.Statuses.{status_number}
+use Rattle.report_text.specs.Whole.{IsReport, failures_in, lists_of, summaries}
+use Rattle.report_text.proofs.WholeLemmas.{same_failures}
 use Rattle.report_text.specs.declared.whole_report.PartEnd.{PartEnd}
 use Rattle.report_text.specs.declared.whole_report.Report.{Report}
 use Rattle.report_text.specs.declared.report.Run.{Run}
+use Rattle.report_text.specs.declared.status.ReportStatus.{ReportStatus}
+use Rattle.report_text.specs.declared.status.ReportStatus.TheVariants as reports
 use Rattle.request_taps.specs.Bus.{result_of, settled, told_all}
 use Rattle.request_taps.specs.declared.tap.Tap.{Tap}
 use Rattle.request_taps.proofs.Totals.{all_totals}
@@ -29,7 +32,7 @@ use Rattle.nook_defs.specs.declared.calls.Answer.{Answer}
 use Rattle.run_laws.proofs.Reached.{parts_answered}
 use Rattle.nooks.specs.Answers.{IsByThreads, IsReportStatus, IsReported, IsRunOf, IsScheduled, IsSummary, IsWhole}
 use Rattle.nooks.specs.Endings.{IsBegun, IsWritten, Writes}
-use Rattle.nooks.specs.Making.{IsMade, TellsStatus, failures_in, left_of}
+use Rattle.nooks.specs.Making.{IsMade, TellsStatus, left_of}
 use Rattle.nooks.specs.Streams.{Change, Gains, GainsFront}
 use Rattle.sim_run.proofs.Reaching.{few_events}
 use Rattle.run_ends.specs.declared.whole_run.WholeRun.{WholeRun}
@@ -52,6 +55,19 @@ known_by false false a b = absurd (a refl)
 pub status_known : (specs : List PartSpec) (journals : List (List Event)) → (status_of specs journals ≡ 0 → ⊥) → (status_of specs journals ≡ 1 → ⊥)
     → status_of specs journals ≡ 7
 status_known specs journals not_done not_gone = known_by (has_break specs journals) (has_given_up specs journals) not_done not_gone
+
+-- the number of a run's status is that of one of a report
+one_of_three : (number : ℕ) (broken gone : Bool) → number ≡ status_by broken gone
+    → ((status : ReportStatus) → status_number status ≡ number → false ≡ true) → ⊥
+one_of_three number true gone e none = true≢false (sym (none reports.Broken (sym e)))
+one_of_three number false true e none = true≢false (sym (none reports.GivenUp (sym e)))
+one_of_three number false false e none = true≢false (sym (none reports.Kept (sym e)))
+
+pub number_is_known : (scenario : Scenario) (report : Report) → IsReport scenario report
+    → ((status : ReportStatus) → status_number status ≡ report.status → false ≡ true) → ⊥
+number_is_known scenario report is none =
+    one_of_three report.status (has_break scenario.parts (lists_of report.run.journals))
+    (has_given_up scenario.parts (lists_of report.run.journals)) is.status none
 
 -- every run has a status
 known_status : (broken gone : Bool) → (status : Status) × IsReportStatus (status_by broken gone) status
@@ -129,16 +145,6 @@ report_begun asked scenario hearing report sink made front =
     }
 
 -- ---- summaries
-
-same_failures : (specs : List PartSpec) (journals : List (Kept Event)) (ends : List PartEnd) → HaveEnds specs journals ends
-    → failures_in (summaries specs journals ends) ≡ failures_count specs (map events_in journals)
-unfolding failures_count
-same_failures [] journals ends h = refl
-same_failures (s ∷ specs) [] ends h = refl
-same_failures (s ∷ specs) (journal ∷ journals) [] h = absurd h
-same_failures (s ∷ specs) (journal ∷ journals) (e ∷ ends) h =
-    let first : e.failures ≡ (state_of s journal.list).failures = h.0.failures in
-    rw (first, same_failures specs journals ends h.1) refl
 
 few_parts : (specs : List PartSpec) (journals : List (Kept Event)) (ends : List PartEnd) → length (summaries specs journals ends) ≤ length specs
 few_parts [] journals ends = omega arith

@@ -1,6 +1,7 @@
 -- What the program answers: for the form of the words, what was read and who listens, the text that is written and the
 -- status that it ends with. It is a relation, since the threads of `run threads` may take their turns in many orders.
-use Rattle.std.specs.Prelude.{◌≡◌, ℕ, ◌<◌, ◌≤◌, List, [], ◌∷◌, ◌⊎◌, length, map, Bool, true, false, Option, Some, None, Result, Ok, Err}
+use Rattle.std.specs.Prelude.{◌≡◌, ℕ, ◌<◌, ◌≤◌, List, [], ◌∷◌, ◌⊎◌, length, map, Bool, true, false, Option, Some, None}
+use Rattle.std.specs.Prelude.{Result, Ok, Err}
 use Rattle.std.specs.List.{AllZip}
 use Rattle.nook_defs.specs.CampaignReading.{campaign_from}
 use Rattle.nook_defs.specs.Campaigns.{member, row_of, table_text}
@@ -37,7 +38,8 @@ use Rattle.run_laws.specs.Audit.{audited}
 use Rattle.run_laws.specs.Fitting.{AllFit, fitting_text}
 use Rattle.nooks.specs.Streams.{Input, TooLong, Whole}
 use Rattle.nooks.specs.Forms.{limit_of}
-use Rattle.nooks.specs.Texts.{at_root, bad_header_text, help_text, no_such_burst_text, not_mirror_text, usage_text, verdict_text, version_text}
+use Rattle.nooks.specs.Texts.{at_root, bad_header_text, help_text, no_such_burst_text, not_mirror_text, usage_text}
+use Rattle.nooks.specs.Texts.{verdict_text, version_text}
 use Rattle.nooks.specs.declared.program.Status.{Status}
 use Rattle.nooks.specs.declared.program.Status.TheVariants as ended
 use Rattle.nooks.specs.declared.words.Form.{Form}
@@ -91,7 +93,11 @@ pub record IsMember (scenario : Scenario) (row : MemberRow) : Type 0 where
   pub simulation : Simulation
   pub scheduled : IsScheduledRun scenario simulation
   pub row_is : row ≡ row_of scenario.parts (journals_of simulation) (answer_table simulation)
-  pub whole : IsWhole scenario (record { journals = journals_of simulation; answers = answer_table simulation; taps = [] })
+  pub whole : IsWhole scenario (record {
+    journals = journals_of simulation;
+    answers = answer_table simulation;
+    taps = [];
+  })
 
 -- one row for each fault, in their order
 abbrev pub AreMembers : Campaign → List MemberRow → Type 0
@@ -100,7 +106,8 @@ AreMembers campaign rows = AllZip (λ fault row. IsMember (member campaign fault
 -- ---- texts
 
 -- the report of a scenario's run, and the run's status
-pub record IsReported (asked : Form) (scenario : Scenario) (hearing : List Listening) (text : List ℕ) (status : Status) : Type 0 where
+pub record IsReported (asked : Form) (scenario : Scenario) (hearing : List Listening) (text : List ℕ)
+    (status : Status) : Type 0 where
   pub left : Left
   pub run : IsRunOf asked scenario hearing left
   pub whole : IsWhole scenario left
@@ -117,7 +124,8 @@ pub record IsSummary (number : ℕ) (text : List ℕ) (status : Status) : Type 0
   pub text_is : text ≡ summary_line number (generated number).parts left.journals
 
 -- the report of the run of the scenario that some bytes are
-pub record IsReportOf (asked : Form) (bytes : List ℕ) (hearing : List Listening) (text : List ℕ) (status : Status) : Type 0 where
+pub record IsReportOf (asked : Form) (bytes : List ℕ) (hearing : List Listening) (text : List ℕ)
+    (status : Status) : Type 0 where
   pub scenario : Scenario
   pub reading : scenario_from bytes ≡ Ok scenario
   pub reported : IsReported asked scenario hearing text status
@@ -184,8 +192,8 @@ pub record IsAuditOf (bytes text : List ℕ) (status : Status) : Type 0 where
 
 -- ---- mirrors
 
--- the report of a run of the mirror of a scenario, which the listeners count journal by journal, and its status; every part
--- of it is safe, and the printed answers are the mirror's
+-- the report of a run of the mirror of a scenario, which the listeners count journal by journal, and its status; every
+-- part of it is safe, and the printed answers are the mirror's
 pub record IsMirrored (scenario : Scenario) (hearing : List Listening) (text : List ℕ) (status : Status) : Type 0 where
   pub left : List Event
   pub right : List Event
@@ -289,7 +297,8 @@ AnswersInput asked (Whole bytes) hearing text status =
 -- what words of a form are answered with
 abbrev pub AnswersForm : Form → Input → List Listening → List ℕ → Status → Type 0
 AnswersForm (form.Gen number) input hearing text status = IsSummary number text status
-AnswersForm (form.GenScenario number) input hearing text status = Says (scenario_line (generated number)) ended.Done text status
+AnswersForm (form.GenScenario number) input hearing text status =
+    Says (scenario_line (generated number)) ended.Done text status
 AnswersForm form.Help input hearing text status = Says help_text ended.Done text status
 AnswersForm form.Version input hearing text status = Says version_text ended.Done text status
 AnswersForm asked input hearing text status = AnswersInput asked input hearing text status

@@ -1,5 +1,5 @@
 -- A report in the making: what the program's own functions hand on to one another.
-use Rattle.std.specs.Prelude.{◌≡◌, ℕ, ◌+◌, List, [], ◌∷◌, map}
+use Rattle.std.specs.Prelude.{◌≡◌, ℕ, List, [], ◌∷◌, map}
 use Rattle.nook_defs.specs.Listening.{Listening}
 use Rattle.nook_defs.specs.declared.steps.Event.{Event}
 use Rattle.nook_defs.specs.declared.mirror.MirrorAnswer.{MirrorAnswer}
@@ -9,7 +9,6 @@ use Rattle.nook_defs.specs.Listening.{tap_result}
 use Rattle.part_laws.specs.Headline.{AreSafe}
 use Rattle.report_text.specs.Whole.{IsReport}
 use Rattle.report_text.specs.declared.report.Run.{Run}
-use Rattle.report_text.specs.declared.whole_report.PartReport.{PartReport}
 use Rattle.report_text.specs.declared.whole_report.Report.{Report}
 use Rattle.run_ends.specs.Journals.{events_in}
 use Rattle.threaded_run.specs.Threaded.{in_parts}
@@ -28,7 +27,8 @@ pub record IsMade (asked : Form) (scenario : Scenario) (hearing : List Listening
   pub whole : IsWhole scenario (left_of report.run)
   pub is_report : IsReport scenario report
 
--- a report of a run of the scenario's mirror, whose parts end as their journals lead, with these answers and this status
+-- a report of a run of the scenario's mirror, whose parts end as their journals lead, with these answers and this
+-- status
 pub record IsMirrorMade (scenario : Scenario) (hearing : List Listening) (report : Report) (answers : List MirrorAnswer)
     (number : ℕ) : Type 0 where
   pub left : List Event
@@ -39,11 +39,6 @@ pub record IsMirrorMade (scenario : Scenario) (hearing : List Listening) (report
   pub told : report.run.taps ≡ map (λ l. tap_result l (in_parts 0 (left ∷ right ∷ []))) hearing
   pub status : number ≡ mirror_status scenario left right answers
   pub is_report : IsReport scenario report
-
--- the failures of some parts
-abbrev pub failures_in : List PartReport → ℕ
-failures_in [] = 0
-failures_in (part ∷ parts) = part.failures + failures_in parts
 
 -- the status by a report's number, of which any but 0 and 1 stands for a broken contract
 abbrev pub TellsStatus : ℕ → Status → Type 0

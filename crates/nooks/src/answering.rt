@@ -306,7 +306,8 @@ pub fn at_root(alloc: Global, fault: InputFault) -> Refusal
 
 /// Writes the line that tells why an input is refused.
 pub fn refuse<K: Sink>(alloc: Global, sink: &mut K, refusal: &Refusal) -> Status
-    ensures ends { Writes (Says (line_of refusal.now) Status.BadInput) (change K.held K.count sink.old sink.new) result }
+    ensures ends { Writes (Says (line_of refusal.now) Status.BadInput)
+        (change K.held K.count sink.old sink.new) result }
     ensures later { K.count sink.old ≤ K.count sink.new }
 {
     match fault_line(alloc, refusal) {

@@ -65,7 +65,8 @@ fn give_verdict<K: Sink>(alloc: Global, scenario: &Scenario, report: &[u8], sink
 
 /// Writes which line does not fit.
 fn tell_line<K: Sink>(alloc: Global, number: u64, sink: &mut K) -> Status
-    ensures ends { Writes (Says (verdict_text (Some number)) Status.AuditNo) (change K.held K.count sink.old sink.new) result }
+    ensures ends { Writes (Says (verdict_text (Some number)) Status.AuditNo)
+        (change K.held K.count sink.old sink.new) result }
     ensures later { K.count sink.old ≤ K.count sink.new }
 {
     match no_line(alloc, number) {

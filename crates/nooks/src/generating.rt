@@ -18,7 +18,8 @@ use std::alloc::Global;
 /// Writes the generated scenario of a number from 1 to 256.
 pub fn give_generated<K: Sink>(alloc: Global, number: u32, sink: &mut K) -> Status
     requires { number ≤ 256 }
-    ensures ends { Writes (Says (scenario_line (generated number)) Status.Done) (change K.held K.count sink.old sink.new) result }
+    ensures ends { Writes (Says (scenario_line (generated number)) Status.Done)
+        (change K.held K.count sink.old sink.new) result }
     ensures later { K.count sink.old ≤ K.count sink.new }
 {
     match generated_line(alloc, number) {

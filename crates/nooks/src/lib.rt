@@ -6,27 +6,15 @@
 
 mod answering;
 mod auditing;
-#[cfg(test)]
-mod failing_tests;
 mod generating;
 mod heard;
 mod listing;
 mod mirroring;
 mod program;
-#[cfg(test)]
-mod running;
 mod simulated;
-#[cfg(test)]
-mod tests;
 mod texts;
-#[cfg(test)]
-mod thread_tests;
 mod tracing;
 mod words;
-#[cfg(test)]
-mod worked_runs;
-#[cfg(test)]
-mod worked_tests;
 
 pub use program::{AUDIT_LIMIT, LIMIT, OWN_LISTENERS, Status, run, run_plain};
 pub use words::{Form, form_of};

@@ -10,6 +10,7 @@ ghost use Rattle.nooks.specs.Answers.{AnswersInput, IsMirrored};
 ghost use Rattle.nooks.specs.Endings.{Writes};
 ghost use Rattle.nooks.specs.Making.{IsMirrorMade};
 ghost use Rattle.nooks.specs.Streams.{Whole, change};
+ghost use Rattle.report_text.specs.Statuses.{status_number};
 ghost use Rattle.request_taps.specs.Bus.{seen, settled};
 
 use crate::answering::{bus_of, refuse_for};
@@ -23,7 +24,7 @@ use nook_defs::memory::NoMemory;
 use nook_defs::mirror::{MirrorAnswer, MirrorAnswers};
 use nook_defs::outside::{Listener, Sink};
 use nook_defs::scenario::Scenario;
-use report_text::{Report, WriteStop, report_of, write_mirror_report};
+use report_text::{Report, ReportStatus, WriteStop, report_of, write_mirror_report};
 use request_taps::Bus;
 use scenario_read::read_scenario;
 use std::alloc::Global;
@@ -69,7 +70,8 @@ fn serve<R: Wait, K: Sink, T: Drop>(
 where
     Heard<T>: Listener,
     requires { IsValidScenario scenario.now }
-    ensures ends { (bytes : List ℕ) → scenario_from bytes ≡ Ok scenario.now → Writes (AnswersInput Form.Mirror (Whole bytes)
+    ensures ends { (bytes : List ℕ) → scenario_from bytes ≡ Ok scenario.now
+        → Writes (AnswersInput Form.Mirror (Whole bytes)
         (map (λ v. ⟦<Heard<T> as Listener>⟧.listening (record { value = v })) listeners.items))
         (change K.held K.count sink.old sink.new) result }
     ensures later { K.count sink.old ≤ K.count sink.new }
@@ -117,7 +119,7 @@ fn judge_mirror<R: Wait, L: Listener>(
 {
     let mirrored = run_mirror(rt, alloc, scenario, taps)?;
     let report = report_of(alloc, scenario, mirrored.whole.run, mirrored.whole.ends)?;
-    let status = mirror_status(report.status, mirrored.answers.as_slice());
+    let status = mirror_status(report.status, mirrored.answers.as_slice()).number();
     Ok(MirrorReport {
         report,
         answers: mirrored.answers,
@@ -132,7 +134,8 @@ fn give_mirror_report<K: Sink>(
     made: &MirrorReport,
     sink: &mut K,
 ) -> Status
-    ensures ends { (hearing : List Listening) → IsMirrorMade scenario.now hearing made.now.report made.now.answers made.now.status
+    ensures ends { (hearing : List Listening)
+        → IsMirrorMade scenario.now hearing made.now.report made.now.answers made.now.status
         → Writes (IsMirrored scenario.now hearing) (change K.held K.count sink.old sink.new) result }
     ensures later { K.count sink.old ≤ K.count sink.new }
 {
@@ -151,16 +154,11 @@ fn give_mirror_report<K: Sink>(
 }
 
 /// The status of a mirror whose report would end with this number, if both parts were apart.
-fn mirror_status(apart: u32, answers: &[MirrorAnswer]) -> u32
-    ensures { result ≡ (if apart == 7 then 7 else if list_any is_lost answers.now then 1 else 0) }
+fn mirror_status(apart: u32, answers: &[MirrorAnswer]) -> ReportStatus
+    ensures { status_number result ≡ (if apart == 7 then 7 else if list_any is_lost answers.now then 1 else 0) }
 {
-    if apart == 7 {
-        7
-    } else if is_any_lost(answers) {
-        1
-    } else {
-        0
-    }
+    let is_broken = apart == ReportStatus::Broken.number();
+    ReportStatus::of(is_broken, is_any_lost(answers))
 }
 
 /// Whether neither side was left at one of the answers.

@@ -3,7 +3,8 @@
 ghost use Rattle.std.specs.Prelude.{◌≡◌, ℕ, ◌≤◌, ◌⊎◌, List, None, Some, IsTrue, map, string_bytes};
 ghost use Rattle.nook_defs.specs.Views.Causes.{Rose};
 ghost use Rattle.nooks.specs.Answers.{Says};
-ghost use Rattle.nooks.specs.Endings.{AnswersBytes, AnswersWords, Ends, IsAnswered, IsBegun, IsCut, IsWritten, Writes, code_of};
+ghost use Rattle.nooks.specs.Endings.{AnswersBytes, AnswersWords, Ends, IsAnswered, IsBegun, IsCut, IsWritten, Writes};
+ghost use Rattle.nooks.specs.Endings.{code_of};
 ghost use Rattle.nooks.specs.Forms.{AskUnread, is_reading};
 ghost use Rattle.nooks.specs.Streams.{GainsNothing, change};
 
@@ -27,8 +28,8 @@ pub const LIMIT: u32 = 1_048_576;
 /// The most bytes of the input of `audit`: a scenario's length, the scenario and a report.
 pub const AUDIT_LIMIT: u32 = 16_777_216;
 
-/// The program's own listeners, of all parts: the kinds of event that each hears (failures, bursts, answers), and how many
-/// it hears at most.
+/// The program's own listeners, of all parts: the kinds of event that each hears (failures, bursts, answers), and how
+/// many it hears at most.
 pub const OWN_LISTENERS: [(u8, u64); 3] = [(32, 1_000_000), (4, 1_000_000), (64, 1_000_000)];
 
 /// How the program ended. The exit codes are 0 to 8, in this order.
@@ -66,10 +67,11 @@ impl Status {
 /// Does what the words ask for: reads the source, writes the sink, and tells how it ended. Usage is decided
 /// first, and reads nothing; then comes a fault of the source, then one of the input, then one of the sink.
 ///
-/// Where it wrote a report, that is the report of the scenario's scheduled run or, for `run threads`, of its threads, which
-/// the gate may hold back: whatever the drivers executed and in whatever order the steps fell, each part's journal is a run of
-/// the part in which no driver changed a kernel object that was not lent to it; and in each part whose drivers kept the
-/// class's contract and that was not given up, the applications saw one run of a device that never fails.
+/// Where it wrote a report, that is the report of the scenario's scheduled run or, for `run threads`, of its threads,
+/// which the gate may hold back: whatever the drivers executed and in whatever order the steps fell, each part's
+/// journal is a run of the part in which no driver changed a kernel object that was not lent to it; and in each part
+/// whose drivers kept the class's contract and that was not given up, the applications saw one run of a device that
+/// never fails.
 pub fn run<R: Threads + Wait + Sync, S: Source, K: Sink, G: Gate>(
     rt: &R,
     alloc: Global,
@@ -110,8 +112,8 @@ pub fn run<R: Threads + Wait + Sync, S: Source, K: Sink, G: Gate>(
     }
 }
 
-/// The same over bytes in memory and a sink that takes everything, neither of which ever fails: where there is memory, the
-/// status is that of what the program answers to the words over these bytes.
+/// The same over bytes in memory and a sink that takes everything, neither of which ever fails: where there is memory,
+/// the status is that of what the program answers to the words over these bytes.
 pub fn run_plain<R: Threads + Wait + Sync, G: Gate>(
     rt: &R,
     alloc: Global,

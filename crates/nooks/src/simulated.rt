@@ -7,8 +7,10 @@ ghost use Rattle.nook_defs.specs.ReportText.{events_count, gen_line, summary_lin
 ghost use Rattle.nook_defs.specs.Valid.{IsValidScenario};
 ghost use Rattle.nooks.specs.Answers.{IsReported, IsSummary};
 ghost use Rattle.nooks.specs.Endings.{Writes};
-ghost use Rattle.nooks.specs.Making.{IsMade, TellsStatus, failures_in};
+ghost use Rattle.nooks.specs.Making.{IsMade, TellsStatus};
 ghost use Rattle.nooks.specs.Streams.{change};
+ghost use Rattle.report_text.specs.Statuses.{status_number};
+ghost use Rattle.report_text.specs.Whole.{failures_in};
 ghost use Rattle.request_taps.specs.Bus.{seen, settled};
 ghost use Rattle.run_ends.specs.Journals.{events_in};
 
@@ -20,7 +22,7 @@ use nook_defs::listeners::CountListener;
 use nook_defs::memory::NoMemory;
 use nook_defs::outside::{Gate, Listener, Sink};
 use nook_defs::scenario::Scenario;
-use report_text::{PartReport, Report, WriteStop, report_of, write_report};
+use report_text::{PartReport, Report, ReportStatus, WriteStop, report_of, write_report};
 use request_taps::Bus;
 use scenario_gen::generate;
 use sim_run::simulate;
@@ -111,14 +113,15 @@ fn judge_threads<R: Threads + Wait + Sync, L: Listener, G: Gate>(
     report_of(alloc, scenario, whole.run, whole.ends)
 }
 
-/// The status of a report that ends with this number: 0, 1 or 7.
+/// The status after a report that ends with this number.
 pub fn status_of(number: u32) -> Status
     ensures { TellsStatus number result }
 {
-    match number {
-        0 => Status::Done,
-        1 => Status::GivenUp,
-        _ => Status::ContractBroken,
+    match ReportStatus::of_number(number) {
+        Some(ReportStatus::Kept) => Status::Done,
+        Some(ReportStatus::GivenUp) => Status::GivenUp,
+        Some(ReportStatus::Broken) => Status::ContractBroken,
+        None => Status::ContractBroken,
     }
 }
 
@@ -152,14 +155,17 @@ fn generate_report(alloc: Global, number: u32) -> Result<Report, NoMemory>
 fn sum_up(number: u32, report: &Report) -> Summary
     requires number { number ≤ 256 }
     requires made { IsMade Form.Run (generated number) [] report.now }
-    ensures { gen_line result.number result.events result.failures result.status
+    ensures { gen_line result.number result.events result.failures (status_number result.status)
         ≡ summary_line number (generated number).parts (map events_in report.now.run.journals) }
 {
+    let Some(status) = ReportStatus::of_number(report.status) else {
+        unreachable!()
+    };
     Summary {
         number,
         events: count_events(report.run.journals.as_slice()),
         failures: count_failures(report.parts.as_slice()),
-        status: report.status,
+        status,
     }
 }
 

@@ -18,8 +18,8 @@ use std::process::ExitCode;
 use std::sync::Wait;
 use std::thread::Threads;
 
-/// Runs the program on the words behind its own name, says on standard error what went wrong, and ends with the status's
-/// code. Memory that is wanting before the call ends it as memory that is wanting within.
+/// Runs the program on the words behind its own name, says on standard error what went wrong, and ends with the
+/// status's code. Memory that is wanting before the call ends it as memory that is wanting within.
 fn main(rt: HostRuntime) -> ExitCode {
     let mut sink = Echo::new(OutSink::new(io::writer(&rt)));
     let status = answer(&rt, &mut sink).unwrap_or(Status::NoMemory);
@@ -68,8 +68,8 @@ fn words_of<R: Env + AllocGlobal>(rt: &R, alloc: Global) -> Result<Vec<String>, 
     Ok(words)
 }
 
-/// Says what went wrong on standard error, in one line. The line of a fault of the input went to standard output: it is said
-/// again where that is no terminal, so that a redirection does not hide it.
+/// Says what went wrong on standard error, in one line. The line of a fault of the input went to standard output: it is
+/// said again where that is no terminal, so that a redirection does not hide it.
 fn say(rt: &HostRuntime, status: Status, front: &[u8]) -> io::Result<()> {
     if status == Status::BadInput && !rt.stdout().is_terminal() {
         if let Ok(line) = std::str::from_utf8(front) {

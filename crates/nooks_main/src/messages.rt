@@ -6,7 +6,8 @@ use nooks::Status;
 
 /// What went wrong outside the program, in a few words; `None` where nothing did, or where a line of its own tells it.
 pub fn message_of(status: Status) -> Option<&'static str>
-    ensures said { result ≡ None → (status ≡ Status.ReadFault → ⊥) × (status ≡ Status.WriteFault → ⊥) × (status ≡ Status.NoMemory → ⊥) }
+    ensures said { result ≡ None → (status ≡ Status.ReadFault → ⊥) × (status ≡ Status.WriteFault → ⊥)
+        × (status ≡ Status.NoMemory → ⊥) }
 {
     match status {
         Status::ReadFault => Some("reading standard input failed; nothing was written"),

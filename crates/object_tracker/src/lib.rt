@@ -7,8 +7,6 @@
 mod heap;
 mod listing;
 mod ordered;
-#[cfg(test)]
-mod tests;
 mod tracker;
 mod wanted;
 

@@ -1,8 +1,10 @@
 //! Entries in Collect's order: where one belongs, which end, which are there.
 
-ghost use Rattle.std.specs.Prelude.{◌≡◌, ◌+◌, ◌-◌, ◌^◌, ◌↔◌, ◌<◌, ◌≤◌, [], ◌∷◌, ◌++◌, length, take, drop, filter, insert, not, Contains, IsTrue, IfOk};
+ghost use Rattle.std.specs.Prelude.{◌≡◌, ◌+◌, ◌-◌, ◌^◌, ◌↔◌, ◌<◌, ◌≤◌, [], ◌∷◌, ◌++◌, length, take, drop, filter};
+ghost use Rattle.std.specs.Prelude.{insert, not, Contains, IsTrue, IfOk};
 ghost use Rattle.std.specs.List.{list_any};
-ghost use Rattle.nook_defs.specs.Entries.{rank, key_of, comes_before, with_entry, with_live, registered, released, borrow_start};
+ghost use Rattle.nook_defs.specs.Entries.{rank, key_of, comes_before, with_entry, with_live, registered, released};
+ghost use Rattle.nook_defs.specs.Entries.{borrow_start};
 ghost use Rattle.object_tracker.specs.Tracked.{fits};
 
 use crate::ordered::Ordered;
@@ -90,7 +92,8 @@ fn end_at(entries: &mut Ordered, place: usize, wanted: Wanted) -> usize
     requires fits { place + 1 < 2 ^ 64 }
     ensures within { result ≤ length entries.new }
     ensures nearer { length entries.new - result < length entries.old - place }
-    ensures same { take result entries.new ++ filter (λ e. not (fits wanted e)) (drop result entries.new) ≡ take place entries.old ++ filter (λ e. not (fits wanted e)) (drop place entries.old) }
+    ensures same { take result entries.new ++ filter (λ e. not (fits wanted e)) (drop result entries.new)
+        ≡ take place entries.old ++ filter (λ e. not (fits wanted e)) (drop place entries.old) }
 {
     if fits(wanted, entries.get(place)) {
         entries.remove(place);

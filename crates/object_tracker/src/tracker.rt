@@ -1,8 +1,11 @@
 //! The tracker.
 
-ghost use Rattle.std.specs.Prelude.{◌≡◌, ◌+◌, ◌↔◌, ◌<◌, ◌≤◌, true, false, not, Contains, IsTrue, IfNone, IfSome, IfOk, OnErr, OnOk};
+ghost use Rattle.std.specs.Prelude.{◌≡◌, ◌+◌, ◌↔◌, ◌<◌, ◌≤◌, true, false, not, Contains, IsTrue, IfNone, IfSome, IfOk};
+ghost use Rattle.std.specs.Prelude.{OnErr, OnOk};
 ghost use Rattle.std.specs.List.{list_any};
-ghost use Rattle.nook_defs.specs.Entries.{opening_entries, with_entry, without_heap, without_borrow, without_buffer, is_heap_at, is_borrow_of, is_buffer_of, is_registered, registered, collected, released, borrow_start, free_start};
+ghost use Rattle.nook_defs.specs.Entries.{opening_entries, with_entry, without_heap, without_borrow, without_buffer};
+ghost use Rattle.nook_defs.specs.Entries.{is_heap_at, is_borrow_of, is_buffer_of, is_registered, registered, collected};
+ghost use Rattle.nook_defs.specs.Entries.{released, borrow_start, free_start};
 
 use crate::heap::free_start;
 use crate::listing::{add, borrow_start, end_all, has, held, holds, set_live};
@@ -58,7 +61,8 @@ impl Tracker {
         requires { n ≤ DATA_WORDS }
         ensures start { result ≡ free_start self.old.heap_start n self.old.entries }
         ensures none { IfNone result (self.new ≡ self.old) }
-        ensures some { IfSome result (λ start. self.new ≡ record self.old { entries = with_entry (Entry.Heap start n) self.old.entries }) }
+        ensures some { IfSome result (λ start. self.new
+            ≡ record self.old { entries = with_entry (Entry.Heap start n) self.old.entries }) }
     {
         let start = free_start(&self.entries, self.heap_start, n)?;
         add(&mut self.entries, Entry::Heap { start, len: n });
@@ -89,7 +93,8 @@ impl Tracker {
         ensures within { IfSome result (λ start. start + OBJECT_WORDS ≤ DATA_END) }
         ensures start { result ≡ free_start self.old.heap_start OBJECT_WORDS self.old.entries }
         ensures none { IfNone result (self.new ≡ self.old) }
-        ensures some { IfSome result (λ start. self.new ≡ record self.old { entries = with_entry (Entry.Borrow object start) self.old.entries }) }
+        ensures some { IfSome result (λ start. self.new
+            ≡ record self.old { entries = with_entry (Entry.Borrow object start) self.old.entries }) }
     {
         let start = free_start(&self.entries, self.heap_start, OBJECT_WORDS)?;
         add(&mut self.entries, Entry::Borrow { object, start });
@@ -102,7 +107,8 @@ impl Tracker {
         ensures start { result ≡ borrow_start object self.old.entries }
         ensures within { IfSome result (λ start. start + OBJECT_WORDS ≤ DATA_END) }
         ensures none { IfNone result (self.new ≡ self.old) }
-        ensures some { IfSome result (λ _. self.new ≡ record self.old { entries = without_borrow object self.old.entries }) }
+        ensures some { IfSome result (λ _. self.new
+            ≡ record self.old { entries = without_borrow object self.old.entries }) }
     {
         let start = borrow_start(&self.entries, object)?;
         end_all(&mut self.entries, Wanted::Borrow { object });

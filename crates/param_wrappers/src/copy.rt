@@ -1,6 +1,7 @@
 //! The words that an operation takes in, and those that its answer brings out.
 
-ghost use Rattle.std.specs.Prelude.{◌≡◌, ◌+◌, ◌<◌, ◌≤◌, true, false, if◌then◌else◌, length, slice_range, slice_set, IfSome};
+ghost use Rattle.std.specs.Prelude.{◌≡◌, ◌+◌, ◌<◌, ◌≤◌, true, false, if◌then◌else◌, length, slice_range, slice_set};
+ghost use Rattle.std.specs.Prelude.{IfSome};
 ghost use Rattle.std.specs.List.{list_any};
 ghost use Rattle.nook_defs.specs.Domain.{arguments_of, buffer_of, lent, lent_memory, lent_entries};
 ghost use Rattle.nook_defs.specs.Entries.{is_buffer_of, without_buffer};
@@ -34,7 +35,8 @@ pub fn copy_in(pages: &mut PageMap, tracker: &mut Tracker, context: u8, op: &Op)
     ensures words { pages.new.words ≡ lent_memory context (buffer_of op.now) pages.old.words }
     ensures loans { pages.new.lent ≡ with_loan context (buffer_of op.now) pages.old.lent }
     ensures own { pages.new.own ≡ lent_own context (buffer_of op.now) pages.old.own }
-    ensures entries { tracker.new ≡ record tracker.old { entries = lent_entries context (buffer_of op.now) tracker.old.entries } }
+    ensures entries { tracker.new
+        ≡ record tracker.old { entries = lent_entries context (buffer_of op.now) tracker.old.entries } }
 {
     let r3 = buffer_start(context);
     match op {
@@ -99,7 +101,8 @@ fn lend(pages: &mut PageMap, tracker: &mut Tracker, context: u8, words: &[Word],
     ensures words { pages.new.words ≡ lent_memory context (lent writable words.now) pages.old.words }
     ensures loans { pages.new.lent ≡ with_loan context (lent writable words.now) pages.old.lent }
     ensures own { pages.new.own ≡ lent_own context (lent writable words.now) pages.old.own }
-    ensures entries { tracker.new ≡ record tracker.old { entries = lent_entries context (lent writable words.now) tracker.old.entries } }
+    ensures entries { tracker.new
+        ≡ record tracker.old { entries = lent_entries context (lent writable words.now) tracker.old.entries } }
 {
     pages.put_words(buffer_start(context), words, BUFFER_WORDS);
     tracker.begin_buffer(context, writable);

@@ -4,8 +4,6 @@
 
 mod check;
 mod copy;
-#[cfg(test)]
-mod tests;
 
 pub use check::check_service;
 pub use copy::{Args, copy_in, copy_out};

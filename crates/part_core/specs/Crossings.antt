@@ -3,13 +3,12 @@ use Rattle.nook_defs.specs.declared.calls.CallEntry.{CallEntry}
 use Rattle.nook_defs.specs.declared.classes.Class.{Class}
 use Rattle.nook_defs.specs.declared.calls.Op.{Op}
 use Rattle.nook_defs.specs.declared.calls.Op.TheVariants as op
-use Rattle.nook_defs.specs.declared.limits.TheConstants.{CONTEXTS, MOST_ANSWER_WORDS, MOST_FRAME_WORDS}
+use Rattle.nook_defs.specs.declared.limits.TheConstants.{CONTEXTS}
 use Rattle.nook_defs.specs.Classes.{blocks_of_op, first_of_op, is_of_class}
 use Rattle.nook_defs.specs.Crossing.{Crossed}
 use Rattle.nook_defs.specs.Log.{call_of_thread}
 use Rattle.nook_defs.specs.State.{PartState}
 use Rattle.part_core.specs.declared.crossing.Outcome.{Outcome}
-use Rattle.part_core.specs.declared.crossing.Rooms.{Rooms}
 
 -- How a method's result stands to the definition of its crossing.
 
@@ -34,9 +33,3 @@ pub record IsCrossable (context : ℕ) (p : PartState) : Type 0 where
   pub low : context < CONTEXTS
   pub failures : p.failures < 2 ^ 31
   pub call : IfSome (call_of_thread context p.log.pending) (IsAnswerable p.spec.class)
-
--- an answer's words have room for 128, those that a kernel call moves and a frame for 64 each
-pub record HasRooms (rooms : Rooms) : Type 0 where
-  pub answer : MOST_ANSWER_WORDS ≤ rooms.answer
-  pub moved : MOST_FRAME_WORDS ≤ rooms.moved
-  pub frame : MOST_FRAME_WORDS ≤ rooms.frame

@@ -6,7 +6,8 @@ ghost use Rattle.nook_defs.specs.Steps.{burst_stepped, faults_of_burst, served_n
 ghost use Rattle.part_core.specs.Crossings.{IsCrossable};
 ghost use Rattle.part_core.specs.Turning.{IsStepOf};
 
-use crate::crossing::{Outcome, Rooms};
+use crate::crossing::Outcome;
+use crate::rooms::Rooms;
 use crate::state::State;
 use domain_call::BurstDone;
 use nook_defs::limits::{MOST_BURSTS, SHADOW};
@@ -14,6 +15,7 @@ use nook_defs::machine::Acts;
 use nook_defs::memory::NoMemory;
 use nook_defs::scenario::Fault;
 use nook_defs::steps::Event;
+use std::mem;
 
 impl State {
     /// One burst of a context, with the faults of its number. It takes its memory first.
@@ -25,13 +27,15 @@ impl State {
         requires faults { faults.now ≡ faults_of_burst (self.old.bursts + 1) self.old.spec.faults }
         ensures { IsStepOf (burst_stepped context self.old) self.old result self.new }
     {
-        let rooms = Rooms::new(self.alloc)?;
+        self.rooms.fill(self.alloc)?;
         let mut acts = self.spare.open_log()?;
+        let mut rooms = mem::replace(&mut self.rooms, Rooms::none());
         let call = self.served_number(context);
         let done = self.domain.burst(context, faults, &mut acts);
         self.bursts += 1;
         let burst = self.bursts;
-        let outcome = self.cross(context, done.end, rooms);
+        let outcome = self.cross(context, done.end, &mut rooms);
+        self.rooms = rooms;
         let acts = self.spare.close_log(acts);
         Ok(bursted(context, call, burst, &done, acts, outcome))
     }

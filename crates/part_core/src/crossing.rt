@@ -1,17 +1,15 @@
 //! What the crossing at the end of a burst asks is done in the same step.
 
-ghost use Rattle.std.specs.Prelude.{◌≡◌, ◌<◌, ◌^◌, None, IfOk};
+ghost use Rattle.std.specs.Prelude.{◌≡◌, ◌<◌, ◌^◌, None, true};
 ghost use Rattle.nook_defs.specs.Crossing.{after_crossing, failed_crossing, is_last};
-ghost use Rattle.part_core.specs.Crossings.{crossed_to, HasRooms, IsCrossable};
+ghost use Rattle.part_core.specs.Crossings.{crossed_to, IsCrossable};
 
+use crate::rooms::Rooms;
 use crate::state::State;
 use nook_defs::calls::Answer;
-use nook_defs::limits::{CONTEXTS, MOST_ANSWER_WORDS, MOST_BURSTS, MOST_FRAME_WORDS};
-use nook_defs::lists::Word;
+use nook_defs::limits::{CONTEXTS, MOST_BURSTS};
 use nook_defs::machine::BurstEnd;
-use nook_defs::memory::{NoMemory, Room};
 use nook_defs::steps::{End, FailCause, Mode, Stage};
-use std::alloc::Global;
 
 /// What became of a crossing, as the burst's event shows it.
 #[derive(Drop)]
@@ -21,43 +19,19 @@ pub struct Outcome {
     pub failure: Option<FailCause>,
 }
 
-/// Room for what a crossing may copy: the words of an answer, those that a kernel call moves, and a frame.
-#[derive(Drop)]
-pub struct Rooms {
-    pub answer: Room<Word>,
-    pub moved: Room<Word>,
-    pub frame: Room<Word>,
-}
-
-impl Rooms {
-    /// Room for 128 words of an answer, and for 64 of each other.
-    pub fn new(alloc: Global) -> Result<Rooms, NoMemory>
-        ensures { IfOk result (λ rooms. HasRooms rooms) }
-    {
-        let answer = Room::new(alloc, MOST_ANSWER_WORDS)?;
-        let moved = Room::new(alloc, MOST_FRAME_WORDS)?;
-        let frame = Room::new(alloc, MOST_FRAME_WORDS)?;
-        Ok(Rooms {
-            answer,
-            moved,
-            frame,
-        })
-    }
-}
-
 impl State {
     /// A trap; a 32nd burst that is no reply; a kernel call; a pause; or a reply. It takes no memory.
     #[tactic(auto, unfolding(nook_defs::specs::Crossing::after_crossing))]
-    pub fn cross(&mut self, context: u8, end: BurstEnd, rooms: Rooms) -> Outcome
+    pub fn cross(&mut self, context: u8, end: BurstEnd, rooms: &mut Rooms) -> Outcome
         requires crossable { IsCrossable context self.old }
-        requires rooms { HasRooms rooms }
+        requires rooms { rooms.old ≡ true }
         ensures { after_crossing context end self.old ≡ crossed_to self.new result }
     {
         match end {
             BurstEnd::Trap(cause) => self.fail(End::Trap, FailCause::Trap(cause)),
             BurstEnd::Kcall { service } => self.call_kernel(context, service, rooms),
             BurstEnd::Pause => self.pause(context),
-            BurstEnd::Reply { status } => self.reply(context, status, rooms.answer),
+            BurstEnd::Reply { status } => self.reply(context, status, rooms),
         }
     }
 

@@ -6,9 +6,10 @@ ghost use Rattle.nook_defs.specs.Domain.{first_argument, second_argument};
 ghost use Rattle.nook_defs.specs.Services.{checked, served};
 ghost use Rattle.nook_defs.specs.declared.machine.BurstEnd.{BurstEnd};
 ghost use Rattle.param_wrappers.specs.Crossing.{can_serve};
-ghost use Rattle.part_core.specs.Crossings.{crossed_to, HasRooms, IsCrossable};
+ghost use Rattle.part_core.specs.Crossings.{crossed_to, IsCrossable};
 
-use crate::crossing::{Outcome, Rooms, goes_on};
+use crate::crossing::{Outcome, goes_on};
+use crate::rooms::Rooms;
 use crate::state::State;
 use nook_defs::limits::CONTEXTS;
 use nook_defs::lists::Words;
@@ -18,9 +19,9 @@ use nook_defs::steps::{End, FailCause};
 impl State {
     /// A kernel call in the last burst of an attempt is a failure; any other is served where its check passes.
     #[tactic(auto, unfolding(nook_defs::specs::Crossing::after_crossing))]
-    pub fn call_kernel(&mut self, context: u8, service: u32, rooms: Rooms) -> Outcome
+    pub fn call_kernel(&mut self, context: u8, service: u32, rooms: &mut Rooms) -> Outcome
         requires crossable { IsCrossable context self.old }
-        requires rooms { HasRooms rooms }
+        requires rooms { rooms.old ≡ true }
         ensures { after_crossing context (BurstEnd.Kcall service) self.old ≡ crossed_to self.new result }
     {
         if self.is_last(context) {
@@ -32,9 +33,9 @@ impl State {
     }
 
     /// A kernel call is served where its check passes.
-    fn check_and_serve(&mut self, context: u8, number: u32, rooms: Rooms) -> Outcome
+    fn check_and_serve(&mut self, context: u8, number: u32, rooms: &mut Rooms) -> Outcome
         requires crossable { IsCrossable context self.old }
-        requires rooms { HasRooms rooms }
+        requires rooms { rooms.old ≡ true }
         ensures { kernel_call number context self.old ≡ crossed_to self.new result }
     {
         match self.checked(context, number) {
@@ -77,14 +78,17 @@ impl State {
     }
 
     /// A kernel call whose check passed is served; its result goes to r1.
-    fn serve(&mut self, context: u8, number: u32, service: Service, rooms: Rooms) -> Outcome
+    fn serve(&mut self, context: u8, number: u32, service: Service, rooms: &mut Rooms) -> Outcome
         requires crossable { IsCrossable context self.old }
-        requires rooms { HasRooms rooms }
+        requires rooms { rooms.old ≡ true }
         requires passed { can_serve service ≡ true }
         ensures { served_call number context (served (heap_start self.old) service self.old.domain.memory self.old.domain.entries self.old.queue) self.old ≡ crossed_to self.new result }
     {
         let (first, second) = self.domain.arguments(context);
-        let told = self.domain.serve(context, service, &mut self.queue, rooms.moved, rooms.frame);
+        let (moved, frame) = rooms.use_for_service();
+        let told = self
+            .domain
+            .serve(context, service, &mut self.queue, moved, frame);
         goes_on(End::Service {
             service: number,
             first,

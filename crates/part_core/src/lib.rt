@@ -15,6 +15,7 @@ mod next;
 mod open_calls;
 mod part;
 mod reply;
+mod rooms;
 mod stage;
 mod state;
 

@@ -9,28 +9,28 @@ ghost use Rattle.nook_defs.specs.State.{PartState};
 ghost use Rattle.shadow_proxy.specs.Table.{queue_of};
 
 use crate::crossing::{Outcome, goes_on};
+use crate::rooms::Rooms;
 use crate::state::State;
 use domain_call::Domain;
 use kernel_services::RxQueue;
 use nook_defs::calls::{Answer, CallEntry, Op};
 use nook_defs::classes::{Accept, Class};
-use nook_defs::limits::{BLOCK_WORDS, CONTEXTS, MOST_ANSWER_WORDS, SHADOW};
-use nook_defs::lists::{Word, Words};
-use nook_defs::memory::Room;
+use nook_defs::limits::{BLOCK_WORDS, CONTEXTS, SHADOW};
+use nook_defs::lists::Words;
 use nook_defs::outside::RxFront;
 use nook_defs::steps::{End, FailCause, Mode, Stage};
 
 impl State {
     /// A reply to the shadow, or to an application's call.
-    pub fn reply(&mut self, context: u8, status: u32, room: Room<Word>) -> Outcome
+    pub fn reply(&mut self, context: u8, status: u32, rooms: &mut Rooms) -> Outcome
         requires crossable { IsCrossable context self.old }
-        requires room { MOST_ANSWER_WORDS ≤ room }
+        requires rooms { rooms.old ≡ true }
         ensures { after_reply status context self.old ≡ crossed_to self.new result }
     {
         if context == SHADOW {
             self.reply_to_shadow(status)
         } else {
-            self.reply_to_call(context, status, room)
+            self.reply_to_call(context, status, rooms)
         }
     }
 
@@ -84,9 +84,9 @@ impl State {
     }
 
     /// The class takes the reply, which answers the call, or it is a failure.
-    fn reply_to_call(&mut self, context: u8, status: u32, room: Room<Word>) -> Outcome
+    fn reply_to_call(&mut self, context: u8, status: u32, rooms: &mut Rooms) -> Outcome
         requires crossable { IsCrossable context self.old }
-        requires room { MOST_ANSWER_WORDS ≤ room }
+        requires rooms { rooms.old ≡ true }
         ensures { call_replied status self.old (call_of_thread context self.old.log.pending) ≡ crossed_to self.new result }
     {
         let end = End::Reply { status };
@@ -95,7 +95,7 @@ impl State {
         };
         match accept(self.spec.class, &entry.op, status) {
             Accept::Take => {
-                let answer = self.take_answer(context, room);
+                let answer = self.take_answer(context, rooms);
                 self.close(context);
                 answered(end, answer)
             }
@@ -110,15 +110,15 @@ impl State {
 
 impl State {
     /// The answer to a call whose reply has status 0. A Recv takes the queue's front.
-    fn take_answer(&mut self, context: u8, room: Room<Word>) -> Answer
+    fn take_answer(&mut self, context: u8, rooms: &mut Rooms) -> Answer
         requires crossable { IsCrossable context self.old }
-        requires room { MOST_ANSWER_WORDS ≤ room }
+        requires rooms { rooms.old ≡ true }
         ensures answer { IfSome (call_of_thread context self.old.log.pending) (λ c. result ≡ reply_answer c.op c.thread self.old) }
         ensures state { IfSome (call_of_thread context self.old.log.pending) (λ c.
             self.new ≡ record self.old { queue = queue_after c.op self.old.queue }) }
     {
         match self.log.call_of_thread(context) {
-            Some(entry) => reply_answer(entry, &self.domain, &mut self.queue, room),
+            Some(entry) => reply_answer(entry, &self.domain, &mut self.queue, rooms),
             None => Answer::Done,
         }
     }
@@ -141,16 +141,22 @@ impl State {
 }
 
 /// The answer to a call by its operation. A Recv takes the queue's front.
-fn reply_answer(entry: &CallEntry, domain: &Domain, queue: &mut RxQueue, room: Room<Word>) -> Answer
+fn reply_answer(
+    entry: &CallEntry,
+    domain: &Domain,
+    queue: &mut RxQueue,
+    rooms: &mut Rooms,
+) -> Answer
     requires low { entry.now.thread < CONTEXTS }
     requires within { IsWithin entry.now.op }
-    requires room { MOST_ANSWER_WORDS ≤ room }
+    requires rooms { rooms.old ≡ true }
     ensures answer { (p : PartState) → p.domain ≡ domain.now.state → p.queue ≡ queue.old
         → result ≡ reply_answer entry.now.op entry.now.thread p }
     ensures queue { queue.new ≡ queue_after entry.now.op queue.old }
 {
     match entry.op {
         Op::Read { count, .. } => {
+            let room = rooms.use_answer();
             let words = domain.buffer_words(entry.thread, count * BLOCK_WORDS as u32, room);
             Answer::Blocks(words.fitted())
         }

@@ -7,6 +7,7 @@ ghost use Rattle.part_core.specs.Kept.{AreSameFaults, IsSound};
 ghost use Rattle.part_core.specs.Turning.{IsStepOf};
 
 use crate::open_calls::OpenCalls;
+use crate::rooms::Rooms;
 use class_table::defaults_of;
 use domain_call::Domain;
 use fault_script::FaultScript;
@@ -30,6 +31,7 @@ pub struct State {
     pub bursts: u32,
     pub arrived: u32,
     pub spare: SpareRooms,
+    pub rooms: Rooms,
     pub alloc: Global,
 }
 
@@ -74,6 +76,7 @@ impl State {
             bursts: 0,
             arrived: 0,
             spare: SpareRooms::new(alloc),
+            rooms: Rooms::none(),
             alloc,
         })
     }

@@ -1,4 +1,5 @@
-use Rattle.std.specs.Prelude.{◌≡◌, ℕ, Bool, true, false, List, [], ◌∷◌, length, Option, Some, None, is_some, is_none, nat_lt, ◌+◌, ◌==◌, ◌&&◌, ◌||◌}
+use Rattle.std.specs.Prelude.{◌≡◌, ℕ, Bool, true, false, List, [], ◌∷◌, length, Option, Some, None, is_some, is_none}
+use Rattle.std.specs.Prelude.{nat_lt, ◌+◌, ◌==◌, ◌&&◌, ◌||◌}
 use Rattle.nook_defs.specs.declared.calls.Answer.{Answer}
 use Rattle.nook_defs.specs.declared.calls.Answer.TheVariants as answered
 use Rattle.nook_defs.specs.declared.steps.Event.{Event}
@@ -21,8 +22,8 @@ use Rattle.nook_defs.specs.Steps.{opening}
 use Rattle.nook_defs.specs.Licence.{is_balanced, is_stage, same_stage, shadow_stage}
 use Rattle.nook_defs.specs.Devices.{is_empty}
 
--- The licence of losses and busy answers by the fold of the contract: what is proved first. Over a run it is the licence
--- that nook_defs defines.
+-- The licence of losses and busy answers by the fold of the contract: what is proved first. Over a run it is the
+-- licence that nook_defs defines.
 
 -- ---- where the shadow answers
 
@@ -48,8 +49,8 @@ abbrev pub has_failed : ℕ → Option Watched → Bool
 has_failed block None = false
 has_failed block (Some c) = has_block block c.failed
 
--- an answer of a call: `shadow` is the current stage where the shadow answers, `queue` is the kernel's queue, and `w` is
--- what the monitor knows after the event
+-- an answer of a call: `shadow` is the current stage where the shadow answers, `queue` is the kernel's queue, and `w`
+-- is what the monitor knows after the event
 abbrev pub allows : Option Stage → List (List ℕ) → Watch → ℕ → Answer → Bool
 allows shadow queue w call answered.Done = is_some shadow || is_served_found (at_number call w.calls)
 allows shadow queue w call (answered.Busy s) = is_stage shadow s
@@ -70,7 +71,8 @@ allows_each shadow queue w (a ∷ answers) = allows shadow queue w a.0 a.1 && al
 abbrev pub allows_event : Option Stage → List (List ℕ) → Watch → Event → Bool
 allows_event shadow queue w (event.Invoke call thread o a) = allows_option shadow queue w call a
 allows_event shadow queue w (event.Enter call thread attempt a) = allows_option shadow queue w call a
-allows_event shadow queue w (event.Burst context call burst count end acts a failure) = allows_option shadow queue w call a
+allows_event shadow queue w (event.Burst context call burst count end acts a failure) =
+    allows_option shadow queue w call a
 allows_event shadow queue w (event.Stage s answers released) = allows_each shadow queue w answers
 allows_event shadow queue w (event.Arrive frame kept) = true
 

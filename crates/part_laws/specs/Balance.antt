@@ -4,8 +4,8 @@ use Rattle.nook_defs.specs.declared.steps.Stage.TheVariants as stage
 use Rattle.part_laws.specs.Counts.{Counts}
 use Rattle.part_laws.specs.Views.{View, Past, stage_of}
 
--- Where the frames that arrived are: each was lost, or is in the ring, or was popped or cleared; and each of these is in
--- the queue or was received from it, or was refused by it, or is in the driver's hands, or was lost at a Reset.
+-- Where the frames that arrived are: each was lost, or is in the ring, or was popped or cleared; and each of these is
+-- in the queue or was received from it, or was refused by it, or is in the driver's hands, or was lost at a Reset.
 
 -- the counts of frames
 pub record Tally : Type 0 where

@@ -25,7 +25,8 @@ CollectsAt p _ q = Unit {0}
 
 unfoldable pub CollectsFrom : PartState → List Event → Type 0
 CollectsFrom p [] = Unit {0}
-CollectsFrom p (e ∷ events) = CollectsAt p e (state_after p (step_of e)) × CollectsFrom (state_after p (step_of e)) events
+CollectsFrom p (e ∷ events) =
+    CollectsAt p e (state_after p (step_of e)) × CollectsFrom (state_after p (step_of e)) events
 
 -- each Collect of a journal is a collection
 abbrev pub IsCollecting : PartSpec → List Event → Type 0

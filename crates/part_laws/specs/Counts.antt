@@ -1,4 +1,5 @@
-use Rattle.std.specs.Prelude.{ℕ, suc, Bool, true, false, List, [], ◌∷◌, ◌++◌, length, fold, Option, Some, None, ◌+◌, ◌-◌, ◌==◌, not, if◌then◌else◌}
+use Rattle.std.specs.Prelude.{ℕ, suc, Bool, true, false, List, [], ◌∷◌, ◌++◌, length, fold, Option, Some, None, ◌+◌}
+use Rattle.std.specs.Prelude.{◌-◌, ◌==◌, not, if◌then◌else◌}
 use Rattle.nook_defs.specs.declared.machine.Act.{Act}
 use Rattle.nook_defs.specs.declared.machine.Act.TheVariants as act
 use Rattle.nook_defs.specs.declared.calls.Answer.{Answer}

@@ -1,4 +1,5 @@
-use Rattle.std.specs.Prelude.{◌≡◌, ◌<◌, ◌⊎◌, ℕ, Bool, true, false, Option, Some, None, List, [], ◌∷◌, ◌++◌, length, slice_get, slice_index, slice_index_or}
+use Rattle.std.specs.Prelude.{◌≡◌, ◌<◌, ◌⊎◌, ℕ, Bool, true, false, Option, Some, None, List, [], ◌∷◌, ◌++◌, length}
+use Rattle.std.specs.Prelude.{slice_get, slice_index, slice_index_or}
 use Rattle.nook_defs.specs.declared.classes.Class.{Class}
 use Rattle.nook_defs.specs.declared.classes.Class.TheVariants as class
 use Rattle.nook_defs.specs.declared.steps.Mode.{Mode}
@@ -68,10 +69,13 @@ pub record IsStored (cs : List Core) (n : ℕ) (held : List ℕ) : Type 0 where
 -- stored has its words
 pub record DiskFacts (cs : List Core) (plain medium : List (List ℕ)) : Type 0 where
   pub size : length medium ≡ length plain
-  pub blocks : (n : ℕ) → (slice_index_or medium n [] ≡ slice_index_or plain n []) ⊎ IsStored cs n (slice_index_or medium n [])
-  pub named : (k : ℕ) (c : Core) (n : ℕ) → At cs k c → c.waits ≡ true → is_write c.op ≡ true → has_block n c.stored ≡ true
+  pub blocks : (n : ℕ) → (slice_index_or medium n [] ≡ slice_index_or plain n [])
+      ⊎ IsStored cs n (slice_index_or medium n [])
+  pub named : (k : ℕ) (c : Core) (n : ℕ) → At cs k c → c.waits ≡ true → is_write c.op ≡ true
+      → has_block n c.stored ≡ true
       → slice_index_or medium n [] ≡ words_for c.op n
-  pub covered : (k : ℕ) (c : Core) (n : ℕ) → At cs k c → c.waits ≡ true → is_write c.op ≡ true → has_block n c.stored ≡ true
+  pub covered : (k : ℕ) (c : Core) (n : ℕ) → At cs k c → c.waits ≡ true → is_write c.op ≡ true
+      → has_block n c.stored ≡ true
       → (0 < c.attempts) × (covers c.op n ≡ true)
 
 -- ---- the stream

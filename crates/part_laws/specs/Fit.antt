@@ -6,7 +6,8 @@ use Rattle.nook_defs.specs.declared.entries.Entry.{Entry}
 use Rattle.nook_defs.specs.declared.entries.Entry.TheVariants as entry
 use Rattle.nook_defs.specs.declared.scenario.PartSpec.{PartSpec}
 use Rattle.nook_defs.specs.declared.limits.TheConstants.{CONTEXTS, MOST_THREADS, SHADOW}
-use Rattle.nook_defs.specs.declared.memory_map.TheConstants.{DATA_END, DATA_WORDS, LAST_OBJECT, MEMORY_WORDS, OBJECT_WORDS, TEXT_WORDS}
+use Rattle.nook_defs.specs.declared.memory_map.TheConstants.{DATA_END, DATA_WORDS, LAST_OBJECT, MEMORY_WORDS}
+use Rattle.nook_defs.specs.declared.memory_map.TheConstants.{OBJECT_WORDS, TEXT_WORDS}
 use Rattle.nook_defs.specs.Classes.{static_check, defaults_of}
 use Rattle.nook_defs.specs.Crossing.{heap_start}
 use Rattle.nook_defs.specs.Entries.{comes_before, is_registration}
@@ -23,7 +24,8 @@ pub record IsFitSpec (spec : PartSpec) : Type 0 where
 -- what the driver holds lies in the heap, which begins at `heap`, and is of a kernel object or a context
 abbrev pub IsFitEntry : ℕ → Entry → Type 0
 IsFitEntry heap (entry.Heap start len) = (heap ≤ start) × (start + len ≤ DATA_END)
-IsFitEntry heap (entry.Borrow object start) = (1 ≤ object) × (object ≤ LAST_OBJECT) × (heap ≤ start) × (start + OBJECT_WORDS ≤ DATA_END)
+IsFitEntry heap (entry.Borrow object start) =
+    (1 ≤ object) × (object ≤ LAST_OBJECT) × (heap ≤ start) × (start + OBJECT_WORDS ≤ DATA_END)
 IsFitEntry heap (entry.Buffer context writable) = context ≤ SHADOW
 IsFitEntry heap (entry.Registration live) = Unit {0}
 

@@ -36,7 +36,8 @@ pub record IsSafe (spec : PartSpec) (journal : List Event) : Type 0 where
   pub bounded : length journal ≤ most_events journal
   -- where the drivers kept the class's contract and the part was not given up, the applications saw a device that never
   -- fails
-  pub transparent : first_break spec.class spec.blocks journal ≡ None → is_dead (state_of spec journal).mode ≡ false → IsTransparent spec journal
+  pub transparent : first_break spec.class spec.blocks journal ≡ None → is_dead (state_of spec journal).mode ≡ false
+      → IsTransparent spec journal
 
 -- so it is of each part, in order; there is one journal a part
 unfoldable pub AreSafe : List PartSpec → List (List Event) → Type 0

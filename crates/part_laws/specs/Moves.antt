@@ -36,7 +36,8 @@ stop_core c = record c { waits = c.waits && is_held c.op; inside = false }
 
 -- a block was stored
 abbrev pub store_core : ℕ → Core → Core
-store_core block c = record c { stored = if nat_lt 0 c.attempts && covers c.op block then block ∷ c.stored else c.stored }
+store_core block c =
+    record c { stored = if nat_lt 0 c.attempts && covers c.op block then block ∷ c.stored else c.stored }
 
 -- a frame was sent
 abbrev pub send_call : Call → Call

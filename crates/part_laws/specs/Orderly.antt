@@ -1,4 +1,5 @@
-use Rattle.std.specs.Prelude.{◌≡◌, ◌⊎◌, ℕ, suc, Bool, true, false, List, [], ◌∷◌, ◌++◌, length, Option, Some, None, ◌==◌, ◌&&◌, not, if◌then◌else◌}
+use Rattle.std.specs.Prelude.{◌≡◌, ◌⊎◌, ℕ, suc, Bool, true, false, List, [], ◌∷◌, ◌++◌, length, Option, Some, None}
+use Rattle.std.specs.Prelude.{◌==◌, ◌&&◌, not, if◌then◌else◌}
 use Rattle.std.specs.List.{list_any, AllByRecursion}
 use Rattle.nook_defs.specs.declared.calls.Answer.{Answer}
 use Rattle.nook_defs.specs.declared.steps.End.{End}
@@ -63,7 +64,8 @@ abbrev pub IsFitting : List Bool → Event → Type 0
 IsFitting flags (event.Invoke call thread o a) = call ≡ suc (length flags)
 IsFitting flags (event.Enter call thread attempt a) = is_open call 1 flags ≡ true
 IsFitting flags (event.Burst context call burst count e acts a failure) =
-    IsOfCall call flags × AreOwn flags (answers_of (event.Burst context call burst count e acts a failure)) × IsCrossing e a failure
+    IsOfCall call flags × AreOwn flags (answers_of (event.Burst context call burst count e acts a failure))
+    × IsCrossing e a failure
 IsFitting flags (event.Stage s answers released) = IsAnswering s answers × AreOwn flags answers
 IsFitting flags (event.Arrive frame kept) = Unit {0}
 

@@ -61,8 +61,8 @@ pub record Agrees (p : PartState) (device : Ideal) : Type 0 where
 abbrev pub Gone : PartState → Type 0
 Gone p = (is_dead p.mode ≡ true) × (is_driven p ≡ false)
 
--- what a step keeps: the facts, beside what the monitor then knows, what the trace then keeps of the calls, the state in
--- which the never-failing device then is, the licence of the step's answers, and the balance of frames
+-- what a step keeps: the facts, beside what the monitor then knows, what the trace then keeps of the calls, the state
+-- in which the never-failing device then is, the licence of the step's answers, and the balance of frames
 pub record StepKeeps (p : PartState) (b : Past) (t : Stepped) : Type 0 where
   pub after : Past
   pub facts : Facts (view_of t.state) after
@@ -70,7 +70,8 @@ pub record StepKeeps (p : PartState) (b : Past) (t : Stepped) : Type 0 where
   pub seen : sees (watch_of (view_of p) b) t.event ≡ watch_of (view_of t.state) after
   pub tracked : tracks_after t.event (tracks_of b) ≡ tracks_of after
   pub shown : (more : List Visible)
-      → ran (ideal_of (view_of p) b) (shown t.event (tracks_of after) ++ more) ≡ ran (ideal_of (view_of t.state) after) more
+      → ran (ideal_of (view_of p) b) (shown t.event (tracks_of after) ++ more)
+      ≡ ran (ideal_of (view_of t.state) after) more
   pub licensed : licenses p (watch_of (view_of t.state) after) t.event ≡ true
   pub counted : (n : Counts) → Balanced (view_of p) b n → Balanced (view_of t.state) after (count_event n t.event)
 

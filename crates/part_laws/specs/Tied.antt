@@ -37,7 +37,8 @@ IsAwayCall s failures c = (c.attempts ≤ failures) × (is_stop s ≡ false → 
 -- while it runs, a call that is Inside has one attempt more, and its context
 abbrev pub IsRunningCall : ℕ → List (Option Context) → CallEntry → Type 0
 IsRunningCall failures contexts c =
-    (c.attempts ≤ failures + 1) × (c.inside ≡ false → c.attempts ≤ failures) × (c.inside ≡ true → GoesOn (context_of c.thread contexts))
+    (c.attempts ≤ failures + 1) × (c.inside ≡ false → c.attempts ≤ failures)
+    × (c.inside ≡ true → GoesOn (context_of c.thread contexts))
 
 -- a dead part has no open call
 abbrev pub IsTiedCall : Mode → ℕ → List (Option Context) → CallEntry → Type 0

@@ -1,4 +1,6 @@
-use Rattle.std.specs.Prelude.{ℕ, suc, Bool, true, false, List, [], ◌∷◌, ◌++◌, length, map, drop, Option, Some, None, is_some, is_none, nat_lt, min, ◌==◌, ◌&&◌, ◌||◌, not, if◌then◌else◌, slice_index, slice_set, bytes_eq}
+use Rattle.std.specs.Prelude.{ℕ, suc, Bool, true, false, List, [], ◌∷◌, ◌++◌, length, map, drop, Option, Some, None}
+use Rattle.std.specs.Prelude.{is_some, is_none, nat_lt, min, ◌==◌, ◌&&◌, ◌||◌, not, if◌then◌else◌, slice_index}
+use Rattle.std.specs.Prelude.{slice_set, bytes_eq}
 use Rattle.nook_defs.specs.declared.machine.Act.{Act}
 use Rattle.nook_defs.specs.declared.machine.Act.TheVariants as act
 use Rattle.nook_defs.specs.declared.calls.Answer.{Answer}
@@ -176,7 +178,8 @@ sees_acts call (a ∷ acts) w = sees_acts call acts (sees_act call a w)
 -- the smallest broken clause when a call's reply was accepted, with its answer
 abbrev pub owes : Watched → Op → Answer → Watch → Option ℕ
 owes c (Write first words) answered.Done w = wanted (holds_from 0 (Write first words) w.medium) 3 w.clause
-owes c (Read first count) (answered.Blocks words) w = wanted (bytes_eq words (get_blocks w.medium first count)) 4 w.clause
+owes c (Read first count) (answered.Blocks words) w =
+    wanted (bytes_eq words (get_blocks w.medium first count)) 4 w.clause
 owes c (Send frame) answered.Done w = wanted (nat_lt 0 c.sent) 7 w.clause
 owes c Recv a w = wanted (is_empty w.ring || c.handed) 9 w.clause
 owes c (Play samples) answered.Done w = wanted (c.played == length samples) 11 w.clause
@@ -232,7 +235,8 @@ sees_stage s w = w
 abbrev pub sees : Watch → Event → Watch
 sees w (event.Invoke call thread o a) = record w { calls = w.calls ++ watched o ∷ [] }
 sees w (event.Enter call thread attempt a) = record w { calls = change_number (enters (is_none a)) call w.calls }
-sees w (event.Burst context call burst count end acts a failure) = sees_crossing call end a failure (sees_acts call acts w)
+sees w (event.Burst context call burst count end acts a failure) =
+    sees_crossing call end a failure (sees_acts call acts w)
 sees w (event.Stage stage answers released) = sees_stage stage w
 sees w (event.Arrive frame kept) = record w { ring = if kept then w.ring ++ frame ∷ [] else w.ring }
 

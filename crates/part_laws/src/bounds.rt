@@ -21,13 +21,15 @@ pub fn each_step_is_tied()
 
 /// So it is after every journal that is a run.
 pub fn every_run_is_tied()
-    ensures { (spec : PartSpec) (journal : List Event) → IsFitSpec spec → IsRun spec journal → IsTied (state_of spec journal) }
+    ensures { (spec : PartSpec) (journal : List Event) → IsFitSpec spec → IsRun spec journal
+        → IsTied (state_of spec journal) }
 {}
 
 /// A run has at most `calls * 34 + (failures + 1) * (5 + (6 + threads) * 33) + arrivals` events, where `threads` are
 /// the different threads that invoked: so every recovery ends, and no driver takes the processor for ever.
 pub fn every_run_is_bounded()
-    ensures { (spec : PartSpec) (journal : List Event) → IsFitSpec spec → IsRun spec journal → length journal ≤ most_events journal }
+    ensures { (spec : PartSpec) (journal : List Event) → IsFitSpec spec → IsRun spec journal
+        → length journal ≤ most_events journal }
 {}
 
 /// The counts of a part are those of its journal; failures are at most one more than the limit, attempts of a call
@@ -38,7 +40,8 @@ pub fn every_run_is_measured()
 
 /// With a limit of at most 16 no journal, and no number of bursts, reaches 2^23.
 pub fn every_run_is_small()
-    ensures events { (spec : PartSpec) (journal : List Event) → IsFitSpec spec → spec.limit ≤ 16 → IsRun spec journal → length journal < 2 ^ 23 }
+    ensures events { (spec : PartSpec) (journal : List Event) → IsFitSpec spec → spec.limit ≤ 16 → IsRun spec journal
+        → length journal < 2 ^ 23 }
     ensures bursts { (spec : PartSpec) (journal : List Event) → IsFitSpec spec → spec.limit ≤ 16 → IsRun spec journal
         → (state_of spec journal).bursts < 2 ^ 23 }
 {}
@@ -46,5 +49,6 @@ pub fn every_run_is_small()
 /// After every run the next step, where there is one, may be taken; where there is none no call is open, and nothing
 /// more happens but what comes from outside: an invocation or a frame.
 pub fn every_run_has_progress()
-    ensures { (spec : PartSpec) (journal : List Event) → IsFitSpec spec → IsRun spec journal → HasProgress (state_of spec journal) }
+    ensures { (spec : PartSpec) (journal : List Event) → IsFitSpec spec → IsRun spec journal
+        → HasProgress (state_of spec journal) }
 {}

@@ -14,10 +14,12 @@ ghost use Rattle.std.specs.Prelude.{List, true, ◌≡◌};
 /// Each step that may be taken keeps whose buffers are lent: while the driver runs only calls that are Inside have
 /// one, and from Collect on until it runs again none has.
 pub fn each_step_keeps_loans()
-    ensures { (p : PartState) (s : Step) → IsFit p → IsTied p → HasLoans p → enabled p s ≡ true → HasLoans (stepped p s).state }
+    ensures { (p : PartState) (s : Step) → IsFit p → IsTied p → HasLoans p → enabled p s ≡ true
+        → HasLoans (stepped p s).state }
 {}
 
 /// So it is after every journal that is a run.
 pub fn every_run_keeps_loans()
-    ensures { (spec : PartSpec) (journal : List Event) → IsFitSpec spec → IsRun spec journal → HasLoans (state_of spec journal) }
+    ensures { (spec : PartSpec) (journal : List Event) → IsFitSpec spec → IsRun spec journal
+        → HasLoans (state_of spec journal) }
 {}

@@ -20,14 +20,16 @@ ghost use Rattle.std.specs.Prelude.{◌≡◌, ◌⊎◌, List, None, false, len
 /// The visible trace is one run of the never-failing device of the class: a plain disk of which blocks may fail, a
 /// link that may lose frames, or a stream that may skip samples, with the configuration last acknowledged.
 pub fn applications_see_one_run()
-    ensures { (spec : PartSpec) (journal : List Event) → IsKeptRun spec journal → IsClassRun spec.class spec.blocks (trace journal) }
+    ensures { (spec : PartSpec) (journal : List Event) → IsKeptRun spec journal
+        → IsClassRun spec.class spec.blocks (trace journal) }
 {}
 
 /// Where the trace leads the never-failing device, the part agrees with it: the record is its configuration and the
 /// holder its stream's; where no Write is open the medium is the plain disk's blocks; and in Running, with no Set
 /// Inside, the registers are the record.
 pub fn part_agrees_with_the_device()
-    ensures { (spec : PartSpec) (journal : List Event) (device : Ideal) → IsKeptRun spec journal → ShowsDevice spec journal device
+    ensures { (spec : PartSpec) (journal : List Event) (device : Ideal) → IsKeptRun spec journal
+        → ShowsDevice spec journal device
         → Agrees (state_of spec journal) device }
 {}
 

@@ -24,7 +24,8 @@ pub fn each_step_fits()
 
 /// A part whose image fits is so at first, and after every journal that is a run.
 pub fn every_run_fits()
-    ensures { (spec : PartSpec) (journal : List Event) → IsFitSpec spec → IsRun spec journal → IsFit (state_of spec journal) }
+    ensures { (spec : PartSpec) (journal : List Event) → IsFitSpec spec → IsRun spec journal
+        → IsFit (state_of spec journal) }
 {}
 
 /// No driver changes a word that it may not write, nor a kernel object that is not lent to it. Over each journal that
@@ -39,14 +40,16 @@ pub fn every_run_is_isolated()
 /// Each Collect of a run leaves the registration alone, and its event lists all other entries in order: heap by
 /// start, borrow by object, buffer by context.
 pub fn every_collect_leaves_the_registration()
-    ensures { (spec : PartSpec) (journal : List Event) → IsFitSpec spec → IsRun spec journal → IsCollecting spec journal }
+    ensures { (spec : PartSpec) (journal : List Event) → IsFitSpec spec → IsRun spec journal
+        → IsCollecting spec journal }
 {}
 
 /// A run is determined by its steps: the journal is the events that they make, and the part it ends in is the part
 /// that they lead to. So two journals with the same steps are one journal and end in one part.
 pub fn every_run_is_determined_by_its_steps()
     ensures made { (spec : PartSpec) (journal : List Event) → IsRun spec journal
-        → (journal ≡ events_made (opening spec) (map step_of journal)) × (state_of spec journal ≡ state_made (opening spec) (map step_of journal)) }
+        → (journal ≡ events_made (opening spec) (map step_of journal))
+        × (state_of spec journal ≡ state_made (opening spec) (map step_of journal)) }
     ensures same { (spec : PartSpec) (a b : List Event) → IsRun spec a → IsRun spec b → map step_of a ≡ map step_of b
         → (a ≡ b) × (state_of spec a ≡ state_of spec b) }
 {}
@@ -54,7 +57,8 @@ pub fn every_run_is_determined_by_its_steps()
 /// An event names the step that makes it, and a run goes on by each step that may be taken.
 pub fn every_run_goes_on_by_an_enabled_step()
     ensures named { (p : PartState) (s : Step) → step_of (event_of p s) ≡ s }
-    ensures more { (spec : PartSpec) (journal : List Event) (s : Step) → IsRun spec journal → enabled (state_of spec journal) s ≡ true
+    ensures more { (spec : PartSpec) (journal : List Event) (s : Step) → IsRun spec journal
+        → enabled (state_of spec journal) s ≡ true
         → IsRun spec (journal ++ event_of (state_of spec journal) s ∷ []) }
     ensures state { (spec : PartSpec) (journal : List Event) (s : Step)
         → state_of spec (journal ++ event_of (state_of spec journal) s ∷ []) ≡ state_after (state_of spec journal) s }

@@ -5,5 +5,4 @@ pub mod Opens
 pub mod Seats
 pub mod Short
 pub mod Steps
-pub mod Tested
 pub mod Views

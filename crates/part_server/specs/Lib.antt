@@ -1,4 +1,3 @@
 pub mod Answers
 pub mod Desk
-pub mod Tested
 pub mod Turns

@@ -1,5 +1,6 @@
 -- What one turn does to a part, and to what a seat of its desk knows.
-use Rattle.std.specs.Prelude.{◌≡◌, ℕ, ◌+◌, ◌<◌, ◌≤◌, Bool, true, false, Option, Some, None, Result, Ok, Err, List, [], ◌∷◌, ◌++◌, drop, length}
+use Rattle.std.specs.Prelude.{◌≡◌, ℕ, ◌+◌, ◌<◌, ◌≤◌, Bool, true, false, Option, Some, None, Result, Ok, Err, List, []}
+use Rattle.std.specs.Prelude.{◌∷◌, ◌++◌, drop, length}
 use Rattle.atomic_table.specs.declared.shared.Seat.{Seat}
 use Rattle.nook_defs.specs.declared.desks.DeskRefused.{DeskRefused}
 use Rattle.nook_defs.specs.declared.desks.DeskRefused.TheVariants as refused
@@ -13,7 +14,8 @@ use Rattle.nook_defs.specs.declared.memory.NoMemory.{NoMemory}
 use Rattle.nook_defs.specs.declared.limits.TheConstants.{MOST_ANSWER_WORDS}
 use Rattle.nook_defs.specs.Runs.{PartRun, IsRun, answer_at, next_any}
 use Rattle.nook_defs.specs.Views.CallLogs.{answered_from}
-use Rattle.desk_like.specs.Desks.{DeskView, IsAt, IsInvoke, IsArrive, IsOther, Answers, Adds, AddsNothing, Waits, HasOpen, HasNoneOpen, CallEnds, ResumeEnds, state_seen}
+use Rattle.desk_like.specs.Desks.{DeskView, IsAt, IsInvoke, IsArrive, IsOther, Answers, Adds, AddsNothing, Waits}
+use Rattle.desk_like.specs.Desks.{HasOpen, HasNoneOpen, CallEnds, ResumeEnds, state_seen}
 use Rattle.shares.specs.Shares.{whole}
 use Rattle.turn_lock.specs.Views.{committed, gave}
 use Rattle.turn_lock.specs.declared.view.View.{View}
@@ -69,7 +71,8 @@ abbrev pub ReachedGives : List Event → Waiting → Progress → Type 0
 ReachedGives journal w (progress.Answered receipt) =
     (receipt.call ≡ w.call) × (receipt.at_invoke ≡ w.at_invoke) × (receipt.at_reply ≡ length journal)
     × IsAt journal (length journal) (Answers w.call receipt.answer)
-ReachedGives journal w (progress.Open next) = (next ≡ w) × IsAt journal (length journal) (λ e. answer_at w.call e ≡ None)
+ReachedGives journal w (progress.Open next) =
+    (next ≡ w) × IsAt journal (length journal) (λ e. answer_at w.call e ≡ None)
 
 -- how far a call got in its invocation, the last event of a journal
 abbrev pub InvokedGives : List Event → ℕ → Progress → Type 0
@@ -86,7 +89,8 @@ InvokeGives old new thread op (Ok (progress.Answered receipt)) =
     Grows old new (λ e. IsInvoke receipt.call thread op e × Answers receipt.call receipt.answer e)
     × (receipt.at_invoke ≡ length new.journal) × (receipt.at_reply ≡ length new.journal)
 InvokeGives old new thread op (Ok (progress.Open w)) =
-    Grows old new (IsInvoke w.call thread op) × (w.at_invoke ≡ length new.journal) × (w.thread ≡ thread) × IsWaitingFor new w
+    Grows old new (IsInvoke w.call thread op) × (w.at_invoke ≡ length new.journal) × (w.thread ≡ thread)
+    × IsWaitingFor new w
 InvokeGives old new thread op (Err (refused.OpenCall call)) = (new ≡ old) × HasOpen old.state thread call
 InvokeGives old new thread op (Err refused.TooManyCalls) =
     (new ≡ old) × HasNoneOpen old.state thread × (old.state.log.count ≡ 100000)
@@ -104,7 +108,8 @@ GoOnGives old new w (Err _) = ⊥
 
 -- a thread's open call is looked for
 abbrev pub FindGives : PartRun → ℕ → Result Waiting DeskRefused → Type 0
-FindGives r thread (Ok w) = (w.thread ≡ thread) × IsWaitingFor r w × IsAt r.journal w.at_invoke (InvokesCall w.call thread)
+FindGives r thread (Ok w) =
+    (w.thread ≡ thread) × IsWaitingFor r w × IsAt r.journal w.at_invoke (InvokesCall w.call thread)
 FindGives r thread (Err refused.NoOpenCall) = HasNoneOpen r.state thread
 FindGives r thread (Err _) = ⊥
 
@@ -152,7 +157,8 @@ IsSeen home seen = (spec : PartSpec) → home ≡ Some spec → IsRun spec seen
 
 -- the call is open where the seat has seen all, all was looked at, and there is room for its answer
 abbrev pub IsWaitingIn : PartSpec → DeskView → Waiting → Type 0
-IsWaitingIn spec v w = HasOpen (state_seen spec v) w.thread w.call × (w.looked ≡ length v.seen) × (MOST_ANSWER_WORDS ≤ w.room)
+IsWaitingIn spec v w =
+    HasOpen (state_seen spec v) w.thread w.call × (w.looked ≡ length v.seen) × (MOST_ANSWER_WORDS ≤ w.room)
 
 -- ---- what a turn does to what a seat knows
 
@@ -160,7 +166,8 @@ IsWaitingIn spec v w = HasOpen (state_seen spec v) w.thread w.call × (w.looked 
 abbrev pub InvokeEnds : PartSpec → DeskView → DeskView → ℕ → Op → Result Progress DeskRefused → Type 0
 InvokeEnds spec old new thread op (Ok (progress.Answered receipt)) = CallEnds spec old new thread op (Ok receipt)
 InvokeEnds spec old new thread op (Ok (progress.Open w)) =
-    Adds old new (w.at_invoke ∷ []) × IsAt new.seen w.at_invoke (IsInvoke w.call thread op) × (w.thread ≡ thread) × IsWaitingIn spec new w
+    Adds old new (w.at_invoke ∷ []) × IsAt new.seen w.at_invoke (IsInvoke w.call thread op) × (w.thread ≡ thread)
+    × IsWaitingIn spec new w
 InvokeEnds spec old new thread op (Err e) = CallEnds spec old new thread op (Err e)
 
 -- an open call is waited for until it is answered
@@ -181,7 +188,8 @@ AdvanceEnds spec old new w (Err e) = FinishEnds spec old new w (Err e)
 -- a thread's open call is looked for
 abbrev pub FindEnds : PartSpec → DeskView → DeskView → ℕ → Result Waiting DeskRefused → Type 0
 FindEnds spec old new thread (Ok w) =
-    AddsNothing old new × (w.thread ≡ thread) × IsWaitingIn spec new w × IsAt new.seen w.at_invoke (InvokesCall w.call thread)
+    AddsNothing old new × (w.thread ≡ thread) × IsWaitingIn spec new w
+    × IsAt new.seen w.at_invoke (InvokesCall w.call thread)
 FindEnds spec old new thread (Err e) = ResumeEnds spec old new thread (Err e)
 
 -- the next step is taken, where there is one

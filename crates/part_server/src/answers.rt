@@ -23,7 +23,8 @@ pub fn first_answer(events: &[Event], looked: usize, call: u32) -> Option<u64>
 
 /// The place, from 1, of the invocation of a thread's call.
 pub fn invocation(events: &[Event], call: u32, thread: u8) -> Option<u64>
-    ensures { MatchOption result (list_any (is_invocation call thread) events.now ≡ false) (λ place. IsAt events.now place (InvokesCall call thread)) }
+    ensures { MatchOption result (list_any (is_invocation call thread) events.now ≡ false)
+        (λ place. IsAt events.now place (InvokesCall call thread)) }
 {
     for place in 0..events.len() {
         if invokes(&events[place], call, thread) {

@@ -2,13 +2,15 @@
 
 ghost use Rattle.std.specs.Prelude.{◌≡◌, ◌<◌, ◌≤◌, None, [], length, true, false, IfOk, OnOk};
 ghost use mathlib.Core.List.{IsPrefix};
-ghost use Rattle.desk_like.specs.Desks.{Accounts, ArriveEnds, CallEnds, IsAlone, Joins, ResumeEnds, Waits, halved_view, new_view, state_seen};
+ghost use Rattle.desk_like.specs.Desks.{Accounts, ArriveEnds, CallEnds, IsAlone, Joins, ResumeEnds, Waits, halved_view};
+ghost use Rattle.desk_like.specs.Desks.{new_view, state_seen};
 ghost use Rattle.nook_defs.specs.Classes.{same_class};
 ghost use Rattle.nook_defs.specs.Runs.{IsRun, next_any};
 ghost use Rattle.nook_defs.specs.declared.classes.Class.TheVariants as class;
 ghost use Rattle.part_core.specs.Kept.{IsKept};
 ghost use Rattle.part_server.specs.Desk.{IsDeskSeat, desk_spec, desk_view};
-ghost use Rattle.part_server.specs.Turns.{AdvanceEnds, FindEnds, FinishEnds, InvokeEnds, IsGrown, IsWaitingIn, SettlesOnce, ended, opening_view, took_step};
+ghost use Rattle.part_server.specs.Turns.{AdvanceEnds, FindEnds, FinishEnds, InvokeEnds, IsGrown, IsWaitingIn};
+ghost use Rattle.part_server.specs.Turns.{SettlesOnce, ended, opening_view, took_step};
 ghost use Rattle.turn_lock.specs.Seats.{IsSeatOf, Tally, seat_view};
 
 use crate::held::Held;
@@ -34,8 +36,8 @@ pub struct PartDesk {
 }
 
 impl PartDesk {
-    /// Makes a desk for a part that has taken no step, and its first seat. The seat is alone: until it is split, and again
-    /// once all that was split from it came back.
+    /// Makes a desk for a part that has taken no step, and its first seat. The seat is alone: until it is split, and
+    /// again once all that was split from it came back.
     ///
     /// At `NoMemory` the part is dropped.
     pub fn new(alloc: Global, part: Part) -> Result<(PartDesk, DeskSeat), NoMemory>
@@ -50,8 +52,8 @@ impl PartDesk {
 
     /// Goes on with the open call of a thread until it is answered, by this call or by another caller.
     ///
-    /// `NoOpenCall` comes exactly where the thread has none, and adds nothing, as does `NoMemory` that names no call: the
-    /// room for the answer was refused. `NoMemory` that names a call leaves it open.
+    /// `NoOpenCall` comes exactly where the thread has none, and adds nothing, as does `NoMemory` that names no call:
+    /// the room for the answer was refused. `NoMemory` that names a call leaves it open.
     pub fn resume<R: Wait>(
         &self,
         rt: &R,

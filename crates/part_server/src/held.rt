@@ -9,7 +9,8 @@ ghost use Rattle.nook_defs.specs.declared.classes.Class.TheVariants as class;
 ghost use Rattle.part_core.specs.Kept.{IsKept};
 ghost use Rattle.part_core.specs.Turning.{IsStepped};
 ghost use Rattle.part_server.specs.Answers.{AnswersShortly, Invokes};
-ghost use Rattle.part_server.specs.Turns.{ArriveGives, FindGives, GoOnGives, InvokeGives, InvokedGives, IsGoingOn, IsOwn, LookGives, ReachedGives, RefusalGives, SettleGives};
+ghost use Rattle.part_server.specs.Turns.{ArriveGives, FindGives, GoOnGives, InvokeGives, InvokedGives, IsGoingOn};
+ghost use Rattle.part_server.specs.Turns.{IsOwn, LookGives, ReachedGives, RefusalGives, SettleGives};
 ghost use Rattle.desk_like.specs.Desks.{IsAt};
 
 use crate::answers::{first_answer, invocation};

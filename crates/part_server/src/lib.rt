@@ -8,8 +8,6 @@ mod answers;
 mod desk;
 mod held;
 mod seat;
-#[cfg(test)]
-mod tests;
 mod waiting;
 
 pub use desk::PartDesk;

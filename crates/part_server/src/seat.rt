@@ -5,8 +5,8 @@ use std::marker::Model;
 use turn_lock::TurnSeat;
 
 /// A caller's place at a `PartDesk`, which one thread has at a time. It has no bytes: what it knows exists in contracts
-/// alone. Between two calls it has not the turn, what it has seen is a run of the desk's part, and the seat accounts for
-/// the events that were added through it.
+/// alone. Between two calls it has not the turn, what it has seen is a run of the desk's part, and the seat accounts
+/// for the events that were added through it.
 #[derive(Drop)]
 pub struct DeskSeat {
     pub(crate) seat: TurnSeat<Held>,
@@ -21,5 +21,6 @@ impl Model for DeskSeat {
 
     ghost view = { λ s. s.seat };
 
-    ghost invariant = { λ s. (s.seat.me.0.has ≡ false) × IsSeen s.seat.me.0.origin s.seat.me.0.seen × (s.seat.me.0.start ≡ 0) × Accounts (seen_view s.seat.me.0) };
+    ghost invariant = { λ s. (s.seat.me.0.has ≡ false) × IsSeen s.seat.me.0.origin s.seat.me.0.seen
+        × (s.seat.me.0.start ≡ 0) × Accounts (seen_view s.seat.me.0) };
 }

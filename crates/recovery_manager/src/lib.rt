@@ -3,8 +3,6 @@
 
 mod stages;
 mod stopping;
-#[cfg(test)]
-mod tests;
 
 pub use stages::following;
 pub use stopping::stop;

@@ -1,7 +1,8 @@
 //! The stage Stop: open calls are answered, or held for the driver that comes.
 
 ghost use Rattle.std.specs.Prelude.{◌≡◌, ◌+◌, ◌++◌, [], ◌<◌, ◌≤◌, length, vec_len, vec_capacity, IfOk, OnOk, OnErr};
-ghost use Rattle.nook_defs.specs.Log.{gone_answers, held_by_shadow, no_call_open, stop_answers, stop_queue, with_answer};
+ghost use Rattle.nook_defs.specs.Log.{gone_answers, held_by_shadow, no_call_open, stop_answers, stop_queue};
+ghost use Rattle.nook_defs.specs.Log.{with_answer};
 ghost use Rattle.shadow_proxy.specs.Table.{answer_of};
 
 use nook_defs::calls::{Answer, CallAnswers};
@@ -26,7 +27,8 @@ pub fn stop<Q: RxFront>(
     ensures held { failures ≤ limit → OnOk result (log.new ≡ held_by_shadow log.old) }
     ensures answers { failures ≤ limit → IfOk result (λ answers.
         answers ≡ stop_answers log.old.pending log.old.config log.old.holder (Q.frames queue.old)) }
-    ensures frames { failures ≤ limit → OnOk result (Q.frames queue.new ≡ stop_queue log.old.pending (Q.frames queue.old)) }
+    ensures frames { failures ≤ limit → OnOk result (Q.frames queue.new
+        ≡ stop_queue log.old.pending (Q.frames queue.old)) }
     ensures closed { limit < failures → OnOk result (log.new ≡ no_call_open log.old) }
     ensures gone { limit < failures → IfOk result (λ answers. answers ≡ gone_answers failures log.old.pending) }
     ensures kept { limit < failures → queue.new ≡ queue.old }

@@ -19,7 +19,7 @@ use Rattle.nook_defs.specs.Devices.{medium_of}
 use Rattle.nook_defs.specs.Losses.{losses}
 use Rattle.nook_defs.specs.Pages.{object_words}
 use Rattle.nook_defs.specs.ReportLines.{event_lines, line_feed, spaced, with_list, with_number}
-use Rattle.nook_defs.specs.ReportText.{journal_acts, block_lines, contract_line, device_lines, final_lines, has_break, has_given_up, losses_lines, object_lines, part_line, part_text, parts_text, played_line, report_text, status_line, status_of, taps_text, threads_text, wire_line}
+use Rattle.nook_defs.specs.ReportText.{journal_acts, block_lines, contract_line, device_lines, failures_count, final_lines, has_break, has_given_up, losses_lines, object_lines, part_line, part_text, parts_text, played_line, report_text, status_line, status_of, taps_text, threads_text, wire_line}
 use Rattle.nook_defs.specs.Views.Reporting.{config_line, failures_line, object_line, thread_line}
 use Rattle.nook_defs.specs.Views.Reporting.{acts_of_event}
 use Rattle.nook_defs.specs.Views.Room.{Kept}
@@ -32,7 +32,7 @@ use Rattle.report_text.specs.declared.whole_report.PartReport.{PartReport}
 use Rattle.report_text.specs.declared.whole_report.Report.{Report}
 use Rattle.report_text.specs.declared.whole_text.Kind.TheVariants as kind
 use Rattle.report_text.specs.Mirrored.{mirror_answer_line, mirror_report_rows, mirror_report_text, mirror_threads_text}
-use Rattle.report_text.specs.Whole.{HaveEnds, IsReport, ShowsState, device_rows, event_text, final_rows, is_broken, is_gone, lists_of, objects_from, part_rows, parts_rows, report_rows, status_in, summaries, summary}
+use Rattle.report_text.specs.Whole.{HaveEnds, IsReport, ShowsState, device_rows, event_text, failures_in, final_rows, is_broken, is_gone, lists_of, objects_from, part_rows, parts_rows, report_rows, status_in, summaries, summary}
 use Rattle.report_text.specs.Writing.{each_text}
 
 -- ---- one item and the others
@@ -200,3 +200,16 @@ gone_past specs parts i h = ap (is_gone (drop i specs)) (drop_all i parts h) ∙
 
 pub piece_more : (old mid new x y : List ℕ) → mid ≡ old ++ x → new ≡ mid ++ y → new ≡ old ++ (x ++ y)
 piece_more old mid new x y e h = h ∙ (ap (λ t. t ++ y) e ∙ append_assoc old x y)
+
+-- ---- the failures
+
+-- the parts of a report that ends as its journals lead have the failures of the journals
+pub same_failures : (specs : List PartSpec) (journals : List (Kept Event)) (ends : List PartEnd) → HaveEnds specs journals ends
+    → failures_in (summaries specs journals ends) ≡ failures_count specs (lists_of journals)
+unfolding failures_count
+same_failures [] journals ends h = refl
+same_failures (s ∷ specs) [] ends h = refl
+same_failures (s ∷ specs) (journal ∷ journals) [] h = absurd h
+same_failures (s ∷ specs) (journal ∷ journals) (e ∷ ends) h =
+    let first : e.failures ≡ (state_of s journal.list).failures = h.0.failures in
+    rw (first, same_failures specs journals ends h.1) refl

@@ -1,4 +1,5 @@
 pub mod Answers
+pub mod Statuses
 pub mod Whole
 pub mod Writing
 pub mod Mirrored

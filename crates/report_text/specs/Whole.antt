@@ -1,5 +1,6 @@
 -- A report with what its parts end in, and its text by rows of it.
-use Rattle.std.specs.Prelude.{◌≡◌, ℕ, zero, suc, Bool, false, is_some, nat_lt, ◌||◌, if◌then◌else◌, List, [], ◌∷◌, ◌++◌, codes, map, flat_map}
+use Rattle.std.specs.Prelude.{◌≡◌, ℕ, zero, suc, ◌+◌, Bool, false, is_some, nat_lt, ◌||◌, if◌then◌else◌, List, [], ◌∷◌}
+use Rattle.std.specs.Prelude.{◌++◌, codes, map, flat_map}
 use Rattle.nook_defs.specs.declared.machine.Act.{Act}
 use Rattle.nook_defs.specs.declared.machine.Act.TheVariants as act
 use Rattle.nook_defs.specs.declared.classes.Class.{Class}
@@ -13,7 +14,8 @@ use Rattle.nook_defs.specs.Devices.{medium_of}
 use Rattle.nook_defs.specs.Losses.{losses}
 use Rattle.nook_defs.specs.Pages.{object_words}
 use Rattle.nook_defs.specs.ReportLines.{event_lines, line_feed, spaced, with_list, with_number}
-use Rattle.nook_defs.specs.ReportText.{block_lines, contract_line, losses_lines, part_line, played_line, status_line, status_of, taps_text, threads_text, wire_line}
+use Rattle.nook_defs.specs.ReportText.{block_lines, contract_line, losses_lines, part_line, played_line, status_line}
+use Rattle.nook_defs.specs.ReportText.{status_of, taps_text, threads_text, wire_line}
 use Rattle.nook_defs.specs.Views.Reporting.{config_line, failures_line, object_line}
 use Rattle.nook_defs.specs.Views.Reporting.{acts_of_event}
 use Rattle.nook_defs.specs.Views.Room.{Kept}
@@ -81,6 +83,11 @@ is_gone (s ∷ specs) (r ∷ reports) = nat_lt s.limit r.failures || is_gone spe
 abbrev pub status_in : List PartSpec → List PartReport → ℕ
 status_in specs reports = if is_broken reports then 7 else if is_gone specs reports then 1 else 0
 
+-- the failures of some parts
+abbrev pub failures_in : List PartReport → ℕ
+failures_in [] = 0
+failures_in (part ∷ parts) = part.failures + failures_in parts
+
 -- the report of a scenario's run, whose parts end as the report tells
 pub record IsReport (scenario : Scenario) (r : Report) : Type 0 where
   pub ends : HaveEnds scenario.parts r.run.journals r.ends
@@ -125,7 +132,8 @@ sample_counts n = with_number (codes "losses samples ") n.samples ++ (with_numbe
 
 -- a part's last lines
 abbrev pub ending_rows : Class → PartReport → PartEnd → List ℕ
-ending_rows c r e = config_line e.config ++ (losses_lines c r.losses ++ (failures_line r.failures ++ contract_line r.first_break))
+ending_rows c r e = config_line e.config ++ (losses_lines c r.losses
+    ++ (failures_line r.failures ++ contract_line r.first_break))
 
 -- the lines behind a part's events
 abbrev pub final_rows : Class → List Event → PartReport → PartEnd → List ℕ

@@ -1,12 +1,14 @@
 -- What the writing of a text leaves in a sink.
-use Rattle.std.specs.Prelude.{◌≡◌, ℕ, suc, ◌<◌, ◌≤◌, List, [], ◌∷◌, ◌++◌, Option, Result, OnOk, OnErr, IsErrOf, IsOk, length}
+use Rattle.std.specs.Prelude.{◌≡◌, ℕ, suc, ◌<◌, ◌≤◌, List, [], ◌∷◌, ◌++◌, Option, Result, OnOk, OnErr, IsErrOf, IsOk}
+use Rattle.std.specs.Prelude.{length}
 use Rattle.std.specs.Io.KnownBytes.{Appends}
 use Rattle.nook_defs.specs.Views.Causes.{AppendsPrefix, Rose}
 use Rattle.report_text.specs.declared.write.WriteStop.{WriteStop}
 use Rattle.report_text.specs.declared.write.WriteStop.TheVariants.{Fault}
 
 -- a text was written whole, or a front of it; a fault comes only where the sink's count of faults rose
-pub record Wrote {T : Type 0} (old new : Option (List ℕ)) (before now : ℕ) (result : Result T WriteStop) (text : List ℕ) : Type 0 where
+pub record Wrote {T : Type 0} (old new : Option (List ℕ)) (before now : ℕ) (result : Result T WriteStop)
+    (text : List ℕ) : Type 0 where
   pub ok : OnOk result (Appends old new text)
   pub err : OnErr result (AppendsPrefix old new text)
   pub later : before ≤ now
@@ -19,15 +21,17 @@ pub record Left (old new : Option (List ℕ)) (text left : List ℕ) : Type 0 wh
   pub whole : front ++ left ≡ text
 
 -- nothing is written, and the buffer is left as it was
-pub record Waits {T : Type 0} (old new : Option (List ℕ)) (before now : ℕ) (result : Result T WriteStop) (text left : List ℕ) : Type 0 where
+pub record Waits {T : Type 0} (old new : Option (List ℕ)) (before now : ℕ) (result : Result T WriteStop)
+    (text left : List ℕ) : Type 0 where
   pub ok : IsOk result
   pub held : new ≡ old
   pub count : now ≡ before
   pub same : left ≡ text
 
--- a buffer that holds 16,384 bytes or more is written and then empty, and one with fewer waits; one that was not written
--- whole is left as it was; a fault comes only where the sink's count of faults rose
-pub record Spilled {T : Type 0} (old new : Option (List ℕ)) (before now : ℕ) (result : Result T WriteStop) (text left : List ℕ) : Type 0 where
+-- a buffer that holds 16,384 bytes or more is written and then empty, and one with fewer waits; one that was not
+-- written whole is left as it was; a fault comes only where the sink's count of faults rose
+pub record Spilled {T : Type 0} (old new : Option (List ℕ)) (before now : ℕ) (result : Result T WriteStop)
+    (text left : List ℕ) : Type 0 where
   pub many : 16384 ≤ length text → OnOk result (left ≡ [])
   pub few : length text < 16384 → Waits old new before now result text left
   pub ok : OnOk result (Left old new text left)

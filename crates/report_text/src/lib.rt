@@ -4,8 +4,7 @@
 mod line;
 mod pieces;
 mod report;
-#[cfg(test)]
-mod tests;
+mod status;
 mod whole_report;
 mod whole_text;
 mod write;
@@ -13,6 +12,7 @@ mod write;
 pub use line::Line;
 pub use pieces::{push_acts_tail, push_number, push_outcome};
 pub use report::{Journals, Run};
+pub use status::ReportStatus;
 pub use whole_report::{PartEnd, PartEnds, PartReport, PartReports, Report, report_of};
 pub use whole_text::{write_final, write_mirror_report, write_report, write_taps};
 pub use write::{

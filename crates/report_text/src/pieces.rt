@@ -2,8 +2,11 @@
 
 ghost use Rattle.std.specs.Prelude.{◌≡◌, [], ◌∷◌, ◌++◌, Option, OnOk};
 ghost use Rattle.nook_defs.specs.Keys.{class_text};
-ghost use Rattle.nook_defs.specs.ReportLines.{act_text, acts_tail, answer_tail, answer_text, cause_tail, cause_text, end_text, event_text, inner_words, op_text, released_text, result_text, spaced, stage_text, trap_text, with_list, with_number};
-ghost use Rattle.nook_defs.specs.Views.Reporting.{answers_tail, comma_words, failed_text, kept_text, moved_text, released_tail, right_text, words_text};
+ghost use Rattle.nook_defs.specs.ReportLines.{act_text, acts_tail, answer_tail, answer_text, cause_tail, cause_text};
+ghost use Rattle.nook_defs.specs.ReportLines.{end_text, event_text, inner_words, op_text, released_text, result_text};
+ghost use Rattle.nook_defs.specs.ReportLines.{spaced, stage_text, trap_text, with_list, with_number};
+ghost use Rattle.nook_defs.specs.Views.Reporting.{answers_tail, comma_words, failed_text, kept_text, moved_text};
+ghost use Rattle.nook_defs.specs.Views.Reporting.{released_tail, right_text, words_text};
 ghost use Rattle.report_text.specs.Mirrored.{mirror_answer_text};
 
 use crate::line::Line;
@@ -412,7 +415,8 @@ pub fn push_outcome(
     answer: &Option<Answer>,
     failure: Option<FailCause>,
 ) -> Result<(), NoMemory>
-    ensures { OnOk result (line.new ≡ line.old ++ (end_text end.now ++ (acts_tail acts.now ++ (answer_tail answer.now ++ cause_tail failure)))) }
+    ensures { OnOk result (line.new ≡ line.old
+        ++ (end_text end.now ++ (acts_tail acts.now ++ (answer_tail answer.now ++ cause_tail failure)))) }
 {
     push_end(line, end)?;
     push_acts_tail(line, acts.as_slice())?;

@@ -3,9 +3,11 @@
 ghost use Rattle.std.specs.Prelude.{◌≡◌, ◌++◌, IfOk, OnOk};
 ghost use Rattle.nook_defs.specs.Contract.{first_break};
 ghost use Rattle.nook_defs.specs.Losses.{losses};
+ghost use Rattle.report_text.specs.Statuses.{status_number};
 ghost use Rattle.report_text.specs.Whole.{HaveEnds, IsReport, is_broken, is_gone, status_in, summaries, summary};
 
 use crate::report::Run;
+use crate::status::ReportStatus;
 use contract_monitor::Monitor;
 use nook_defs::journal::Journal;
 use nook_defs::lists::{Frames, Items};
@@ -59,7 +61,8 @@ pub fn report_of(
     ensures ends { IfOk result (λ report. report.ends ≡ ends) }
     ensures parts { IfOk result (λ report. report.parts ≡ summaries scenario.now.parts run.journals ends) }
     ensures status { IfOk result (λ report. report.status ≡ status_in scenario.now.parts report.parts) }
-    ensures whole { HaveEnds scenario.now.parts run.journals ends → IfOk result (λ report. IsReport scenario.now report) }
+    ensures whole { HaveEnds scenario.now.parts run.journals ends
+        → IfOk result (λ report. IsReport scenario.now report) }
 {
     let specs = scenario.parts.as_slice();
     let mut parts = Items::new(alloc);
@@ -70,7 +73,7 @@ pub fn report_of(
         ends.as_slice(),
         &mut parts,
     )?;
-    let status = status_in(specs, parts.as_slice());
+    let status = status_in(specs, parts.as_slice()).number();
     Ok(Report {
         run,
         ends,
@@ -126,23 +129,18 @@ fn judge(
     spec: &PartSpec,
     events: &[Event],
 ) -> Result<(Losses, Option<Break>), NoMemory>
-    ensures { IfOk result (λ judged. judged ≡ (losses events.now, first_break spec.now.class spec.now.blocks events.now)) }
+    ensures { IfOk result (λ judged. judged
+        ≡ (losses events.now, first_break spec.now.class spec.now.blocks events.now)) }
 {
     let monitor = Monitor::of_events(alloc, spec.class, spec.blocks, events)?;
     Ok((monitor.losses(), monitor.first_break()))
 }
 
 /// The status of a run.
-fn status_in(specs: &[PartSpec], parts: &[PartReport]) -> u32
-    ensures { result ≡ status_in specs.now parts.now }
+fn status_in(specs: &[PartSpec], parts: &[PartReport]) -> ReportStatus
+    ensures { status_number result ≡ status_in specs.now parts.now }
 {
-    if is_broken(parts) {
-        7
-    } else if is_gone(specs, parts) {
-        1
-    } else {
-        0
-    }
+    ReportStatus::of(is_broken(parts), is_gone(specs, parts))
 }
 
 /// Whether some part broke its contract.

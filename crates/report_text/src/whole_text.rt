@@ -3,12 +3,15 @@
 ghost use Rattle.std.specs.Prelude.{◌≡◌, ◌+◌, ◌^◌, ◌<◌, ◌++◌, ℕ, List, OnOk, bytes_eq, flat_map, length, replicate};
 ghost use Rattle.nook_defs.specs.Pages.{opening_object};
 ghost use Rattle.nook_defs.specs.ReportLines.{spaced};
-ghost use Rattle.nook_defs.specs.ReportText.{block_lines, contract_line, final_lines, losses_lines, played_line, report_text, status_line, taps_text, threads_text, wire_line};
+ghost use Rattle.nook_defs.specs.ReportText.{block_lines, contract_line, final_lines, losses_lines, played_line};
+ghost use Rattle.nook_defs.specs.ReportText.{report_text, status_line, taps_text, threads_text, wire_line};
 ghost use Rattle.nook_defs.specs.Views.Reporting.{block_line, config_line, failures_line, object_line, tap_line};
 ghost use Rattle.nook_defs.specs.Views.Reporting.{tap_text};
 ghost use Rattle.nook_defs.specs.State.{PartState};
 ghost use Rattle.report_text.specs.Mirrored.{mirror_report_rows, mirror_report_text};
-ghost use Rattle.report_text.specs.Whole.{IsReport, ShowsState, device_rows, ending_rows, event_rows, event_text, final_rows, frame_counts, kept_counts, lists_of, lost_counts, part_rows, parts_rows, report_rows, sample_counts};
+ghost use Rattle.report_text.specs.Whole.{IsReport, ShowsState, device_rows, ending_rows, event_rows, event_text};
+ghost use Rattle.report_text.specs.Whole.{final_rows, frame_counts, kept_counts, lists_of, lost_counts, part_rows};
+ghost use Rattle.report_text.specs.Whole.{parts_rows, report_rows, sample_counts};
 ghost use Rattle.report_text.specs.Writing.{Wrote, each_text};
 
 use crate::line::Line;
@@ -317,7 +320,8 @@ fn fate(kept: bool) -> &'static str
 
 /// Writes the lines of kernel objects.
 fn write_objects<K: Sink>(alloc: Global, sink: &mut K, objects: &[Words]) -> Result<(), WriteStop>
-    ensures { Wrote (K.held sink.old) (K.held sink.new) (K.count sink.old) (K.count sink.new) result (each_text object_line 1 objects.now) }
+    ensures { Wrote (K.held sink.old) (K.held sink.new) (K.count sink.old) (K.count sink.new) result
+        (each_text object_line 1 objects.now) }
 {
     let mut line = Line::new(alloc);
     push_objects(&mut line, objects)?;
@@ -326,7 +330,8 @@ fn write_objects<K: Sink>(alloc: Global, sink: &mut K, objects: &[Words]) -> Res
 
 /// Writes the lines of a medium.
 fn write_blocks<K: Sink>(alloc: Global, sink: &mut K, medium: &[Words]) -> Result<(), WriteStop>
-    ensures { Wrote (K.held sink.old) (K.held sink.new) (K.count sink.old) (K.count sink.new) result (block_lines 0 medium.now) }
+    ensures { Wrote (K.held sink.old) (K.held sink.new) (K.count sink.old) (K.count sink.new) result
+        (block_lines 0 medium.now) }
 {
     let mut line = Line::new(alloc);
     push_blocks(&mut line, medium)?;
@@ -340,7 +345,8 @@ fn write_acts<K: Sink>(
     kind: Kind,
     events: &[Event],
 ) -> Result<(), WriteStop>
-    ensures { Wrote (K.held sink.old) (K.held sink.new) (K.count sink.old) (K.count sink.new) result (each_text (event_text kind) 0 events.now) }
+    ensures { Wrote (K.held sink.old) (K.held sink.new) (K.count sink.old) (K.count sink.new) result
+        (each_text (event_text kind) 0 events.now) }
 {
     let mut buffer = Line::new(alloc);
     for event in events {
@@ -358,7 +364,8 @@ fn write_device<K: Sink>(
     events: &[Event],
     medium: &[Words],
 ) -> Result<(), WriteStop>
-    ensures { Wrote (K.held sink.old) (K.held sink.new) (K.count sink.old) (K.count sink.new) result (device_rows class events.now medium.now) }
+    ensures { Wrote (K.held sink.old) (K.held sink.new) (K.count sink.old) (K.count sink.new) result
+        (device_rows class events.now medium.now) }
 {
     match class {
         Class::Block => write_blocks(alloc, sink, medium),
@@ -375,7 +382,8 @@ fn write_ending<K: Sink>(
     summed: &PartReport,
     end: &PartEnd,
 ) -> Result<(), WriteStop>
-    ensures { Wrote (K.held sink.old) (K.held sink.new) (K.count sink.old) (K.count sink.new) result (ending_rows class summed.now end.now) }
+    ensures { Wrote (K.held sink.old) (K.held sink.new) (K.count sink.old) (K.count sink.new) result
+        (ending_rows class summed.now end.now) }
 {
     let mut line = Line::new(alloc);
     push_ending(&mut line, class, summed, end)?;
@@ -391,7 +399,8 @@ pub fn write_final<K: Sink>(
     summed: &PartReport,
     end: &PartEnd,
 ) -> Result<(), WriteStop>
-    ensures rows { Wrote (K.held sink.old) (K.held sink.new) (K.count sink.old) (K.count sink.new) result (final_rows spec.now.class events.now summed.now end.now) }
+    ensures rows { Wrote (K.held sink.old) (K.held sink.new) (K.count sink.old) (K.count sink.new) result
+        (final_rows spec.now.class events.now summed.now end.now) }
     ensures text { (state : PartState) → ShowsState spec.now state end.now → summed.now.failures ≡ end.now.failures
         → Wrote (K.held sink.old) (K.held sink.new) (K.count sink.old) (K.count sink.new) result
         (final_lines spec.now.class events.now summed.now.losses summed.now.first_break state) }
@@ -408,7 +417,8 @@ fn write_final_rows<K: Sink>(
     summed: &PartReport,
     end: &PartEnd,
 ) -> Result<(), WriteStop>
-    ensures { Wrote (K.held sink.old) (K.held sink.new) (K.count sink.old) (K.count sink.new) result (final_rows class events.now summed.now end.now) }
+    ensures { Wrote (K.held sink.old) (K.held sink.new) (K.count sink.old) (K.count sink.new) result
+        (final_rows class events.now summed.now end.now) }
 {
     write_objects(alloc, sink, end.objects.as_slice())?;
     write_device(alloc, sink, class, events, end.medium.as_slice())?;
@@ -425,7 +435,8 @@ fn write_part<K: Sink>(
     summed: &PartReport,
     end: &PartEnd,
 ) -> Result<(), WriteStop>
-    ensures { Wrote (K.held sink.old) (K.held sink.new) (K.count sink.old) (K.count sink.new) result (part_rows place spec.now events.now summed.now end.now) }
+    ensures { Wrote (K.held sink.old) (K.held sink.new) (K.count sink.old) (K.count sink.new) result
+        (part_rows place spec.now events.now summed.now end.now) }
 {
     write_part_line(alloc, sink, place, spec)?;
     write_events(alloc, sink, events)?;
@@ -443,7 +454,8 @@ fn write_parts<K: Sink>(
     ends: &[PartEnd],
 ) -> Result<(), WriteStop>
     requires { place + length specs.now < 2 ^ 64 }
-    ensures { Wrote (K.held sink.old) (K.held sink.new) (K.count sink.old) (K.count sink.new) result (parts_rows place specs.now journals.now summed.now ends.now) }
+    ensures { Wrote (K.held sink.old) (K.held sink.new) (K.count sink.old) (K.count sink.new) result
+        (parts_rows place specs.now journals.now summed.now ends.now) }
 {
     let Some((spec, more_specs)) = specs.split_first() else {
         return Ok(());
@@ -475,7 +487,8 @@ pub fn write_taps<K: Sink>(
     sink: &mut K,
     taps: &[(u64, bool)],
 ) -> Result<(), WriteStop>
-    ensures { Wrote (K.held sink.old) (K.held sink.new) (K.count sink.old) (K.count sink.new) result (taps_text 0 taps.now) }
+    ensures { Wrote (K.held sink.old) (K.held sink.new) (K.count sink.old) (K.count sink.new) result
+        (taps_text 0 taps.now) }
 {
     let mut line = Line::new(alloc);
     push_taps(&mut line, taps)?;
@@ -491,8 +504,12 @@ pub fn write_report<K: Sink>(
     report: &Report,
     sink: &mut K,
 ) -> Result<(), WriteStop>
-    ensures rows { Wrote (K.held sink.old) (K.held sink.new) (K.count sink.old) (K.count sink.new) result (report_rows scenario.now report.now) }
-    ensures text { IsReport scenario.now report.now → Wrote (K.held sink.old) (K.held sink.new) (K.count sink.old) (K.count sink.new) result (report_text scenario.now (lists_of report.now.run.journals) report.now.run.answers report.now.run.taps report.now.status) }
+    ensures rows { Wrote (K.held sink.old) (K.held sink.new) (K.count sink.old) (K.count sink.new) result
+        (report_rows scenario.now report.now) }
+    ensures text { IsReport scenario.now report.now
+        → Wrote (K.held sink.old) (K.held sink.new) (K.count sink.old) (K.count sink.new) result
+        (report_text scenario.now (lists_of report.now.run.journals) report.now.run.answers report.now.run.taps
+        report.now.status) }
 {
     write_rows(alloc, scenario, report, sink)
 }
@@ -507,8 +524,11 @@ pub fn write_mirror_report<K: Sink>(
     status: u32,
     sink: &mut K,
 ) -> Result<(), WriteStop>
-    ensures rows { Wrote (K.held sink.old) (K.held sink.new) (K.count sink.old) (K.count sink.new) result (mirror_report_rows scenario.now report.now answers.now status) }
-    ensures text { IsReport scenario.now report.now → Wrote (K.held sink.old) (K.held sink.new) (K.count sink.old) (K.count sink.new) result (mirror_report_text scenario.now (lists_of report.now.run.journals) answers.now report.now.run.taps status) }
+    ensures rows { Wrote (K.held sink.old) (K.held sink.new) (K.count sink.old) (K.count sink.new) result
+        (mirror_report_rows scenario.now report.now answers.now status) }
+    ensures text { IsReport scenario.now report.now
+        → Wrote (K.held sink.old) (K.held sink.new) (K.count sink.old) (K.count sink.new) result
+        (mirror_report_text scenario.now (lists_of report.now.run.journals) answers.now report.now.run.taps status) }
 {
     write_mirror_rows(alloc, scenario, report, answers.as_slice(), status, sink)
 }
@@ -522,7 +542,8 @@ fn write_mirror_rows<K: Sink>(
     status: u32,
     sink: &mut K,
 ) -> Result<(), WriteStop>
-    ensures { Wrote (K.held sink.old) (K.held sink.new) (K.count sink.old) (K.count sink.new) result (mirror_report_rows scenario.now report.now answers.now status) }
+    ensures { Wrote (K.held sink.old) (K.held sink.new) (K.count sink.old) (K.count sink.new) result
+        (mirror_report_rows scenario.now report.now answers.now status) }
 {
     write_all_parts(alloc, scenario, report, sink)?;
     write_mirror_threads(alloc, sink, scenario.threads.as_slice(), answers)?;
@@ -537,7 +558,8 @@ fn write_rows<K: Sink>(
     report: &Report,
     sink: &mut K,
 ) -> Result<(), WriteStop>
-    ensures { Wrote (K.held sink.old) (K.held sink.new) (K.count sink.old) (K.count sink.new) result (report_rows scenario.now report.now) }
+    ensures { Wrote (K.held sink.old) (K.held sink.new) (K.count sink.old) (K.count sink.new) result
+        (report_rows scenario.now report.now) }
 {
     write_all_parts(alloc, scenario, report, sink)?;
     write_threads(
@@ -558,7 +580,8 @@ fn write_all_parts<K: Sink>(
     report: &Report,
     sink: &mut K,
 ) -> Result<(), WriteStop>
-    ensures { Wrote (K.held sink.old) (K.held sink.new) (K.count sink.old) (K.count sink.new) result (parts_rows 0 scenario.now.parts report.now.run.journals report.now.parts report.now.ends) }
+    ensures { Wrote (K.held sink.old) (K.held sink.new) (K.count sink.old) (K.count sink.new) result
+        (parts_rows 0 scenario.now.parts report.now.run.journals report.now.parts report.now.ends) }
 {
     write_parts(
         alloc,

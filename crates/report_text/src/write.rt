@@ -109,7 +109,8 @@ const BUFFER_SIZE: usize = 16_384;
 /// Writes a buffer that holds 16,384 bytes or more, and empties it. With fewer it does nothing. A buffer that was not
 /// written whole is left as it was.
 pub fn spill<K: Sink>(sink: &mut K, buffer: &mut Line) -> Result<(), WriteStop>
-    ensures { Spilled (K.held sink.old) (K.held sink.new) (K.count sink.old) (K.count sink.new) result buffer.old buffer.new }
+    ensures { Spilled (K.held sink.old) (K.held sink.new) (K.count sink.old)
+        (K.count sink.new) result buffer.old buffer.new }
 {
     if buffer.as_bytes().len() < BUFFER_SIZE {
         return Ok(());
@@ -127,7 +128,8 @@ fn write_each<K: Sink, T: Lined>(
     items: &[T],
 ) -> Result<(), WriteStop>
     requires { first + length items.now < 2 ^ 64 }
-    ensures { Wrote (K.held sink.old) (K.held sink.new) (K.count sink.old) (K.count sink.new) result (each_text T.text first items.now) }
+    ensures { Wrote (K.held sink.old) (K.held sink.new) (K.count sink.old) (K.count sink.new) result
+        (each_text T.text first items.now) }
 {
     let mut buffer = Line::new(alloc);
     let mut place = first;
@@ -154,7 +156,8 @@ pub fn write_part_line<K: Sink>(
     place: u64,
     spec: &PartSpec,
 ) -> Result<(), WriteStop>
-    ensures { Wrote (K.held sink.old) (K.held sink.new) (K.count sink.old) (K.count sink.new) result (part_line place spec.now) }
+    ensures { Wrote (K.held sink.old) (K.held sink.new) (K.count sink.old) (K.count sink.new) result
+        (part_line place spec.now) }
 {
     let mut line = Line::new(alloc);
     push_part_line(&mut line, place, spec)?;
@@ -175,7 +178,8 @@ fn push_part_line(line: &mut Line, place: u64, spec: &PartSpec) -> Result<(), No
 
 /// Writes the lines of a journal's events.
 pub fn write_events<K: Sink>(alloc: Global, sink: &mut K, events: &[Event]) -> Result<(), WriteStop>
-    ensures { Wrote (K.held sink.old) (K.held sink.new) (K.count sink.old) (K.count sink.new) result (event_lines 1 events.now) }
+    ensures { Wrote (K.held sink.old) (K.held sink.new) (K.count sink.old) (K.count sink.new) result
+        (event_lines 1 events.now) }
 {
     write_each(alloc, sink, 1, events)
 }
@@ -187,7 +191,8 @@ fn write_thread_line<K: Sink>(
     place: u64,
     thread: &ThreadSpec,
 ) -> Result<(), WriteStop>
-    ensures { Wrote (K.held sink.old) (K.held sink.new) (K.count sink.old) (K.count sink.new) result (thread_line place thread.now) }
+    ensures { Wrote (K.held sink.old) (K.held sink.new) (K.count sink.old) (K.count sink.new) result
+        (thread_line place thread.now) }
 {
     let mut line = Line::new(alloc);
     push_thread_line(&mut line, place, thread)?;
@@ -209,7 +214,8 @@ fn write_answers<K: Sink>(
     sink: &mut K,
     answers: &[(u32, Answer)],
 ) -> Result<(), WriteStop>
-    ensures { Wrote (K.held sink.old) (K.held sink.new) (K.count sink.old) (K.count sink.new) result (answer_lines 1 answers.now) }
+    ensures { Wrote (K.held sink.old) (K.held sink.new) (K.count sink.old) (K.count sink.new) result
+        (answer_lines 1 answers.now) }
 {
     write_each(alloc, sink, 1, answers)
 }
@@ -224,7 +230,8 @@ pub fn write_threads<K: Sink>(
     answers: &[PartAnswers],
 ) -> Result<(), WriteStop>
     requires { place + length threads.now < 2 ^ 64 }
-    ensures { Wrote (K.held sink.old) (K.held sink.new) (K.count sink.old) (K.count sink.new) result (threads_text place threads.now answers.now) }
+    ensures { Wrote (K.held sink.old) (K.held sink.new) (K.count sink.old) (K.count sink.new) result
+        (threads_text place threads.now answers.now) }
 {
     let Some((thread, more_threads)) = threads.split_first() else {
         return Ok(());
@@ -245,7 +252,8 @@ pub fn write_mirror_threads<K: Sink>(
     threads: &[ThreadSpec],
     answers: &[MirrorAnswer],
 ) -> Result<(), WriteStop>
-    ensures { Wrote (K.held sink.old) (K.held sink.new) (K.count sink.old) (K.count sink.new) result (mirror_threads_text threads.now answers.now) }
+    ensures { Wrote (K.held sink.old) (K.held sink.new) (K.count sink.old) (K.count sink.new) result
+        (mirror_threads_text threads.now answers.now) }
 {
     let Some((thread, _)) = threads.split_first() else {
         return Ok(());
@@ -256,7 +264,8 @@ pub fn write_mirror_threads<K: Sink>(
 
 /// Writes the last line.
 pub fn write_status_line<K: Sink>(alloc: Global, sink: &mut K, status: u32) -> Result<(), WriteStop>
-    ensures { Wrote (K.held sink.old) (K.held sink.new) (K.count sink.old) (K.count sink.new) result (status_line status) }
+    ensures { Wrote (K.held sink.old) (K.held sink.new) (K.count sink.old) (K.count sink.new) result
+        (status_line status) }
 {
     let mut line = Line::new(alloc);
     push_number(&mut line, "status ", u64::from(status))?;

@@ -1,7 +1,8 @@
 //! The bus.
 
 ghost use Rattle.std.specs.Prelude.{◌≡◌, ◌<◌, map, length, slice_set, IfOk};
-ghost use Rattle.request_taps.specs.Bus.{detach_answer, detached, is_present, result_of, seen, settled, settled_tap, tap_at, told, total_of};
+ghost use Rattle.request_taps.specs.Bus.{detach_answer, detached, is_present, result_of, seen, settled, settled_tap};
+ghost use Rattle.request_taps.specs.Bus.{tap_at, told, total_of};
 
 use crate::boxed::{Boxed, all_held};
 use crate::tap::Tap;
@@ -35,7 +36,8 @@ impl TapBus {
     /// A bus of these listeners. One whose total has reached its limit is dropped at once, and its total is kept.
     /// After `NoMemory` all listeners are dropped.
     pub fn new(alloc: Global, listeners: Vec<Box<dyn Listener>>) -> Result<TapBus, NoMemory>
-        ensures { IfOk result (λ bus. map (seen ⟦<Boxed as Listener>⟧.listening) bus ≡ map (λ b. settled ((⟦<dyn Listener as Listener>⟧ b.vtable).listening b.value)) listeners.items) }
+        ensures { IfOk result (λ bus. map (seen ⟦<Boxed as Listener>⟧.listening) bus
+            ≡ map (λ b. settled ((⟦<dyn Listener as Listener>⟧ b.vtable).listening b.value)) listeners.items) }
     {
         Bus::of(alloc, all_held(alloc, listeners)?)
     }
@@ -73,7 +75,8 @@ impl<L: Listener> Bus<L> {
     pub fn detach(&mut self, i: usize) -> Option<u64>
         requires { i < length self.old }
         ensures answer { result ≡ detach_answer (tap_at i (map (seen L.listening) self.old)) }
-        ensures taps { map (seen L.listening) self.new ≡ slice_set (map (seen L.listening) self.old) i (detached (tap_at i (map (seen L.listening) self.old))) }
+        ensures taps { map (seen L.listening) self.new
+            ≡ slice_set (map (seen L.listening) self.old) i (detached (tap_at i (map (seen L.listening) self.old))) }
     {
         self.taps[i].detach()
     }

@@ -10,5 +10,6 @@ ghost use Rattle.request_taps.specs.Bus.{result_of, settled, told_all};
 /// meet, up to its limit, on top of the total that it began with; and a listener is kept exactly while its total is
 /// below its limit.
 pub fn every_bus_tells_the_totals()
-    ensures { (listeners : List Listening) (published : List (ℕ × Event)) → map result_of (told_all published (map settled listeners)) ≡ map (λ l. tap_result l published) listeners }
+    ensures { (listeners : List Listening) (published : List (ℕ × Event))
+        → map result_of (told_all published (map settled listeners)) ≡ map (λ l. tap_result l published) listeners }
 {}

@@ -7,8 +7,6 @@ mod boxed;
 mod bus;
 mod laws;
 mod tap;
-#[cfg(test)]
-mod tests;
 
 pub use boxed::{Boxed, Held};
 pub use bus::{Bus, TapBus};

@@ -1,7 +1,8 @@
 //! One listener's place on the bus.
 
-ghost use Rattle.std.specs.Prelude.{◌≡◌};
-ghost use Rattle.request_taps.specs.Bus.{detach_answer, detached, heard_below, is_present, seen, settled_tap, told, total_of};
+ghost use Rattle.std.specs.Prelude.{◌≡◌, ◌<◌, false};
+ghost use Rattle.request_taps.specs.Bus.{detach_answer, detached, heard_below, is_present, seen, settled_tap, told};
+ghost use Rattle.request_taps.specs.Bus.{total_of};
 
 use nook_defs::outside::Listener;
 use nook_defs::steps::Event;
@@ -32,8 +33,9 @@ impl<L: Listener> Tap<L> {
         ensures { seen L.listening self.new ≡ told part event.now (seen L.listening self.old) }
     {
         if let Tap::Present(listener) = self {
-            hear_below(listener, part, event);
-            self.settle();
+            if hear_below(listener, part, event) {
+                self.settle();
+            }
         }
     }
 
@@ -70,11 +72,15 @@ impl<L> Tap<L> {
     }
 }
 
-/// A listener below its limit hears an event of a part.
-fn hear_below<L: Listener>(listener: &mut L, part: u8, event: &Event)
-    ensures { L.listening listener.new ≡ heard_below part event.now (L.listening listener.old) }
+/// A listener below its limit hears an event of a part. The answer is whether it may be at its limit now, which it is not
+/// asked again: an event makes its total one more at most.
+fn hear_below<L: Listener>(listener: &mut L, part: u8, event: &Event) -> bool
+    ensures heard { L.listening listener.new ≡ heard_below part event.now (L.listening listener.old) }
+    ensures below { result ≡ false → (L.listening listener.new).total < (L.listening listener.new).limit }
 {
-    if listener.total() < listener.limit() {
+    let left = listener.limit().saturating_sub(listener.total());
+    if left > 0 {
         listener.hear(part, event);
     }
+    left <= 1
 }

@@ -1,12 +1,15 @@
 -- Whether a printed report fits a scenario, line by line: each part is run along the steps that the lines name.
-use Rattle.std.specs.Prelude.{ℕ, zero, suc, ◌==◌, ◌&&◌, nat_le, if◌then◌else◌, Bool, true, false, is_none, Option, Some, None, List, [], ◌∷◌, ◌++◌, length, map, filter, bytes_eq, codes, decimal, slice_get, slice_index_or, slice_set}
+use Rattle.std.specs.Prelude.{ℕ, zero, suc, ◌==◌, ◌&&◌, nat_le, if◌then◌else◌, Bool, true, false, is_none, Option, Some}
+use Rattle.std.specs.Prelude.{None, List, [], ◌∷◌, ◌++◌, length, map, filter, bytes_eq, codes, decimal, slice_get}
+use Rattle.std.specs.Prelude.{slice_index_or, slice_set}
 use Rattle.nook_defs.specs.Contract.{first_break}
 use Rattle.nook_defs.specs.Listening.{Listening}
 use Rattle.nook_defs.specs.Losses.{losses}
 use Rattle.nook_defs.specs.ReportLines.{event_line}
 use Rattle.nook_defs.specs.ReportText.{final_lines, part_line, status_line, status_of, taps_text, threads_text}
 use Rattle.nook_defs.specs.Runs.{event_of, next_any}
-use Rattle.nook_defs.specs.Simulation.{RunningPart, ThreadState, answers_of_thread, opening_part, part_after, threads_after}
+use Rattle.nook_defs.specs.Simulation.{RunningPart, ThreadState, answers_of_thread, opening_part, part_after}
+use Rattle.nook_defs.specs.Simulation.{threads_after}
 use Rattle.nook_defs.specs.Steps.{enabled}
 use Rattle.nook_defs.specs.Listening.{tap_result}
 use Rattle.nook_defs.specs.declared.calls.Answer.{Answer}
@@ -26,7 +29,8 @@ abbrev pub with_byte : ℕ → List (List ℕ) → List (List ℕ)
 with_byte byte [] = (byte ∷ []) ∷ []
 with_byte byte (line ∷ lines) = (byte ∷ line) ∷ lines
 
--- the lines of a text, each with the line feed that ends it; what is left behind the last line feed is a line without one
+-- the lines of a text, each with the line feed that ends it; what is left behind the last line feed is a line without
+-- one
 unfoldable pub lines_of : List ℕ → List (List ℕ)
 lines_of [] = []
 lines_of (byte ∷ bytes) = if byte == 10 then (10 ∷ []) ∷ lines_of bytes else with_byte byte (lines_of bytes)
@@ -110,7 +114,8 @@ arrival_of (frame ∷ coming) = Some (step.Arrive frame)
 -- the step that a line of a section names by its words: the second says what it is, the third or fourth whose
 unfoldable pub step_named : Section → List ℕ → Option Step
 step_named s line =
-    if bytes_eq (word_at 1 line) (codes "invoke") then if_invoked s.threads (context_in (codes "t") (word_at 3 line)) else
+    if bytes_eq (word_at 1 line) (codes "invoke") then if_invoked s.threads (context_in (codes "t") (word_at 3 line))
+    else
     if bytes_eq (word_at 1 line) (codes "enter") then if_entered (context_in (codes "x") (word_at 3 line)) else
     if bytes_eq (word_at 1 line) (codes "burst") then if_burst (context_in (codes "x") (word_at 2 line)) else
     if bytes_eq (word_at 1 line) (codes "stage") then Some step.Stage else
@@ -213,8 +218,8 @@ last_lines scenario sections =
 
 -- ---- the fold over the lines
 
--- what an auditor knows between two lines: the sections that are over, the section that stands open, the text that has to
--- come next, the parts that have had no line, and whether the lines behind the sections have begun
+-- what an auditor knows between two lines: the sections that are over, the section that stands open, the text that has
+-- to come next, the parts that have had no line, and whether the lines behind the sections have begun
 pub record Auditing : Type 0 where
   pub sections : List Done
   pub standing : Option Section
@@ -257,7 +262,10 @@ in_section a s line =
 abbrev pub begin_section : Scenario → Auditing → PartSpec → List PartSpec → List ℕ → Option Auditing
 begin_section scenario a spec coming line =
     if bytes_eq line (part_line (length a.sections) spec)
-    then Some (record a { standing = Some (opening_section scenario.threads (length a.sections) spec); coming = coming }) else None
+    then Some (record a {
+      standing = Some (opening_section scenario.threads (length a.sections) spec);
+      coming = coming;
+    }) else None
 
 -- a line behind a section: the first of the next part's, or the first behind the last part's
 abbrev pub between_sections : Scenario → Auditing → List PartSpec → List ℕ → Option Auditing

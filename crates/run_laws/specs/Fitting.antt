@@ -10,7 +10,8 @@ use Rattle.nook_defs.specs.declared.steps.Step.{Step}
 use Rattle.nook_defs.specs.declared.steps.Step.TheVariants as step
 use Rattle.nook_defs.specs.declared.scenario.ThreadSpec.{ThreadSpec}
 use Rattle.std.specs.Prelude.{slice_get}
-use Rattle.run_laws.specs.Audit.{Done, Section, arrival_of, done_of, invocation_by, is_complete, last_lines, opening_section, section_after}
+use Rattle.run_laws.specs.Audit.{Done, Section, arrival_of, done_of, invocation_by, is_complete, last_lines}
+use Rattle.run_laws.specs.Audit.{opening_section, section_after}
 
 -- an invocation is that of the thread's next operation on the part, and an arrival that of the next frame
 abbrev pub IsNext : Section → Step → Type 0

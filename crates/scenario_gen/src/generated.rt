@@ -1,7 +1,9 @@
 //! The generated scenario, from its parts and threads down to its operations.
 
-ghost use Rattle.std.specs.Prelude.{◌≡◌, ◌+◌, ◌*◌, ◌%◌, ◌<◌, ◌≤◌, [], ◌∷◌, ◌++◌, true, codes, decimal, replicate, map, IfOk};
-ghost use Rattle.nook_defs.specs.Generated.{frames_to, generated, generated_disk, generated_link, generated_op, generated_thread, ops_to};
+ghost use Rattle.std.specs.Prelude.{◌≡◌, ◌+◌, ◌*◌, ◌%◌, ◌<◌, ◌≤◌, [], ◌∷◌, ◌++◌, true, codes, decimal, replicate, map};
+ghost use Rattle.std.specs.Prelude.{IfOk};
+ghost use Rattle.nook_defs.specs.Generated.{frames_to, generated, generated_disk, generated_link, generated_op};
+ghost use Rattle.nook_defs.specs.Generated.{generated_thread, ops_to};
 ghost use Rattle.scenario_gen.specs.Pieces.{generated_audio, trap_at};
 ghost use Rattle.nook_defs.specs.Names.{is_name};
 ghost use Rattle.nook_defs.specs.Valid.{IsValidScenario};
@@ -49,7 +51,8 @@ fn parts(n: u32, alloc: Global) -> Result<Parts, NoMemory>
 /// The four threads.
 fn threads(n: u32, alloc: Global) -> Result<ThreadSpecs, NoMemory>
     requires { n ≤ 256 }
-    ensures { IfOk result (λ made. made ≡ generated_thread n 0 ∷ generated_thread n 1 ∷ generated_thread n 2 ∷ generated_thread n 3 ∷ []) }
+    ensures { IfOk result (λ made. made ≡ generated_thread n 0 ∷ generated_thread n 1 ∷ generated_thread n 2
+        ∷ generated_thread n 3 ∷ []) }
 {
     let mut made = Items::new(alloc);
     made.push(thread(n, 0, alloc)?)?;

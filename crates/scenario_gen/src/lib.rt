@@ -4,8 +4,6 @@
 
 mod generated;
 mod references;
-#[cfg(test)]
-mod tests;
 
 pub use generated::generate;
 pub use references::{block_driver, net_driver, sound_driver};

@@ -75,7 +75,8 @@ fn check_ops(alloc: Global, threads: &[ThreadSpec]) -> Result<(), ScenarioFault>
 
 /// The part at a place is told whether it has too many faults of its own.
 fn check_own_faults(alloc: Global, part: u32, too_many: bool) -> Result<(), ScenarioFault>
-    ensures { (own : List Fault) → too_many ≡ nat_lt (MOST_FAULTS - 1) (length own) → Gives result (check_own_faults part own) }
+    ensures { (own : List Fault) → too_many ≡ nat_lt (MOST_FAULTS - 1) (length own)
+        → Gives result (check_own_faults part own) }
 {
     let checked = at(Key::Faults, refuse_if(alloc, too_many));
     at(

@@ -49,7 +49,8 @@ fn push_fault(line: &mut String, fault: InputFault) -> Result<(), NoMemory>
 
 /// Adds the fault of an assembler text.
 fn push_asm(line: &mut String, kind: AsmKind, at: u64) -> Result<(), NoMemory>
-    ensures { OnOk result (string_bytes line.new ≡ string_bytes line.old ++ (codes "8 bad_asm " ++ decimal (asm_number kind) ++ codes " line " ++ decimal at)) }
+    ensures { OnOk result (string_bytes line.new
+        ≡ string_bytes line.old ++ (codes "8 bad_asm " ++ decimal (asm_number kind) ++ codes " line " ++ decimal at)) }
 {
     let number = asm_number(kind);
     write!(line, "8 bad_asm {number} line {at}")?;

@@ -1,6 +1,6 @@
 //! Lists of JSON values, and the items that are plain numbers.
 
-ghost use Rattle.std.specs.Prelude.{◌≡◌, ◌≤◌, [], length, Result};
+ghost use Rattle.std.specs.Prelude.{◌≡◌, ◌≤◌, [], length, IfOk, Result};
 ghost use Rattle.serde_json.specs.View.{view, items_view};
 ghost use Rattle.nook_defs.specs.Reading.{items_from, list_of, whole_number, numbers_of};
 ghost use Rattle.scenario_read.specs.Gives.{Gives};
@@ -9,6 +9,7 @@ use crate::fields::number_in;
 use crate::stop::{ScenarioFault, bad_here, behind};
 use nook_defs::input::{InputFault, PathStep};
 use nook_defs::lists::{Items, Words};
+use nook_defs::memory::NoMemory;
 use serde_json::Value;
 use std::alloc::Global;
 
@@ -68,7 +69,7 @@ fn read_items<R: ItemReader>(
     requires { length values.now ≤ 65536 }
     ensures { Gives result (items_from (R.item_of reader.now) [] 0 (items_view values.now)) }
 {
-    let mut items = Items::new(alloc);
+    let mut items = list_for(alloc, values.len())?;
     let mut place = 0;
     for value in values {
         let read = reader.read(alloc, &items, value);
@@ -76,6 +77,13 @@ fn read_items<R: ItemReader>(
         place += 1;
     }
     Ok(items)
+}
+
+/// An empty list with room for a number of items.
+fn list_for<T>(alloc: Global, count: usize) -> Result<Items<T>, NoMemory>
+    ensures { IfOk result (λ made. made ≡ []) }
+{
+    Ok(Items::from_vec(Vec::with_capacity(alloc, count)?))
 }
 
 /// Reads words of 32 bits.

@@ -1,5 +1,6 @@
 use Rattle.std.specs.Prelude.{ℕ, ◌==◌, ◌||◌, not, List, [], ◌∷◌, ◌++◌, length, codes, Bool, false, if◌then◌else◌}
-use Rattle.serde_json.specs.Data.{Data, string, number, array, object, unsigned, Items, no_items, item, Members, no_members, member}
+use Rattle.serde_json.specs.Data.{Data, string, number, array, object, unsigned, Items, no_items, item, Members}
+use Rattle.serde_json.specs.Data.{no_members, member}
 use Rattle.serde_json.specs.Written.{compact_text}
 use Rattle.nook_defs.specs.ImageText.{image_data}
 use Rattle.nook_defs.specs.Keys.{class_text, key_text}
@@ -50,8 +51,10 @@ numbers_data numbers = list_data number_data numbers
 -- the kind of a schedule, and what only schedules of that kind have
 abbrev pub schedule_members : ScheduleSpec → Members
 schedule_members schedule.RoundRobin = at key.Kind (string (codes "round_robin")) no_members
-schedule_members (schedule.Drawn start) = at key.Kind (string (codes "drawn")) (at key.Start (number_data start) no_members)
-schedule_members (schedule.Listed picks) = at key.Kind (string (codes "listed")) (at key.Picks (numbers_data picks) no_members)
+schedule_members (schedule.Drawn start) =
+    at key.Kind (string (codes "drawn")) (at key.Start (number_data start) no_members)
+schedule_members (schedule.Listed picks) =
+    at key.Kind (string (codes "listed")) (at key.Picks (numbers_data picks) no_members)
 
 -- a schedule
 unfoldable pub schedule_data : ScheduleSpec → Data
@@ -63,13 +66,17 @@ schedule_data spec = object (schedule_members spec)
 abbrev pub kind_members : FaultKind → Members
 kind_members strikes.Trap = at key.Kind (string (codes "trap")) no_members
 kind_members strikes.Hang = at key.Kind (string (codes "hang")) no_members
-kind_members (strikes.Poke address value) = at key.Kind (string (codes "poke")) (at key.Address (number_data address) (at key.Value (number_data value) no_members))
-kind_members (strikes.Code address value) = at key.Kind (string (codes "code")) (at key.Address (number_data address) (at key.Value (number_data value) no_members))
-kind_members (strikes.Reg register value) = at key.Kind (string (codes "reg")) (at key.Register (number_data register) (at key.Value (number_data value) no_members))
+kind_members (strikes.Poke address value) = at key.Kind (string (codes "poke"))
+    (at key.Address (number_data address) (at key.Value (number_data value) no_members))
+kind_members (strikes.Code address value) = at key.Kind (string (codes "code"))
+    (at key.Address (number_data address) (at key.Value (number_data value) no_members))
+kind_members (strikes.Reg register value) = at key.Kind (string (codes "reg"))
+    (at key.Register (number_data register) (at key.Value (number_data value) no_members))
 
 -- a fault
 unfoldable pub fault_data : Fault → Data
-fault_data fault = object (at key.Burst (number_data fault.burst) (at key.After (number_data fault.after) (kind_members fault.kind)))
+fault_data fault = object (at key.Burst (number_data fault.burst)
+    (at key.After (number_data fault.after) (kind_members fault.kind)))
 
 -- a bad block
 unfoldable pub bad_block_data : BadBlock → Data
@@ -118,15 +125,18 @@ part_data part = object
 
 -- an operation, and the keys of its kind
 abbrev pub op_members : Op → Members
-op_members (op.Read first count) = at key.Op (string (codes "read")) (at key.First (number_data first) (at key.Count (number_data count) no_members))
-op_members (op.Write first words) = at key.Op (string (codes "write")) (at key.First (number_data first) (at key.Data (numbers_data words) no_members))
+op_members (op.Read first count) =
+    at key.Op (string (codes "read")) (at key.First (number_data first) (at key.Count (number_data count) no_members))
+op_members (op.Write first words) =
+    at key.Op (string (codes "write")) (at key.First (number_data first) (at key.Data (numbers_data words) no_members))
 op_members (op.Send frame) = at key.Op (string (codes "send")) (at key.Frame (numbers_data frame) no_members)
 op_members op.Recv = at key.Op (string (codes "recv")) no_members
 op_members op.Open = at key.Op (string (codes "open")) no_members
 op_members (op.Play samples) = at key.Op (string (codes "play")) (at key.Samples (numbers_data samples) no_members)
 op_members op.Close = at key.Op (string (codes "close")) no_members
 op_members (op.Get register) = at key.Op (string (codes "get")) (at key.Key (number_data register) no_members)
-op_members (op.Set register value) = at key.Op (string (codes "set")) (at key.Key (number_data register) (at key.Value (number_data value) no_members))
+op_members (op.Set register value) =
+    at key.Op (string (codes "set")) (at key.Key (number_data register) (at key.Value (number_data value) no_members))
 
 -- an operation on a part
 unfoldable pub step_data : ℕ × Op → Data

@@ -9,6 +9,8 @@ ghost use Rattle.scenario_write.specs.ScenarioText.{scenario_json, scenario_line
 
 /// The text that is written for a valid scenario is read as that scenario, with a line feed behind it and without.
 pub fn scenarios_come_back()
-    ensures text { (scenario : Scenario) → IsValidScenario scenario → scenario_from (scenario_json scenario) ≡ Ok scenario }
-    ensures line { (scenario : Scenario) → IsValidScenario scenario → scenario_from (scenario_line scenario) ≡ Ok scenario }
+    ensures text { (scenario : Scenario) → IsValidScenario scenario
+        → scenario_from (scenario_json scenario) ≡ Ok scenario }
+    ensures line { (scenario : Scenario) → IsValidScenario scenario
+        → scenario_from (scenario_line scenario) ≡ Ok scenario }
 {}

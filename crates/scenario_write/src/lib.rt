@@ -6,8 +6,6 @@ mod lists;
 mod ops;
 mod parts;
 mod scenario;
-#[cfg(test)]
-mod tests;
 
 pub use laws::scenarios_come_back;
 pub use scenario::{write_scenario, write_scenario_line};

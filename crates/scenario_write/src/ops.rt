@@ -99,7 +99,8 @@ fn push_last(text: &mut String, last: &str) -> Result<(), NoMemory>
 
 /// Adds a text, words behind it, and the end of an object.
 fn push_words(alloc: Global, text: &mut String, front: &str, words: &Words) -> Result<(), NoMemory>
-    ensures { OnOk result (string_bytes text.new ≡ string_bytes text.old ++ (front.now ++ (compact_text (numbers_data words.now) ++ codes "}"))) }
+    ensures { OnOk result (string_bytes text.new
+        ≡ string_bytes text.old ++ (front.now ++ (compact_text (numbers_data words.now) ++ codes "}"))) }
 {
     text.push_str(front)?;
     push_list(alloc, text, words.as_slice())?;

@@ -6,7 +6,8 @@ ghost use Rattle.serde_json.specs.Data.{Members};
 ghost use Rattle.serde_json.specs.Written.{compact_text, members_text};
 ghost use Rattle.nook_defs.specs.ImageText.{image_data};
 ghost use Rattle.nook_defs.specs.Keys.{class_text};
-ghost use Rattle.scenario_write.specs.ScenarioText.{arrival_members, bad_block_data, bad_members, disk_members, fault_data, kind_members, part_data, part_members};
+ghost use Rattle.scenario_write.specs.ScenarioText.{arrival_members, bad_block_data, bad_members, disk_members};
+ghost use Rattle.scenario_write.specs.ScenarioText.{fault_data, kind_members, part_data, part_members};
 
 use crate::lists::{Written, push_list, push_name, push_number};
 use driver_asm::image_value;
@@ -64,7 +65,8 @@ fn push_kind(text: &mut String, kind: FaultKind) -> Result<(), NoMemory>
 
 /// Adds the value that a fault writes, and the end of the object.
 fn push_value(text: &mut String, value: u32) -> Result<(), NoMemory>
-    ensures { OnOk result (string_bytes text.new ≡ string_bytes text.old ++ (codes ",\"value\":" ++ (decimal value ++ codes "}"))) }
+    ensures { OnOk result (string_bytes text.new
+        ≡ string_bytes text.old ++ (codes ",\"value\":" ++ (decimal value ++ codes "}"))) }
 {
     push_number(text, ",\"value\":", u64::from(value))?;
     text.push_str("}")?;
@@ -130,7 +132,8 @@ fn push_disk(alloc: Global, text: &mut String, part: &PartSpec) -> Result<(), No
 /// Adds the bad blocks, where there are any.
 #[tactic(auto, unfolding(json::specs::Print::escape_byte))]
 fn push_bad(alloc: Global, text: &mut String, bad: &[BadBlock]) -> Result<(), NoMemory>
-    ensures { OnOk result ((more : Members) → string_bytes text.new ++ members_text true more ≡ string_bytes text.old ++ members_text true (bad_members bad.now more)) }
+    ensures { OnOk result ((more : Members) → string_bytes text.new ++ members_text true more
+        ≡ string_bytes text.old ++ members_text true (bad_members bad.now more)) }
 {
     if bad.is_empty() {
         return Ok(());
@@ -153,7 +156,8 @@ fn push_image(alloc: Global, text: &mut String, image: &Image) -> Result<(), NoM
 /// Adds what only net parts have, and the end of the object.
 #[tactic(auto, unfolding(json::specs::Print::escape_byte))]
 fn push_arrivals(alloc: Global, text: &mut String, part: &PartSpec) -> Result<(), NoMemory>
-    ensures { OnOk result (string_bytes text.new ≡ string_bytes text.old ++ members_text true (arrival_members part.now.class part.now)) }
+    ensures { OnOk result (string_bytes text.new
+        ≡ string_bytes text.old ++ members_text true (arrival_members part.now.class part.now)) }
 {
     match part.class {
         Class::Net => {

@@ -2,7 +2,5 @@
 #![tactic(auto)]
 
 mod pick;
-#[cfg(test)]
-mod tests;
 
 pub use pick::Schedule;

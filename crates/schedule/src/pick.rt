@@ -52,8 +52,8 @@ impl Schedule {
         Schedule { standing }
     }
 
-    /// Of a round robin the number of the actor that is tried first: whoever knows which actors are enabled finds the next
-    /// one without a list of all.
+    /// Of a round robin the number of the actor that is tried first: whoever knows which actors are enabled finds the
+    /// next one without a list of all.
     pub fn cursor(&self) -> Option<u32>
         ensures cursor { result ≡ cursor_of self.now }
         ensures round { IfSome result (λ cursor. self.now ≡ round cursor) }

@@ -3,7 +3,5 @@
 #![tactic(auto)]
 
 mod log;
-#[cfg(test)]
-mod tests;
 
 pub use log::ShadowLog;

@@ -1,7 +1,10 @@
 //! The shadow's log.
 
-ghost use Rattle.std.specs.Prelude.{◌≡◌, ◌+◌, ◌-◌, ◌<◌, ◌≤◌, true, None, Some, MatchOption, length, map, option_map, slice_get, slice_index, slice_set, IfSome, IfOk, OnOk, OnErr};
-ghost use Rattle.nook_defs.specs.Log.{after_answering, call_of_thread, after_entering, held_call, next_replay, no_call_open, with_answered_call, open_call, opening_log, replay_after, with_call};
+ghost use Rattle.std.specs.Prelude.{◌≡◌, ◌+◌, ◌-◌, ◌<◌, ◌≤◌, true, None, Some, MatchOption, length, map, option_map};
+ghost use Rattle.std.specs.Prelude.{slice_get, slice_index, slice_set, IfSome, IfOk, OnOk, OnErr};
+ghost use Rattle.nook_defs.specs.Log.{after_answering, call_of_thread, after_entering, held_call, next_replay};
+ghost use Rattle.nook_defs.specs.Log.{no_call_open, with_answered_call, open_call, opening_log, replay_after};
+ghost use Rattle.nook_defs.specs.Log.{with_call};
 ghost use Rattle.nook_defs.specs.Views.CallLogs.{IsNumbered, acknowledged_call, after_holding, is_touched};
 ghost use Rattle.shadow_log.specs.Places.{IsPlace};
 ghost use Rattle.shadow_log.specs.Stopped.{after_answers};
@@ -136,8 +139,8 @@ impl ShadowLog {
         self.pending.retain(|entry| entry.call != call);
     }
 
-    /// The driver was stopped, and these are the answers to open calls: the calls that have none stay open, all Held; the
-    /// others are open no more.
+    /// The driver was stopped, and these are the answers to open calls: the calls that have none stay open, all Held;
+    /// the others are open no more.
     pub fn stopped(&mut self, answers: &[(u32, Answer)])
         ensures log { self.new ≡ after_answers answers.now self.old }
         ensures rising { IsNumbered 0 self.old.count self.old.pending }

@@ -3,8 +3,6 @@
 
 mod decision;
 mod table;
-#[cfg(test)]
-mod tests;
 
 pub use decision::Proxy;
 pub use table::{front_for, proxy};

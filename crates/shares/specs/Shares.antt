@@ -1,5 +1,5 @@
--- Shares of a whole: what is split in two, handed about and joined again, in whatever order, is whole again once all of it
--- is back. A share is a set of points, and a point is a row of bits without end. No sum is needed, and no fraction.
+-- Shares of a whole: what is split in two, handed about and joined again, in whatever order, is whole again once all of
+-- it is back. A share is a set of points, and a point is a row of bits without end. No sum is needed, and no fraction.
 use Rattle.std.specs.Prelude.{◌≡◌, ℕ, suc, ◌+◌, Bool, true, false, ◌&&◌, ◌||◌, List, [], ◌∷◌, map}
 
 -- some bits of a point, each by its number

@@ -9,8 +9,10 @@ ghost use Rattle.std.specs.Prelude.{Bool, false, true, ◌++◌, ◌||◌, ◌�
 
 /// The two halves of a share together have just its points, and none of them twice.
 pub fn halves_part_a_share()
-    ensures all { (share : Share) (point : ℕ → Bool) → owns share point ≡ (owns (half false share) point || owns (half true share) point) }
-    ensures apart { (share : Share) (point : ℕ → Bool) → owns (half false share) point ≡ true → owns (half true share) point ≡ true → ⊥ }
+    ensures all { (share : Share) (point : ℕ → Bool)
+        → owns share point ≡ (owns (half false share) point || owns (half true share) point) }
+    ensures apart { (share : Share) (point : ℕ → Bool) → owns (half false share) point ≡ true
+        → owns (half true share) point ≡ true → ⊥ }
 {}
 
 /// Shares that are joined have the points of both.

@@ -3,7 +3,7 @@
 //! Thread t is actor t. With T threads the recovery of part p is actor T + 2p, and its arrivals are actor
 //! T + 2p + 1.
 
-ghost use Rattle.std.specs.Prelude.{◌≡◌, ◌+◌, ◌≤◌, ◌++◌, length, IfOk, OnOk, Some};
+ghost use Rattle.std.specs.Prelude.{◌≡◌, ◌+◌, ◌*◌, ◌^◌, ◌<◌, ◌≤◌, ◌++◌, length, IfOk, OnOk, Some};
 ghost use Rattle.sim_run.specs.Able.{AreAble, able_actors};
 ghost use Rattle.sim_run.specs.Actors.{actors_of_seat, actors_of_seats, choice_at, choice_behind, choice_of_seat, first_from, named_if, next_from};
 
@@ -66,7 +66,7 @@ fn add_seats(first: u16, seats: &[Seat], ready: &mut Vec<u16>) -> Result<(), NoM
 
 /// Adds the numbers of a part's actors that have a step, of which the first one is given.
 fn add_seat(actor: u16, seat: &Seat, ready: &mut Vec<u16>) -> Result<(), NoMemory>
-    requires { actor ≤ 100 }
+    requires { actor < MOST_THREADS + 2 * MOST_PARTS }
     ensures { OnOk result (ready.new.items ≡ ready.old.items ++ actors_of_seat actor seat.now) }
 {
     push_if(ready, seat.has_recovery(), actor)?;
@@ -109,7 +109,7 @@ fn choice_behind(
     behind: usize,
     seats: &[Seat],
 ) -> Result<Option<Chosen>, NoMemory>
-    requires { behind ≤ 65535 }
+    requires { behind < 2 ^ 16 }
     ensures { IfOk result (λ choice. choice ≡ choice_behind actor behind seats.now) }
 {
     let part = behind / 2;
@@ -140,8 +140,8 @@ fn choice_of_seat(
 /// The next actor of a round robin: the first one at or after the cursor that has a step, else the first that has one.
 /// `able` tells which threads have one.
 pub fn next_ready(cursor: u32, able: &[bool], seats: &[Seat]) -> Option<u16>
-    requires able { length able.now ≤ 16 }
-    requires seats { length seats.now ≤ 8 }
+    requires able { length able.now ≤ MOST_THREADS }
+    requires seats { length seats.now ≤ MOST_PARTS }
     ensures { result ≡ next_from cursor (able_actors 0 able.now ++ actors_of_seats (length able.now) seats.now) }
 {
     first_ready(cursor, able, seats).or(first_ready(0, able, seats))
@@ -149,8 +149,8 @@ pub fn next_ready(cursor: u32, able: &[bool], seats: &[Seat]) -> Option<u16>
 
 /// The first actor from a number on that has a step; `able` tells which threads have one.
 fn first_ready(least: u32, able: &[bool], seats: &[Seat]) -> Option<u16>
-    requires able { length able.now ≤ 16 }
-    requires seats { length seats.now ≤ 8 }
+    requires able { length able.now ≤ MOST_THREADS }
+    requires seats { length seats.now ≤ MOST_PARTS }
     ensures { result ≡ first_from least (able_actors 0 able.now ++ actors_of_seats (length able.now) seats.now) }
 {
     match first_thread(least, able) {
@@ -161,7 +161,7 @@ fn first_ready(least: u32, able: &[bool], seats: &[Seat]) -> Option<u16>
 
 /// The first thread from a number on that has a step.
 fn first_thread(least: u32, able: &[bool]) -> Option<u16>
-    requires { length able.now ≤ 16 }
+    requires { length able.now ≤ MOST_THREADS }
     ensures { result ≡ first_from least (able_actors 0 able.now) }
 {
     for (place, is_able) in able.iter().enumerate() {
@@ -174,8 +174,8 @@ fn first_thread(least: u32, able: &[bool]) -> Option<u16>
 
 /// The first of the parts' actors from a number on that has a step; the first part's first actor is given.
 fn first_of_seats(least: u32, first: u16, seats: &[Seat]) -> Option<u16>
-    requires first { first ≤ 16 }
-    requires seats { length seats.now ≤ 8 }
+    requires first { first ≤ MOST_THREADS }
+    requires seats { length seats.now ≤ MOST_PARTS }
     ensures { result ≡ first_from least (actors_of_seats first seats.now) }
 {
     for (place, seat) in seats.iter().enumerate() {
@@ -188,7 +188,7 @@ fn first_of_seats(least: u32, first: u16, seats: &[Seat]) -> Option<u16>
 
 /// The first of a part's two actors from a number on that has a step; the first of the two is given.
 fn first_of_seat(least: u32, actor: u16, seat: &Seat) -> Option<u16>
-    requires { actor ≤ 100 }
+    requires { actor < MOST_THREADS + 2 * MOST_PARTS }
     ensures { result ≡ first_from least (actors_of_seat actor seat.now) }
 {
     if seat.has_recovery() && least <= u32::from(actor) {

@@ -250,8 +250,8 @@ fn pick_next(
     able: &[bool],
 ) -> Result<Option<Chosen>, NoMemory>
     requires round { schedule.old ≡ round cursor }
-    requires threads { length threads.now ≤ 16 }
-    requires seats { length seats.now ≤ 8 }
+    requires threads { length threads.now ≤ MOST_THREADS }
+    requires seats { length seats.now ≤ MOST_PARTS }
     requires able { AreAble seats.now threads.now able.now }
     ensures { IfOk result (λ choice. IsPick
         (standing schedule.old seats.now threads.now) choice (standing schedule.new seats.now threads.now)) }
@@ -362,6 +362,8 @@ fn hear_all(
 }
 
 /// A thread notes an event of a part, where that concerns it; `able` tells whether it has a step.
+// Most events concern one thread of many, and so most of these calls only look.
+#[inline(always)]
 fn hear(
     alloc: Global,
     number: u8,

@@ -1,12 +1,13 @@
 //! What is told of a generated scenario, and its writing.
 
 ghost use Rattle.nook_defs.specs.ReportText.{gen_line};
+ghost use Rattle.report_text.specs.Statuses.{status_number};
 ghost use Rattle.report_text.specs.Writing.{Wrote};
 
 use crate::lines::push_summary;
 use nook_defs::outside::Sink;
 use nook_defs::whole::write_all;
-use report_text::{Line, WriteStop};
+use report_text::{Line, ReportStatus, WriteStop};
 use std::alloc::Global;
 
 /// What the line of a generated scenario tells: its number, the events and failures of all its parts, and the status
@@ -16,7 +17,7 @@ pub struct Summary {
     pub number: u32,
     pub events: u64,
     pub failures: u64,
-    pub status: u32,
+    pub status: ReportStatus,
 }
 
 /// Writes the line of a generated scenario. `Fault` comes only where the sink's count of faults rose; the sink has
@@ -26,7 +27,8 @@ pub fn write_summary<K: Sink>(
     sink: &mut K,
     summary: Summary,
 ) -> Result<(), WriteStop>
-    ensures { Wrote (K.held sink.old) (K.held sink.new) (K.count sink.old) (K.count sink.new) result (gen_line summary.number summary.events summary.failures summary.status) }
+    ensures { Wrote (K.held sink.old) (K.held sink.new) (K.count sink.old) (K.count sink.new) result
+        (gen_line summary.number summary.events summary.failures (status_number summary.status)) }
 {
     let mut line = Line::new(alloc);
     push_summary(&mut line, summary)?;

@@ -159,10 +159,11 @@ new_at [] d view new h = cc
 new_at (v ∷ olds) zero view new h = sym (some_same v view h) ∙ new.0
 new_at (v ∷ olds) (suc d) view new h = new_at olds d view new.1 h
 
-new_accounts : Accounts opening_view
+-- an opening seat accounts for all that was added through it, and is alone
+pub new_accounts : Accounts opening_view
 new_accounts = record { within = λ k d within. absurd (omega arith); all = λ alone place low high. absurd (omega arith) }
 
-new_alone : IsAlone opening_view
+pub new_alone : IsAlone opening_view
 new_alone point = refl
 
 -- all that was done at its desk was done through a seat that is the only one

@@ -58,7 +58,8 @@ HaveRows journals thread _ _ = ⊥
 
 -- threads worked off their scripts, and the parts' frames arrived, in what has been seen of each part, and nothing else
 -- was invoked or arrived there
-pub record HaveWorked (parts : List PartSpec) (threads : List ThreadSpec) (seens : List (List Event)) (rows : List (List Receipt)) : Type 0 where
+pub record HaveWorked (parts : List PartSpec) (threads : List ThreadSpec) (seens : List (List Event))
+    (rows : List (List Receipt)) : Type 0 where
   pub served : HaveRows seens 0 threads rows
   pub arrived : HaveArrivals parts seens
   pub no_others : HaveNoOthers threads 0 parts seens

@@ -1,5 +1,6 @@
 -- What a run by threads leaves: one journal a part, and each thread's answers.
-use Rattle.std.specs.Prelude.{◌≡◌, ℕ, suc, ◌==◌, if◌then◌else◌, Bool, List, [], ◌∷◌, ◌++◌, ◌⊎◌, None, map, slice_index_or}
+use Rattle.std.specs.Prelude.{◌≡◌, ℕ, suc, ◌==◌, if◌then◌else◌, Bool, List, [], ◌∷◌, ◌++◌, ◌⊎◌, None, map}
+use Rattle.std.specs.Prelude.{slice_index_or}
 use Rattle.desk_like.specs.Desks.{IsArrive, IsAt, IsReceipt, IsRisingFrom}
 use Rattle.nook_defs.specs.declared.calls.Answer.{Answer}
 use Rattle.nook_defs.specs.declared.steps.Event.{Event}
@@ -71,7 +72,8 @@ answers_by (o ∷ ops) [] = []
 answers_by ((part, op) ∷ ops) (receipt ∷ receipts) = (part, receipt.answer) ∷ answers_by ops receipts
 
 -- a thread's script with the answers is, on each part, in order among the thread's invocations and their answers
-pub record IsServed (journals : List (List Event)) (thread : ℕ) (ops : List (ℕ × Op)) (answers : List (ℕ × Answer)) : Type 0 where
+pub record IsServed (journals : List (List Event)) (thread : ℕ) (ops : List (ℕ × Op))
+    (answers : List (ℕ × Answer)) : Type 0 where
   pub receipts : List Receipt
   pub have : HaveReceipts journals thread ops receipts
   pub rising : (part : ℕ) → IsRisingFrom 0 (invoked_on part ops receipts)
@@ -89,7 +91,8 @@ AreServed journals thread (t ∷ threads) (answers ∷ table) =
 
 -- The journals and answers of `run threads`: each part has taken all its steps; each thread's operations with its
 -- answers, and each part's arrivals, are in the journals in order; and the journals have no other invocation or arrival
-pub record IsThreaded (scenario : Scenario) (journals : List (List Event)) (answers : List (List (ℕ × Answer))) : Type 0 where
+pub record IsThreaded (scenario : Scenario) (journals : List (List Event))
+    (answers : List (List (ℕ × Answer))) : Type 0 where
   pub settled : AreSettled scenario.parts journals
   pub served : AreServed journals 0 scenario.threads answers
   pub arrived : HaveArrivals scenario.parts journals
@@ -114,4 +117,5 @@ HearAllOrNothing scenario old new = (new ≡ old) ⊎ HearAll scenario old new
 
 -- every operation of every thread has its answer: the parts of a thread's answers are in order those of its operations
 abbrev pub AreAnswered : Scenario → List (List (ℕ × Answer)) → Type 0
-AreAnswered scenario answers = map (λ own. map (λ a. a.0) own) answers ≡ map (λ t. map (λ o. o.0) t.ops) scenario.threads
+AreAnswered scenario answers =
+    map (λ own. map (λ a. a.0) own) answers ≡ map (λ t. map (λ o. o.0) t.ops) scenario.threads

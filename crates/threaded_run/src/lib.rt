@@ -8,6 +8,6 @@ mod publishing;
 mod running;
 
 pub use closing::{Left, leave};
-pub use opening::Opened;
+pub use opening::{Opened, open_desk};
 pub use publishing::publish_all;
 pub use running::run_threads;

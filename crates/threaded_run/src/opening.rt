@@ -38,8 +38,8 @@ pub fn open_desks(alloc: Global, parts: &[PartSpec]) -> Result<Opened, NoMemory>
     Ok(Opened { desks, seats })
 }
 
-/// A desk for a valid part, and the one seat at it.
-fn open_desk(alloc: Global, spec: &PartSpec) -> Result<(PartDesk, DeskSeat), NoMemory>
+/// A desk for a valid part, which is at the start of its boot, and the one seat at it.
+pub fn open_desk(alloc: Global, spec: &PartSpec) -> Result<(PartDesk, DeskSeat), NoMemory>
     requires { IsValidPart spec.now }
     ensures seat { IfOk result (λ made. IsDeskSeat made.0 made.1) }
     ensures spec { IfOk result (λ made. desk_spec made.0 ≡ spec.now) }

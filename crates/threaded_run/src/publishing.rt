@@ -14,7 +14,8 @@ use request_taps::Bus;
 /// The taps hear the events of journals, one for each of up to 8 parts, part by part.
 pub fn publish_all<L: Listener>(taps: &mut Bus<L>, journals: &[Journal])
     requires { length journals.now ≤ MOST_PARTS }
-    ensures { map (seen L.listening) taps.new ≡ told_all (in_parts 0 (map events_in journals.now)) (map (seen L.listening) taps.old) }
+    ensures { map (seen L.listening) taps.new
+        ≡ told_all (in_parts 0 (map events_in journals.now)) (map (seen L.listening) taps.old) }
 {
     for part in 0..journals.len() {
         publish(taps, part as u8, journals[part].as_slice());

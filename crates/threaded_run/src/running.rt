@@ -44,8 +44,8 @@ pub struct Unheard {
 /// operations of each thread, in order and with the answers that are told, and the part's arrivals, in order, and no
 /// other invocation or arrival.
 ///
-/// An error comes where memory was wanting, and no desk of a valid scenario refuses a thread for another cause. After it
-/// the taps have heard nothing, or all events of the journals of such a run, part by part.
+/// An error comes where memory was wanting, and no desk of a valid scenario refuses a thread for another cause. After
+/// it the taps have heard nothing, or all events of the journals of such a run, part by part.
 pub fn run_threads<R: Threads + Wait + Sync, L: Listener, G: Gate>(
     rt: &R,
     alloc: Global,
@@ -56,7 +56,8 @@ pub fn run_threads<R: Threads + Wait + Sync, L: Listener, G: Gate>(
     requires { IsValidScenario scenario.now }
     ensures runs { IfOk result (λ whole. AreRuns scenario.now.parts (map events_in whole.run.journals)) }
     ensures ends { IfOk result (λ whole. HaveEnds scenario.now.parts whole.run.journals whole.ends) }
-    ensures threaded { IfOk result (λ whole. IsThreaded scenario.now (map events_in whole.run.journals) whole.run.answers) }
+    ensures threaded { IfOk result (λ whole. IsThreaded scenario.now
+        (map events_in whole.run.journals) whole.run.answers) }
     ensures answered { IfOk result (λ whole. AreAnswered scenario.now whole.run.answers) }
     ensures heard { IfOk result (λ whole. map (seen L.listening) taps.new
         ≡ told_all (in_parts 0 (map events_in whole.run.journals)) (map (seen L.listening) taps.old)) }

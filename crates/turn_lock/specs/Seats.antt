@@ -1,5 +1,6 @@
 -- Which turn it is, the seats of a turn, and what each of them may claim.
-use Rattle.std.specs.Prelude.{◌≡◌, ℕ, ◌<◌, ◌≤◌, Bool, true, false, List, [], ◌∷◌, length, All, Contains, Option, Some, None}
+use Rattle.std.specs.Prelude.{◌≡◌, ℕ, ◌<◌, ◌≤◌, Bool, true, false, List, [], ◌∷◌, length, All, Contains, Option, Some}
+use Rattle.std.specs.Prelude.{None}
 use Rattle.atomic_table.specs.Seated.{TableId}
 use Rattle.atomic_table.specs.declared.shared.Seat.{Seat}
 use Rattle.shares.specs.Shares.{IsWhole}
@@ -22,8 +23,8 @@ module _ {E O : Type 0} where
   abbrev pub IsAlone : View E O → Type 0
   IsAlone v = IsWhole v.share
 
-  -- what a seat made lies in what it has seen, past the list with which the turn was made; and a seat that is the only one
-  -- made all of that, itself or by the seats that it took in
+  -- what a seat made lies in what it has seen, past the list with which the turn was made; and a seat that is the only
+  -- one made all of that, itself or by the seats that it took in
   pub record Tally (v : View E O) : Type 0 where
     pub within : All (λ p. (v.start < p) × (p ≤ length v.seen)) v.made
     pub all : IsAlone v → (p : ℕ) → v.start < p → p ≤ length v.seen → Contains v.made p
@@ -35,4 +36,5 @@ module _ {T E O : Type 0} where
 
   -- the seat is one of the turn's, and knows the origin of the turn's value and where its list began to grow
   abbrev pub IsSeatOf : Lock O → Seat (Option T) (View E O) → Type 0
-  IsSeatOf turn s = (s.table_id ≡ turn.table) × (s.me.0.origin ≡ Some turn.home) × (s.me.1 ≡ held_by s.me.0.has) × (s.me.0.start ≡ turn.start)
+  IsSeatOf turn s = (s.table_id ≡ turn.table) × (s.me.0.origin ≡ Some turn.home) × (s.me.1 ≡ held_by s.me.0.has)
+      × (s.me.0.start ≡ turn.start)

@@ -1,6 +1,7 @@
 -- The rule of a turn, and what each step tells the seat that makes it.
 -- The word is twice the number of entries, plus one while the turn is out. The slot has the value while the turn is in.
-use Rattle.std.specs.Prelude.{◌≡◌, ◌≢◌, ℕ, ◌+◌, ◌*◌, ◌/◌, ◌^◌, ◌<◌, ◌≤◌, Bool, true, false, List, [], ◌∷◌, length, All, Contains, Option, Some, None}
+use Rattle.std.specs.Prelude.{◌≡◌, ◌≢◌, ℕ, ◌+◌, ◌*◌, ◌/◌, ◌^◌, ◌<◌, ◌≤◌, Bool, true, false, List, [], ◌∷◌, length, All}
+use Rattle.std.specs.Prelude.{Contains, Option, Some, None}
 use mathlib.Core.List.{IsPrefix}
 use mathlib.Core.Option.{some}
 use lib.ListN.{get_elem?}
@@ -25,8 +26,8 @@ carried_list list [] = []
 carried_list list (x ∷ xs) = list_of list x.1
 
 module _ {E O : Type 0} where
-  -- what holds of the view v of the seat numbered j, where these are all entries, `start` of which were there when the turn
-  -- was made, and `holder` has the turn if it is out
+  -- what holds of the view v of the seat numbered j, where these are all entries, `start` of which were there when the
+  -- turn was made, and `holder` has the turn if it is out
   pub record Fits (all : List E) (home : O) (start : ℕ) (out : Bool) (holder j : ℕ) (v : View E O) : Type 0 where
     pub seen : IsPrefix v.seen all
     pub told : IsPrefix v.told v.seen
@@ -42,7 +43,8 @@ module _ {E O : Type 0} where
     pub share : (point : ℕ → Bool) → owns v.share point ≡ true → owns w.share point ≡ true → ⊥
     pub made : (p : ℕ) → Contains v.made p → Contains w.made p → ⊥
 
-  pub record AreViews (all : List E) (home : O) (start : ℕ) (out : Bool) (holder : ℕ) (views : List (View E O)) : Type 0 where
+  pub record AreViews (all : List E) (home : O) (start : ℕ) (out : Bool) (holder : ℕ)
+      (views : List (View E O)) : Type 0 where
     pub fits : (j : ℕ) (v : View E O) → get_elem? views j ≡ some v → Fits all home start out holder j v
     pub apart : (i j : ℕ) (v w : View E O) → i ≢ j → get_elem? views i ≡ some v → get_elem? views j ≡ some w → Apart v w
 
@@ -95,7 +97,8 @@ module _ {T E O : Type 0} where
   Learns st m found m' = (m' ≡ (learnt m.0, m.1)) × IsPrefix m.0.told m.0.seen × Tally m'.0
 
   -- half the word is the number of entries
-  pub record Looks (st : Step (Option T)) (m : Me (Option T) (View E O)) (found : ℕ) (m' : Me (Option T) (View E O)) : Type 0 where
+  pub record Looks (st : Step (Option T)) (m : Me (Option T) (View E O)) (found : ℕ)
+      (m' : Me (Option T) (View E O)) : Type 0 where
     pub same : m' ≡ m
     pub seen : length m.0.seen ≤ found / 2
     pub taken : m.0.has ≡ true → found / 2 ≡ length m.0.taken

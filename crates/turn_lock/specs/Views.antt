@@ -14,7 +14,16 @@ shorter xs ys = cond (nat_lt (length xs) (length ys)) xs ys
 module _ {E O : Type 0} where
   -- the first seat of a turn whose value has these entries and this origin: it has the whole share
   abbrev pub opener : List E → O → View E O
-  opener all home = record { origin = Some home; seen = all; told = []; made = []; start = length all; share = whole; has = false; taken = [] }
+  opener all home = record {
+    origin = Some home;
+    seen = all;
+    told = [];
+    made = [];
+    start = length all;
+    share = whole;
+    has = false;
+    taken = [];
+  }
 
   -- it took a value with these entries
   abbrev pub took : View E O → List E → View E O
@@ -34,7 +43,16 @@ module _ {E O : Type 0} where
 
   -- a new seat, split from one with the view v: it has seen the same, made nothing, and has the other half of the share
   abbrev pub newcomer : View E O → View E O
-  newcomer v = record { origin = v.origin; seen = v.seen; told = []; made = []; start = v.start; share = half true v.share; has = false; taken = [] }
+  newcomer v = record {
+    origin = v.origin;
+    seen = v.seen;
+    told = [];
+    made = [];
+    start = v.start;
+    share = half true v.share;
+    has = false;
+    taken = [];
+  }
 
   -- a seat that was joined into another: it has no share left
   abbrev pub spent : View E O
@@ -42,7 +60,12 @@ module _ {E O : Type 0} where
 
   -- it took in a seat with the view w: the longer list is seen, and the places and the shares are those of both
   abbrev pub joined : View E O → View E O → View E O
-  joined v w = record v { seen = longer v.seen w.seen; told = shorter v.seen w.seen; made = v.made ++ w.made; share = v.share ++ w.share }
+  joined v w = record v {
+    seen = longer v.seen w.seen;
+    told = shorter v.seen w.seen;
+    made = v.made ++ w.made;
+    share = v.share ++ w.share;
+  }
 
   -- it knows that what it was told begins what it has seen
   abbrev pub learnt : View E O → View E O

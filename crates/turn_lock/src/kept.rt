@@ -3,7 +3,8 @@ ghost use Rattle.std.specs.Prelude.{◌≡◌, List, length};
 
 /// A value that stands for a list of entries and has an origin, as an open journal does.
 ///
-/// Entries are added at the end, one at each commit, and the origin never changes. Both are plain data that exist in contracts alone.
+/// Entries are added at the end, one at each commit, and the origin never changes. Both are plain data that exist in
+/// contracts alone.
 pub trait Kept: Send + Drop {
     /// What one commit adds.
     type Entry;

@@ -1,5 +1,6 @@
 //! The turn and its calls.
-ghost use Rattle.std.specs.Prelude.{◌≡◌, ℕ, ◌+◌, ◌*◌, ◌/◌, ◌^◌, ◌<◌, ◌≤◌, Bool, true, false, ◌||◌, [], ◌∷◌, ◌++◌, length, IfOk};
+ghost use Rattle.std.specs.Prelude.{◌≡◌, ℕ, ◌+◌, ◌*◌, ◌/◌, ◌^◌, ◌<◌, ◌≤◌, Bool, true, false, ◌||◌, [], ◌∷◌, ◌++◌};
+ghost use Rattle.std.specs.Prelude.{length, IfOk};
 ghost use mathlib.Core.List.{IsPrefix};
 ghost use Rattle.shares.specs.Shares.{owns};
 ghost use Rattle.turn_lock.specs.Seats.{seat_view, IsAlone, IsSeatOf, Tally};
@@ -29,7 +30,8 @@ impl<T: Kept> TableRule<Option<T>, View<T::Entry, T::Origin>, Snapshot<T>> for O
     ghost first = { λ k. opener (T.list k.value) (T.origin k.value) };
 }
 
-/// A place at a turn, which one thread has at a time. It has no bytes, and its view says what the thread has seen and made.
+/// A place at a turn, which one thread has at a time. It has no bytes, and its view says what the thread has seen and
+/// made.
 pub type TurnSeat<T> = Seat<Option<T>, View<<T as Kept>::Entry, <T as Kept>::Origin>>;
 
 type TurnTable<T> = Table<
@@ -54,7 +56,11 @@ impl<T: Kept> Model for Turn<T> {
 
     ghost Value = { Lock T.Origin };
 
-    ghost view = { λ t. record { table = t.table.shared.table_id; home = T.origin t.table.shared.key.value; start = length (T.list t.table.shared.key.value) } };
+    ghost view = { λ t. record {
+      table = t.table.shared.table_id;
+      home = T.origin t.table.shared.key.value;
+      start = length (T.list t.table.shared.key.value);
+    } };
 
     ghost invariant = { λ t. t.table.shared.table_id.words ≡ 1 };
 }
@@ -82,7 +88,8 @@ impl<T: Kept> Turn<T> {
         Ok((Turn { table }, seat))
     }
 
-    /// Waits for the turn and gives the value. Its list begins with all that the seat has seen, and is just that where the seat is alone.
+    /// Waits for the turn and gives the value. Its list begins with all that the seat has seen, and is just that where
+    /// the seat is alone.
     ///
     /// While the turn is out the thread sleeps. It may wait for ever.
     pub fn take(&self, rt: &impl Wait, seat: &mut TurnSeat<T>) -> T
@@ -132,7 +139,8 @@ impl<T: Kept> Turn<T> {
         shared.wake_one(0);
     }
 
-    /// Gives the turn back with a value that has just the entries of the one taken, all of which the seat has then seen.
+    /// Gives the turn back with a value that has just the entries of the one taken, all of which the seat has then
+    /// seen.
     pub fn give_back(&self, seat: &mut TurnSeat<T>, value: T)
         requires seat { IsSeatOf self.now seat.old }
         requires turn { (seat_view seat.old).has ≡ true }
@@ -169,12 +177,14 @@ impl<T: Kept> Turn<T> {
         ensures other { IsSeatOf self.now result }
         ensures view { seat_view seat.new ≡ halved (seat_view seat.old) }
         ensures other_view { seat_view result ≡ newcomer (seat_view seat.old) }
-        ensures shares { (point : ℕ → Bool) → owns (seat_view seat.old).share point ≡ (owns (seat_view seat.new).share point || owns (seat_view result).share point) }
+        ensures shares { (point : ℕ → Bool) → owns (seat_view seat.old).share point
+            ≡ (owns (seat_view seat.new).share point || owns (seat_view result).share point) }
     {
         self.table.shared.split_seat::<Cut>(seat)
     }
 
-    /// Takes another seat in. The seat has then seen the longer of the two lists, which both begin, and made the places of both.
+    /// Takes another seat in. The seat has then seen the longer of the two lists, which both begin, and made the places
+    /// of both.
     ///
     /// A seat into which all that was split from it came back is alone again, in whatever order it came.
     #[tactic(auto, using(shares::proofs::Shares::owns_append))]
@@ -187,14 +197,16 @@ impl<T: Kept> Turn<T> {
         ensures view { seat_view seat.new ≡ learnt (joined (seat_view seat.old) (seat_view other)) }
         ensures begins { IsPrefix (seat_view seat.old).seen (seat_view seat.new).seen }
         ensures other_begins { IsPrefix (seat_view other).seen (seat_view seat.new).seen }
-        ensures shares { (point : ℕ → Bool) → owns (seat_view seat.new).share point ≡ (owns (seat_view seat.old).share point || owns (seat_view other).share point) }
+        ensures shares { (point : ℕ → Bool) → owns (seat_view seat.new).share point
+            ≡ (owns (seat_view seat.old).share point || owns (seat_view other).share point) }
         ensures made { Tally (seat_view seat.new) }
     {
         self.table.shared.join_seat::<Merge>(seat, other);
         self.table.shared.load::<Learn>(seat, 0);
     }
 
-    /// Ends the turn and gives the value. Its list begins with all that the seat has seen, and is just that where the seat is alone.
+    /// Ends the turn and gives the value. Its list begins with all that the seat has seen, and is just that where the
+    /// seat is alone.
     ///
     /// It waits while another seat has the turn, and for ever where that seat is gone.
     pub fn close(self, rt: &impl Wait, mut seat: TurnSeat<T>) -> T

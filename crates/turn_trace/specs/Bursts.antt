@@ -1,4 +1,5 @@
-use Rattle.std.specs.Prelude.{ℕ, zero, suc, ◌+◌, ◌-◌, ◌==◌, nat_le, Bool, true, false, Option, Some, None, List, [], ◌∷◌, ◌++◌, length, map}
+use Rattle.std.specs.Prelude.{ℕ, zero, suc, ◌+◌, ◌-◌, ◌==◌, nat_le, Bool, true, false, Option, Some, None, List, []}
+use Rattle.std.specs.Prelude.{◌∷◌, ◌++◌, length, map}
 use Rattle.nook_defs.specs.declared.entries.Entry.{Entry}
 use Rattle.nook_defs.specs.declared.scenario.Fault.{Fault}
 use Rattle.nook_defs.specs.declared.machine.TrapCause.{TrapCause}
@@ -76,7 +77,8 @@ trace_from zero entries faults m acts = finished faults m (ends.Trap trap.Hang)
 trace_from (suc left) entries faults m acts =
     behind (map strike (struck_at (MOST_TURNS - suc left) faults))
     (behind_strikes
-    (λ rest struck. behind_turn (λ m' acts'. trace_from left entries rest m' acts') rest (MOST_TURNS - left) struck acts (turn entries struck))
+    (λ rest struck. behind_turn (λ m' acts'. trace_from left entries rest m' acts') rest (MOST_TURNS - left) struck acts
+    (turn entries struck))
     (strikes_at (MOST_TURNS - suc left) entries faults m))
 
 -- one burst up to its crossing, with the faults of the burst in rising order of their places

@@ -56,7 +56,8 @@ set_by after (Some i) = with_word after (target_of i)
 
 -- the address that an instruction stores to, and the word, by the registers before the turn
 abbrev pub store_of : Cpu → Instr → Option (ℕ × ℕ)
-store_of before (instr.St a b imm) = Some ((slice_index before.registers b + imm) % 2 ^ 32, slice_index before.registers a)
+store_of before (instr.St a b imm) =
+    Some ((slice_index before.registers b + imm) % 2 ^ 32, slice_index before.registers a)
 store_of before _ = None
 
 abbrev pub stored_by : Cpu → Option Instr → Option (ℕ × ℕ)
@@ -72,8 +73,8 @@ abbrev pub unless_crossed : {T : Type 0} → Option BurstEnd → Option T → Op
 unless_crossed None effect = effect
 unless_crossed (Some crossing) effect = None
 
--- what is told of a turn: its number, the word that it fetched, the processor before and behind it, its act, and whether
--- it was a crossing
+-- what is told of a turn: its number, the word that it fetched, the processor before and behind it, its act, and
+-- whether it was a crossing
 abbrev pub traced_of : ℕ → Option ℕ → Cpu → Cpu → List Act → Option BurstEnd → TracedTurn
 traced_of number word before after acts crossing = record {
   number = number;

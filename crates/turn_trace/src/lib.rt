@@ -1,5 +1,5 @@
-//! What one burst of the driver machine did, turn by turn, over whatever memory and device a `Bus` lends; and the writing
-//! of its lines.
+//! What one burst of the driver machine did, turn by turn, over whatever memory and device a `Bus` lends; and the
+//! writing of its lines.
 #![tactic(auto)]
 
 mod laws;

@@ -1,7 +1,9 @@
 //! The lines of a burst's steps: each call adds to a line, which its maker drops after `NoMemory`.
 
 ghost use Rattle.std.specs.Prelude.{◌≡◌, ◌++◌, OnOk, codes};
-ghost use Rattle.turn_trace.specs.Lines.{effects_text, fault_text, fetch_text, jumped_text, kind_text, refusal_text, register_note, register_notes, set_text, start_line, stored_text, turn_line, unstruck_line, word_text};
+ghost use Rattle.turn_trace.specs.Lines.{effects_text, fault_text, fetch_text, jumped_text, kind_text, refusal_text};
+ghost use Rattle.turn_trace.specs.Lines.{register_note, register_notes, set_text, start_line, stored_text, turn_line};
+ghost use Rattle.turn_trace.specs.Lines.{unstruck_line, word_text};
 ghost use Rattle.nook_defs.specs.ReportLines.{line_feed, spaced, with_number};
 
 use crate::traced::TracedTurn;
@@ -117,7 +119,8 @@ fn push_jumped(line: &mut Line, jumped: Option<Word>) -> Result<(), NoMemory>
 
 /// The line of a fault that struck, and whether it was refused.
 pub fn push_strike(line: &mut Line, fault: &Fault, refused: bool) -> Result<(), NoMemory>
-    ensures { OnOk result (line.new ≡ line.old ++ (fault_text (codes "fault ") fault.now ++ (refusal_text refused ++ line_feed))) }
+    ensures { OnOk result (line.new ≡ line.old
+        ++ (fault_text (codes "fault ") fault.now ++ (refusal_text refused ++ line_feed))) }
 {
     push_fault(line, "fault ", fault)?;
     if refused {

@@ -4,7 +4,8 @@ ghost use Rattle.std.specs.Prelude.{◌≡◌, ◌<◌, ◌≤◌, true, IfOk, I
 ghost use Rattle.driver_isa.specs.Fields.{has_registers};
 ghost use Rattle.driver_isa.specs.Turns.{machine_of};
 ghost use Rattle.nook_defs.specs.Turn.{turn as machine_turn};
-ghost use Rattle.turn_trace.specs.Turns.{instr_in, jumped_to, set_by, stored_by, target_of, traced, traced_of, with_word};
+ghost use Rattle.turn_trace.specs.Turns.{instr_in, jumped_to, set_by, stored_by, target_of, traced, traced_of};
+ghost use Rattle.turn_trace.specs.Turns.{with_word};
 
 use driver_isa::{Bus, decode, run_turn};
 use nook_defs::journal::SpareRooms;
@@ -45,9 +46,11 @@ pub fn take_turn<B: Bus>(
     bus: &mut B,
     spare: &mut SpareRooms,
 ) -> Result<TurnTaken, NoMemory>
-    ensures told { IfOk result (λ turned. turned.told ≡ traced number (machine_of cpu.old (B.words bus.old) (B.device bus.old))
+    ensures told { IfOk result (λ turned. turned.told
+        ≡ traced number (machine_of cpu.old (B.words bus.old) (B.device bus.old))
         (machine_turn (B.entries bus.old) (machine_of cpu.old (B.words bus.old) (B.device bus.old)))) }
-    ensures machine { OnOk result ((machine_turn (B.entries bus.old) (machine_of cpu.old (B.words bus.old) (B.device bus.old))).machine
+    ensures machine { OnOk result ((machine_turn (B.entries bus.old)
+        (machine_of cpu.old (B.words bus.old) (B.device bus.old))).machine
         ≡ machine_of cpu.new (B.words bus.new) (B.device bus.new)) }
     ensures crossing { IfOk result (λ turned. (machine_turn (B.entries bus.old)
         (machine_of cpu.old (B.words bus.old) (B.device bus.old))).crossing ≡ turned.end) }

@@ -45,10 +45,12 @@ pub fn trace_burst<'a, B: Bus, K: Sink>(
     faults: &'a [Fault],
     sink: &mut K,
 ) -> Result<&'a [Fault], WriteStop>
-    ensures written { Wrote (K.held sink.old) (K.held sink.new) (K.count sink.old) (K.count sink.new) result (step_lines (B.entries bus.old)
+    ensures written { Wrote (K.held sink.old) (K.held sink.new) (K.count sink.old) (K.count sink.new) result
+        (step_lines (B.entries bus.old)
         (burst_trace (B.entries bus.old) faults.now (machine_of cpu.old (B.words bus.old) (B.device bus.old))).steps) }
     ensures unstruck { IfOk result (λ rest. rest.now
-        ≡ (burst_trace (B.entries bus.old) faults.now (machine_of cpu.old (B.words bus.old) (B.device bus.old))).unstruck) }
+        ≡ (burst_trace (B.entries bus.old) faults.now
+        (machine_of cpu.old (B.words bus.old) (B.device bus.old))).unstruck) }
     ensures left { OnOk result (machine_of cpu.new (B.words bus.new) (B.device bus.new)
         ≡ (burst_trace (B.entries bus.old) faults.now (machine_of cpu.old (B.words bus.old) (B.device bus.old))).left) }
 {
@@ -85,7 +87,8 @@ fn strike_due<'a, B: Bus, K: Sink>(
     cpu: &mut Cpu,
     bus: &mut B,
 ) -> Result<Struck<'a>, WriteStop>
-    ensures struck { IfOk result (λ struck. strikes_at place (B.entries bus.old) faults.now (machine_of cpu.old (B.words bus.old) (B.device bus.old))
+    ensures struck { IfOk result (λ struck. strikes_at place (B.entries bus.old) faults.now
+        (machine_of cpu.old (B.words bus.old) (B.device bus.old))
         ≡ record {
           machine = machine_of cpu.new (B.words bus.new) (B.device bus.new);
           rest = struck.rest.now;

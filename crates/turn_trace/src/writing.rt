@@ -1,10 +1,11 @@
-//! The writing of a burst's lines, each when it is made. A line is put together in a buffer that is emptied first and kept
-//! for the next.
+//! The writing of a burst's lines, each when it is made. A line is put together in a buffer that is emptied first and
+//! kept for the next.
 
 ghost use Rattle.std.specs.Prelude.{◌≡◌, ◌++◌, codes};
 ghost use Rattle.nook_defs.specs.ReportLines.{line_feed};
 ghost use Rattle.report_text.specs.Writing.{Wrote};
-ghost use Rattle.turn_trace.specs.Lines.{fault_text, refusal_text, start_line, turn_line, unstruck_line, unstruck_lines};
+ghost use Rattle.turn_trace.specs.Lines.{fault_text, refusal_text, start_line, turn_line, unstruck_line};
+ghost use Rattle.turn_trace.specs.Lines.{unstruck_lines};
 
 use crate::lines::{push_start, push_strike, push_turn, push_unstruck};
 use crate::traced::TracedTurn;
@@ -16,7 +17,8 @@ use std::alloc::Global;
 
 /// Writes the counter and the registers that a burst finds, those that are 0 left out.
 pub fn write_start<K: Sink>(alloc: Global, sink: &mut K, cpu: &Cpu) -> Result<(), WriteStop>
-    ensures { Wrote (K.held sink.old) (K.held sink.new) (K.count sink.old) (K.count sink.new) result (start_line cpu.now) }
+    ensures { Wrote (K.held sink.old) (K.held sink.new) (K.count sink.old) (K.count sink.new) result
+        (start_line cpu.now) }
 {
     let mut line = Line::new(alloc);
     push_start(&mut line, cpu)?;
@@ -45,7 +47,8 @@ pub fn write_turn<K: Sink>(
     line: &mut Line,
     turn: &TracedTurn,
 ) -> Result<(), WriteStop>
-    ensures { Wrote (K.held sink.old) (K.held sink.new) (K.count sink.old) (K.count sink.new) result (turn_line turn.now) }
+    ensures { Wrote (K.held sink.old) (K.held sink.new) (K.count sink.old) (K.count sink.new) result
+        (turn_line turn.now) }
 {
     line.clear();
     push_turn(alloc, line, turn)?;
@@ -58,7 +61,8 @@ pub fn write_unstruck<K: Sink>(
     sink: &mut K,
     faults: &[Fault],
 ) -> Result<(), WriteStop>
-    ensures { Wrote (K.held sink.old) (K.held sink.new) (K.count sink.old) (K.count sink.new) result (unstruck_lines faults.now) }
+    ensures { Wrote (K.held sink.old) (K.held sink.new) (K.count sink.old) (K.count sink.new) result
+        (unstruck_lines faults.now) }
 {
     let mut line = Line::new(alloc);
     for fault in faults {
@@ -73,7 +77,8 @@ fn write_unstruck_line<K: Sink>(
     line: &mut Line,
     fault: &Fault,
 ) -> Result<(), WriteStop>
-    ensures { Wrote (K.held sink.old) (K.held sink.new) (K.count sink.old) (K.count sink.new) result (unstruck_line fault.now) }
+    ensures { Wrote (K.held sink.old) (K.held sink.new) (K.count sink.old) (K.count sink.new) result
+        (unstruck_line fault.now) }
 {
     line.clear();
     push_unstruck(line, fault)?;

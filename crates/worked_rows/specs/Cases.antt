@@ -125,7 +125,8 @@ shadow_replies burst count acts = event.Burst 16 0 burst count (ends.Reply 0) ac
 
 -- a burst that ends a call
 abbrev pub replies : ℕ → ℕ → ℕ → ℕ → ℕ → List Act → Answer → Event
-replies context call burst count status acts a = event.Burst context call burst count (ends.Reply status) acts (Some a) None
+replies context call burst count status acts a =
+    event.Burst context call burst count (ends.Reply status) acts (Some a) None
 
 -- a burst that an injected trap ends
 abbrev pub stopped : ℕ → ℕ → ℕ → ℕ → List Act → Event

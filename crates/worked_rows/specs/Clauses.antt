@@ -14,7 +14,10 @@ use Rattle.nook_defs.specs.declared.calls.Op.TheVariants as op
 use Rattle.nook_defs.specs.declared.steps.Stage.{Stage}
 use Rattle.nook_defs.specs.declared.steps.Stage.TheVariants as stage
 use Rattle.nook_defs.specs.declared.clause.Clause.{Clause}
-use Rattle.nook_defs.specs.declared.clause.Clause.TheVariants.{UnaskedStore, OtherStore, UnstoredWrite, OtherRead, UnaskedFrame, SecondFrame, UnsentSend, OutOfOrder, LeftInRing, OtherSample, UnplayedPlay, UnaskedRegister, UnmadeSet, OtherGet, UnseenFailure}
+use Rattle.nook_defs.specs.declared.clause.Clause.TheVariants.{UnaskedStore, OtherStore, UnstoredWrite, OtherRead}
+use Rattle.nook_defs.specs.declared.clause.Clause.TheVariants.{UnaskedFrame, SecondFrame, UnsentSend, OutOfOrder}
+use Rattle.nook_defs.specs.declared.clause.Clause.TheVariants.{LeftInRing, OtherSample, UnplayedPlay, UnaskedRegister}
+use Rattle.nook_defs.specs.declared.clause.Clause.TheVariants.{UnmadeSet, OtherGet, UnseenFailure}
 use Rattle.nook_defs.specs.Contract.{first_break, clause_number}
 
 -- Worked cases of the contract: events that break a clause, and like events that keep all of them.
@@ -75,7 +78,8 @@ row clause class before bad good = record { clause = clause; class = class; befo
 -- the one breaks its clause first, and the other breaks nothing
 abbrev pub IsJudged : Case → Type 0
 IsJudged c =
-    (first_break c.class 4 (c.before ++ c.bad ∷ []) ≡ Some (record { event = suc (length c.before); clause = clause_number c.clause }))
+    (first_break c.class 4 (c.before ++ c.bad ∷ [])
+    ≡ Some (record { event = suc (length c.before); clause = clause_number c.clause }))
     × (first_break c.class 4 (c.before ++ c.good ∷ []) ≡ None)
 
 -- each clause in its turn; clause 13 speaks of two kinds of calls
@@ -96,7 +100,8 @@ clause_cases =
     ∷ row UnsentSend Net (begun (op.Send (5 ∷ [])))
     (ends [] answer.Done) (ends (act.Sent (5 ∷ []) ∷ []) answer.Done)
     ∷ row OutOfOrder Net (begun op.Recv)
-    (hands (act.Popped (5 ∷ []) ∷ act.Popped (6 ∷ []) ∷ []) (6 ∷ [])) (hands (act.Popped (5 ∷ []) ∷ act.Popped (6 ∷ []) ∷ []) (5 ∷ []))
+    (hands (act.Popped (5 ∷ []) ∷ act.Popped (6 ∷ []) ∷ []) (6 ∷ []))
+    (hands (act.Popped (5 ∷ []) ∷ act.Popped (6 ∷ []) ∷ []) (5 ∷ []))
     ∷ row LeftInRing Net (event.Arrive (5 ∷ []) true ∷ begun op.Recv)
     (ends [] answer.Empty) (ends (act.Popped (5 ∷ []) ∷ []) answer.Empty)
     ∷ row OtherSample Sound (begun (op.Play (5 ∷ 6 ∷ [])))
@@ -120,7 +125,8 @@ further_cases =
     row UnmadeSet Block (stage_of (stage.ReplaySet 1 9) ∷ [])
     (shadow_ends []) (shadow_ends (act.Register 1 9 ∷ []))
     -- a Write is no longer Inside once Stop came
-    ∷ row UnaskedStore Block (begun (op.Write 1 (block_of 7)) ++ stage_of stage.Stop ∷ stage_of (stage.ReplaySet 1 9) ∷ [])
+    ∷ row UnaskedStore Block (begun (op.Write 1 (block_of 7)) ++ stage_of stage.Stop ∷ stage_of (stage.ReplaySet 1 9)
+    ∷ [])
     (shadow_ends (act.Register 1 9 ∷ act.Store 1 (block_of 7) ∷ [])) (shadow_ends (act.Register 1 9 ∷ []))
     -- of two clauses that one burst breaks, the smaller one is told
     ∷ row UnaskedFrame Net (begun (op.Send (5 ∷ [])))
@@ -132,8 +138,8 @@ further_cases =
 
 -- ---- losses
 
--- a Send that Stop answers unsent; a Play that is cut short; a Recv that is answered, and a second frame handed up in it
--- that the queue does not take; of four frames that arrive one finds the ring full, one is cleared by Reset, one is
+-- a Send that Stop answers unsent; a Play that is cut short; a Recv that is answered, and a second frame handed up in
+-- it that the queue does not take; of four frames that arrive one finds the ring full, one is cleared by Reset, one is
 -- popped, and one stays
 abbrev pub lossy : List Event
 lossy =

@@ -8,7 +8,8 @@ use Rattle.nook_defs.specs.declared.calls.Op.TheVariants as op
 use Rattle.nook_defs.specs.declared.scenario.PartSpec.{PartSpec}
 use Rattle.nook_defs.specs.declared.steps.Stage.TheVariants as stage
 use Rattle.nook_defs.specs.declared.scenario.ThreadSpec.{ThreadSpec}
-use Rattle.worked_rows.specs.Cases.{numbers, thread, injected, invoked, entered, done, registers, shadow_replies, replies, stopped, disk_with, plain_image}
+use Rattle.worked_rows.specs.Cases.{numbers, thread, injected, invoked, entered, done, registers, shadow_replies}
+use Rattle.worked_rows.specs.Cases.{replies, stopped, disk_with, plain_image}
 
 -- Runs of a disk, with the journal of its part and its report.
 
@@ -178,7 +179,9 @@ wide_write_cut_journal =
     ∷ shadow_replies 8 2 []
     ∷ done stage.Resume
     ∷ entered 1 0 3
-    ∷ replies 0 1 9 692 0 (act.Store 0 (numbers 0 16) ∷ act.Store 1 (numbers 16 16) ∷ act.Store 2 (numbers 32 16) ∷ act.Store 3 (numbers 48 16) ∷ act.Store 4 (numbers 64 16) ∷ act.Store 5 (numbers 80 16) ∷ act.Store 6 (numbers 96 16) ∷ act.Store 7 (numbers 112 16) ∷ []) answer.Done
+    ∷ replies 0 1 9 692 0 (act.Store 0 (numbers 0 16) ∷ act.Store 1 (numbers 16 16) ∷ act.Store 2 (numbers 32 16)
+    ∷ act.Store 3 (numbers 48 16) ∷ act.Store 4 (numbers 64 16) ∷ act.Store 5 (numbers 80 16)
+    ∷ act.Store 6 (numbers 96 16) ∷ act.Store 7 (numbers 112 16) ∷ []) answer.Done
     ∷ []
 
 abbrev pub wide_write_cut_report : List ℕ

@@ -32,7 +32,8 @@ abbrev pub edges_of_the_disk : Scenario
 edges_of_the_disk = record {
   schedule = schedule.RoundRobin;
   parts = disk 256 0 block_image [] ∷ [];
-  threads = thread (codes "t0") ((0, op.Read 248 8) ∷ (0, op.Read 249 8) ∷ (0, op.Read 4294967295 2) ∷ (0, op.Write 256 []) ∷ []) ∷ [];
+  threads = thread (codes "t0") ((0, op.Read 248 8) ∷ (0, op.Read 249 8) ∷ (0, op.Read 4294967295 2)
+      ∷ (0, op.Write 256 []) ∷ []) ∷ [];
 }
 
 abbrev pub edges_of_the_disk_report : List ℕ
@@ -167,7 +168,9 @@ abbrev pub listed_picks : Scenario
 listed_picks = record {
   schedule = schedule.Listed (1 ∷ 1 ∷ 1 ∷ 1 ∷ 1 ∷ 0 ∷ 7 ∷ 0 ∷ []);
   parts = disk 4 0 block_image [] ∷ [];
-  threads = thread (codes "t0") ((0, op.Write 1 (1 ∷ 2 ∷ 3 ∷ 4 ∷ 5 ∷ 6 ∷ 7 ∷ 8 ∷ 9 ∷ 10 ∷ 11 ∷ 12 ∷ 13 ∷ 14 ∷ 15 ∷ 16 ∷ [])) ∷ (0, op.Read 1 1) ∷ []) ∷ [];
+  threads = thread (codes "t0")
+      ((0, op.Write 1 (1 ∷ 2 ∷ 3 ∷ 4 ∷ 5 ∷ 6 ∷ 7 ∷ 8 ∷ 9 ∷ 10 ∷ 11 ∷ 12 ∷ 13 ∷ 14 ∷ 15 ∷ 16 ∷ []))
+      ∷ (0, op.Read 1 1) ∷ []) ∷ [];
 }
 
 abbrev pub listed_picks_report : List ℕ
@@ -197,7 +200,8 @@ abbrev pub conflicts_wait_in_order : Scenario
 conflicts_wait_in_order = record {
   schedule = schedule.RoundRobin;
   parts = disk 4 0 block_image [] ∷ [];
-  threads = thread (codes "t0") ((0, op.Write 2 (replicate 16 1)) ∷ []) ∷ thread (codes "t1") ((0, op.Write 2 (replicate 16 2)) ∷ []) ∷ thread (codes "t2") ((0, op.Read 2 1) ∷ []) ∷ [];
+  threads = thread (codes "t0") ((0, op.Write 2 (replicate 16 1)) ∷ [])
+      ∷ thread (codes "t1") ((0, op.Write 2 (replicate 16 2)) ∷ []) ∷ thread (codes "t2") ((0, op.Read 2 1) ∷ []) ∷ [];
 }
 
 abbrev pub conflicts_wait_in_order_report : List ℕ

@@ -10,7 +10,9 @@ use Rattle.worked_rows.specs.Scenarios.{driver, strike, disk, thread}
 abbrev pub init_writes_an_object : Scenario
 init_writes_an_object = record {
   schedule = schedule.RoundRobin;
-  parts = disk 4 0 (driver (codes ".class block\n" ++ codes ".entry init init\n" ++ codes ".entry read init\n" ++ codes ".entry write init\n" ++ codes ".entry get init\n" ++ codes ".entry set init\n" ++ codes "init: LI r1 7360\n" ++ codes "ST r0 r1 0\n")) [] ∷ [];
+  parts = disk 4 0 (driver (codes ".class block\n" ++ codes ".entry init init\n" ++ codes ".entry read init\n"
+      ++ codes ".entry write init\n" ++ codes ".entry get init\n" ++ codes ".entry set init\n"
+      ++ codes "init: LI r1 7360\n" ++ codes "ST r0 r1 0\n")) [] ∷ [];
   threads = [];
 }
 
@@ -30,7 +32,10 @@ init_writes_an_object_report =
 abbrev pub buffer_lent_for_one_call : Scenario
 buffer_lent_for_one_call = record {
   schedule = schedule.RoundRobin;
-  parts = disk 1 0 (driver (codes ".class block\n" ++ codes ".entry init init\n" ++ codes ".entry read rd\n" ++ codes ".entry write init\n" ++ codes ".entry get init\n" ++ codes ".entry set st\n" ++ codes "init: LI r1 0\n" ++ codes "KCALL 3\n" ++ codes "LI r1 0\n" ++ codes "RET r1\n" ++ codes "rd: ST r0 r3 0\n" ++ codes "RET r0\n" ++ codes "st: LI r5 5184\n" ++ codes "ST r0 r5 0\n")) [] ∷ [];
+  parts = disk 1 0 (driver (codes ".class block\n" ++ codes ".entry init init\n" ++ codes ".entry read rd\n"
+      ++ codes ".entry write init\n" ++ codes ".entry get init\n" ++ codes ".entry set st\n" ++ codes "init: LI r1 0\n"
+      ++ codes "KCALL 3\n" ++ codes "LI r1 0\n" ++ codes "RET r1\n" ++ codes "rd: ST r0 r3 0\n" ++ codes "RET r0\n"
+      ++ codes "st: LI r5 5184\n" ++ codes "ST r0 r5 0\n")) [] ∷ [];
   threads = thread (codes "t0") ((0, op.Read 0 1) ∷ (0, op.Set 0 1) ∷ []) ∷ [];
 }
 
@@ -61,7 +66,9 @@ buffer_lent_for_one_call_report =
 abbrev pub no_such_instruction : Scenario
 no_such_instruction = record {
   schedule = schedule.RoundRobin;
-  parts = disk 4 0 (driver (codes ".class block\n" ++ codes ".entry init init\n" ++ codes ".entry read init\n" ++ codes ".entry write init\n" ++ codes ".entry get init\n" ++ codes ".entry set init\n" ++ codes "init: .word 385875969\n")) [] ∷ [];
+  parts = disk 4 0 (driver (codes ".class block\n" ++ codes ".entry init init\n" ++ codes ".entry read init\n"
+      ++ codes ".entry write init\n" ++ codes ".entry get init\n" ++ codes ".entry set init\n"
+      ++ codes "init: .word 385875969\n")) [] ∷ [];
   threads = [];
 }
 
@@ -81,7 +88,9 @@ no_such_instruction_report =
 abbrev pub jump_to_itself : Scenario
 jump_to_itself = record {
   schedule = schedule.RoundRobin;
-  parts = disk 4 0 (driver (codes ".class block\n" ++ codes ".entry init init\n" ++ codes ".entry read init\n" ++ codes ".entry write init\n" ++ codes ".entry get init\n" ++ codes ".entry set init\n" ++ codes "init: JMP 0\n")) [] ∷ [];
+  parts = disk 4 0 (driver (codes ".class block\n" ++ codes ".entry init init\n" ++ codes ".entry read init\n"
+      ++ codes ".entry write init\n" ++ codes ".entry get init\n" ++ codes ".entry set init\n"
+      ++ codes "init: JMP 0\n")) [] ∷ [];
   threads = [];
 }
 
@@ -101,7 +110,10 @@ jump_to_itself_report =
 abbrev pub crossing_at_the_last_turn : Scenario
 crossing_at_the_last_turn = record {
   schedule = schedule.RoundRobin;
-  parts = disk 4 0 (driver (codes ".class block\n" ++ codes ".entry init init\n" ++ codes ".entry read init\n" ++ codes ".entry write init\n" ++ codes ".entry get init\n" ++ codes ".entry set init\n" ++ codes "init: LI r1 0\n" ++ codes "LI r5 2046\n" ++ codes "LI r6 1\n" ++ codes "SUB r5 r6\n" ++ codes "BNE r5 r0 3\n" ++ codes "KCALL 3\n")) [] ∷ [];
+  parts = disk 4 0 (driver (codes ".class block\n" ++ codes ".entry init init\n" ++ codes ".entry read init\n"
+      ++ codes ".entry write init\n" ++ codes ".entry get init\n" ++ codes ".entry set init\n"
+      ++ codes "init: LI r1 0\n" ++ codes "LI r5 2046\n" ++ codes "LI r6 1\n" ++ codes "SUB r5 r6\n"
+      ++ codes "BNE r5 r0 3\n" ++ codes "KCALL 3\n")) [] ∷ [];
   threads = [];
 }
 
@@ -122,7 +134,11 @@ crossing_at_the_last_turn_report =
 abbrev pub sixty_four_allocations : Scenario
 sixty_four_allocations = record {
   schedule = schedule.RoundRobin;
-  parts = disk 1 0 (driver (codes ".class block\n" ++ codes ".entry init init\n" ++ codes ".entry read rd\n" ++ codes ".entry write init\n" ++ codes ".entry get init\n" ++ codes ".entry set init\n" ++ codes "init: LI r1 0\n" ++ codes "KCALL 3\n" ++ codes "LI r1 0\n" ++ codes "RET r1\n" ++ codes "rd: LI r5 22\n" ++ codes "LI r6 1\n" ++ codes "loop: LI r1 1\n" ++ codes "KCALL 1\n" ++ codes "SUB r5 r6\n" ++ codes "BNE r5 r0 loop\n" ++ codes "BEQ r1 r0 stop\n" ++ codes "RET r0\n" ++ codes "stop: FAULT\n")) [] ∷ [];
+  parts = disk 1 0 (driver (codes ".class block\n" ++ codes ".entry init init\n" ++ codes ".entry read rd\n"
+      ++ codes ".entry write init\n" ++ codes ".entry get init\n" ++ codes ".entry set init\n"
+      ++ codes "init: LI r1 0\n" ++ codes "KCALL 3\n" ++ codes "LI r1 0\n" ++ codes "RET r1\n" ++ codes "rd: LI r5 22\n"
+      ++ codes "LI r6 1\n" ++ codes "loop: LI r1 1\n" ++ codes "KCALL 1\n" ++ codes "SUB r5 r6\n"
+      ++ codes "BNE r5 r0 loop\n" ++ codes "BEQ r1 r0 stop\n" ++ codes "RET r0\n" ++ codes "stop: FAULT\n")) [] ∷ [];
   threads = thread (codes "t0") ((0, op.Read 0 1) ∷ (0, op.Read 0 1) ∷ (0, op.Read 0 1) ∷ []) ∷ [];
 }
 
@@ -223,7 +239,11 @@ sixty_four_allocations_report =
 abbrev pub borrowed_copy_not_written_back : Scenario
 borrowed_copy_not_written_back = record {
   schedule = schedule.RoundRobin;
-  parts = disk 4 0 (driver (codes ".class block\n" ++ codes ".entry init init\n" ++ codes ".entry read init\n" ++ codes ".entry write init\n" ++ codes ".entry get init\n" ++ codes ".entry set init\n" ++ codes "init: LI r1 0\n" ++ codes "KCALL 3\n" ++ codes "LI r1 1\n" ++ codes "KCALL 4\n" ++ codes "LI r5 77\n" ++ codes "ST r5 r1 5\n" ++ codes "LI r1 1\n" ++ codes "KCALL 5\n" ++ codes "LI r1 2\n" ++ codes "KCALL 4\n" ++ codes "LI r5 78\n" ++ codes "ST r5 r1 5\n" ++ codes "FAULT\n")) [] ∷ [];
+  parts = disk 4 0 (driver (codes ".class block\n" ++ codes ".entry init init\n" ++ codes ".entry read init\n"
+      ++ codes ".entry write init\n" ++ codes ".entry get init\n" ++ codes ".entry set init\n"
+      ++ codes "init: LI r1 0\n" ++ codes "KCALL 3\n" ++ codes "LI r1 1\n" ++ codes "KCALL 4\n" ++ codes "LI r5 77\n"
+      ++ codes "ST r5 r1 5\n" ++ codes "LI r1 1\n" ++ codes "KCALL 5\n" ++ codes "LI r1 2\n" ++ codes "KCALL 4\n"
+      ++ codes "LI r5 78\n" ++ codes "ST r5 r1 5\n" ++ codes "FAULT\n")) [] ∷ [];
   threads = [];
 }
 
@@ -248,7 +268,9 @@ borrowed_copy_not_written_back_report =
 abbrev pub buffer_lent_for_reading : Scenario
 buffer_lent_for_reading = record {
   schedule = schedule.RoundRobin;
-  parts = disk 1 0 (driver (codes ".class block\n" ++ codes ".entry init init\n" ++ codes ".entry read init\n" ++ codes ".entry write wr\n" ++ codes ".entry get init\n" ++ codes ".entry set init\n" ++ codes "init: LI r1 0\n" ++ codes "KCALL 3\n" ++ codes "LI r1 0\n" ++ codes "RET r1\n" ++ codes "wr: ST r0 r3 0\n")) [] ∷ [];
+  parts = disk 1 0 (driver (codes ".class block\n" ++ codes ".entry init init\n" ++ codes ".entry read init\n"
+      ++ codes ".entry write wr\n" ++ codes ".entry get init\n" ++ codes ".entry set init\n" ++ codes "init: LI r1 0\n"
+      ++ codes "KCALL 3\n" ++ codes "LI r1 0\n" ++ codes "RET r1\n" ++ codes "wr: ST r0 r3 0\n")) [] ∷ [];
   threads = thread (codes "t0") ((0, op.Write 0 (replicate 16 3)) ∷ []) ∷ [];
 }
 
@@ -275,7 +297,9 @@ buffer_lent_for_reading_report =
 abbrev pub yields_without_end : Scenario
 yields_without_end = record {
   schedule = schedule.RoundRobin;
-  parts = disk 4 0 (driver (codes ".class block\n" ++ codes ".entry init init\n" ++ codes ".entry read init\n" ++ codes ".entry write init\n" ++ codes ".entry get init\n" ++ codes ".entry set init\n" ++ codes "init: \n" ++ codes "k: KCALL 8\n" ++ codes "JMP k\n")) [] ∷ [];
+  parts = disk 4 0 (driver (codes ".class block\n" ++ codes ".entry init init\n" ++ codes ".entry read init\n"
+      ++ codes ".entry write init\n" ++ codes ".entry get init\n" ++ codes ".entry set init\n" ++ codes "init: \n"
+      ++ codes "k: KCALL 8\n" ++ codes "JMP k\n")) [] ∷ [];
   threads = [];
 }
 
@@ -326,7 +350,9 @@ yields_without_end_report =
 abbrev pub pauses_without_end : Scenario
 pauses_without_end = record {
   schedule = schedule.RoundRobin;
-  parts = disk 1 0 (driver (codes ".class block\n" ++ codes ".entry init init\n" ++ codes ".entry read init\n" ++ codes ".entry write init\n" ++ codes ".entry get init\n" ++ codes ".entry set init\n" ++ codes "init: LI r6 1\n" ++ codes "p: OUT r6 0\n" ++ codes "JMP p\n")) [] ∷ [];
+  parts = disk 1 0 (driver (codes ".class block\n" ++ codes ".entry init init\n" ++ codes ".entry read init\n"
+      ++ codes ".entry write init\n" ++ codes ".entry get init\n" ++ codes ".entry set init\n"
+      ++ codes "init: LI r6 1\n" ++ codes "p: OUT r6 0\n" ++ codes "JMP p\n")) [] ∷ [];
   threads = [];
 }
 

@@ -68,7 +68,8 @@ failing_block_words =
 
 -- its image
 abbrev pub failing_block_image : Image
-failing_block_image = record { class = class.Block; entries = 0 ∷ 4 ∷ 22 ∷ 42 ∷ 57 ∷ []; text = failing_block_words; initial = [] }
+failing_block_image =
+    record { class = class.Block; entries = 0 ∷ 4 ∷ 22 ∷ 42 ∷ 57 ∷ []; text = failing_block_words; initial = [] }
 
 -- a net driver: a received frame is handed up from the stack page
 abbrev pub net_text : List ℕ

@@ -8,7 +8,8 @@ use Rattle.nook_defs.specs.declared.calls.Op.TheVariants as op
 use Rattle.nook_defs.specs.declared.scenario.PartSpec.{PartSpec}
 use Rattle.nook_defs.specs.declared.steps.Stage.TheVariants as stage
 use Rattle.nook_defs.specs.declared.scenario.ThreadSpec.{ThreadSpec}
-use Rattle.worked_rows.specs.Cases.{numbers, thread, injected, invoked, entered, done, registers, shadow_replies, replies, stopped, disk_with, failing_image, inventing_image}
+use Rattle.worked_rows.specs.Cases.{numbers, thread, injected, invoked, entered, done, registers, shadow_replies}
+use Rattle.worked_rows.specs.Cases.{replies, stopped, disk_with, failing_image, inventing_image}
 
 -- Runs of a disk of which a block fails, and of a driver that invents words.
 

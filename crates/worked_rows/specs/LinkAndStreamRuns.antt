@@ -50,7 +50,8 @@ abbrev pub stream_with_its_volume : Scenario
 stream_with_its_volume = record {
   schedule = schedule.RoundRobin;
   parts = stream 0 sound_image [] ∷ [];
-  threads = thread (codes "t0") ((0, op.Open) ∷ (0, op.Set 1 7) ∷ (0, op.Play (10 ∷ 11 ∷ [])) ∷ (0, op.Get 1) ∷ (0, op.Close) ∷ []) ∷ [];
+  threads = thread (codes "t0") ((0, op.Open) ∷ (0, op.Set 1 7) ∷ (0, op.Play (10 ∷ 11 ∷ [])) ∷ (0, op.Get 1)
+      ∷ (0, op.Close) ∷ []) ∷ [];
 }
 
 abbrev pub stream_with_its_volume_report : List ℕ

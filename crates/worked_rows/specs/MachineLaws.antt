@@ -14,8 +14,10 @@ pub record IsBounded (b : Burst) : Type 0 where
 abbrev pub IsPageTable : Type 0
 IsPageTable =
     (may_write [] 0 ≡ false) × (may_write [] 2047 ≡ false) × (may_write [] 2048 ≡ true) × (may_write [] 4095 ≡ true)
-    × (may_write [] 4096 ≡ true) × (may_write [] 5183 ≡ true) × (may_write [] 5184 ≡ false) × (may_write [] 7359 ≡ false)
-    × (may_write [] 7360 ≡ false) × (may_write [] 8191 ≡ false) × (may_write [] 8192 ≡ false) × (may_write [] 4294967295 ≡ false)
+    × (may_write [] 4096 ≡ true) × (may_write [] 5183 ≡ true) × (may_write [] 5184 ≡ false)
+    × (may_write [] 7359 ≡ false)
+    × (may_write [] 7360 ≡ false) × (may_write [] 8191 ≡ false) × (may_write [] 8192 ≡ false)
+    × (may_write [] 4294967295 ≡ false)
 
 -- a buffer that is lent for writing may be written, one that is lent for reading may not, and no other is touched
 abbrev pub IsLentBuffer : Type 0

@@ -8,7 +8,8 @@ use Rattle.nook_defs.specs.declared.calls.Op.TheVariants as op
 use Rattle.nook_defs.specs.declared.scenario.PartSpec.{PartSpec}
 use Rattle.nook_defs.specs.declared.steps.Stage.TheVariants as stage
 use Rattle.nook_defs.specs.declared.scenario.ThreadSpec.{ThreadSpec}
-use Rattle.worked_rows.specs.Cases.{numbers, thread, injected, invoked, entered, done, registers, shadow_replies, replies, stopped, stream_with}
+use Rattle.worked_rows.specs.Cases.{numbers, thread, injected, invoked, entered, done, registers, shadow_replies}
+use Rattle.worked_rows.specs.Cases.{replies, stopped, stream_with}
 
 -- Runs of a stream, with the journal of its part and its report.
 
@@ -19,7 +20,8 @@ play_cut_part = stream_with 1 (injected 5 11 ∷ [])
 
 abbrev pub play_cut_threads : List ThreadSpec
 play_cut_threads =
-    thread (codes "t0") (op.Open ∷ op.Set 1 7 ∷ op.Play (10 ∷ 11 ∷ 12 ∷ 13 ∷ []) ∷ op.Set 0 16000 ∷ op.Play (14 ∷ []) ∷ []) ∷ []
+    thread (codes "t0") (op.Open ∷ op.Set 1 7 ∷ op.Play (10 ∷ 11 ∷ 12 ∷ 13 ∷ []) ∷ op.Set 0 16000 ∷ op.Play (14 ∷ [])
+    ∷ []) ∷ []
 
 -- what its part does
 abbrev pub play_cut_journal : List Event

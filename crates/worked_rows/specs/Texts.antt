@@ -62,7 +62,12 @@ lying_numbers =
 
 -- the block driver's init, read and write; get and set end in a fault
 abbrev pub short_image : Image
-short_image = record { class = class.Block; entries = 0 ∷ 4 ∷ 18 ∷ 33 ∷ 33 ∷ []; text = take 33 block_words ++ 0x18000000 ∷ []; initial = [] }
+short_image = record {
+  class = class.Block;
+  entries = 0 ∷ 4 ∷ 18 ∷ 33 ∷ 33 ∷ [];
+  text = take 33 block_words ++ 0x18000000 ∷ [];
+  initial = [];
+}
 
 abbrev pub write_and_read_json : List ℕ
 write_and_read_json =
@@ -108,7 +113,8 @@ driver_json image = codes "{\"image\":" ++ compact_text (image_data image) ++ co
 -- a scenario of a version, in which block 2 fails from its first command on
 abbrev pub bad_block_json : List ℕ → List ℕ
 bad_block_json version =
-    codes "{\"version\":" ++ version ++ codes ",\"parts\":[{\"name\":\"d0\",\"class\":\"block\",\"driver\":" ++ driver_json failing_block_image
+    codes "{\"version\":" ++ version ++ codes ",\"parts\":[{\"name\":\"d0\",\"class\":\"block\",\"driver\":"
+    ++ driver_json failing_block_image
     ++ codes ",\"bad\":[{\"block\":2,\"after\":0}],\"blocks\":4}],\"threads\":[{\"name\":\"t0\",\"ops\":["
     ++ codes "{\"part\":0,\"op\":\"write\",\"first\":1,\"data\":[1,1,1,1,1,1,1,1,1,1,1,1,1,1,1,1,2,2,2,2,2,2,2,2,2,2,2,2,2,2,2,2]},"
     ++ codes "{\"part\":0,\"op\":\"read\",\"first\":1,\"count\":1},{\"part\":0,\"op\":\"read\",\"first\":2,\"count\":1}]}]}"
@@ -117,5 +123,9 @@ abbrev pub bad_block : Scenario
 bad_block = record {
   schedule = schedule.RoundRobin;
   parts = disk_part failing_block_image (record { block = 2; after = 0 } ∷ []) ∷ [];
-  threads = record { name = codes "t0"; ops = (0, op.Write 1 (replicate 16 1 ++ replicate 16 2)) ∷ (0, op.Read 1 1) ∷ (0, op.Read 2 1) ∷ [] } ∷ [];
+  threads = record {
+    name = codes "t0";
+    ops = (0, op.Write 1 (replicate 16 1 ++ replicate 16 2)) ∷ (0, op.Read 1 1)
+        ∷ (0, op.Read 2 1) ∷ [];
+  } ∷ [];
 }

@@ -56,8 +56,8 @@ recovered failures = record { failures = failures; kept = true; one_run = true; 
 abbrev pub eight_blocks : List ℕ
 eight_blocks = replicate 128 7
 
--- a disk that fails in its first init, in the middle of a write of eight blocks, in the replay of its configuration, and
--- in the middle of the write again
+-- a disk that fails in its first init, in the middle of a write of eight blocks, in the replay of its configuration,
+-- and in the middle of the write again
 abbrev pub failing_disk : Scenario
 failing_disk = record {
   schedule = schedule.RoundRobin;
@@ -71,7 +71,8 @@ failing_disk = record {
 abbrev pub failing_link : Scenario
 failing_link = record {
   schedule = schedule.RoundRobin;
-  parts = link 8 net_image (strike 1 1 fault.Trap ∷ strike 5 8 fault.Hang ∷ strike 8 3 fault.Trap ∷ []) ((5 ∷ 6 ∷ []) ∷ []) ∷ [];
+  parts = link 8 net_image (strike 1 1 fault.Trap ∷ strike 5 8 fault.Hang ∷ strike 8 3 fault.Trap ∷ [])
+      ((5 ∷ 6 ∷ []) ∷ []) ∷ [];
   threads = thread (codes "t0")
       ((0, op.Set 2 9) ∷ (0, op.Send (1 ∷ [])) ∷ (0, op.Send (2 ∷ [])) ∷ (0, op.Recv) ∷ (0, op.Get 2) ∷ []) ∷ [];
 }
@@ -84,5 +85,6 @@ failing_stream = record {
   parts = stream 8 sound_image
       (strike 1 0 fault.Trap ∷ strike 6 6 fault.Trap ∷ strike 9 1 fault.Trap ∷ strike 13 0 fault.Trap ∷ []) ∷ [];
   threads = thread (codes "t0")
-      ((0, op.Set 1 7) ∷ (0, op.Open) ∷ (0, op.Play (10 ∷ 11 ∷ 12 ∷ [])) ∷ (0, op.Play (13 ∷ [])) ∷ (0, op.Close) ∷ []) ∷ [];
+      ((0, op.Set 1 7) ∷ (0, op.Open) ∷ (0, op.Play (10 ∷ 11 ∷ 12 ∷ [])) ∷ (0, op.Play (13 ∷ [])) ∷ (0, op.Close) ∷ [])
+      ∷ [];
 }

@@ -109,23 +109,30 @@ pub fn number_ranges()
     ensures immediate { asm_output (codes "KCALL 0x0000fFfF") ≡ codes "fault 8 bad_asm 9 line 2 /\n" }
     ensures over { asm_output (codes "KCALL 65536") ≡ codes "fault 8 bad_asm 4 line 1 /\n" }
     ensures word { asm_output (codes ".word 4294967295") ≡ codes "fault 8 bad_asm 9 line 2 /\n" }
-    ensures long_word { asm_output (codes ".word 99999999999999999999999999999999") ≡ codes "fault 8 bad_asm 4 line 1 /\n" }
-    ensures entry { asm_output (codes ".class net\n.entry init 2047\n.entry send 2048") ≡ codes "fault 8 bad_asm 4 line 3 /\n" }
-    ensures data_entry { asm_output (codes ".class net\n.entry init x\n.data\nx: .word 0") ≡ codes "fault 8 bad_asm 4 line 2 /\n" }
+    ensures long_word { asm_output (codes ".word 99999999999999999999999999999999")
+        ≡ codes "fault 8 bad_asm 4 line 1 /\n" }
+    ensures entry { asm_output (codes ".class net\n.entry init 2047\n.entry send 2048")
+        ≡ codes "fault 8 bad_asm 4 line 3 /\n" }
+    ensures data_entry { asm_output (codes ".class net\n.entry init x\n.data\nx: .word 0")
+        ≡ codes "fault 8 bad_asm 4 line 2 /\n" }
 {}
 
 /// What is given twice, also with the same value.
 pub fn given_twice()
     ensures class { asm_output (codes ".class net\n.class net") ≡ codes "fault 8 bad_asm 5 line 2 /\n" }
-    ensures entry { asm_output (codes ".class net\n.entry init 0\n.entry init 0") ≡ codes "fault 8 bad_asm 5 line 3 /\n" }
+    ensures entry { asm_output (codes ".class net\n.entry init 0\n.entry init 0")
+        ≡ codes "fault 8 bad_asm 5 line 3 /\n" }
     ensures label { asm_output (codes "r16: RET r0\nr16: RET r0") ≡ codes "fault 8 bad_asm 5 line 2 /\n" }
 {}
 
 /// At most 2,048 words in each section: the next one is a fault of its line.
 pub fn too_many_words()
-    ensures text { draft_after no_labels 9 (codes ".word" ∷ codes "0" ∷ []) (record first_draft { text = replicate 2048 0 }) ≡ Err fault.TextTooLong }
-    ensures instr { draft_after no_labels 9 (codes "FAULT" ∷ []) (record first_draft { text = replicate 2048 0 }) ≡ Err fault.TextTooLong }
-    ensures initial { draft_after no_labels 9 (codes ".word" ∷ codes "0" ∷ []) (record first_draft { in_section = section.Data; initial = replicate 2048 0 }) ≡ Err fault.DataTooLong }
+    ensures text { draft_after no_labels 9 (codes ".word" ∷ codes "0" ∷ [])
+        (record first_draft { text = replicate 2048 0 }) ≡ Err fault.TextTooLong }
+    ensures instr { draft_after no_labels 9 (codes "FAULT" ∷ []) (record first_draft { text = replicate 2048 0 })
+        ≡ Err fault.TextTooLong }
+    ensures initial { draft_after no_labels 9 (codes ".word" ∷ codes "0" ∷ [])
+        (record first_draft { in_section = section.Data; initial = replicate 2048 0 }) ≡ Err fault.DataTooLong }
 {}
 
 /// Each mnemonic has a name of its own, and the instruction of a mnemonic and an instruction's fields is that
@@ -133,5 +140,6 @@ pub fn too_many_words()
 #[tactic(auto, using(nook_defs::proofs::AsmInstrs::named_mnemonic, nook_defs::proofs::AsmInstrs::instr_of_fields))]
 pub fn mnemonics_are_told_apart()
     ensures named { (m : Mnemonic) → mnemonic_named (mnemonic_text m) ≡ Some m }
-    ensures made { (i : Instr) → instr_with (fields_of i).mnemonic (fields_of i).a (fields_of i).b (fields_of i).imm ≡ i }
+    ensures made { (i : Instr) → instr_with (fields_of i).mnemonic (fields_of i).a (fields_of i).b (fields_of i).imm
+        ≡ i }
 {}

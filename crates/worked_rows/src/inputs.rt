@@ -61,12 +61,17 @@ pub fn not_json()
 pub fn unknown_and_missing_keys()
     ensures unknown { scenario_fault (codes "{\"versions\":1}") ≡ codes "fault 2 unknown_key /\n" }
     ensures missing { scenario_fault (codes "{\"parts\":0}") ≡ codes "fault 3 missing_key /version\n" }
-    ensures image { image_fault (codes "{\"class\":\"net\",\"data\":[],\"text\":[]}") ≡ codes "fault 3 missing_key /entries\n" }
-    ensures entry { image_fault (codes "{\"class\":\"net\",\"data\":[],\"entries\":{\"init\":0},\"text\":[]}") ≡ codes "fault 3 missing_key /entries/send\n" }
-    ensures other_entry { image_fault (codes "{\"class\":\"net\",\"data\":[],\"entries\":{\"read\":0},\"text\":[]}") ≡ codes "fault 2 unknown_key /entries\n" }
-    ensures both_drivers { scenario_fault (codes "{\"version\":1,\"parts\":[{\"class\":\"sound\",\"name\":\"s\",\"driver\":{\"asm\":0,\"image\":0}}]}")
+    ensures image { image_fault (codes "{\"class\":\"net\",\"data\":[],\"text\":[]}")
+        ≡ codes "fault 3 missing_key /entries\n" }
+    ensures entry { image_fault (codes "{\"class\":\"net\",\"data\":[],\"entries\":{\"init\":0},\"text\":[]}")
+        ≡ codes "fault 3 missing_key /entries/send\n" }
+    ensures other_entry { image_fault (codes "{\"class\":\"net\",\"data\":[],\"entries\":{\"read\":0},\"text\":[]}")
+        ≡ codes "fault 2 unknown_key /entries\n" }
+    ensures both_drivers { scenario_fault
+        (codes "{\"version\":1,\"parts\":[{\"class\":\"sound\",\"name\":\"s\",\"driver\":{\"asm\":0,\"image\":0}}]}")
         ≡ codes "fault 2 unknown_key /parts/0/driver\n" }
-    ensures no_driver { scenario_fault (codes "{\"version\":1,\"parts\":[{\"class\":\"sound\",\"name\":\"s\",\"driver\":{}}]}")
+    ensures no_driver { scenario_fault
+        (codes "{\"version\":1,\"parts\":[{\"class\":\"sound\",\"name\":\"s\",\"driver\":{}}]}")
         ≡ codes "fault 3 missing_key /parts/0/driver/image\n" }
 {}
 
@@ -78,36 +83,51 @@ pub fn wrong_kinds_and_ranges()
     ensures exponent { scenario_fault (codes "{\"version\":1e0}") ≡ codes "fault 4 wrong_kind /version\n" }
     ensures version { scenario_fault (codes "{\"version\":3}") ≡ codes "fault 5 number_range /version\n" }
     ensures null { scenario_fault (codes "{\"version\":1,\"schedule\":null}") ≡ codes "fault 4 wrong_kind /schedule\n" }
-    ensures last_value { scenario_fault (codes "{\"version\":1,\"version\":3}") ≡ codes "fault 5 number_range /version\n" }
-    ensures kind { scenario_fault (codes "{\"version\":1,\"schedule\":{\"kind\":\"random\",\"x\":0}}") ≡ codes "fault 4 wrong_kind /schedule/kind\n" }
-    ensures start { scenario_fault (codes "{\"version\":1,\"schedule\":{\"kind\":\"drawn\",\"start\":18446744073709551616}}")
+    ensures last_value { scenario_fault (codes "{\"version\":1,\"version\":3}")
+        ≡ codes "fault 5 number_range /version\n" }
+    ensures kind { scenario_fault (codes "{\"version\":1,\"schedule\":{\"kind\":\"random\",\"x\":0}}")
+        ≡ codes "fault 4 wrong_kind /schedule/kind\n" }
+    ensures start { scenario_fault
+        (codes "{\"version\":1,\"schedule\":{\"kind\":\"drawn\",\"start\":18446744073709551616}}")
         ≡ codes "fault 4 wrong_kind /schedule/start\n" }
     ensures pick { scenario_fault (codes "{\"version\":1,\"schedule\":{\"kind\":\"listed\",\"picks\":[0,65535,65536]}}")
         ≡ codes "fault 5 number_range /schedule/picks/2\n" }
-    ensures name { scenario_fault (codes "{\"version\":1,\"parts\":[{\"class\":\"sound\",\"name\":\"S\"}]}") ≡ codes "fault 4 wrong_kind /parts/0/name\n" }
+    ensures name { scenario_fault (codes "{\"version\":1,\"parts\":[{\"class\":\"sound\",\"name\":\"S\"}]}")
+        ≡ codes "fault 4 wrong_kind /parts/0/name\n" }
 {}
 
 /// Lists with too few items or too many.
 pub fn lengths_of_lists()
     ensures none { scenario_fault (codes "{\"version\":1,\"parts\":[]}") ≡ codes "fault 5 number_range /parts\n" }
-    ensures many { scenario_fault (codes "{\"version\":1,\"parts\":[0,0,0,0,0,0,0,0,0]}") ≡ codes "fault 6 too_many /parts\n" }
-    ensures frame { scenario_fault (codes "{\"version\":1,\"parts\":[{\"name\":\"l\",\"class\":\"net\",\"driver\":{\"asm\":\"" ++ codes ".class net\\n.entry init 0\\n.entry send 0\\n.entry poll 0\\n.entry get 0\\n.entry set 0" ++ codes "\"},\"arrivals\":[[1],[]]}]}")
+    ensures many { scenario_fault (codes "{\"version\":1,\"parts\":[0,0,0,0,0,0,0,0,0]}")
+        ≡ codes "fault 6 too_many /parts\n" }
+    ensures frame { scenario_fault
+        (codes "{\"version\":1,\"parts\":[{\"name\":\"l\",\"class\":\"net\",\"driver\":{\"asm\":\""
+        ++ codes ".class net\\n.entry init 0\\n.entry send 0\\n.entry poll 0\\n.entry get 0\\n.entry set 0"
+        ++ codes "\"},\"arrivals\":[[1],[]]}]}")
         ≡ codes "fault 5 number_range /parts/0/arrivals/1\n" }
 {}
 
 /// Classes, images and assembler texts that are wrong.
 pub fn wrong_drivers()
-    ensures class { scenario_fault (codes "{\"version\":1,\"parts\":[{\"class\":\"tape\"}]}") ≡ codes "fault 9 bad_class /parts/0/class\n" }
-    ensures word { image_fault (codes "{\"class\":\"net\",\"data\":[\"0160000F\",\"0160000\"],\"entries\":{},\"text\":[]}") ≡ codes "fault 7 bad_image /data/1\n" }
-    ensures asm { scenario_fault (codes "{\"version\":1,\"parts\":[{\"class\":\"sound\",\"name\":\"s\",\"driver\":{\"asm\":\".class sound\\nLI r1\"}}]}")
+    ensures class { scenario_fault (codes "{\"version\":1,\"parts\":[{\"class\":\"tape\"}]}")
+        ≡ codes "fault 9 bad_class /parts/0/class\n" }
+    ensures word { image_fault
+        (codes "{\"class\":\"net\",\"data\":[\"0160000F\",\"0160000\"],\"entries\":{},\"text\":[]}")
+        ≡ codes "fault 7 bad_image /data/1\n" }
+    ensures asm { scenario_fault
+        (codes "{\"version\":1,\"parts\":[{\"class\":\"sound\",\"name\":\"s\",\"driver\":{\"asm\":\".class sound\\nLI r1\"}}]}")
         ≡ codes "fault 8 bad_asm 3 line 2 /parts/0/driver/asm\n" }
-    ensures other_class { scenario_fault (codes "{\"version\":1,\"parts\":[{\"class\":\"net\",\"name\":\"s\",\"driver\":" ++ driver_json sound_image ++ codes ",\"arrivals\":0}]}")
+    ensures other_class { scenario_fault
+        (codes "{\"version\":1,\"parts\":[{\"class\":\"net\",\"name\":\"s\",\"driver\":" ++ driver_json sound_image
+        ++ codes ",\"arrivals\":0}]}")
         ≡ codes "fault 7 bad_image /parts/0/driver\n" }
 {}
 
 /// A thread may have a part's name, but no earlier thread's.
 pub fn double_name()
-    ensures { scenario_fault (codes "{\"version\":1,\"parts\":[{\"class\":\"sound\",\"name\":\"s\",\"driver\":" ++ driver_json sound_image
+    ensures { scenario_fault (codes "{\"version\":1,\"parts\":[{\"class\":\"sound\",\"name\":\"s\",\"driver\":"
+        ++ driver_json sound_image
         ++ codes "}],\"threads\":[{\"name\":\"s\",\"ops\":[]},{\"name\":\"s\",\"ops\":[]}]}")
         ≡ codes "fault 10 double_name /threads/1/name\n" }
 {}

@@ -1,11 +1,12 @@
-//! Runs of each class in which failures fall where recovery is hardest: the premises of the recovery theorem hold of them.
+//! Runs of each class in which failures fall where recovery is hardest: the premises of the recovery theorem hold of
+//! them.
 #![tactic(auto, unfolding(nook_defs::proofs::OnLiterals::nook_on_literals))]
 
 ghost use Rattle.std.specs.Prelude.{◌≡◌};
 ghost use Rattle.worked_rows.specs.Verdicts.{failing_disk, failing_link, failing_stream, recovered, verdicts_of};
 
-/// A disk fails in its first init, in the middle of a write of eight blocks, in a replay, and in the middle of the write
-/// again.
+/// A disk fails in its first init, in the middle of a write of eight blocks, in a replay, and in the middle of the
+/// write again.
 pub fn disk_recovers()
     ensures { verdicts_of failing_disk ≡ recovered 4 }
 {}

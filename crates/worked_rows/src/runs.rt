@@ -4,9 +4,37 @@
 ghost use Rattle.std.specs.Prelude.{◌≡◌, [], ◌∷◌, codes};
 ghost use Rattle.worked_rows.specs.FirstRun.{write_and_read_json, write_and_read_text};
 ghost use Rattle.worked_rows.specs.Scenarios.{answers_of, output, report_of, summary_of};
-ghost use Rattle.worked_rows.specs.DriverRuns.{init_writes_an_object as init_writes_an_object_run, init_writes_an_object_report, buffer_lent_for_one_call as buffer_lent_for_one_call_run, buffer_lent_for_one_call_report, no_such_instruction as no_such_instruction_run, no_such_instruction_report, jump_to_itself as jump_to_itself_run, jump_to_itself_report, crossing_at_the_last_turn as crossing_at_the_last_turn_run, crossing_at_the_last_turn_report, sixty_four_allocations as sixty_four_allocations_run, sixty_four_allocations_report, borrowed_copy_not_written_back as borrowed_copy_not_written_back_run, borrowed_copy_not_written_back_report, buffer_lent_for_reading as buffer_lent_for_reading_run, buffer_lent_for_reading_report, yields_without_end as yields_without_end_run, yields_without_end_report, pauses_without_end as pauses_without_end_run, pauses_without_end_report};
-ghost use Rattle.worked_rows.specs.DiskRuns.{boot_alone as boot_alone_run, boot_alone_report, edges_of_the_disk as edges_of_the_disk_run, edges_of_the_disk_report, given_up_past_the_limit as given_up_past_the_limit_run, given_up_past_the_limit_report, kept_within_the_limit as kept_within_the_limit_run, kept_within_the_limit_report, poked_buffer as poked_buffer_run, poked_buffer_report, listed_picks as listed_picks_run, listed_picks_report, conflicts_wait_in_order as conflicts_wait_in_order_run, conflicts_wait_in_order_report};
-ghost use Rattle.worked_rows.specs.LinkAndStreamRuns.{frame_up_and_none_left as frame_up_and_none_left_run, frame_up_and_none_left_report, stream_with_its_volume as stream_with_its_volume_run, stream_with_its_volume_report};
+ghost use Rattle.worked_rows.specs.DriverRuns.{init_writes_an_object as init_writes_an_object_run};
+ghost use Rattle.worked_rows.specs.DriverRuns.{init_writes_an_object_report};
+ghost use Rattle.worked_rows.specs.DriverRuns.{buffer_lent_for_one_call as buffer_lent_for_one_call_run};
+ghost use Rattle.worked_rows.specs.DriverRuns.{buffer_lent_for_one_call_report};
+ghost use Rattle.worked_rows.specs.DriverRuns.{no_such_instruction as no_such_instruction_run};
+ghost use Rattle.worked_rows.specs.DriverRuns.{no_such_instruction_report, jump_to_itself as jump_to_itself_run};
+ghost use Rattle.worked_rows.specs.DriverRuns.{jump_to_itself_report};
+ghost use Rattle.worked_rows.specs.DriverRuns.{crossing_at_the_last_turn as crossing_at_the_last_turn_run};
+ghost use Rattle.worked_rows.specs.DriverRuns.{crossing_at_the_last_turn_report};
+ghost use Rattle.worked_rows.specs.DriverRuns.{sixty_four_allocations as sixty_four_allocations_run};
+ghost use Rattle.worked_rows.specs.DriverRuns.{sixty_four_allocations_report};
+ghost use Rattle.worked_rows.specs.DriverRuns.{borrowed_copy_not_written_back as borrowed_copy_not_written_back_run};
+ghost use Rattle.worked_rows.specs.DriverRuns.{borrowed_copy_not_written_back_report};
+ghost use Rattle.worked_rows.specs.DriverRuns.{buffer_lent_for_reading as buffer_lent_for_reading_run};
+ghost use Rattle.worked_rows.specs.DriverRuns.{buffer_lent_for_reading_report};
+ghost use Rattle.worked_rows.specs.DriverRuns.{yields_without_end as yields_without_end_run, yields_without_end_report};
+ghost use Rattle.worked_rows.specs.DriverRuns.{pauses_without_end as pauses_without_end_run, pauses_without_end_report};
+ghost use Rattle.worked_rows.specs.DiskRuns.{boot_alone as boot_alone_run, boot_alone_report};
+ghost use Rattle.worked_rows.specs.DiskRuns.{edges_of_the_disk as edges_of_the_disk_run, edges_of_the_disk_report};
+ghost use Rattle.worked_rows.specs.DiskRuns.{given_up_past_the_limit as given_up_past_the_limit_run};
+ghost use Rattle.worked_rows.specs.DiskRuns.{given_up_past_the_limit_report};
+ghost use Rattle.worked_rows.specs.DiskRuns.{kept_within_the_limit as kept_within_the_limit_run};
+ghost use Rattle.worked_rows.specs.DiskRuns.{kept_within_the_limit_report, poked_buffer as poked_buffer_run};
+ghost use Rattle.worked_rows.specs.DiskRuns.{poked_buffer_report, listed_picks as listed_picks_run};
+ghost use Rattle.worked_rows.specs.DiskRuns.{listed_picks_report};
+ghost use Rattle.worked_rows.specs.DiskRuns.{conflicts_wait_in_order as conflicts_wait_in_order_run};
+ghost use Rattle.worked_rows.specs.DiskRuns.{conflicts_wait_in_order_report};
+ghost use Rattle.worked_rows.specs.LinkAndStreamRuns.{frame_up_and_none_left as frame_up_and_none_left_run};
+ghost use Rattle.worked_rows.specs.LinkAndStreamRuns.{frame_up_and_none_left_report};
+ghost use Rattle.worked_rows.specs.LinkAndStreamRuns.{stream_with_its_volume as stream_with_its_volume_run};
+ghost use Rattle.worked_rows.specs.LinkAndStreamRuns.{stream_with_its_volume_report};
 
 /// From the bytes of a scenario to the bytes of its report: a block is written and read back.
 pub fn write_and_read_from_bytes()

@@ -1,7 +1,8 @@
 //! Small laws of the class tables.
 
 ghost use Rattle.std.specs.Prelude.{◌≡◌, ◌<◌, ◌+◌, ℕ, true, Some, length, slice_get};
-ghost use Rattle.nook_defs.specs.Classes.{conflicts, is_of_class, entry_count, entry_place, accept, blocks_of_op, first_of_op};
+ghost use Rattle.nook_defs.specs.Classes.{conflicts, is_of_class, entry_count, entry_place, accept, blocks_of_op};
+ghost use Rattle.nook_defs.specs.Classes.{first_of_op};
 ghost use Rattle.nook_defs.specs.declared.classes.Accept.TheVariants.{IoError};
 ghost use Rattle.worked_rows.specs.EntryNames.{entry_name, entry_names};
 

@@ -8,11 +8,20 @@ ghost use Rattle.nook_defs.specs.Trace.{trace};
 ghost use Rattle.nook_defs.specs.declared.calls.Answer.TheVariants.{BadClass, Done};
 ghost use Rattle.nook_defs.specs.declared.classes.Class.TheVariants.{Block, Net, Sound};
 ghost use Rattle.worked_rows.specs.Cases.{MakesRun, KeepsContract};
-ghost use Rattle.worked_rows.specs.DiskCases.{write_and_read_part, write_and_read_threads, write_and_read_journal, write_and_read_report, write_cut_part, write_cut_threads, write_cut_journal, write_cut_report, wide_write_cut_part, wide_write_cut_threads, wide_write_cut_journal, wide_write_cut_report};
-ghost use Rattle.worked_rows.specs.FailingDiskCases.{bad_block_part, bad_block_threads, bad_block_journal, bad_block_report, bad_block_later_part, bad_block_later_threads, bad_block_later_journal, bad_block_later_report, read_invented_part, read_invented_threads, read_invented_journal, read_invented_report};
-ghost use Rattle.worked_rows.specs.LinkCases.{send_cut_part, send_cut_threads, send_cut_journal, send_cut_report, ring_full_part, ring_full_threads, ring_full_journal, ring_full_report};
+ghost use Rattle.worked_rows.specs.DiskCases.{write_and_read_part, write_and_read_threads, write_and_read_journal};
+ghost use Rattle.worked_rows.specs.DiskCases.{write_and_read_report, write_cut_part, write_cut_threads};
+ghost use Rattle.worked_rows.specs.DiskCases.{write_cut_journal, write_cut_report, wide_write_cut_part};
+ghost use Rattle.worked_rows.specs.DiskCases.{wide_write_cut_threads, wide_write_cut_journal, wide_write_cut_report};
+ghost use Rattle.worked_rows.specs.FailingDiskCases.{bad_block_part, bad_block_threads, bad_block_journal};
+ghost use Rattle.worked_rows.specs.FailingDiskCases.{bad_block_report, bad_block_later_part, bad_block_later_threads};
+ghost use Rattle.worked_rows.specs.FailingDiskCases.{bad_block_later_journal, bad_block_later_report};
+ghost use Rattle.worked_rows.specs.FailingDiskCases.{read_invented_part, read_invented_threads, read_invented_journal};
+ghost use Rattle.worked_rows.specs.FailingDiskCases.{read_invented_report};
+ghost use Rattle.worked_rows.specs.LinkCases.{send_cut_part, send_cut_threads, send_cut_journal, send_cut_report};
+ghost use Rattle.worked_rows.specs.LinkCases.{ring_full_part, ring_full_threads, ring_full_journal, ring_full_report};
 ghost use Rattle.worked_rows.specs.OtherClasses.{frame_arrives, frame_is_sent, sample_is_played};
-ghost use Rattle.worked_rows.specs.StreamCases.{play_cut_part, play_cut_threads, play_cut_journal, play_cut_report, init_cut_part, init_cut_threads, init_cut_journal, init_cut_report};
+ghost use Rattle.worked_rows.specs.StreamCases.{play_cut_part, play_cut_threads, play_cut_journal, play_cut_report};
+ghost use Rattle.worked_rows.specs.StreamCases.{init_cut_part, init_cut_threads, init_cut_journal, init_cut_report};
 
 /// A block is written and read.
 #[tactic(auto, using(crate::proofs::DiskCases::write_and_read_runs, crate::proofs::DiskCases::write_and_read_keeps))]
@@ -21,7 +30,8 @@ pub fn write_and_read()
     ensures keeps { KeepsContract write_and_read_part write_and_read_journal }
 {}
 
-/// A write is cut behind its store: it is given to the driver again, and another write and a read of the block wait for it.
+/// A write is cut behind its store: it is given to the driver again, and another write and a read of the block wait for
+/// it.
 #[tactic(auto, using(crate::proofs::DiskCases::write_cut_runs, crate::proofs::DiskCases::write_cut_keeps))]
 pub fn write_cut()
     ensures run { MakesRun write_cut_part write_cut_threads write_cut_journal write_cut_report }

@@ -1,5 +1,5 @@
-use Rattle.std.specs.Prelude.{ℕ, ◌+◌, ◌<◌, ◌≤◌, nat_lt, if◌then◌else◌, Bool, false, Option, Some, None, is_some, List, []}
-use Rattle.std.specs.Prelude.{◌∷◌, find, map}
+use Rattle.std.specs.Prelude.{ℕ, ◌+◌, ◌<◌, ◌≤◌, nat_lt, if◌then◌else◌, Bool, false, Option, Some, None, is_some, List}
+use Rattle.std.specs.Prelude.{[], ◌∷◌, find, map}
 use Rattle.nook_defs.specs.Types.{CallEntry, Class, Event}
 use Rattle.nook_defs.specs.Log.{after_acknowledging, blocks_call, held_call, is_call, open_call}
 use Rattle.nook_defs.specs.Runs.{answer_at}

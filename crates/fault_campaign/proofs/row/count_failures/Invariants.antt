@@ -1,5 +1,5 @@
 use Rattle.std.proofs.Common.{◌≡◌, ◌+◌, drop}
-use Rattle.fault_campaign.specs.Sums.{failures_in}
+use Rattle.report_text.specs.Whole.{failures_in}
 use Rattle.fault_campaign.proofs.row.count_failures.Given as goal
 
 abbrev pub invariant-loop-part : goal.invariant-loop-part

@@ -1,6 +1,7 @@
 use Rattle.std.proofs.Common.{Some, ◌++◌, [], ap, sym, subst, ◌∙◌}
 use Rattle.run_laws.specs.Audit.{last_lines}
 use Rattle.nook_defs.specs.ReportText.{status_line, taps_text, threads_text}
+use Rattle.report_text.specs.Statuses.{status_number}
 use Rattle.report_text.specs.Writing.{Wrote}
 use Rattle.journal_audit.specs.Comparisons.{Comparison, held_in, untouched}
 use Rattle.journal_audit.specs.Found.{at_last, found_from}
@@ -13,13 +14,13 @@ use Rattle.journal_audit.proofs.last.check_last.Goals.{After-write_last-written}
 
 held : (c : After-write_last-written)
     → Held c.write_last-written.new.sink c.args.cursor.now.rest c.write_last-written.result
-    (threads_text 0 c.args.threads.now c.as_slice.result.now ++ (taps_text 0 c.in_ok-taps.taps ++ status_line c.status.result))
+    (threads_text 0 c.args.threads.now c.as_slice.result.now ++ (taps_text 0 c.in_ok-taps.taps ++ status_line (status_number c.status.result)))
 held c = record {
   is =
       subst
       (λ (x : Comparison). Wrote (Some (held_in x)) (Some (held_in c.write_last-written.new.sink)) x.faults
       c.write_last-written.new.sink.faults c.write_last-written.result
-      (threads_text 0 c.args.threads.now c.as_slice.result.now ++ (taps_text 0 c.in_ok-taps.taps ++ status_line c.status.result)))
+      (threads_text 0 c.args.threads.now c.as_slice.result.now ++ (taps_text 0 c.in_ok-taps.taps ++ status_line (status_number c.status.result))))
       (c.new-compared.ensures ∙ ap untouched c.rest.ensures) c.write_last-written.ensures;
 }
 
@@ -30,7 +31,7 @@ pub returns : goal.returns
 returns c = λ scenario sections threads sums.
     let here = (goal.at.returns c).After-write_last-written in
     let answers = c.as_slice.ensures ∙ c.in_ok-answers.ensures sections (sym (c.answers.ensures ∙ sums.answers)) in
-    let text = last_text scenario sections c.args.tally.now c.args.threads.now c.as_slice.result.now c.in_ok-taps.taps c.status.result
+    let text = last_text scenario sections c.args.tally.now c.args.threads.now c.as_slice.result.now c.in_ok-taps.taps (status_number c.status.result)
     sums threads answers c.in_ok-taps.ensures c.status.ensures in
     let wrote = subst (Held c.write_last-written.new.sink c.args.cursor.now.rest c.write_last-written.result) text (held here) in
     subst (λ before. Checks c.settle.result before (found_from scenario (at_last sections []) c.settle.new.self))

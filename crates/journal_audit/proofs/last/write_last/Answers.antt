@@ -14,5 +14,5 @@ returns-in_err-write_taps g c =
 
 pub returns : goal.returns
 returns g c =
-    rw (← c.as_slice.ensures)
+    rw (← c.as_slice.ensures, ← c.number.ensures)
     (both c.in_ok-write_threads.ensures (both c.in_ok-write_taps.ensures c.write_status_line.ensures))

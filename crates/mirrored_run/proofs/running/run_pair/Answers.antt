@@ -7,11 +7,11 @@ use Rattle.mirrored_run.specs.Unheard.{IsWholeRun}
 use Rattle.mirrored_run.proofs.Whole.{all_ok, both_valid, few_ops, new_side, served_alone, served_pair, served_single, whole_run}
 use Rattle.mirrored_run.proofs.running.run_pair.Goals as goal
 
-pub open-requires : goal.open-requires
-open-requires g c = (both_valid c.args.scenario.now c.args.left.now c.args.right.now c.requires.parts c.requires.valid).0
+pub open_desk-requires : goal.open_desk-requires
+open_desk-requires g c = (both_valid c.args.scenario.now c.args.left.now c.args.right.now c.requires.parts c.requires.valid).0
 
-pub open-requires-2 : goal.open-requires-2
-open-requires-2 g c = (both_valid c.args.scenario.now c.args.left.now c.args.right.now c.requires.parts c.requires.valid).1
+pub open_desk-requires-2 : goal.open_desk-requires-2
+open_desk-requires-2 g c = (both_valid c.args.scenario.now c.args.left.now c.args.right.now c.requires.parts c.requires.valid).1
 
 pub serve_over-requires-clause-single : goal.serve_over-requires-clause-single
 serve_over-requires-clause-single g c =

@@ -6,9 +6,12 @@ pub returns-clause-written : goal.returns-clause-written
 returns-clause-written c =
     let p = c.self.inside in
     let own = c.put.new.frames in
-    let words = rw (c.deref_mut.ensures.value, c.as_slice.ensures, c.as_slice-2.ensures) at c.put.ensures.words in
-    let back = items_back p.frames own c.self.invariant.frames_all c.put.ensures.size in
-    rw (← c.self.view_is) (map_put p.table c.put.new.table p.frames.items (with_items p.frames own).items own p.text p.initial p.lent c.args.address c.args.word back c.put.ensures.table words)
+    let text = c.put.new.text in
+    let words = rw (c.deref_mut.ensures.value, c.deref_mut-2.ensures.value, c.as_slice.ensures) at c.put.ensures.words in
+    let back = items_back 8192 p.frames own c.self.invariant.0.frames_all c.put.ensures.size in
+    let texts = items_back 2048 p.text text c.self.invariant.1.size c.put.ensures.text.size in
+    rw (← c.self.view_is)
+    (map_put p.table c.put.new.table p.frames.items (with_items p.frames own).items own p.text.items (with_items p.text text).items text p.initial p.lent c.args.address c.args.word back texts c.put.ensures.table words)
 
 pub returns-clause-size : goal.returns-clause-size
 returns-clause-size c = rw (← c.self.view_is) (length-shown _ _ _ _)

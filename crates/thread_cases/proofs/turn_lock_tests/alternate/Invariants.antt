@@ -1,0 +1,6 @@
+use Rattle.std.proofs.Common.{◌≡◌, false}
+use Rattle.turn_lock.specs.Seats.{seat_view, IsSeatOf}
+use Rattle.thread_cases.proofs.turn_lock_tests.alternate.Given as goal
+
+abbrev pub invariant-loop-round : goal.invariant-loop-round
+invariant-loop-round g l = IsSeatOf l.turn l.seat × ((seat_view l.seat).has ≡ false)

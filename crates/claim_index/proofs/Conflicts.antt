@@ -2,14 +2,14 @@
 use Rattle.std.proofs.Common.{◌≡◌, ℕ, ◌+◌, ◌<◌, ◌≤◌, ◌==◌, ◌&&◌, ◌||◌, nat_lt, Bool, true, false, Option, Some, None, List, [], ◌∷◌, map, refl, sym, ap, ◌∙◌, inl, inr, arith}
 use Rattle.std.specs.List.{find}
 use Rattle.std.specs.Option.{option_map}
-use Rattle.std.proofs.lemmas.Bool.{cases_Bool}
+use Rattle.std.proofs.lemmas.Bool.{cases_Bool, eqb-true, le-ltb}
 use Rattle.claim_index.specs.declared.claim.Claim.{Claim}
 use Rattle.claim_index.specs.declared.claim.Claimed.{Claimed}
 use Rattle.claim_index.specs.declared.claim.Claimed.TheVariants as claimed
 use Rattle.claim_index.proofs.Claims.{claim_call}
-use Rattle.claim_index.proofs.Firsts.{first_before}
+use Rattle.claim_index.proofs.Firsts.{first_before, none_before}
 use Rattle.claim_index.specs.Indexed.{number_before}
-use Rattle.claim_index.specs.Claims.{AreRising, first_that, HasBlocks, HaveBlocks, blocker_of, blocks_claim, claim_by, claim_of, claimed_by, claims_of, conflict, end_claimed, first_blocking, first_claimed, is_claim, is_reading, is_writing, meets, takes_all, takes_frames, takes_stream}
+use Rattle.claim_index.specs.Claims.{AreRising, first_that, HasBlocks, HaveBlocks, blocker_of, blocks_claim, claim_by, claim_of, claimed_by, claims_of, conflict, end_claimed, first_blocking, first_claimed, is_claim, is_oldest, is_reading, is_writing, meets, takes_all, takes_frames, takes_stream}
 use Rattle.nook_defs.specs.declared.calls.CallEntry.{CallEntry}
 use Rattle.nook_defs.specs.declared.classes.Class.{Class}
 use Rattle.nook_defs.specs.declared.classes.Class.TheVariants as class
@@ -77,3 +77,10 @@ pub blocking_before : (cl : Class) (call : ℕ) (xs : List Claim) (k : Claim) (f
 blocking_before cl call xs k first found r f e n =
     let same : k.call ≡ call = claim_call call xs k (sym f) in
     rw (← f) (rw same (n ∙ ap (λ z. number_before call z) e ∙ first_before (conflict cl k.on) 0 call xs r))
+
+-- a call that came first waits for none
+pub oldest_waits_for_none : (cl : Class) (call : ℕ) (xs : List Claim) → AreRising 0 xs → is_oldest call xs ≡ true
+    → None ≡ first_blocking cl (claim_by call xs) xs
+oldest_waits_for_none cl call [] r t = absurd (cc)
+oldest_waits_for_none cl call (x ∷ xs) r t =
+    rw (t, le-ltb x.call x.call (omega arith)) (sym (none_before (conflict cl x.on) x.call x.call xs r.1 (omega arith)))

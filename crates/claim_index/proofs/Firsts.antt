@@ -53,7 +53,7 @@ first_either p q low (x ∷ xs) r = elim (cases_Bool (p x.on)) [
 ]
 
 -- the first of those before a call
-none_before : (p : Claimed → Bool) (low n : ℕ) (xs : List Claim) → AreRising low xs → n ≤ low
+pub none_before : (p : Claimed → Bool) (low n : ℕ) (xs : List Claim) → AreRising low xs → n ≤ low
     → option_map (λ k. k.call) (find (λ k. nat_lt k.call n && p k.on) xs) ≡ None
 none_before p low n [] r l = refl
 none_before p low n (x ∷ xs) r l =

@@ -97,6 +97,11 @@ abbrev pub AreRising : ℕ → List Claim → Type 0
 AreRising low [] = Unit {0}
 AreRising low (k ∷ claims) = (low < k.call) × AreRising k.call claims
 
+-- whether the call's claim is the first
+abbrev pub is_oldest : ℕ → List Claim → Bool
+is_oldest call [] = false
+is_oldest call (k ∷ claims) = is_claim call k
+
 -- every number is below a number
 abbrev pub AreBelow : ℕ → List Claim → Type 0
 AreBelow call [] = Unit {0}

@@ -2,7 +2,7 @@
 
 ghost use Rattle.std.specs.Prelude.{◌≡◌, ◌<◌, ◌++◌, ◌∷◌, [], List, Some, OnOk, OnErr};
 ghost use Rattle.claim_index.specs.Claims.{AreBelow, AreRising, HasBlocks, blocker_of, claim_by, claims_of, conflict};
-ghost use Rattle.claim_index.specs.Claims.{first_blocking, first_that, without_call};
+ghost use Rattle.claim_index.specs.Claims.{first_blocking, first_that, is_oldest, without_call};
 ghost use Rattle.claim_index.specs.Indexed.{number_before};
 ghost use Rattle.nook_defs.specs.Log.{open_call};
 ghost use Rattle.nook_defs.specs.declared.calls.CallEntry.{CallEntry};
@@ -79,9 +79,24 @@ impl ClaimIndex {
         ensures calls { (pending : List CallEntry) → self.now ≡ claims_of pending
             → result ≡ blocker_of class (open_call call pending) pending }
     {
+        // The oldest waits for none, and most calls are alone.
+        if self.is_oldest(call) {
+            return None;
+        }
         match self.claim_of(call) {
             Some(claim) => before(call, self.first_claimant(class, claim)),
             None => None,
+        }
+    }
+
+    /// Whether the call is the open one with the smallest number.
+    fn is_oldest(&self, call: u32) -> bool
+        ensures oldest { result ≡ is_oldest call self.now }
+        ensures rising { AreRising 0 self.now }
+    {
+        match self.open.first() {
+            Some(claim) => claim.call == call,
+            None => false,
         }
     }
 

@@ -1,6 +1,7 @@
 //! The scenarios of members.
 
-ghost use Rattle.std.specs.Prelude.{◌≡◌, ◌<◌, IfOk, length};
+ghost use Rattle.std.specs.Prelude.{◌≡◌, ◌<◌, IfOk, OnOk, OnErr, length};
+ghost use Rattle.fault_campaign.specs.Members.{IsBaseButStruck};
 ghost use Rattle.nook_defs.specs.Campaigns.{member, with_fault};
 
 use nook_defs::campaign::Campaign;
@@ -9,18 +10,24 @@ use nook_defs::memory::NoMemory;
 use nook_defs::scenario::{Fault, PartSpec, Scenario};
 use std::alloc::Global;
 
-/// The scenario of the member with a fault: the campaign's own, where the fault stands behind those that the struck
-/// part has.
-#[tactic(auto, using(crate::proofs::Struck::struck_is))]
-pub fn member_of(alloc: Global, campaign: &Campaign, fault: Fault) -> Result<Scenario, NoMemory>
-    requires { campaign.now.part < length campaign.now.base.parts }
-    ensures { IfOk result (λ scenario. scenario ≡ member campaign.now fault) }
+/// Makes the scenario that of the member with a fault, which stands behind those that the struck part has of its own.
+/// It was the campaign's own or another member's: these differ in the struck part alone, so no other part is copied.
+#[tactic(auto, using(crate::proofs::Struck::struck_member))]
+pub fn strike(
+    alloc: Global,
+    campaign: &Campaign,
+    fault: Fault,
+    scenario: &mut Scenario,
+) -> Result<(), NoMemory>
+    requires part { campaign.now.part < length campaign.now.base.parts }
+    requires scenario { IsBaseButStruck campaign.now scenario.old }
+    ensures ok { OnOk result (scenario.new ≡ member campaign.now fault) }
+    ensures err { OnErr result (scenario.new ≡ scenario.old) }
 {
-    let mut scenario = campaign.base.copy(alloc)?;
     let place = campaign.part as usize;
     let struck = with_fault(alloc, campaign.base.parts.get(place), fault)?;
     scenario.parts.set(place, struck);
-    Ok(scenario)
+    Ok(())
 }
 
 /// A part with one more fault, behind its own.

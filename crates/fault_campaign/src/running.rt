@@ -1,21 +1,23 @@
 //! The runs of members, side by side.
 
 ghost use Rattle.std.specs.Prelude.{All, IfOk};
+ghost use Rattle.fault_campaign.specs.Members.{IsBaseButStruck};
 ghost use Rattle.fault_campaign.specs.Placed.{ArePlaced, AreTold, IsPlaced};
 ghost use Rattle.nook_defs.specs.Campaigns.{AreRows, IsRowOf, IsTable, IsValidCampaign, member};
 ghost use Rattle.nook_defs.specs.Valid.{IsValidFault, IsValidScenario};
 
-use crate::member::member_of;
+use crate::member::strike;
 use crate::placing::{Share, Told, place_all};
 use crate::row::row_of;
 use nook_defs::campaign::{Campaign, MemberRow, Table};
-use nook_defs::lists::Items;
+use nook_defs::lists::{Items, TryCopy};
 use nook_defs::memory::NoMemory;
 use nook_defs::scenario::{Fault, Scenario};
+use part_core::LeftRooms;
 use rayon::current_num_threads;
 use report_text::report_of;
 use request_taps::TapBus;
-use sim_run::simulate;
+use sim_run::simulate_over;
 use std::alloc::{AllocError, Global};
 use std::sync::atomic::{AtomicUsize, Ordering};
 use std::thread::{Threads, map_indices};
@@ -82,13 +84,15 @@ fn work(alloc: Global, campaign: &Campaign, faults: &[Fault], next: &AtomicUsize
     requires faults { All IsValidFault faults.now }
     ensures { AreTold campaign.now faults.now result }
 {
+    let mut scenario = campaign.base.copy(alloc)?;
+    let mut left = LeftRooms::none(alloc);
     let mut rows = Items::new(alloc);
     for _ in 0..faults.len() {
         let place = next.fetch_add(1, Ordering::Relaxed);
         if place >= faults.len() {
             break;
         }
-        let row = run_member(alloc, campaign, faults[place])?;
+        let row = run_member(alloc, campaign, faults[place], &mut scenario, &mut left)?;
         rows.push(Told { place, row })?;
     }
     Ok(rows)
@@ -127,27 +131,44 @@ fn fill_row(
 {
     match slot {
         Some(row) => Ok(row),
-        None => run_member(alloc, campaign, fault),
+        None => {
+            let mut scenario = campaign.base.copy(alloc)?;
+            let mut left = LeftRooms::none(alloc);
+            run_member(alloc, campaign, fault, &mut scenario, &mut left)
+        }
     }
 }
 
-/// The row of the member with a fault.
-fn run_member(alloc: Global, campaign: &Campaign, fault: Fault) -> Result<MemberRow, NoMemory>
+/// The row of the member with a fault. The scenario, the campaign's own or another member's, becomes that of this one.
+fn run_member(
+    alloc: Global,
+    campaign: &Campaign,
+    fault: Fault,
+    scenario: &mut Scenario,
+    left: &mut LeftRooms,
+) -> Result<MemberRow, NoMemory>
     requires valid { IsValidCampaign campaign.now }
     requires fault { IsValidFault fault }
-    ensures { IfOk result (IsRowOf (member campaign.now fault)) }
+    requires scenario { IsBaseButStruck campaign.now scenario.old }
+    ensures row { IfOk result (IsRowOf (member campaign.now fault)) }
+    ensures scenario { IsBaseButStruck campaign.now scenario.new }
 {
-    let scenario = member_of(alloc, campaign, fault)?;
-    run_scenario(alloc, &scenario)
+    strike(alloc, campaign, fault, scenario)?;
+    run_scenario(alloc, scenario, left)
 }
 
-/// Runs a valid scenario, which no listener hears: the row of its scheduled run.
-pub fn run_scenario(alloc: Global, scenario: &Scenario) -> Result<MemberRow, NoMemory>
+/// Runs a valid scenario, which no listener hears: the row of its scheduled run. Its parts take up what those of earlier
+/// runs left, and leave the same.
+pub fn run_scenario(
+    alloc: Global,
+    scenario: &Scenario,
+    left: &mut LeftRooms,
+) -> Result<MemberRow, NoMemory>
     requires { IsValidScenario scenario.now }
     ensures { IfOk result (IsRowOf scenario.now) }
 {
     let mut unheard = TapBus::new(alloc, Vec::new(alloc))?;
-    let whole = simulate(alloc, scenario, &mut unheard)?;
+    let whole = simulate_over(alloc, scenario, &mut unheard, left)?;
     let report = report_of(alloc, scenario, whole.run, whole.ends)?;
     row_of(&report)
 }

@@ -5,7 +5,6 @@ use nook_defs::memory::NoMemory;
 use nook_defs::scenario::ScheduleSpec;
 use schedule::Schedule;
 use std::alloc::Global;
-use std::fmt::Write;
 use std::test::Fail;
 
 /// The list of some picks.
@@ -18,17 +17,16 @@ fn picks_of(alloc: Global, numbers: &[u16]) -> Result<Picks, NoMemory> {
 }
 
 /// The actors that a schedule picks, with the same ones enabled each time.
-fn picked(alloc: Global, spec: ScheduleSpec, actors: &[u16], times: u32) -> Result<String, Fail> {
-    let mut text = String::new(alloc);
+fn picked(alloc: Global, spec: ScheduleSpec, actors: &[u16], times: u32) -> Result<Vec<u16>, Fail> {
+    let mut made = Vec::new(alloc);
     let mut schedule = Schedule::new(spec);
     for _ in 0..times {
         if !actors.is_empty() {
             let place = schedule.pick(actors);
-            let actor = actors.get(place).ok_or("no actor there")?;
-            write!(text, "{actor} ")?;
+            made.push(*actors.get(place).ok_or("no actor there")?)?;
         }
     }
-    Ok(text)
+    Ok(made)
 }
 
 #[test]
@@ -40,31 +38,36 @@ fn picks_by_each_schedule(rt: HostRuntime) -> Result<(), Fail> {
             ScheduleSpec::RoundRobin,
             &[2, 3, 7][..],
             7,
-            "2 3 7 2 3 7 2 ",
+            &[2, 3, 7, 2, 3, 7, 2][..],
         ),
-        (ScheduleSpec::RoundRobin, &[65535][..], 2, "65535 65535 "),
+        (
+            ScheduleSpec::RoundRobin,
+            &[65535][..],
+            2,
+            &[65535, 65535][..],
+        ),
         (
             ScheduleSpec::Drawn { start: 7 },
             &[2, 3, 7][..],
             6,
-            "7 7 3 2 2 2 ",
+            &[7, 7, 3, 2, 2, 2][..],
         ),
         (
             ScheduleSpec::Drawn { start: 0 },
             &[0, 1, 2, 3, 4][..],
             6,
-            "2 2 0 4 0 4 ",
+            &[2, 2, 0, 4, 0, 4][..],
         ),
-        (ScheduleSpec::Drawn { start: 7 }, &[5][..], 2, "5 5 "),
+        (ScheduleSpec::Drawn { start: 7 }, &[5][..], 2, &[5, 5][..]),
         (
             ScheduleSpec::Listed { picks: some },
             &[2, 3, 7][..],
             7,
-            "7 2 2 3 2 3 7 ",
+            &[7, 2, 2, 3, 2, 3, 7][..],
         ),
     ] {
         let made = picked(alloc, spec, actors, times)?;
-        assert_eq!(rt; made.as_str(), want);
+        assert_eq!(rt; made.as_slice(), want);
     }
     Ok(())
 }

@@ -48,15 +48,15 @@ impl TryCopy for Op {
             }),
             Op::Write { first, words } => Ok(Op::Write {
                 first: *first,
-                words: words.copy(alloc)?,
+                words: words.copied(alloc)?,
             }),
             Op::Send { frame } => Ok(Op::Send {
-                frame: frame.copy(alloc)?,
+                frame: frame.copied(alloc)?,
             }),
             Op::Recv => Ok(Op::Recv),
             Op::Open => Ok(Op::Open),
             Op::Play { samples } => Ok(Op::Play {
-                samples: samples.copy(alloc)?,
+                samples: samples.copied(alloc)?,
             }),
             Op::Close => Ok(Op::Close),
             Op::Get { key } => Ok(Op::Get { key: *key }),
@@ -72,9 +72,9 @@ impl TryCopy for Answer {
     fn copy(&self, alloc: Global) -> Result<Answer, NoMemory> {
         match self {
             Answer::Done => Ok(Answer::Done),
-            Answer::Blocks(words) => Ok(Answer::Blocks(words.copy(alloc)?)),
+            Answer::Blocks(words) => Ok(Answer::Blocks(words.copied(alloc)?)),
             Answer::Value(word) => Ok(Answer::Value(*word)),
-            Answer::Frame(words) => Ok(Answer::Frame(words.copy(alloc)?)),
+            Answer::Frame(words) => Ok(Answer::Frame(words.copied(alloc)?)),
             Answer::Empty => Ok(Answer::Empty),
             Answer::Busy { stage } => Ok(Answer::Busy { stage: *stage }),
             Answer::InUse { holder } => Ok(Answer::InUse { holder: *holder }),
@@ -127,7 +127,7 @@ impl TryCopy for Act {
             Act::Store { block, words } => {
                 Ok(Act::Store {
                     block: *block,
-                    words: words.copy(alloc)?,
+                    words: words.copied(alloc)?,
                 })
             }
             Act::Failed { block, store } => Ok(Act::Failed {
@@ -135,10 +135,10 @@ impl TryCopy for Act {
                 store: *store,
             }),
             Act::Sent { frame } => Ok(Act::Sent {
-                frame: frame.copy(alloc)?,
+                frame: frame.copied(alloc)?,
             }),
             Act::Popped { frame } => Ok(Act::Popped {
-                frame: frame.copy(alloc)?,
+                frame: frame.copied(alloc)?,
             }),
             Act::Played {
                 sample,
@@ -173,7 +173,7 @@ impl TryCopy for End {
                 first: *first,
                 second: *second,
                 answer: *answer,
-                moved: moved.copy(alloc)?,
+                moved: moved.copied(alloc)?,
             }),
             End::Reply { status } => Ok(End::Reply { status: *status }),
             End::Pause => Ok(End::Pause),
@@ -248,7 +248,7 @@ impl TryCopy for Event {
             }),
             Event::Arrive { frame, kept } => {
                 Ok(Event::Arrive {
-                    frame: frame.copy(alloc)?,
+                    frame: frame.copied(alloc)?,
                     kept: *kept,
                 })
             }
@@ -258,9 +258,9 @@ impl TryCopy for Event {
 
 impl TryCopy for Image {
     fn copy(&self, alloc: Global) -> Result<Image, NoMemory> {
-        let entries = self.entries.copy(alloc)?;
-        let text = self.text.copy(alloc)?;
-        let initial = self.initial.copy(alloc)?;
+        let entries = self.entries.copied(alloc)?;
+        let text = self.text.copied(alloc)?;
+        let initial = self.initial.copied(alloc)?;
         Ok(Image {
             class: self.class,
             entries,
@@ -272,9 +272,9 @@ impl TryCopy for Image {
 
 impl TryCopy for PartSpec {
     fn copy(&self, alloc: Global) -> Result<PartSpec, NoMemory> {
-        let bad = self.bad.copy(alloc)?;
+        let bad = self.bad.copied(alloc)?;
         let image = self.image.copy(alloc)?;
-        let faults = self.faults.copy(alloc)?;
+        let faults = self.faults.copied(alloc)?;
         let arrivals = self.arrivals.copy(alloc)?;
         Ok(PartSpec {
             name: self.name.copy(alloc)?,
@@ -303,7 +303,7 @@ impl TryCopy for ScheduleSpec {
             ScheduleSpec::RoundRobin => Ok(ScheduleSpec::RoundRobin),
             ScheduleSpec::Drawn { start } => Ok(ScheduleSpec::Drawn { start: *start }),
             ScheduleSpec::Listed { picks } => Ok(ScheduleSpec::Listed {
-                picks: picks.copy(alloc)?,
+                picks: picks.copied(alloc)?,
             }),
         }
     }
@@ -325,7 +325,7 @@ impl TryCopy for Scenario {
 impl TryCopy for Campaign {
     fn copy(&self, alloc: Global) -> Result<Campaign, NoMemory> {
         let base = self.base.copy(alloc)?;
-        let faults = self.faults.copy(alloc)?;
+        let faults = self.faults.copied(alloc)?;
         Ok(Campaign {
             base,
             part: self.part,

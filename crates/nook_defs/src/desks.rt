@@ -4,7 +4,7 @@ use crate::calls::Answer;
 use crate::lists::Items;
 
 /// A call that was answered, and the numbers of the events that invoke and answer it.
-#[derive(Drop)]
+#[derive(Debug, Drop, PartialEq)]
 pub struct Receipt {
     pub call: u32,
     pub at_invoke: u64,

@@ -87,9 +87,6 @@ impl Journal {
     }
 }
 
-/// The acts of most bursts at most.
-const FEW_ACTS: usize = 8;
-
 /// The words of one act at most: those of a frame.
 const ACT_WORDS: usize = MOST_FRAME_WORDS;
 
@@ -97,6 +94,7 @@ const ACT_WORDS: usize = MOST_FRAME_WORDS;
 /// `SpareRooms` opens it and closes it.
 #[derive(Drop)]
 pub struct ActLog {
+    alloc: Global,
     acts: Vec<Act>,
     rooms: Vec<Room<u32>>,
 }
@@ -135,7 +133,7 @@ impl ActLog {
         requires { length self.old < MOST_ACTS }
         ensures { self.new ≡ self.old ++ Act.Store block words.now ∷ [] }
     {
-        let words = kept(&mut self.rooms, words);
+        let words = kept(self.alloc, &mut self.rooms, words);
         self.acts.push(Act::Store { block, words }).unwrap();
     }
 
@@ -153,7 +151,7 @@ impl ActLog {
         requires words { length frame.now ≤ ACT_WORDS }
         ensures { self.new ≡ self.old ++ Act.Sent frame.now ∷ [] }
     {
-        let frame = kept(&mut self.rooms, frame);
+        let frame = kept(self.alloc, &mut self.rooms, frame);
         self.acts.push(Act::Sent { frame }).unwrap();
     }
 
@@ -188,15 +186,13 @@ impl ActLog {
     }
 }
 
-/// Memory for acts and rooms for their words, which the bursts of a part hand on to one another: a burst takes as much anew
-/// as the one before it used up. Contracts see the number of rooms.
+/// Memory for acts and rooms for their words, which the bursts of a part hand on to one another: a burst takes anew what
+/// the one before it used up. Contracts see the number of rooms.
 #[derive(Drop)]
 pub struct SpareRooms {
     alloc: Global,
     /// No acts: memory for those of the next burst.
     acts: Vec<Act>,
-    /// No acts: memory for those that it hands out, where they are few.
-    few: Vec<Act>,
     rooms: Vec<Room<u32>>,
 }
 
@@ -208,7 +204,7 @@ impl Model for SpareRooms {
 
     ghost view = { λ s. length s.rooms.items };
 
-    ghost invariant = { λ s. (s.acts.items ≡ []) × (s.few.items ≡ []) × All (λ room. MOST_FRAME_WORDS ≤ room) s.rooms.items };
+    ghost invariant = { λ s. (s.acts.items ≡ []) × All (λ room. MOST_FRAME_WORDS ≤ room) s.rooms.items };
 }
 
 impl SpareRooms {
@@ -219,7 +215,6 @@ impl SpareRooms {
         SpareRooms {
             alloc,
             acts: Vec::new(alloc),
-            few: Vec::new(alloc),
             rooms: Vec::new(alloc),
         }
     }
@@ -232,28 +227,34 @@ impl SpareRooms {
         ensures left { OnErr result (self.old ≤ self.new) }
     {
         fill_rooms(self.alloc, &mut self.rooms)?;
-        self.few.reserve(FEW_ACTS)?;
         self.acts.reserve(MOST_ACTS)?;
-        let acts = mem::replace(&mut self.acts, Vec::new(self.alloc));
-        let rooms = mem::replace(&mut self.rooms, Vec::new(self.alloc));
-        Ok(ActLog { acts, rooms })
+        let alloc = self.alloc;
+        let acts = mem::replace(&mut self.acts, Vec::new(alloc));
+        let rooms = mem::replace(&mut self.rooms, Vec::new(alloc));
+        Ok(ActLog { alloc, acts, rooms })
     }
 
-    /// The acts of a log, without the room that they do not use. The rooms that they left are kept in place of those that
-    /// are here; an act uses one at most. It takes no memory.
+    /// The acts of a log, in a list of their size where there is memory for it. The rooms that they left are kept in
+    /// place of those that are here; an act uses one at most.
     pub fn close_log(&mut self, log: ActLog) -> Acts
         ensures acts { result ≡ log }
         ensures kept { MOST_ACTS ≤ length log + self.new }
     {
-        let ActLog { mut acts, rooms } = log;
+        let ActLog {
+            mut acts,
+            rooms,
+            ..
+        } = log;
         self.rooms = rooms;
-        let mut few = mem::replace(&mut self.few, Vec::new(self.alloc));
-        // Few acts move, so that the long list stays for the next burst.
-        if acts.len() <= few.capacity() && few.append(&mut acts).is_ok() {
-            self.acts = acts;
-            return Items::from_vec(few).fitted();
+        // The long list stays for the next burst, if its acts can move.
+        let Ok(mut own) = Vec::with_capacity(self.alloc, acts.len()) else {
+            return Items::from_vec(acts);
+        };
+        if own.append(&mut acts).is_err() {
+            return Items::from_vec(acts);
         }
-        Items::from_vec(acts).fitted()
+        self.acts = acts;
+        Items::from_vec(own)
     }
 }
 
@@ -270,15 +271,18 @@ fn fill_rooms(alloc: Global, rooms: &mut Vec<Room<u32>>) -> Result<(), NoMemory>
     Ok(())
 }
 
-/// The words as a list of their own, in a room of `rooms`, which is used up; what they do not fill of it is given back.
-fn kept(rooms: &mut Vec<Room<u32>>, words: &[u32]) -> Words
+/// The words as a list of their own: in memory of its size, or where there is none in a room of `rooms`, which is used up.
+fn kept(alloc: Global, rooms: &mut Vec<Room<u32>>, words: &[u32]) -> Words
     requires some { 0 < length rooms.old.items }
     requires rooms { All (λ room. ACT_WORDS ≤ room) rooms.old.items }
     requires words { length words.now ≤ ACT_WORDS }
     ensures words { result ≡ words.now }
-    ensures used { length rooms.new.items + 1 ≡ length rooms.old.items }
+    ensures used { length rooms.old.items ≤ length rooms.new.items + 1 }
     ensures rooms { All (λ room. ACT_WORDS ≤ room) rooms.new.items }
 {
+    if let Ok(own) = words.to_vec(alloc) {
+        return Items::from_vec(own);
+    }
     let room = rooms.pop().unwrap();
     let mut items = room.into_vec();
     items.extend_from_slice(words).unwrap();

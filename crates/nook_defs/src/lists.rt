@@ -138,15 +138,22 @@ impl<T: Drop> Items<T> {
 }
 
 impl<T: Copy> Items<T> {
+    /// An equal list of its own.
+    pub fn copied(&self, alloc: Global) -> Result<Items<T>, NoMemory>
+        ensures { IfOk result (λ made. made ≡ self.now) }
+    {
+        let mut items = Vec::with_capacity(alloc, self.items.len())?;
+        items.extend_from_slice(&self.items)?;
+        Ok(Items { items })
+    }
+
     /// An equal list in the memory of `room`, which has room for it. It takes no memory.
     pub fn copy_in_room(&self, room: Room<T>) -> Items<T>
         requires { length self.now ≤ room }
         ensures { result ≡ self.now }
     {
         let mut items = room.into_vec();
-        for item in &self.items {
-            items.push(*item).unwrap();
-        }
+        items.extend_from_slice(&self.items).unwrap();
         Items { items }
     }
 }

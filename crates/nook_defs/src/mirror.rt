@@ -3,7 +3,7 @@
 use crate::lists::{Items, Words};
 
 /// What a mirror of two disks answers.
-#[derive(Drop)]
+#[derive(Debug, Drop, PartialEq)]
 pub enum MirrorAnswer {
     Done,
     Blocks(Words),

@@ -1,14 +1,14 @@
 //! What is judged and counted of a journal.
 
 /// The first event that breaks a clause of the class's contract, and the clause.
-#[derive(Clone, Copy)]
+#[derive(Clone, Copy, Debug, PartialEq, Eq)]
 pub struct Break {
     pub event: u64,
     pub clause: u8,
 }
 
 /// What was lost and where frames went.
-#[derive(Clone, Copy)]
+#[derive(Clone, Copy, Debug, PartialEq, Eq)]
 pub struct Losses {
     pub sends: u64,
     pub samples: u64,

@@ -11,6 +11,7 @@ mod enabled;
 mod enter;
 mod invoke;
 mod kernel;
+mod left_rooms;
 mod next;
 mod open_calls;
 mod part;
@@ -19,4 +20,5 @@ mod rooms;
 mod stage;
 mod state;
 
+pub use left_rooms::LeftRooms;
 pub use part::{Part, StepDone, StepRefused};

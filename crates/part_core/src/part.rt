@@ -16,7 +16,7 @@ ghost use Rattle.part_laws.specs.Recovery.{HasFacts, IsKeptRun};
 use crate::state::State;
 use domain_call::Domain;
 use fault_script::FaultScript;
-use nook_defs::journal::Journal;
+use nook_defs::journal::{Journal, SpareRooms};
 use nook_defs::limits::BLOCK_WORDS;
 use nook_defs::lists::{TryCopy, Word, Words};
 use nook_defs::memory::{NoMemory, Room};
@@ -67,8 +67,16 @@ impl Part {
         requires { IsValidPart spec }
         ensures { IfOk result (λ part. part ≡ opening_run spec) }
     {
+        Part::over(alloc, spec, SpareRooms::new(alloc))
+    }
+
+    /// As `new`, with the memory for acts that another part left.
+    pub fn over(alloc: Global, spec: PartSpec, spare: SpareRooms) -> Result<Part, NoMemory>
+        requires { IsValidPart spec }
+        ensures { IfOk result (λ part. part ≡ opening_run spec) }
+    {
         let script = FaultScript::new(spec.faults.copy(alloc)?)?;
-        let state = State::new(alloc, spec)?;
+        let state = State::new(alloc, spec, spare)?;
         Ok(Part {
             state,
             script,
@@ -151,6 +159,15 @@ impl Part {
         ensures facts { IsKeptRun self.state.spec result.list → HasFacts self.state.spec result.list }
     {
         self.journal
+    }
+
+    /// The journal, as `into_journal` gives it, and the memory for acts, for another part.
+    pub fn into_journal_and_spare(self) -> (Journal, SpareRooms)
+        ensures journal { result.0.list ≡ self.journal }
+        ensures run { IsRun self.state.spec result.0.list }
+    {
+        let Part { state, journal, .. } = self;
+        (journal, state.into_spare())
     }
 
     /// The driver's domain as it is now.

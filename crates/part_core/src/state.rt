@@ -57,9 +57,9 @@ impl Model for State {
 }
 
 impl State {
-    /// A part at the start of its boot.
+    /// A part at the start of its boot, with the memory for acts that another part left.
     #[tactic(auto, unfolding(nook_defs::specs::Steps::opening))]
-    pub fn new(alloc: Global, spec: PartSpec) -> Result<State, NoMemory>
+    pub fn new(alloc: Global, spec: PartSpec, spare: SpareRooms) -> Result<State, NoMemory>
         requires { IsValidPart spec }
         ensures { IfOk result (λ state. state ≡ opening spec) }
     {
@@ -75,7 +75,7 @@ impl State {
             failures: 0,
             bursts: 0,
             arrived: 0,
-            spare: SpareRooms::new(alloc),
+            spare,
             rooms: Rooms::none(),
             alloc,
         })
@@ -83,6 +83,11 @@ impl State {
 }
 
 impl State {
+    /// The memory for acts. The rest is dropped.
+    pub fn into_spare(self) -> SpareRooms {
+        self.spare
+    }
+
     /// The step is taken. It may be taken, and what holds of every part holds. Where memory is wanting, nothing is
     /// changed.
     #[tactic(auto, unfolding(nook_defs::specs::Steps::stepped))]

@@ -8,8 +8,8 @@ use nook_defs::lists::Words;
 use nook_defs::machine::{Act, Acts};
 use nook_defs::memory::NoMemory;
 use nook_defs::steps::{End, Event, Stage};
+use nook_defs::verdicts::{Break, Losses};
 use std::alloc::Global;
-use std::fmt::Write;
 use std::test::Fail;
 
 /// Some words.
@@ -270,62 +270,89 @@ fn shown(alloc: Global, class: Class, events: &[Event]) -> Result<Monitor, NoMem
     Ok(monitor)
 }
 
-/// What a monitor tells: the first break, then sends, samples and busy answers, then the frames.
-fn told(alloc: Global, monitor: &Monitor) -> Result<String, Fail> {
-    let mut text = String::new(alloc);
-    match monitor.first_break() {
-        Some(found) => write!(text, "{}.{}", found.event, found.clause)?,
-        None => write!(text, "kept")?,
-    }
-    let n = monitor.losses();
-    write!(text, " {} {} {}", n.sends, n.samples, n.busy)?;
-    write!(text, " / {} {} {}", n.arrived, n.received, n.queued)?;
-    write!(text, " {} {} {}", n.ring, n.driver, n.reset)?;
-    write!(text, " {} {}", n.full_ring, n.full_queue)?;
-    Ok(text)
+/// Nothing is lost, and no frame came.
+const NONE: Losses = Losses {
+    sends: 0,
+    samples: 0,
+    busy: 0,
+    arrived: 0,
+    received: 0,
+    queued: 0,
+    ring: 0,
+    driver: 0,
+    reset: 0,
+    full_ring: 0,
+    full_queue: 0,
+};
+
+/// The clause that an event is the first to break.
+fn breaks(event: u64, clause: u8) -> Option<Break> {
+    Some(Break { event, clause })
 }
 
 /// Whether a monitor tells this of some events, shown one by one and all at once.
-fn tells(alloc: Global, class: Class, events: &[Event], want: &str) -> Result<bool, Fail> {
-    let one_by_one = told(alloc, &shown(alloc, class, events)?)?;
-    let at_once = told(alloc, &Monitor::of_events(alloc, class, 2, events)?)?;
-    Ok(one_by_one.as_str() == want && at_once.as_str() == want)
+fn tells(
+    alloc: Global,
+    class: Class,
+    events: &[Event],
+    first_break: Option<Break>,
+    losses: Losses,
+) -> Result<bool, Fail> {
+    let one_by_one = shown(alloc, class, events)?;
+    let at_once = Monitor::of_events(alloc, class, 2, events)?;
+    Ok(
+        one_by_one.first_break() == first_break
+            && one_by_one.losses() == losses
+            && at_once.first_break() == first_break
+            && at_once.losses() == losses,
+    )
 }
 
 #[test]
 fn judges_disks(rt: HostRuntime) -> Result<(), Fail> {
     let alloc = rt.alloc();
-    for (events, want) in [
-        (one_write(alloc, 7, 1)?, "kept"),
-        (one_write(alloc, 8, 1)?, "3.2"),
-        (one_write(alloc, 7, 0)?, "3.1"),
-        (one_write_of_many(alloc, 7)?, "kept"),
-        (one_write_of_many(alloc, 8)?, "117.2"),
-        (write_beyond_a_stop(alloc)?, "4.1"),
+    let busy = Losses { busy: 1, ..NONE };
+    for (events, first_break, losses) in [
+        (one_write(alloc, 7, 1)?, None, NONE),
+        (one_write(alloc, 8, 1)?, breaks(3, 2), NONE),
+        (one_write(alloc, 7, 0)?, breaks(3, 1), NONE),
+        (one_write_of_many(alloc, 7)?, None, NONE),
+        (one_write_of_many(alloc, 8)?, breaks(117, 2), NONE),
+        (write_beyond_a_stop(alloc)?, breaks(4, 1), NONE),
+        (write_after_its_answer(alloc)?, breaks(3, 1), busy),
     ] {
-        let want = format!(in alloc; "{want} 0 0 0 / 0 0 0 0 0 0 0 0")?;
-        assert!(rt; tells(alloc, Class::Block, &events, want.as_str())?);
+        assert!(rt; tells(alloc, Class::Block, &events, first_break, losses)?);
     }
-    let busy = "3.1 0 0 1 / 0 0 0 0 0 0 0 0";
-    assert!(rt; tells(alloc, Class::Block, &write_after_its_answer(alloc)?, busy)?);
     Ok(())
 }
 
 #[test]
 fn judges_links(rt: HostRuntime) -> Result<(), Fail> {
     let alloc = rt.alloc();
-    for (events, want) in [
-        (one_send(alloc, 1)?, "kept 0 0 0 / 0 0 0 0 0 0 0 0"),
-        (one_send(alloc, 2)?, "4.6 0 0 0 / 0 0 0 0 0 0 0 0"),
-        (one_send(alloc, 0)?, "3.7 1 0 0 / 0 0 0 0 0 0 0 0"),
-        (frames_and_a_reset(alloc)?, "kept 0 0 0 / 3 0 0 0 0 2 1 0"),
-        (hand_ups(alloc, [4, 5])?, "kept 0 0 0 / 2 0 2 0 0 0 0 0"),
-        (hand_ups(alloc, [5, 4])?, "7.8 0 0 0 / 2 0 2 0 0 0 0 0"),
-        (hand_ups(alloc, [4, 4])?, "8.8 0 0 0 / 2 0 2 0 0 0 0 0"),
-        (one_set(alloc, 300)?, "kept 0 0 0 / 0 0 0 0 0 0 0 0"),
-        (one_set(alloc, 200)?, "3.12 0 0 0 / 0 0 0 0 0 0 0 0"),
+    let unsent = Losses { sends: 1, ..NONE };
+    let reset = Losses {
+        arrived: 3,
+        reset: 2,
+        full_ring: 1,
+        ..NONE
+    };
+    let queued = Losses {
+        arrived: 2,
+        queued: 2,
+        ..NONE
+    };
+    for (events, first_break, losses) in [
+        (one_send(alloc, 1)?, None, NONE),
+        (one_send(alloc, 2)?, breaks(4, 6), NONE),
+        (one_send(alloc, 0)?, breaks(3, 7), unsent),
+        (frames_and_a_reset(alloc)?, None, reset),
+        (hand_ups(alloc, [4, 5])?, None, queued),
+        (hand_ups(alloc, [5, 4])?, breaks(7, 8), queued),
+        (hand_ups(alloc, [4, 4])?, breaks(8, 8), queued),
+        (one_set(alloc, 300)?, None, NONE),
+        (one_set(alloc, 200)?, breaks(3, 12), NONE),
     ] {
-        assert!(rt; tells(alloc, Class::Net, &events, want)?);
+        assert!(rt; tells(alloc, Class::Net, &events, first_break, losses)?);
     }
     Ok(())
 }
@@ -333,7 +360,19 @@ fn judges_links(rt: HostRuntime) -> Result<(), Fail> {
 #[test]
 fn judges_streams(rt: HostRuntime) -> Result<(), Fail> {
     let alloc = rt.alloc();
-    let want = "5.11 0 2 1 / 0 0 0 0 0 0 0 0";
-    assert!(rt; tells(alloc, Class::Sound, &one_play(alloc)?, want)?);
+    let losses = Losses {
+        samples: 2,
+        busy: 1,
+        ..NONE
+    };
+    assert!(rt;
+        tells(
+            alloc,
+            Class::Sound,
+            &one_play(alloc)?,
+            breaks(5, 11),
+            losses
+        )?
+    );
     Ok(())
 }

@@ -4,7 +4,6 @@ use fault_script::FaultScript;
 use nook_defs::memory::NoMemory;
 use nook_defs::scenario::{Fault, FaultKind, Faults};
 use std::alloc::Global;
-use std::fmt::Write;
 use std::test::Fail;
 
 /// Faults of several bursts; each carries its place in the list as its value.
@@ -28,31 +27,31 @@ fn some_faults(alloc: Global) -> Result<Faults, NoMemory> {
 }
 
 /// The values of a burst's faults, in order.
-fn values_at(alloc: Global, script: &FaultScript, burst: u32) -> Result<String, Fail> {
-    let mut text = String::new(alloc);
+fn values_at(alloc: Global, script: &FaultScript, burst: u32) -> Result<Vec<u32>, NoMemory> {
+    let mut values = Vec::new(alloc);
     for fault in script.faults_at(burst) {
         if let FaultKind::Poke { value, .. } = fault.kind {
-            write!(text, "{value} ")?;
+            values.push(value)?;
         }
     }
-    Ok(text)
+    Ok(values)
 }
 
 #[test]
 fn orders_faults_by_place_and_then_as_given(rt: HostRuntime) -> Result<(), Fail> {
     let script = FaultScript::new(some_faults(rt.alloc())?)?;
     for (burst, want) in [
-        (0, ""),
-        (1, "4 "),
-        (2, ""),
-        (3, "5 2 7 0 3 "),
-        (4, ""),
-        (9, "1 8 "),
-        (10, ""),
-        (4294967295, "6 "),
+        (0, &[][..]),
+        (1, &[4][..]),
+        (2, &[][..]),
+        (3, &[5, 2, 7, 0, 3][..]),
+        (4, &[][..]),
+        (9, &[1, 8][..]),
+        (10, &[][..]),
+        (4294967295, &[6][..]),
     ] {
         let values = values_at(rt.alloc(), &script, burst)?;
-        assert_eq!(rt; values.as_str(), want, "at burst {burst}");
+        assert_eq!(rt; values.as_slice(), want, "at burst {burst}");
     }
     Ok(())
 }

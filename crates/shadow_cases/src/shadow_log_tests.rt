@@ -1,10 +1,10 @@
 //! The log call by call: replays, attempts, and many calls.
 
 use nook_defs::calls::Op;
+use nook_defs::memory::NoMemory;
 use nook_defs::steps::Stage;
 use shadow_log::ShadowLog;
 use std::alloc::Global;
-use std::fmt::Write;
 use std::test::Fail;
 
 /// A call of a thread is invoked, where numbers are left; its number.
@@ -34,23 +34,27 @@ fn finish(log: &mut ShadowLog, thread: u8) -> Result<(), Fail> {
     Ok(())
 }
 
-/// The stages behind Init, with their keys and values.
-fn replays(alloc: Global, log: &ShadowLog) -> Result<String, Fail> {
-    let mut text = String::new(alloc);
+/// The replays, in the order of their stages.
+fn replays(alloc: Global, log: &ShadowLog) -> Result<Vec<Stage>, NoMemory> {
+    let mut stages = Vec::new(alloc);
     let mut stage = Stage::Init;
     for _ in 0..6 {
         stage = log.replay_next(&stage);
-        match stage {
-            Stage::ReplaySet { key, value } => write!(text, "{key}={value} ")?,
-            Stage::ReplayOpen => write!(text, "open ")?,
-            _ => break,
+        if stage == Stage::Resume {
+            break;
         }
+        stages.push(stage)?;
     }
-    Ok(text)
+    Ok(stages)
+}
+
+/// The replay of a key's value.
+fn set(key: u32, value: u32) -> Stage {
+    Stage::ReplaySet { key, value }
 }
 
 /// The replays of a sound part after these Sets, each a key and a value, and maybe an Open.
-fn replays_after(alloc: Global, sets: &[(u32, u32)], opens: bool) -> Result<String, Fail> {
+fn replays_after(alloc: Global, sets: &[(u32, u32)], opens: bool) -> Result<Vec<Stage>, Fail> {
     let mut log = ShadowLog::new(alloc, [8000, 5, 1, 0]);
     for (key, value) in sets {
         let op = Op::Set {
@@ -64,25 +68,26 @@ fn replays_after(alloc: Global, sets: &[(u32, u32)], opens: bool) -> Result<Stri
         invoke(&mut log, 2, Op::Open)?;
         finish(&mut log, 2)?;
     }
-    replays(alloc, &log)
+    Ok(replays(alloc, &log)?)
 }
 
 #[test]
 fn replays_what_is_no_default(rt: HostRuntime) -> Result<(), Fail> {
+    let open = Stage::ReplayOpen;
     for (sets, opens, want) in [
-        (&[][..], false, ""),
-        (&[(1, 7)][..], false, "1=7 "),
-        (&[(1, 7), (1, 5)][..], false, ""),
+        (&[][..], false, &[][..]),
+        (&[(1, 7)][..], false, &[set(1, 7)][..]),
+        (&[(1, 7), (1, 5)][..], false, &[][..]),
         (
             &[(3, 9), (0, 16000), (1, 7), (2, 0)][..],
             false,
-            "0=16000 1=7 2=0 3=9 ",
+            &[set(0, 16000), set(1, 7), set(2, 0), set(3, 9)][..],
         ),
-        (&[(3, 9)][..], true, "3=9 open "),
-        (&[][..], true, "open "),
+        (&[(3, 9)][..], true, &[set(3, 9), open][..]),
+        (&[][..], true, &[open][..]),
     ] {
-        let text = replays_after(rt.alloc(), sets, opens)?;
-        assert_eq!(rt; text.as_str(), want);
+        let stages = replays_after(rt.alloc(), sets, opens)?;
+        assert_eq!(rt; stages.as_slice(), want);
     }
     Ok(())
 }

@@ -12,4 +12,4 @@ mod simulating;
 mod tests;
 mod whole_run;
 
-pub use whole_run::{FoundBurst, run_to_burst, simulate};
+pub use whole_run::{FoundBurst, run_to_burst, simulate, simulate_over};

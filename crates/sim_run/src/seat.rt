@@ -15,7 +15,7 @@ use nook_defs::lists::{TryCopy, Words};
 use nook_defs::memory::NoMemory;
 use nook_defs::scenario::PartSpec;
 use nook_defs::steps::{Event, Step};
-use part_core::Part;
+use part_core::{LeftRooms, Part};
 use report_text::PartEnd;
 use run_ends::end_of;
 use std::alloc::Global;
@@ -44,11 +44,15 @@ impl<'a> Model for Seat<'a> {
 
 impl<'a> Seat<'a> {
     /// A valid part at the start of its boot; none of its frames has arrived.
-    pub fn new(alloc: Global, spec: &'a PartSpec) -> Result<Seat<'a>, NoMemory>
+    pub fn new(
+        alloc: Global,
+        spec: &'a PartSpec,
+        left: &mut LeftRooms,
+    ) -> Result<Seat<'a>, NoMemory>
         requires { IsValidPart spec.now }
         ensures { IfOk result (λ seat. seat ≡ opening_part spec.now) }
     {
-        let part = Part::new(alloc, spec.copy(alloc)?)?;
+        let part = Part::over(alloc, spec.copy(alloc)?, left.take(alloc))?;
         let coming = spec.arrivals.as_slice();
         let has_recovery = part.next_recovery().is_some();
         let has_arrival = may_arrive(&part, coming);
@@ -166,11 +170,13 @@ impl<'a> Seat<'a> {
         Ok(FoundBurst { domain, event })
     }
 
-    /// The journal.
-    pub fn into_journal(self) -> Journal
+    /// The journal. What else the part leaves is kept.
+    pub fn into_journal(self, left: &mut LeftRooms) -> Journal
         ensures { result.list ≡ self.entry.run.journal }
     {
-        self.part.into_journal()
+        let (journal, spare) = self.part.into_journal_and_spare();
+        left.give(spare);
+        journal
     }
 }
 

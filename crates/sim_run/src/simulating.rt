@@ -27,6 +27,7 @@ use nook_defs::memory::NoMemory;
 use nook_defs::outside::Listener;
 use nook_defs::scenario::{PartSpec, Scenario, ThreadSpec};
 use nook_defs::steps::{Event, Step};
+use part_core::LeftRooms;
 use report_text::{Journals, PartEnds, Run};
 use request_taps::Bus;
 use run_ends::WholeRun;
@@ -62,14 +63,18 @@ impl<'a> Model for Simulating<'a> {
 }
 
 impl<'a> Simulating<'a> {
-    /// The run of a valid scenario before its first step.
+    /// The run of a valid scenario before its first step. Its parts take up what those of earlier runs left.
     #[tactic(auto, unfolding(nook_defs::specs::Simulation::begins))]
-    pub fn new(alloc: Global, scenario: &'a Scenario) -> Result<Simulating<'a>, NoMemory>
+    pub fn new(
+        alloc: Global,
+        scenario: &'a Scenario,
+        left: &mut LeftRooms,
+    ) -> Result<Simulating<'a>, NoMemory>
         requires { IsValidScenario scenario.now }
         ensures { IfOk result (λ simulation. simulation ≡ begins scenario.now) }
     {
         let schedule = Schedule::new(scenario.schedule.copy(alloc)?);
-        let seats = make_seats(alloc, scenario.parts.as_slice())?;
+        let seats = make_seats(alloc, scenario.parts.as_slice(), left)?;
         let threads = make_threads(alloc, scenario.threads.as_slice())?;
         Ok(Simulating {
             alloc,
@@ -158,8 +163,8 @@ impl<'a> Simulating<'a> {
     }
 
     /// What the run left: one journal a part and what the part ends in, each thread's answers, and the totals of its
-    /// taps, which are given.
-    pub fn into_run(self, taps: TapTotals) -> Result<WholeRun, NoMemory>
+    /// taps, which are given. What else the parts leave is kept.
+    pub fn into_run(self, taps: TapTotals, left: &mut LeftRooms) -> Result<WholeRun, NoMemory>
         ensures journals { IfOk result (λ whole. map events_in whole.run.journals ≡ journals_of self.entry) }
         ensures answers { IfOk result (λ whole. whole.run.answers ≡ answer_table self.entry) }
         ensures taps { IfOk result (λ whole. whole.run.taps ≡ taps) }
@@ -172,7 +177,7 @@ impl<'a> Simulating<'a> {
             ..
         } = self;
         let ends = take_ends(alloc, &seats)?;
-        let journals = take_journals(alloc, seats)?;
+        let journals = take_journals(alloc, seats, left)?;
         let answers = take_answers(alloc, threads)?;
         Ok(WholeRun {
             run: Run {
@@ -303,13 +308,17 @@ fn take<L: Listener>(
 }
 
 /// Each part at the start of its boot.
-fn make_seats<'a>(alloc: Global, specs: &'a [PartSpec]) -> Result<Vec<Seat<'a>>, NoMemory>
+fn make_seats<'a>(
+    alloc: Global,
+    specs: &'a [PartSpec],
+    left: &mut LeftRooms,
+) -> Result<Vec<Seat<'a>>, NoMemory>
     requires { All IsValidPart specs.now }
     ensures { IfOk result (λ made. made.items ≡ map opening_part specs.now) }
 {
     let mut made = Vec::with_capacity(alloc, specs.len())?;
     for spec in specs {
-        made.push(Seat::new(alloc, spec)?)?;
+        made.push(Seat::new(alloc, spec, left)?)?;
     }
     Ok(made)
 }
@@ -385,12 +394,16 @@ fn hear(
 }
 
 /// Each part's journal.
-fn take_journals(alloc: Global, seats: Vec<Seat>) -> Result<Journals, NoMemory>
+fn take_journals(
+    alloc: Global,
+    seats: Vec<Seat>,
+    left: &mut LeftRooms,
+) -> Result<Journals, NoMemory>
     ensures { IfOk result (λ made. map events_in made ≡ map journal_of seats.entry.items) }
 {
     let mut made = Items::new(alloc);
     for seat in seats {
-        made.push(seat.into_journal())?;
+        made.push(seat.into_journal(left))?;
     }
     Ok(made)
 }

@@ -15,6 +15,7 @@ use nook_defs::memory::NoMemory;
 use nook_defs::outside::Listener;
 use nook_defs::scenario::Scenario;
 use nook_defs::steps::Event;
+use part_core::LeftRooms;
 use request_taps::Bus;
 use run_ends::WholeRun;
 use std::alloc::Global;
@@ -39,9 +40,27 @@ pub fn simulate<L: Listener>(
     ensures heard { OnErr result ((steps : ℕ) × HeardSteps scenario.now steps
         (map (seen L.listening) taps.old) (map (seen L.listening) taps.new)) }
 {
-    let simulation = run_whole(alloc, scenario, taps)?;
+    simulate_over(alloc, scenario, taps, &mut LeftRooms::none(alloc))
+}
+
+/// As `simulate`, with the memory for acts that the parts of earlier runs left. This run's parts leave theirs.
+pub fn simulate_over<L: Listener>(
+    alloc: Global,
+    scenario: &Scenario,
+    taps: &mut Bus<L>,
+    left: &mut LeftRooms,
+) -> Result<WholeRun, NoMemory>
+    requires { IsValidScenario scenario.now }
+    ensures simulated { IfOk result (λ whole. IsSimulated scenario.now whole.run.journals whole.run.answers whole.run.taps
+        (map (seen L.listening) taps.old) (map (seen L.listening) taps.new)) }
+    ensures runs { IfOk result (λ whole. AreRuns scenario.now.parts (map events_in whole.run.journals)) }
+    ensures ends { IfOk result (λ whole. HaveEnds scenario.now.parts whole.run.journals whole.ends) }
+    ensures heard { OnErr result ((steps : ℕ) × HeardSteps scenario.now steps
+        (map (seen L.listening) taps.old) (map (seen L.listening) taps.new)) }
+{
+    let simulation = run_whole(alloc, scenario, taps, left)?;
     let totals = taps.totals(alloc)?;
-    simulation.into_run(totals)
+    simulation.into_run(totals, left)
 }
 
 /// The whole run of a valid scenario.
@@ -49,6 +68,7 @@ fn run_whole<'a, L: Listener>(
     alloc: Global,
     scenario: &'a Scenario,
     taps: &mut Bus<L>,
+    left: &mut LeftRooms,
 ) -> Result<Simulating<'a>, NoMemory>
     requires { IsValidScenario scenario.now }
     ensures whole { IfOk result (λ simulation. IsWhole scenario.now simulation
@@ -56,7 +76,7 @@ fn run_whole<'a, L: Listener>(
     ensures heard { OnErr result ((steps : ℕ) × HeardSteps scenario.now steps
         (map (seen L.listening) taps.old) (map (seen L.listening) taps.new)) }
 {
-    let mut simulation = Simulating::new(alloc, scenario)?;
+    let mut simulation = Simulating::new(alloc, scenario, left)?;
     for _step in 0..MOST_STEPS {
         if !simulation.advance(taps)? {
             return Ok(simulation);
@@ -89,7 +109,7 @@ pub fn run_to_burst(
     ensures { IfOk result (LeadsToBurst scenario.now place number) }
 {
     let mut unheard: Bus<CountListener> = Bus::of(alloc, Vec::new(alloc))?;
-    let mut simulation = Simulating::new(alloc, scenario)?;
+    let mut simulation = Simulating::new(alloc, scenario, &mut LeftRooms::none(alloc))?;
     for _step in 0..MOST_STEPS {
         let Some(chosen) = simulation.choose()? else {
             return Ok(None);

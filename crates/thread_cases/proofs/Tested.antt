@@ -12,20 +12,6 @@ use Rattle.nook_defs.specs.Names.{is_name}
 use Rattle.nook_defs.specs.Valid.{FitsClass, IsValidImage, IsValidPart}
 use Rattle.thread_cases.specs.Tested.{tested_blocks}
 
--- numbers that a test finds small
-pub below : (n : ℕ) (xs : List ℕ) → list_all (λ x. nat_lt x n) xs ≡ true → All (λ x. x < n) xs
-below n xs h = All-weaker (λ x. nat_lt x n ≡ true) (λ x. x < n) (λ x e. ltb-true x n e) xs (AllPass-from_list_all (λ x. nat_lt x n) xs h)
-
--- the drivers' texts
-
-abbrev pub block_text : List ℕ
-block_text =
-    0x01100000 ∷ 0x16000003 ∷ 0x01100000 ∷ 0x17100000 ∷ 0x01500010 ∷ 0x01600001 ∷ 0x15100001 ∷ 0x15600000 ∷
-    0x01700000 ∷ 0x14800002 ∷ 0x0d830000 ∷ 0x0b330001 ∷ 0x0b770001 ∷ 0x11750009 ∷ 0x0b110001 ∷ 0x05260000 ∷
-    0x10200006 ∷ 0x17000000 ∷ 0x01500010 ∷ 0x01600001 ∷ 0x01900002 ∷ 0x15100001 ∷ 0x01700000 ∷ 0x0c830000 ∷
-    0x15800002 ∷ 0x0b330001 ∷ 0x0b770001 ∷ 0x11750017 ∷ 0x15900000 ∷ 0x0b110001 ∷ 0x05260000 ∷ 0x10200015 ∷
-    0x17000000 ∷ 0x18000000 ∷ []
-
 -- a part with no faults
 
 abbrev tested : Class → List ℕ → Image → PartSpec

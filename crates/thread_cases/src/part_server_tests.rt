@@ -1,9 +1,8 @@
 //! What no clause says: that calls succeed, which events they leave, and that threads share a desk.
 
-ghost use Rattle.std.specs.Prelude.{◌≡◌, ◌<◌, All, IfOk, IfSome, length, true};
-ghost use Rattle.nook_defs.specs.Classes.{entry_count, same_class};
-ghost use Rattle.nook_defs.specs.Valid.{AreWords, IsValidImage, IsValidPart};
-ghost use Rattle.nook_defs.specs.Views.Limits.{IsTextPlace};
+ghost use Rattle.std.specs.Prelude.{◌≡◌, ◌<◌, IfOk, IfSome, length, true};
+ghost use Rattle.nook_defs.specs.Classes.{same_class};
+ghost use Rattle.nook_defs.specs.Valid.{IsValidImage, IsValidPart};
 ghost use Rattle.part_server.specs.Desk.{IsDeskSeat, desk_spec};
 ghost use Rattle.thread_cases.specs.Tested.{tested_blocks};
 ghost use Rattle.nook_defs.specs.declared.classes.Class.TheVariants as class;
@@ -18,84 +17,24 @@ use nook_defs::scenario::{BadBlocks, Image, PartSpec};
 use nook_defs::steps::{Event, Stage};
 use part_core::Part;
 use part_server::{DeskSeat, PartDesk};
+use scenario_gen::{block_driver, net_driver, sound_driver};
 use std::alloc::Global;
 use std::sync::Wait;
 use std::test::Fail;
 use std::thread;
 
-/// A disk's driver: init, read and write.
-const BLOCK: [Word; 34] = [
-    0x0110_0000,
-    0x1600_0003,
-    0x0110_0000,
-    0x1710_0000,
-    0x0150_0010,
-    0x0160_0001,
-    0x1510_0001,
-    0x1560_0000,
-    0x0170_0000,
-    0x1480_0002,
-    0x0d83_0000,
-    0x0b33_0001,
-    0x0b77_0001,
-    0x1175_0009,
-    0x0b11_0001,
-    0x0526_0000,
-    0x1020_0006,
-    0x1700_0000,
-    0x0150_0010,
-    0x0160_0001,
-    0x0190_0002,
-    0x1510_0001,
-    0x0170_0000,
-    0x0c83_0000,
-    0x1580_0002,
-    0x0b33_0001,
-    0x0b77_0001,
-    0x1175_0017,
-    0x1590_0000,
-    0x0b11_0001,
-    0x0526_0000,
-    0x1020_0015,
-    0x1700_0000,
-    0x1800_0000,
-];
-
 /// The writes and reads of each thread where two race.
 const ROUNDS: u32 = 10;
 
-/// The places of the driver's entries, in the class's order. Only a disk's driver does anything.
-fn entries_of(class: Class) -> &'static [Word]
-    ensures count { length result.now ≡ entry_count class }
-    ensures places { All IsTextPlace result.now }
-{
-    match class {
-        Class::Block => &[0, 4, 18, 33, 33],
-        Class::Net => &[0, 0, 0, 0, 0],
-        Class::Sound => &[0, 0, 0, 0, 0, 0],
-    }
-}
-
-/// The driver's text.
-fn text_of(class: Class) -> &'static [Word]
-    ensures { AreWords 2048 result.now }
-{
-    match class {
-        Class::Block => &BLOCK,
-        Class::Net | Class::Sound => &[],
-    }
-}
-
-/// The class's driver.
+/// The class's reference driver.
 fn image_of(alloc: Global, class: Class) -> Result<Image, Fail>
     ensures class { IfOk result (λ image. image.class ≡ class) }
     ensures valid { IfOk result IsValidImage }
 {
-    Ok(Image {
-        class,
-        entries: Items::from_vec(entries_of(class).to_vec(alloc)?),
-        text: Items::from_vec(text_of(class).to_vec(alloc)?),
-        initial: Items::new(alloc),
+    Ok(match class {
+        Class::Block => block_driver(alloc)?,
+        Class::Net => net_driver(alloc)?,
+        Class::Sound => sound_driver(alloc)?,
     })
 }
 

@@ -1,6 +1,6 @@
 use Rattle.std.proofs.Common.{refl}
 use Rattle.part_core.proofs.Kept.{kept_at_first, same_faults_at_first}
-use Rattle.part_core.proofs.part.Part.new.Goals as goal
+use Rattle.part_core.proofs.part.Part.over.Goals as goal
 
 pub invariant_of-result : goal.invariant_of-result
 invariant_of-result c = rw (c.in_ok-state.ensures, c.new-3.ensures) (

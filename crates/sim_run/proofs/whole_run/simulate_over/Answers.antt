@@ -5,7 +5,7 @@ use Rattle.sim_run.proofs.Ending.{runs_told, simulated_told}
 use Rattle.sim_run.proofs.EndStates.{ends_told}
 use Rattle.run_ends.specs.Journals.{events_in}
 use Rattle.sim_run.specs.Whole.{IsWhole}
-use Rattle.sim_run.proofs.whole_run.simulate.Goals as goal
+use Rattle.sim_run.proofs.whole_run.simulate_over.Goals as goal
 
 pub returns-in_err-totals-clause-heard : goal.returns-in_err-totals-clause-heard
 returns-in_err-totals-clause-heard g c =

@@ -9,6 +9,7 @@ use nook_defs::listeners::{CountListener, TapTotals};
 use nook_defs::memory::NoMemory;
 use nook_defs::scenario::Scenario;
 use nook_defs::steps::Event;
+use part_core::LeftRooms;
 use report_text::Journals;
 use request_taps::Bus;
 use scenario_gen::generate;
@@ -62,7 +63,8 @@ fn first_steps(alloc: Global, scenario: &Scenario, most: u64) -> Result<FirstSte
     requires { IsValidScenario scenario.now }
 {
     let mut taps = one_listener(alloc)?;
-    let mut simulation = Simulating::new(alloc, scenario)?;
+    let mut rooms = LeftRooms::none(alloc);
+    let mut simulation = Simulating::new(alloc, scenario, &mut rooms)?;
     let mut heard = Vec::new(alloc);
     for _step in 0..most {
         if !simulation.advance(&mut taps)? {
@@ -70,7 +72,7 @@ fn first_steps(alloc: Global, scenario: &Scenario, most: u64) -> Result<FirstSte
         }
         heard.push(only_total(&taps.totals(alloc)?)?)?;
     }
-    let left = simulation.into_run(taps.totals(alloc)?)?;
+    let left = simulation.into_run(taps.totals(alloc)?, &mut rooms)?;
     Ok(FirstSteps {
         heard,
         events: events_of(&left.run.journals),

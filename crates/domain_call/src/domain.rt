@@ -34,7 +34,6 @@ use std::marker::Model;
 
 /// A driver's domain. Contracts see its part of the state, where the heap begins, and the class. The pages always
 /// lend for writing just the buffers that the tracker's entries lend for writing.
-#[derive(Drop)]
 pub struct Domain {
     class: Class,
     starts: Words,
@@ -62,6 +61,20 @@ impl Model for Domain {
     } };
 
     ghost invariant = { λ s. IsAgreed s.pages.lent s.tracker.entries s.device s.class };
+}
+
+impl Drop for Domain {
+    /// By hand, so that it is proved once, and not in each function that owns a domain.
+    fn drop(self) {
+        let Domain {
+            class: _,
+            starts: _,
+            pages: _,
+            tracker: _,
+            device: _,
+            contexts: _,
+        } = self;
+    }
 }
 
 impl Domain {

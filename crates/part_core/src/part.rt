@@ -43,7 +43,6 @@ pub enum StepRefused {
 
 /// One part. Contracts see its state and the list of its events. Whatever steps it took, its journal is a run of its
 /// part.
-#[derive(Drop)]
 pub struct Part {
     state: State,
     script: FaultScript,
@@ -59,6 +58,17 @@ impl Model for Part {
     ghost view = { λ s. record { state = s.state; journal = s.journal.list } };
 
     ghost invariant = { λ s. IsKept (record { state = s.state; journal = s.journal.list }) × AreSameFaults s.script s.state.spec.faults };
+}
+
+impl Drop for Part {
+    /// By hand, so that it is proved once, and not in each function that owns a part.
+    fn drop(self) {
+        let Part {
+            state: _,
+            script: _,
+            journal: _,
+        } = self;
+    }
 }
 
 impl Part {
@@ -158,7 +168,12 @@ impl Part {
         ensures run { IsRun self.state.spec result.list }
         ensures facts { IsKeptRun self.state.spec result.list → HasFacts self.state.spec result.list }
     {
-        self.journal
+        let Part {
+            state: _,
+            script: _,
+            journal,
+        } = self;
+        journal
     }
 
     /// The journal, as `into_journal` gives it, and the memory for acts, for another part.
@@ -166,7 +181,11 @@ impl Part {
         ensures journal { result.0.list ≡ self.journal }
         ensures run { IsRun self.state.spec result.0.list }
     {
-        let Part { state, journal, .. } = self;
+        let Part {
+            state,
+            script: _,
+            journal,
+        } = self;
         (journal, state.into_spare())
     }
 

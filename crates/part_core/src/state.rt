@@ -20,7 +20,6 @@ use std::alloc::Global;
 use std::marker::Model;
 
 /// A part without its journal. Contracts see the definition's part.
-#[derive(Drop)]
 pub struct State {
     pub spec: PartSpec,
     pub domain: Domain,
@@ -56,6 +55,25 @@ impl Model for State {
     ghost invariant = { λ s. (s.domain.heap_start ≡ DATA_START + length s.spec.image.initial) × (s.domain.class ≡ s.spec.class) };
 }
 
+impl Drop for State {
+    /// By hand, so that it is proved once, and not in each function that owns a state.
+    fn drop(self) {
+        let State {
+            spec: _,
+            domain: _,
+            log: _,
+            queue: _,
+            mode: _,
+            failures: _,
+            bursts: _,
+            arrived: _,
+            spare: _,
+            rooms: _,
+            alloc: _,
+        } = self;
+    }
+}
+
 impl State {
     /// A part at the start of its boot, with the memory for acts that another part left.
     #[tactic(auto, unfolding(nook_defs::specs::Steps::opening))]
@@ -84,8 +102,8 @@ impl State {
 
 impl State {
     /// The memory for acts. The rest is dropped.
-    pub fn into_spare(self) -> SpareRooms {
-        self.spare
+    pub fn into_spare(mut self) -> SpareRooms {
+        std::mem::replace(&mut self.spare, SpareRooms::new(self.alloc))
     }
 
     /// The step is taken. It may be taken, and what holds of every part holds. Where memory is wanting, nothing is

@@ -13,10 +13,18 @@ impl Domain {
         ensures entries { result.tracker.entries ≡ self.state.entries }
         ensures device { result.device ≡ self.state.device }
     {
+        let Domain {
+            class: _,
+            starts: _,
+            pages,
+            tracker,
+            device,
+            contexts: _,
+        } = self;
         Detached {
-            pages: self.pages,
-            tracker: self.tracker,
-            device: self.device,
+            pages,
+            tracker,
+            device,
         }
     }
 }

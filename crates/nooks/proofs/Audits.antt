@@ -20,12 +20,12 @@ use Rattle.nooks.proofs.Safety.{all_safe}
 use Rattle.nooks.proofs.Written.{writes_more}
 use Rattle.nooks.specs.Answers.{AnswersInput, IsSound, IsVerdict, Says, verdict_status}
 use Rattle.nooks.specs.Endings.{Writes}
-use Rattle.nooks.specs.Forms.{limit_of}
+use Rattle.command_forms.specs.Forms.{limit_of}
 use Rattle.nooks.specs.Streams.{Change, Whole}
 use Rattle.nooks.specs.Texts.{at_root, bad_header_text, verdict_text}
 use Rattle.nooks.specs.declared.program.Status.{Status}
 use Rattle.nooks.specs.declared.program.Status.TheVariants as ended
-use Rattle.nooks.specs.declared.words.Form.TheVariants as form
+use Rattle.command_forms.specs.declared.words.Form.TheVariants as form
 
 -- ---- what fits is sound
 

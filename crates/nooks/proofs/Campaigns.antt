@@ -24,7 +24,7 @@ use Rattle.nooks.specs.Endings.{Writes}
 use Rattle.nooks.specs.Streams.{Change, Whole}
 use Rattle.nooks.specs.declared.program.Status.{Status}
 use Rattle.nooks.specs.declared.program.Status.TheVariants as ended
-use Rattle.nooks.specs.declared.words.Form.TheVariants as form
+use Rattle.command_forms.specs.declared.words.Form.TheVariants as form
 
 member_of_row : (scenario : Scenario) (row : MemberRow) → IsValidScenario scenario → IsRowOf scenario row → IsMember scenario row
 member_of_row scenario row valid is = record {

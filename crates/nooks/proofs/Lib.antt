@@ -1,7 +1,6 @@
 pub mod Audits
 pub mod Campaigns
 pub mod Mirrors
-pub mod Numerals
 pub mod Reports
 pub mod Runs
 pub mod Safety

@@ -29,7 +29,7 @@ use Rattle.nooks.specs.Streams.{Change, Gains, GainsFront, Whole}
 use Rattle.nooks.specs.Texts.{not_mirror_text}
 use Rattle.nooks.specs.declared.program.Status.{Status}
 use Rattle.nooks.specs.declared.program.Status.TheVariants as ended
-use Rattle.nooks.specs.declared.words.Form.TheVariants as form
+use Rattle.command_forms.specs.declared.words.Form.TheVariants as form
 
 -- ---- the status
 

@@ -25,8 +25,8 @@ use Rattle.sim_run.specs.Published.{published}
 use Rattle.nooks.proofs.Safety.{all_safe}
 use Rattle.nooks.specs.declared.program.Status.{Status}
 use Rattle.nooks.specs.declared.program.Status.TheVariants as ended
-use Rattle.nooks.specs.declared.words.Form.{Form}
-use Rattle.nooks.specs.declared.words.Form.TheVariants as form
+use Rattle.command_forms.specs.declared.words.Form.{Form}
+use Rattle.command_forms.specs.declared.words.Form.TheVariants as form
 use Rattle.threaded_run.specs.Threaded.{AreAnswered, IsThreaded, in_parts}
 use Rattle.nook_defs.specs.declared.calls.Answer.{Answer}
 use Rattle.run_laws.proofs.Reached.{parts_answered}

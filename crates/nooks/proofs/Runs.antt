@@ -5,12 +5,12 @@ use Rattle.nook_defs.specs.Views.Causes.{ReadsAll, Rose}
 use Rattle.nook_defs.specs.Listening.{Listening}
 use Rattle.nooks.specs.Answers.{Answers}
 use Rattle.nooks.specs.Endings.{AnswersBytes, AnswersWords, IsAnswered, IsWritten, ReadsFor, input_for}
-use Rattle.nooks.specs.Forms.{is_reading, limit_of}
+use Rattle.command_forms.specs.Forms.{is_reading, limit_of}
 use Rattle.nooks.specs.Streams.{Change, Input, Reads, TooLong, Whole, input_of}
 use Rattle.nooks.specs.declared.program.Status.{Status}
 use Rattle.nooks.specs.declared.program.Status.TheVariants as ended
-use Rattle.nooks.specs.declared.words.Form.{Form}
-use Rattle.nooks.specs.declared.words.Form.TheVariants as form
+use Rattle.command_forms.specs.declared.words.Form.{Form}
+use Rattle.command_forms.specs.declared.words.Form.TheVariants as form
 
 -- a count that is always nought never rises
 pub never_rose : Rose 0 0 → ⊥

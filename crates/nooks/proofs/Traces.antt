@@ -13,7 +13,7 @@ use Rattle.nooks.specs.Streams.{Change, Gains, GainsFront, Whole}
 use Rattle.nooks.specs.Texts.{no_such_burst_text}
 use Rattle.nooks.specs.declared.program.Status.{Status}
 use Rattle.nooks.specs.declared.program.Status.TheVariants as ended
-use Rattle.nooks.specs.declared.words.Form.TheVariants as form
+use Rattle.command_forms.specs.declared.words.Form.TheVariants as form
 use Rattle.nooks.proofs.Written.{writes_more}
 
 whole_by : (bytes : List ℕ) (scenario : Scenario) (part burst : ℕ) (sink : Change) (hearing : List Listening) (trace : Option (List ℕ))

@@ -14,13 +14,13 @@ use Rattle.scenario_read.specs.declared.stop.ScenarioFault.TheVariants as stops
 use Rattle.request_taps.specs.declared.tap.Tap.{Tap}
 use Rattle.nooks.specs.Answers.{Answers, AnswersInput, IsFaultOf, IsRefused, IsReported, Says}
 use Rattle.nooks.specs.Endings.{AnswersWords, Ends, IsAnswerTo, IsAnswered, IsBegun, IsCut, IsWritten, ReadsFor, StopWrites, Writes}
-use Rattle.nooks.specs.Forms.{Asks, is_reading, limit_of}
+use Rattle.command_forms.specs.Forms.{Asks, is_reading, limit_of}
 use Rattle.nooks.specs.Streams.{Change, Gains, GainsFront, GainsNothing, HasFailed, Input, Reads, TooLong, Whole}
 use Rattle.nooks.specs.Texts.{at_root, usage_text}
 use Rattle.nooks.specs.declared.program.Status.{Status}
 use Rattle.nooks.specs.declared.program.Status.TheVariants as ended
-use Rattle.nooks.specs.declared.words.Form.{Form}
-use Rattle.nooks.specs.declared.words.Form.TheVariants as form
+use Rattle.command_forms.specs.declared.words.Form.{Form}
+use Rattle.command_forms.specs.declared.words.Form.TheVariants as form
 
 -- ---- one text
 

@@ -37,13 +37,13 @@ use Rattle.audit_input.specs.Handed.{Hands, HandsNothing}
 use Rattle.run_laws.specs.Audit.{audited}
 use Rattle.run_laws.specs.Fitting.{AllFit, fitting_text}
 use Rattle.nooks.specs.Streams.{Input, TooLong, Whole}
-use Rattle.nooks.specs.Forms.{limit_of}
+use Rattle.command_forms.specs.Forms.{limit_of}
 use Rattle.nooks.specs.Texts.{at_root, bad_header_text, help_text, no_such_burst_text, not_mirror_text, usage_text}
 use Rattle.nooks.specs.Texts.{verdict_text, version_text}
 use Rattle.nooks.specs.declared.program.Status.{Status}
 use Rattle.nooks.specs.declared.program.Status.TheVariants as ended
-use Rattle.nooks.specs.declared.words.Form.{Form}
-use Rattle.nooks.specs.declared.words.Form.TheVariants as form
+use Rattle.command_forms.specs.declared.words.Form.{Form}
+use Rattle.command_forms.specs.declared.words.Form.TheVariants as form
 
 -- ---- the status
 

@@ -5,11 +5,11 @@ use Rattle.nook_defs.specs.Faults.{fault_line}
 use Rattle.scenario_read.specs.declared.stop.ScenarioFault.{ScenarioFault}
 use Rattle.scenario_read.specs.declared.stop.ScenarioFault.TheVariants as stop
 use Rattle.nooks.specs.Answers.{Answers, Says}
-use Rattle.nooks.specs.Forms.{Asks, is_reading, limit_of}
+use Rattle.command_forms.specs.Forms.{Asks, is_reading, limit_of}
 use Rattle.nooks.specs.Streams.{Change, Gains, GainsFront, GainsNothing, HasFailed, Input, Reads, TooLong, input_of}
 use Rattle.nooks.specs.declared.program.Status.{Status}
 use Rattle.nooks.specs.declared.program.Status.TheVariants as ended
-use Rattle.nooks.specs.declared.words.Form.{Form}
+use Rattle.command_forms.specs.declared.words.Form.{Form}
 
 -- ---- statuses
 

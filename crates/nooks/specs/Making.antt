@@ -15,7 +15,7 @@ use Rattle.threaded_run.specs.Threaded.{in_parts}
 use Rattle.nooks.specs.Answers.{IsRunOf, IsWhole, Left}
 use Rattle.nooks.specs.declared.program.Status.{Status}
 use Rattle.nooks.specs.declared.program.Status.TheVariants as ended
-use Rattle.nooks.specs.declared.words.Form.{Form}
+use Rattle.command_forms.specs.declared.words.Form.{Form}
 
 -- what a run in memory left
 abbrev pub left_of : Run → Left

@@ -14,7 +14,6 @@ mod program;
 mod simulated;
 mod texts;
 mod tracing;
-mod words;
 
+pub use command_forms::{Form, form_of};
 pub use program::{AUDIT_LIMIT, LIMIT, OWN_LISTENERS, Status, run, run_plain};
-pub use words::{Form, form_of};

@@ -9,7 +9,7 @@ ghost use Rattle.scenario_read.specs.Gives.{Gives};
 
 use crate::answering::{at_root, refuse_for};
 use crate::program::{Status, finish};
-use crate::words::Form;
+use command_forms::Form;
 use driver_asm::AsmError;
 use image_list::write_list;
 use nook_defs::assembler::AsmFault;

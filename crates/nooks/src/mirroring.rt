@@ -18,7 +18,7 @@ use crate::heard::Heard;
 use crate::program::{Status, finish};
 use crate::simulated::status_of;
 use crate::texts::NOT_MIRROR;
-use crate::words::Form;
+use command_forms::Form;
 use mirrored_run::{is_mirror, run_mirror};
 use nook_defs::memory::NoMemory;
 use nook_defs::mirror::{MirrorAnswer, MirrorAnswers};

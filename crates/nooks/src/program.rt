@@ -5,7 +5,7 @@ ghost use Rattle.nook_defs.specs.Views.Causes.{Rose};
 ghost use Rattle.nooks.specs.Answers.{Says};
 ghost use Rattle.nooks.specs.Endings.{AnswersBytes, AnswersWords, Ends, IsAnswered, IsBegun, IsCut, IsWritten, Writes};
 ghost use Rattle.nooks.specs.Endings.{code_of};
-ghost use Rattle.nooks.specs.Forms.{AskUnread, is_reading};
+ghost use Rattle.command_forms.specs.Forms.{AskUnread, is_reading};
 ghost use Rattle.nooks.specs.Streams.{GainsNothing, change};
 
 use crate::answering::read_and_answer;
@@ -13,7 +13,7 @@ use crate::generating::give_generated;
 use crate::heard::Heard;
 use crate::simulated::run_generated;
 use crate::texts::{HELP, USAGE, VERSION};
-use crate::words::{Form, form_of};
+use command_forms::{Form, form_of};
 use nook_defs::lists::Words8;
 use nook_defs::outside::{Gate, Listener, Sink, Source};
 use nook_defs::streams_in_memory::{PlainSink, PlainSource};

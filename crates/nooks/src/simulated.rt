@@ -15,7 +15,7 @@ ghost use Rattle.request_taps.specs.Bus.{seen, settled};
 ghost use Rattle.run_ends.specs.Journals.{events_in};
 
 use crate::program::Status;
-use crate::words::Form;
+use command_forms::Form;
 use nook_defs::journal::Journal;
 use nook_defs::limits::MOST_PARTS;
 use nook_defs::listeners::CountListener;

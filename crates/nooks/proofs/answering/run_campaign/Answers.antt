@@ -1,7 +1,7 @@
 use Rattle.nook_defs.specs.CampaignReading.{campaign_from}
 use Rattle.nooks.proofs.Campaigns.{campaign_answered}
 use Rattle.nooks.proofs.Written.{refused}
-use Rattle.nooks.specs.declared.words.Form.TheVariants as form
+use Rattle.command_forms.specs.declared.words.Form.TheVariants as form
 use Rattle.nooks.proofs.answering.run_campaign.Goals as goal
 
 pub returns-in-Ok-clause-ends : goal.returns-in-Ok-clause-ends

@@ -2,7 +2,7 @@ use Rattle.std.proofs.Common.{inr}
 use Rattle.nook_defs.specs.ScenarioReading.{scenario_from}
 use Rattle.nooks.proofs.Audits.{too_long_handed, verdict_answers}
 use Rattle.nooks.proofs.Written.{refused}
-use Rattle.nooks.specs.declared.words.Form.TheVariants as form
+use Rattle.command_forms.specs.declared.words.Form.TheVariants as form
 use Rattle.nooks.proofs.auditing.audit_handed.Goals as goal
 
 pub returns-then-handed-clause-ends : goal.returns-then-handed-clause-ends

@@ -1,6 +1,6 @@
 use Rattle.std.proofs.Common.{Some, sym, true≢false}
 use Rattle.nooks.specs.Answers.{IsSummary}
-use Rattle.nooks.specs.declared.words.Form.TheVariants as form
+use Rattle.command_forms.specs.declared.words.Form.TheVariants as form
 use Rattle.nooks.proofs.Written.{unread_ends}
 use Rattle.nooks.proofs.program.run_form.Goals as goal
 

@@ -1,7 +1,7 @@
 use Rattle.nook_defs.specs.ScenarioReading.{scenario_from}
 use Rattle.std.proofs.Common.{inl}
 use Rattle.nooks.proofs.Written.{refused}
-use Rattle.nooks.specs.declared.words.Form.TheVariants as form
+use Rattle.command_forms.specs.declared.words.Form.TheVariants as form
 use Rattle.nooks.proofs.tracing.trace_bytes.Goals as goal
 
 pub returns-in-Ok-clause-ends : goal.returns-in-Ok-clause-ends

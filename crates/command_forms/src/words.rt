@@ -1,7 +1,7 @@
 //! The forms of words that the program knows.
 
 ghost use Rattle.std.specs.Prelude.{◌≡◌, ℕ, ◌≤◌, [], ◌∷◌, codes, decimal, map, string_bytes, IfNone, IfSome};
-ghost use Rattle.nooks.specs.Forms.{IsForm, IsNoForm, is_plain, within};
+ghost use Rattle.command_forms.specs.Forms.{IsForm, IsNoForm, is_plain, within};
 
 /// What the program is asked to do.
 #[derive(Clone, Copy, Debug, PartialEq, Eq)]

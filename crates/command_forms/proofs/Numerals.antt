@@ -5,8 +5,7 @@ use Rattle.std.proofs.lemmas.Fmt.{decimal-digits_value, first_decimal, parse-dec
 use Rattle.std.proofs.lemmas.Str.Parse.{numerals_by_value, tells_digits}
 use Rattle.std.specs.Fmt.{digits}
 use Rattle.std.specs.Str.Parse.{ParsesUnsigned, IsNumeral, digits_value}
-use Rattle.nooks.specs.Forms.{is_plain, within}
-use Rattle.part_laws.proofs.BurstKeeps.{split}
+use Rattle.command_forms.specs.Forms.{is_plain, within}
 
 -- what a plain text that was parsed is
 
@@ -36,7 +35,11 @@ plain_is_decimal E (b ∷ bs) n h p =
 -- the text of a number is plain
 
 different : (a b : ℕ) → b < a → not (a == b) ≡ true
-different a b low = split (a == b) (λ e. absurd (grind (arith, e, low))) (λ e. ap not e)
+different a b low = by_test (a == b) (λ e. absurd (grind (arith, e, low)))
+  where
+    by_test : (t : Bool) → (t ≡ true → not t ≡ true) → not t ≡ true
+    by_test true k = k refl
+    by_test false k = refl
 
 head_is_plain : (ds : List ℕ) → 48 < get_or ds 0 0 → is_plain ds ≡ true
 head_is_plain [] h = absurd (omega (arith, h))

@@ -1,6 +1,6 @@
 use Rattle.std.proofs.Common.{rules}
-use Rattle.nooks.proofs.Numerals.{part_none, part_zero}
-use Rattle.nooks.proofs.words.part_of.Goals as goal
+use Rattle.command_forms.proofs.Numerals.{part_none, part_zero}
+use Rattle.command_forms.proofs.words.part_of.Goals as goal
 
 pub returns-then-eq-clause-found : goal.returns-then-eq-clause-found
 returns-then-eq-clause-found c = part_zero c.args.text.now (search rules)

@@ -1,6 +1,6 @@
 use Rattle.std.proofs.Common.{rules}
-use Rattle.nooks.proofs.Numerals.{number_failed, number_found, number_none}
-use Rattle.nooks.proofs.words.number_up_to.Goals as goal
+use Rattle.command_forms.proofs.Numerals.{number_failed, number_found, number_none}
+use Rattle.command_forms.proofs.words.number_up_to.Goals as goal
 
 pub returns-in-Ok-clause-found : goal.returns-in-Ok-clause-found
 returns-in-Ok-clause-found c = number_found _ c.args.most c.args.text.now c.parse.result c.in-Ok.number c.within.result c.parse.ensures.value.0 c.in-Ok.is (rw (← c.is_plain.ensures) c.within.ensures)

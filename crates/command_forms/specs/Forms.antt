@@ -1,8 +1,8 @@
 -- The forms of words.
 use Rattle.std.specs.Prelude.{◌≡◌, ℕ, ◌≤◌, ◌==◌, ◌&&◌, nat_le, not, if◌then◌else◌, Bool, true, false, Option, Some}
 use Rattle.std.specs.Prelude.{None, List, [], ◌∷◌, codes, decimal}
-use Rattle.nooks.specs.declared.words.Form.{Form}
-use Rattle.nooks.specs.declared.words.Form.TheVariants as form
+use Rattle.command_forms.specs.declared.words.Form.{Form}
+use Rattle.command_forms.specs.declared.words.Form.TheVariants as form
 
 -- the words are of this form; numbers are in decimal, with no sign and no leading zero
 abbrev pub IsForm : List (List ℕ) → Form → Type 0

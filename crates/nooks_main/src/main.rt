@@ -5,7 +5,7 @@ mod echo;
 mod messages;
 
 use echo::Echo;
-use messages::message_of;
+use messages::{EXPLAIN, FORMS, STANDARD_INPUT, message_of};
 use nook_defs::listeners::{CountListener, FreeGate};
 use nook_defs::outside::{Listener, Sink};
 use nook_defs::standard_streams::{InSource, OutSink};
@@ -19,37 +19,36 @@ use std::sync::Wait;
 use std::thread::Threads;
 
 /// Runs the program on the words behind its own name, says on standard error what went wrong, and ends with the
-/// status's code. Memory that is wanting before the call ends it as memory that is wanting within.
+/// status's code. Out of memory before the call ends it as out of memory within.
 fn main(rt: HostRuntime) -> ExitCode {
     let mut sink = Echo::new(OutSink::new(io::writer(&rt)));
-    let status = answer(&rt, &mut sink).unwrap_or(Status::NoMemory);
-    // What standard error does not take is lost: there is nobody left to tell.
+    let status = match words_of(&rt, rt.alloc()) {
+        Ok(words) => {
+            let status = answer(&rt, words.as_slice(), &mut sink).unwrap_or(Status::NoMemory);
+            // What standard error does not take is lost: there is nobody left to tell.
+            let _hinted = hint(&rt, status, words.as_slice());
+            status
+        }
+        Err(_) => Status::NoMemory,
+    };
     let _said = say(&rt, status, sink.front());
     ExitCode::from(status.code())
 }
 
-/// Makes the words and the listeners, and does what the words ask for.
-fn answer<R: Env + Input + AllocGlobal + Threads + Wait + Sync, K: Sink>(
+/// Makes the listeners, and does what the words ask for.
+fn answer<R: Input + AllocGlobal + Threads + Wait + Sync, K: Sink>(
     rt: &R,
+    words: &[String],
     sink: &mut K,
 ) -> Result<Status, AllocError> {
     let alloc = rt.alloc();
-    let words = words_of(rt, alloc)?;
     let mut listeners: Vec<Box<dyn Listener>> = Vec::new(alloc);
     for (kinds, limit) in OWN_LISTENERS {
         let listener = CountListener::new(u8::MAX, kinds, limit);
         listeners.push(Box::new(alloc, listener)?)?;
     }
     let mut source = InSource::new(rt.reader());
-    let status = run(
-        rt,
-        alloc,
-        words.as_slice(),
-        &mut source,
-        sink,
-        listeners,
-        &FreeGate,
-    );
+    let status = run(rt, alloc, words, &mut source, sink, listeners, &FreeGate);
     Ok(status)
 }
 
@@ -68,13 +67,32 @@ fn words_of<R: Env + AllocGlobal>(rt: &R, alloc: Global) -> Result<Vec<String>, 
     Ok(words)
 }
 
-/// Says what went wrong on standard error, in one line. The line of a fault of the input went to standard output: it is
-/// said again where that is no terminal, so that a redirection does not hide it.
-fn say(rt: &HostRuntime, status: Status, front: &[u8]) -> io::Result<()> {
-    if status == Status::BadInput && !rt.stdout().is_terminal() {
-        if let Ok(line) = std::str::from_utf8(front) {
-            eprint!(rt; "nooks: {line}")?;
+/// Says on standard error how words that are of no form can be mended.
+fn hint(rt: &HostRuntime, status: Status, words: &[String]) -> io::Result<()> {
+    if status == Status::Usage {
+        eprintln!(rt; "nooks: {FORMS}")?;
+        if names_a_file(rt, words) {
+            eprintln!(rt; "nooks: {STANDARD_INPUT}")?;
         }
+    }
+    Ok(())
+}
+
+/// Whether one of the words is the path of a file.
+fn names_a_file(rt: &HostRuntime, words: &[String]) -> bool {
+    words.iter().any(|word| std::fs::metadata(rt, word.as_str()).is_ok_and(|it| it.is_file()))
+}
+
+/// Says on standard error what went wrong. The line of a fault of the input went to standard output: it is repeated
+/// if that is no terminal, so that a redirection does not hide it.
+fn say(rt: &HostRuntime, status: Status, front: &[u8]) -> io::Result<()> {
+    if status == Status::BadInput {
+        if !rt.stdout().is_terminal() {
+            if let Ok(line) = std::str::from_utf8(front) {
+                eprint!(rt; "nooks: {line}")?;
+            }
+        }
+        eprintln!(rt; "nooks: {EXPLAIN}")?;
     }
     if let Some(message) = message_of(status) {
         eprintln!(rt; "nooks: {message}")?;

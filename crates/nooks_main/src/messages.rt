@@ -4,6 +4,16 @@ ghost use Rattle.std.specs.Prelude.{◌≡◌, ◌⊎◌, IfSome, IsNone, IsSome
 
 use nooks::Status;
 
+/// After the usage line: where the forms are listed.
+pub const FORMS: &str = "`nooks --help` lists every form of words";
+
+/// After the usage line, if a word is the path of a file.
+pub const STANDARD_INPUT: &str = "input comes from standard input: nooks run < FILE";
+
+/// After the line of a refused input: what shows the place.
+pub const EXPLAIN: &str =
+    "`nooks-bench explain --input FILE`, given this line, shows the place in the input";
+
 /// What went wrong outside the program, in a few words; `None` where nothing did, or where a line of its own tells it.
 pub fn message_of(status: Status) -> Option<&'static str>
     ensures said { result ≡ None → (status ≡ Status.ReadFault → ⊥) × (status ≡ Status.WriteFault → ⊥)

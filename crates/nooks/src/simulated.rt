@@ -22,14 +22,15 @@ use nook_defs::listeners::CountListener;
 use nook_defs::memory::NoMemory;
 use nook_defs::outside::{Gate, Listener, Sink};
 use nook_defs::scenario::Scenario;
-use report_text::{PartReport, Report, ReportStatus, WriteStop, report_of, write_report};
+use report_text::{
+    PartReport, Report, ReportStatus, Summary, WriteStop, report_of, write_report, write_summary,
+};
 use request_taps::Bus;
 use scenario_gen::generate;
 use sim_run::simulate;
 use std::alloc::Global;
 use std::sync::Wait;
 use std::thread::Threads;
-use summary_text::{Summary, write_summary};
 use threaded_run::run_threads;
 
 /// Simulates a scenario, which a bus of listeners hears, and writes the report.

@@ -5,6 +5,7 @@ mod line;
 mod pieces;
 mod report;
 mod status;
+mod summary;
 mod whole_report;
 mod whole_text;
 mod write;
@@ -13,6 +14,7 @@ pub use line::Line;
 pub use pieces::{push_acts_tail, push_number, push_outcome};
 pub use report::{Journals, Run};
 pub use status::ReportStatus;
+pub use summary::{Summary, write_summary};
 pub use whole_report::{PartEnd, PartEnds, PartReport, PartReports, Report, report_of};
 pub use whole_text::{write_final, write_mirror_report, write_report, write_taps};
 pub use write::{

@@ -1,16 +1,19 @@
-//! What is told of a generated scenario, and its writing.
+//! The one line of a generated scenario.
 
 ghost use Rattle.nook_defs.specs.ReportText.{gen_line};
+ghost use Rattle.std.specs.Prelude.{◌≡◌, ◌++◌, OnOk};
 ghost use Rattle.report_text.specs.Statuses.{status_number};
 ghost use Rattle.report_text.specs.Writing.{Wrote};
 
-use crate::lines::push_summary;
+use crate::line::Line;
+use crate::status::ReportStatus;
+use crate::write::WriteStop;
+use nook_defs::memory::NoMemory;
 use nook_defs::outside::Sink;
 use nook_defs::whole::write_all;
-use report_text::{Line, ReportStatus, WriteStop};
 use std::alloc::Global;
 
-/// What the line of a generated scenario tells: its number, the events and failures of all its parts, and the status
+/// What the line of a generated scenario has: its number, the events and failures of all its parts, and the status
 /// that its report would have.
 #[derive(Clone, Copy)]
 pub struct Summary {
@@ -34,4 +37,20 @@ pub fn write_summary<K: Sink>(
     push_summary(&mut line, summary)?;
     write_all(sink, line.as_bytes())?;
     Ok(())
+}
+
+/// The line of a generated scenario.
+fn push_summary(line: &mut Line, summary: Summary) -> Result<(), NoMemory>
+    ensures { OnOk result (line.new ≡ line.old
+        ++ gen_line summary.number summary.events summary.failures (status_number summary.status)) }
+{
+    line.push("gen ")?;
+    line.number(u64::from(summary.number))?;
+    line.push(" events ")?;
+    line.number(summary.events)?;
+    line.push(" failures ")?;
+    line.number(summary.failures)?;
+    line.push(" status ")?;
+    line.number(u64::from(summary.status.number()))?;
+    line.push("\n")
 }

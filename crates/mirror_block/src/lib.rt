@@ -10,8 +10,6 @@ mod mirror;
 mod outcome;
 mod side;
 mod stop;
-#[cfg(test)]
-mod tests;
 
 pub use laws::the_answers_are_those_of_one_disk;
 pub use mirror::Mirror;

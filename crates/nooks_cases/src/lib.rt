@@ -1,15 +1,12 @@
-//! Whole runs of the program, by the texts that it reads and writes: the tests of `nooks`, in a crate of their own.
+//! The program over sources and sinks that fail, listeners and gates: what no file outside can show. Its runs by their
+//! texts are in checks/runs.
 #![tactic(auto)]
 
 #[cfg(test)]
 mod failing_tests;
 #[cfg(test)]
+mod inputs;
+#[cfg(test)]
 mod running;
 #[cfg(test)]
-mod tests;
-#[cfg(test)]
 mod thread_tests;
-#[cfg(test)]
-mod worked_runs;
-#[cfg(test)]
-mod worked_tests;

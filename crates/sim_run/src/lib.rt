@@ -8,8 +8,6 @@ pub mod laws;
 mod script;
 mod seat;
 mod simulating;
-#[cfg(test)]
-mod tests;
 mod whole_run;
 
 pub use whole_run::{FoundBurst, run_to_burst, simulate, simulate_over};

@@ -1,10 +1,5 @@
-//! Locks, workers and desks that several threads use, by cases: the tests of `turn_lock`, `app_threads` and `part_server`,
-//! in a crate of their own.
+//! Threads that take turns: the test of `turn_lock`, in a crate of its own.
 #![tactic(auto)]
 
-#[cfg(test)]
-mod app_threads_tests;
-#[cfg(test)]
-mod part_server_tests;
 #[cfg(test)]
 mod turn_lock_tests;

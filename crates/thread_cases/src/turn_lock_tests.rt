@@ -1,8 +1,7 @@
 //! What no clause says: that the calls succeed, that threads get their turns, and that a list grows by all commits.
 ghost use Rattle.std.specs.Prelude.{◌≡◌, false};
-ghost use Rattle.turn_lock.specs.Seats.{seat_view, IsAlone, IsSeatOf};
+ghost use Rattle.turn_lock.specs.Seats.{seat_view, IsSeatOf};
 
-use std::alloc::{AllocError, Global};
 use std::process::Abort;
 use std::sync::Wait;
 use std::test::Fail;
@@ -13,10 +12,7 @@ use turn_lock::{Kept, Turn, TurnSeat};
 // More entries than any test makes.
 const MOST: usize = 1000;
 
-// The commits of each thread where they race.
-const COMMITS: u64 = 100;
-
-// The commits of each thread where they alternate.
+// The commits of each thread if they alternate.
 const ROUNDS: u64 = 10;
 
 // A thread that waits for the other gives up after this many looks, a millisecond apart.
@@ -42,12 +38,6 @@ impl Kept for Numbers {
     }
 }
 
-fn numbers_of(alloc: Global, items: &[u64]) -> Result<Numbers, AllocError> {
-    Ok(Numbers {
-        items: items.to_vec(alloc)?,
-    })
-}
-
 // Takes the turn and commits a number.
 fn commit<R: Wait + Abort>(rt: &R, turn: &Turn<Numbers>, seat: &mut TurnSeat<Numbers>, number: u64)
     requires seat { IsSeatOf turn.now seat.old }
@@ -60,43 +50,6 @@ fn commit<R: Wait + Abort>(rt: &R, turn: &Turn<Numbers>, seat: &mut TurnSeat<Num
     assert!(rt; value.items.len() < MOST);
     value.items.push(number).expect(rt, "memory");
     turn.commit_and_give(seat, value);
-}
-
-// Commits a number through another seat, which it makes and takes in again: a seat that was alone is alone again.
-fn there_and_back<R: Wait + Abort>(
-    rt: &R,
-    turn: &Turn<Numbers>,
-    seat: &mut TurnSeat<Numbers>,
-    number: u64,
-)
-    requires seat { IsSeatOf turn.now seat.old }
-    requires free { (seat_view seat.old).has ≡ false }
-    requires alone { IsAlone (seat_view seat.old) }
-    ensures seat { IsSeatOf turn.now seat.new }
-    ensures free { (seat_view seat.new).has ≡ false }
-    ensures alone { IsAlone (seat_view seat.new) }
-{
-    let mut other = turn.split(seat);
-    commit(rt, turn, &mut other, number);
-    turn.join(seat, other);
-}
-
-// Commits the numbers from `first` on.
-fn commit_from<R: Wait + Abort>(
-    rt: &R,
-    turn: &Turn<Numbers>,
-    mut seat: TurnSeat<Numbers>,
-    first: u64,
-) -> TurnSeat<Numbers>
-    requires seat { IsSeatOf turn.now seat }
-    requires free { (seat_view seat).has ≡ false }
-    ensures seat { IsSeatOf turn.now result }
-    ensures free { (seat_view result).has ≡ false }
-{
-    for number in first..first.saturating_add(COMMITS) {
-        commit(rt, turn, &mut seat, number);
-    }
-    seat
 }
 
 // Looks until there are this many entries, and says whether there were.
@@ -136,65 +89,9 @@ fn alternate<R: Wait + Abort + Clock>(
     (true, seat)
 }
 
-// Whether the numbers of `COMMITS` from `first` on stand in their order.
-fn stand_in_order(items: &[u64], first: u64) -> bool {
-    let mut next = first;
-    for item in items {
-        if *item == next {
-            next = next.saturating_add(1);
-        }
-    }
-    next == first.saturating_add(COMMITS)
-}
-
-#[test]
-fn one_seat_and_another(rt: HostRuntime) -> Result<(), Fail> {
-    let (turn, mut seat) = Turn::new(rt.alloc(), numbers_of(rt.alloc(), &[5])?)?;
-    commit(&rt, &turn, &mut seat, 6);
-    assert_eq!(rt; turn.look(&mut seat), 2);
-    let mut other = turn.split(&mut seat);
-    let value = turn.take(&rt, &mut other);
-    assert_eq!(rt; value.items.as_slice(), [5, 6].as_slice());
-    turn.give_back(&mut other, value);
-    commit(&rt, &turn, &mut other, 7);
-    assert_eq!(rt; turn.look(&mut seat), 3);
-    turn.join(&mut seat, other);
-    let value = turn.close(&rt, seat);
-    assert_eq!(rt; value.items.as_slice(), [5, 6, 7].as_slice());
-    Ok(())
-}
-
-#[test]
-fn alone_again(rt: HostRuntime) -> Result<(), Fail> {
-    let (turn, mut seat) = Turn::new(rt.alloc(), numbers_of(rt.alloc(), &[5])?)?;
-    there_and_back(&rt, &turn, &mut seat, 6);
-    there_and_back(&rt, &turn, &mut seat, 7);
-    assert_eq!(rt; turn.look(&mut seat), 3);
-    let value = turn.close(&rt, seat);
-    assert_eq!(rt; value.items.as_slice(), [5, 6, 7].as_slice());
-    Ok(())
-}
-
-#[test]
-fn two_threads_race(rt: HostRuntime) -> Result<(), Fail> {
-    let (turn, mut seat) = Turn::new(rt.alloc(), numbers_of(rt.alloc(), &[])?)?;
-    let other = turn.split(&mut seat);
-    let (mut seat, other) = thread::join(
-        &rt,
-        || commit_from(&rt, &turn, seat, 1000),
-        || commit_from(&rt, &turn, other, 2000),
-    );
-    turn.join(&mut seat, other);
-    let value = turn.close(&rt, seat);
-    assert_eq!(rt; value.count(), 200);
-    assert!(rt; stand_in_order(value.items.as_slice(), 1000));
-    assert!(rt; stand_in_order(value.items.as_slice(), 2000));
-    Ok(())
-}
-
 #[test]
 fn two_threads_alternate(rt: HostRuntime) -> Result<(), Fail> {
-    let (turn, mut seat) = Turn::new(rt.alloc(), numbers_of(rt.alloc(), &[])?)?;
+    let (turn, mut seat) = Turn::new(rt.alloc(), Numbers { items: Vec::new(rt.alloc()) })?;
     let other = turn.split(&mut seat);
     let ((saw, mut seat), (other_saw, other)) = thread::join(
         &rt,

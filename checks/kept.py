@@ -1,0 +1,171 @@
+"""Holds a program against the files of checks/runs, the tables of inputs.py, and what it computes here. checks/golden calls it.
+
+runs/README.md says what the files are. Each scenario and each text has at least one file beside it, and each of those
+has its scenario or text. An audit of each report by its scenario has to be a yes. Besides, inputs that are cut off are
+refused, the generated scenario is the one of bench/run, and campaigns of up to 4,096 faults have their tables.
+"""
+
+import json
+import os
+import re
+
+import inputs
+import running
+from running import Tally, run
+
+RUNS = os.path.join(running.TOP, "checks/runs")
+
+# The files that stand beside a scenario, and those beside a text.
+BESIDE_SCENARIO = (".report", ".mirror", ".trace")
+BESIDE_TEXT = (".image", ".text", ".list")
+
+# A program by its name and its path.
+Named = tuple[str, str]
+
+
+def kept(name: str) -> bytes:
+    """The bytes of a file of checks/runs."""
+    with open(os.path.join(RUNS, name), "rb") as file:
+        return file.read()
+
+
+def names(ending: str) -> list[str]:
+    """The names of the files with an ending, without it."""
+    return sorted(name[: -len(ending)] for name in os.listdir(RUNS) if name.endswith(ending))
+
+
+def status_of(report: bytes) -> int:
+    """The status that a report tells in its last line; -1 if it tells none."""
+    found = re.search(rb"(?:^|\n)status (\d+)\n$", report)
+    return int(found[1]) if found else -1
+
+
+def check_files(tally: Tally) -> None:
+    """No file stands alone."""
+    scenarios = {name.split(".")[0] for ending in BESIDE_SCENARIO for name in names(ending)}
+    tally.same("checks/runs: scenarios, and those with a file beside them", names(".json"), sorted(scenarios))
+    texts = {name for ending in BESIDE_TEXT for name in names(ending)}
+    tally.same("checks/runs: texts, and those with a file beside them", names(".asm"), sorted(texts))
+
+
+def check_reports(tally: Tally, programs: list[Named], form: str, ending: str) -> None:
+    """Each report and its status."""
+    for name in names(ending):
+        wanted = kept(name + ending)
+        for whose, program in programs:
+            ended = run(program, [form], kept(name + ".json"))
+            tally.same(f"runs/{name}: the report of {whose}", ended.out, wanted)
+            tally.same(f"runs/{name}: the status of {whose}", ended.status, status_of(wanted))
+
+
+def check_audits(tally: Tally, program: str) -> None:
+    """The verdict on each report of a run."""
+    for name in names(".report"):
+        ended = run(program, ["audit"], running.handed(kept(name + ".json"), kept(name + ".report")))
+        tally.same(f"runs/{name}: the verdict on its report", (ended.status, ended.out), (0, b"audit yes\n"))
+
+
+def check_traces(tally: Tally, program: str) -> None:
+    """Each trace. The name tells the part and the burst; a trace that is a fault has the status of a refused input."""
+    for whole in names(".trace"):
+        name, part, burst = whole.split(".")
+        wanted = kept(whole + ".trace")
+        ended = run(program, ["trace", part, burst], kept(name + ".json"))
+        tally.same(f"runs/{whole}: the trace", ended.out, wanted)
+        tally.same(f"runs/{whole}: the status", ended.status, 3 if wanted.startswith(b"fault ") else 0)
+
+
+def check_texts(tally: Tally, program: str) -> None:
+    """What is made of each driver's text: its image, the text of that image, and its list."""
+    for name in names(".asm"):
+        given, image = kept(name + ".asm"), kept(name + ".image")
+        tally.same(f"runs/{name}: its image", run(program, ["asm"], given).out, image)
+        tally.same(f"runs/{name}: the text of its image", run(program, ["dis"], image).out, kept(name + ".text"))
+        tally.same(f"runs/{name}: its list", run(program, ["list"], given).out, kept(name + ".list"))
+
+
+def check_inputs(tally: Tally, program: str) -> None:
+    """Each input of the tables, with the line of its fault; one that is right ends otherwise."""
+    for given, wanted in inputs.scenarios():
+        ended = run(program, ["run"], given)
+        found = ended.out.decode() if ended.status == 3 else "right"
+        tally.same(f"run over {shown(given)}", found, "right" if wanted == "right" else f"fault {wanted}\n")
+    for given, wanted in inputs.texts():
+        for form in ("asm", "list"):
+            ended = run(program, [form], given)
+            tally.same(f"{form} over {shown(given)}", (ended.status, ended.out), (3, f"fault {wanted}\n".encode()))
+
+
+# The forms that read JSON, and the one line of each over an input that is cut off.
+CUT_OFF = [([form], "1 not_json /") for form in ("run", "dis", "campaign", "mirror")] + [
+    (["run", "threads"], "1 not_json /"),
+    (["trace", "0", "1"], "1 not_json /"),
+    (["audit"], "12 bad_header /"),
+]
+
+
+def check_fronts(tally: Tally, program: str) -> None:
+    """An example's scenario, cut off at each thirteenth byte and before its last bracket."""
+    whole = running.example("write-and-read.json").rstrip()
+    for length in [*range(0, len(whole), 13), len(whole) - 1]:
+        for words, line in CUT_OFF:
+            ended = run(program, words, whole[:length])
+            name = f"{' '.join(words)} over the first {length} bytes of write-and-read"
+            tally.same(name, (ended.status, ended.out), (3, f"fault {line}\n".encode()))
+
+
+def check_generated(tally: Tally, program: str) -> None:
+    """The generated scenario of 12 runs as the one that bench/run makes of the same size."""
+    given = run(program, ["gen", "12", "scenario"]).out
+    found = run(program, ["run"], given)
+    wanted = run(program, ["run"], running.generated(12))
+    tally.same("the generated scenario of 12: the report", found.out, wanted.out)
+    tally.same("the generated scenario of 12: the statuses", (found.status, wanted.status), (0, 0))
+
+
+# The rows of three faults of one write: in its burst, in the driver's start, and in a burst that never comes. Without a
+# failure the events are the invocation, Load, Init, the two bursts of the start, Resume, the entry and the burst that
+# replies. A failure ends this with its burst, and Stop and Collect come after it.
+STRUCK = [(3, "status 1 events 10 failures 1 gone 1 lost 0"), (1, "status 1 events 6 failures 1 gone 1 lost 0")]
+UNSTRUCK = (4_294_967_295, "status 0 events 8 failures 0 gone 0 lost 0")
+
+
+def campaign(count: int) -> tuple[bytes, bytes]:
+    """The campaign of so many such faults over a disk that is given up at its first failure, and its table."""
+    driver = {"image": json.loads(running.example("block.image"))}
+    part = {"name": "d0", "class": "block", "blocks": 4, "driver": driver}
+    write = {"part": 0, "op": "write", "first": 1, "data": [1] * 16}
+    base = {"version": 1, "parts": [part], "threads": [{"name": "t0", "ops": [write]}]}
+    members = [(STRUCK + [UNSTRUCK])[place % 3] for place in range(count)]
+    faults = [{"burst": burst, "after": 0, "kind": "trap"} for burst, _ in members]
+    table = "".join(f"{place} {row}\n" for place, (_, row) in enumerate(members, 1))
+    last = f"campaign {count} kept {count // 3} given_up {count - count // 3} broken 0\n"
+    return json.dumps({"base": base, "part": 0, "faults": faults}).encode(), (table + last).encode()
+
+
+def check_campaigns(tally: Tally, program: str) -> None:
+    """Tables of one row, of as many as are run at a time and one more, and of the most."""
+    for count in (1, 1024, 1025, 4096):
+        given, wanted = campaign(count)
+        ended = run(program, ["campaign"], given)
+        tally.same(f"a campaign of {count} faults", (ended.status, ended.out), (0, wanted))
+
+
+def shown(given: bytes) -> str:
+    """An input in short: its end, where the tables differ."""
+    return repr(given if len(given) < 120 else b".." + given[-120:])
+
+
+def check_kept(tally: Tally, program: str, plain: str | None) -> None:
+    """All of it; the plain program is asked for the reports alone, and left out if there is none."""
+    programs = [("the program", program)] + ([] if plain is None else [("the plain program", plain)])
+    check_files(tally)
+    check_reports(tally, programs, "run", ".report")
+    check_reports(tally, programs, "mirror", ".mirror")
+    check_audits(tally, program)
+    check_traces(tally, program)
+    check_texts(tally, program)
+    check_inputs(tally, program)
+    check_fronts(tally, program)
+    check_generated(tally, program)
+    check_campaigns(tally, program)

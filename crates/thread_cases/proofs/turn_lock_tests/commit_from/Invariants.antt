@@ -1,6 +1,0 @@
-use Rattle.std.proofs.Common.{◌≡◌, false}
-use Rattle.turn_lock.specs.Seats.{seat_view, IsSeatOf}
-use Rattle.thread_cases.proofs.turn_lock_tests.commit_from.Given as goal
-
-abbrev pub invariant-loop-number : goal.invariant-loop-number
-invariant-loop-number g l = IsSeatOf l.turn l.seat × ((seat_view l.seat).has ≡ false)

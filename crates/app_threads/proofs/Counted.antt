@@ -5,11 +5,11 @@ use Rattle.std.specs.List.{filter}
 use Rattle.std.proofs.lemmas.Bool.Decides.{nat_tests}
 use Rattle.std.proofs.lemmas.List.Elements.{All-weaker, filter-append, filter_map-append}
 use mathlib.Core.List.{IsPrefix}
-use Rattle.nook_defs.specs.declared.steps.Event.{Event}
-use Rattle.nook_defs.specs.declared.steps.Event.TheVariants as event
-use Rattle.nook_defs.specs.declared.calls.Op.{Op}
-use Rattle.nook_defs.specs.declared.desks.Receipt.{Receipt}
-use Rattle.nook_defs.specs.Places.{at_number}
+use Rattle.nook_data.specs.declared.steps.Event.{Event}
+use Rattle.nook_data.specs.declared.steps.Event.TheVariants as event
+use Rattle.nook_data.specs.declared.calls.Op.{Op}
+use Rattle.nook_data.specs.declared.desks.Receipt.{Receipt}
+use Rattle.nook_data.specs.Places.{at_number}
 use Rattle.desk_like.specs.Desks.{AddsNothing, DeskView, IsAt, Invokes, Joins}
 use Rattle.app_threads.specs.Steps.{Same}
 use Rattle.app_threads.specs.Workers.{Gains, GainsAtMost, Grows, IsBy, count_on, frame_of, frames_at, invokes_at, invokes_by, invokes_of, is_invoke, is_invoke_by}

@@ -5,11 +5,11 @@ use Rattle.std.specs.List.{cons_option, filter}
 use Rattle.std.proofs.lemmas.List.Elements.{All-head, All-tail, All-cons, All-nil, All-append, All-weaker, filter-append, filter_map-append}
 use Rattle.std.proofs.lemmas.Option.{slice_get_within}
 use mathlib.Core.List.{IsPrefix}
-use Rattle.nook_defs.specs.declared.steps.Event.{Event}
-use Rattle.nook_defs.specs.declared.steps.Event.TheVariants as event
-use Rattle.nook_defs.specs.declared.calls.Op.{Op}
-use Rattle.nook_defs.specs.declared.desks.Receipt.{Receipt}
-use Rattle.nook_defs.specs.Places.{at_number}
+use Rattle.nook_data.specs.declared.steps.Event.{Event}
+use Rattle.nook_data.specs.declared.steps.Event.TheVariants as event
+use Rattle.nook_data.specs.declared.calls.Op.{Op}
+use Rattle.nook_data.specs.declared.desks.Receipt.{Receipt}
+use Rattle.nook_data.specs.Places.{at_number}
 use Rattle.desk_like.specs.Desks.{Adds, AddsNothing, AreOthers, DeskView, Invokes, IsArrive, IsAt, IsInvoke, IsOther, IsReceipt, IsRisingFrom, Joins, Answers}
 use Rattle.app_threads.specs.Workers.{Does, Gains, Grows, frame_of, frames_at, invokes_at, is_invoke}
 use Rattle.app_threads.proofs.Listed.{filter_map_none, filter_map_same, filter_none, filter_same, get_append, prefix_length, prefix_refl, prefix_trans}

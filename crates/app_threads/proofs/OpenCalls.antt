@@ -3,18 +3,19 @@ use Rattle.std.proofs.Common.{◌≡◌, ◌⊎◌, ℕ, zero, suc, ◌+◌, ◌
 use Rattle.std.specs.Prelude.{if◌then◌else◌, ◌==◌}
 use Rattle.std.specs.List.{AllByRecursion}
 use mathlib.Core.List.{IsPrefix}
-use Rattle.nook_defs.specs.declared.steps.Event.{Event}
-use Rattle.nook_defs.specs.declared.steps.Event.TheVariants as event
-use Rattle.nook_defs.specs.declared.scenario.PartSpec.{PartSpec}
-use Rattle.nook_defs.specs.declared.steps.Stage.{Stage}
-use Rattle.nook_defs.specs.Log.{opening_log}
-use Rattle.nook_defs.specs.Views.CallLogs.{IsNumbered}
-use Rattle.nook_defs.specs.Runs.{IsRun, IsRunFrom, answer_at, state_after, state_from, state_of, step_of}
-use Rattle.nook_defs.specs.State.{PartState}
-use Rattle.nook_defs.specs.Steps.{opening}
+use Rattle.nook_data.specs.declared.steps.Event.{Event}
+use Rattle.nook_data.specs.declared.steps.Event.TheVariants as event
+use Rattle.nook_data.specs.declared.scenario.PartSpec.{PartSpec}
+use Rattle.nook_data.specs.declared.steps.Stage.{Stage}
+use Rattle.part_defs.specs.Log.{opening_log}
+use Rattle.part_defs.specs.Views.CallLogs.{IsNumbered}
+use Rattle.part_defs.specs.Runs.{IsRun, IsRunFrom, state_after, state_from, state_of, step_of}
+use Rattle.nook_data.specs.Answers.{answer_at}
+use Rattle.part_defs.specs.State.{PartState}
+use Rattle.part_defs.specs.Steps.{opening}
 use Rattle.part_laws.proofs.CallNumbers.{CameFrom, HasEntry, InvokesAbove, InvokesBy, Quiet, open_has, small_calls}
 use Rattle.desk_like.specs.Desks.{HasOpen}
-use Rattle.nook_defs.specs.Places.{at_number}
+use Rattle.nook_data.specs.Places.{at_number}
 use Rattle.part_laws.proofs.UnansweredCalls.{found_has, fresh_after, open_after}
 use Rattle.app_threads.proofs.Listed.{some_same}
 

@@ -1,7 +1,7 @@
 -- Where the points of the seats' shares are, while seats are made beside others, work, and are taken in.
 use Rattle.std.proofs.Common.{◌≡◌, ◌⊎◌, ℕ, zero, suc, Bool, true, false, ◌||◌, Some, List, [], ◌∷◌, ◌++◌, length, slice_get, subst, sym, refl, ap, ◌∙◌, inl, inr, arith}
 use Rattle.std.proofs.lemmas.Option.{slice_get_within}
-use Rattle.nook_defs.specs.declared.scenario.PartSpec.{PartSpec}
+use Rattle.nook_data.specs.declared.scenario.PartSpec.{PartSpec}
 use Rattle.shares.specs.Shares.{Share, half, owns}
 use Rattle.shares.proofs.Shares.{in_left, in_right, owns_halves}
 use Rattle.desk_like.specs.Desks.{DeskView}

@@ -4,16 +4,16 @@ use Rattle.std.specs.Prelude.{All, if◌then◌else◌, ◌==◌, Result, Ok, Er
 use Rattle.std.specs.List.{filter}
 use Rattle.std.proofs.lemmas.List.Elements.{All-append, All-cons, All-nil, All-weaker}
 use mathlib.Core.List.{IsPrefix}
-use Rattle.nook_defs.specs.declared.desks.DeskRefused.{DeskRefused}
-use Rattle.nook_defs.specs.declared.desks.DeskRefused.TheVariants as refused
-use Rattle.nook_defs.specs.declared.steps.Event.{Event}
-use Rattle.nook_defs.specs.declared.steps.Event.TheVariants as event
-use Rattle.nook_defs.specs.declared.calls.Op.{Op}
-use Rattle.nook_defs.specs.Places.{at_number}
-use Rattle.nook_defs.specs.declared.scenario.PartSpec.{PartSpec}
-use Rattle.nook_defs.specs.declared.desks.Receipt.{Receipt}
-use Rattle.nook_defs.specs.Runs.{state_of}
-use Rattle.nook_defs.specs.State.{PartState}
+use Rattle.nook_data.specs.declared.desks.DeskRefused.{DeskRefused}
+use Rattle.nook_data.specs.declared.desks.DeskRefused.TheVariants as refused
+use Rattle.nook_data.specs.declared.steps.Event.{Event}
+use Rattle.nook_data.specs.declared.steps.Event.TheVariants as event
+use Rattle.nook_data.specs.declared.calls.Op.{Op}
+use Rattle.nook_data.specs.Places.{at_number}
+use Rattle.nook_data.specs.declared.scenario.PartSpec.{PartSpec}
+use Rattle.nook_data.specs.declared.desks.Receipt.{Receipt}
+use Rattle.part_defs.specs.Runs.{state_of}
+use Rattle.part_defs.specs.State.{PartState}
 use Rattle.desk_like.specs.Desks.{AddsNothing, Answers, ArriveEnds, CallEnds, DeskView, Invokes, IsAt, IsInvoke, IsOther, IsReceipt}
 use Rattle.app_threads.specs.Steps.{IsStepAt, NextArrivalEnds, NextCallEnds}
 use Rattle.app_threads.specs.declared.stop.WorkerStop.{WorkerStop}

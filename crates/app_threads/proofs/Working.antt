@@ -1,9 +1,9 @@
 -- The end of a script and of arrivals as the end of a work.
 use Rattle.std.proofs.Common.{◌≡◌, ℕ, List, [], length, slice_get, subst, sym, ap, Some}
 use Rattle.std.specs.Prelude.{if◌then◌else◌, ◌==◌, slice_index_or, Result, Ok, Err}
-use Rattle.nook_defs.specs.declared.scenario.PartSpec.{PartSpec}
-use Rattle.nook_defs.specs.declared.desks.Receipt.{Receipt}
-use Rattle.nook_defs.specs.declared.scenario.ThreadSpec.{ThreadSpec}
+use Rattle.nook_data.specs.declared.scenario.PartSpec.{PartSpec}
+use Rattle.nook_data.specs.declared.desks.Receipt.{Receipt}
+use Rattle.nook_data.specs.declared.scenario.ThreadSpec.{ThreadSpec}
 use Rattle.desk_like.specs.Desks.{DeskView}
 use Rattle.app_threads.specs.declared.stop.WorkerStop.{WorkerStop}
 use Rattle.app_threads.specs.declared.stop.WorkerStop.TheVariants as stop

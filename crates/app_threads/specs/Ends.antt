@@ -1,12 +1,12 @@
 -- How all workers end.
 use Rattle.std.specs.Prelude.{◌≡◌, ℕ, ◌+◌, ◌<◌, ◌≤◌, ◌⊎◌, List, [], ◌∷◌, length, slice_get, slice_index_or, Some}
 use Rattle.std.specs.Prelude.{Result, Ok, Err}
-use Rattle.nook_defs.specs.declared.desks.DeskRefused.{DeskRefused}
-use Rattle.nook_defs.specs.declared.desks.DeskRefused.TheVariants as refused
-use Rattle.nook_defs.specs.declared.calls.Op.{Op}
-use Rattle.nook_defs.specs.declared.scenario.PartSpec.{PartSpec}
-use Rattle.nook_defs.specs.declared.desks.Receipt.{Receipt}
-use Rattle.nook_defs.specs.declared.scenario.ThreadSpec.{ThreadSpec}
+use Rattle.nook_data.specs.declared.desks.DeskRefused.{DeskRefused}
+use Rattle.nook_data.specs.declared.desks.DeskRefused.TheVariants as refused
+use Rattle.nook_data.specs.declared.calls.Op.{Op}
+use Rattle.nook_data.specs.declared.scenario.PartSpec.{PartSpec}
+use Rattle.nook_data.specs.declared.desks.Receipt.{Receipt}
+use Rattle.nook_data.specs.declared.scenario.ThreadSpec.{ThreadSpec}
 use Rattle.desk_like.specs.Desks.{DeskView, IsRisingFrom}
 use Rattle.app_threads.specs.declared.stop.WorkerStop.{WorkerStop}
 use Rattle.app_threads.specs.declared.stop.WorkerStop.TheVariants as stop

@@ -1,10 +1,10 @@
 -- One step of a worker, as its seats' views show it.
 use Rattle.std.specs.Prelude.{◌≡◌, ℕ, ◌⊎◌, Bool, true, List, [], ◌∷◌, length, slice_get, slice_set, Some, Result, Ok}
 use Rattle.std.specs.Prelude.{Err}
-use Rattle.nook_defs.specs.declared.calls.Op.{Op}
-use Rattle.nook_defs.specs.declared.scenario.PartSpec.{PartSpec}
-use Rattle.nook_defs.specs.declared.desks.Receipt.{Receipt}
-use Rattle.nook_defs.specs.Runs.{IsRun}
+use Rattle.nook_data.specs.declared.calls.Op.{Op}
+use Rattle.nook_data.specs.declared.scenario.PartSpec.{PartSpec}
+use Rattle.nook_data.specs.declared.desks.Receipt.{Receipt}
+use Rattle.part_defs.specs.Runs.{IsRun}
 use Rattle.desk_like.specs.Desks.{Accounts, ArriveEnds, CallEnds, DeskView, Joins, halved_view, new_view}
 use Rattle.shares.specs.Shares.{owns}
 use Rattle.app_threads.specs.declared.stop.WorkerStop.{WorkerStop}

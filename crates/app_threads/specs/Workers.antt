@@ -3,22 +3,22 @@ use Rattle.std.specs.Prelude.{◌≡◌, ℕ, ◌<◌, ◌≤◌, ◌==◌, if�
 use Rattle.std.specs.Prelude.{slice_get, slice_index_or, All, Option, Some, None, Result, Ok, Err, is_some}
 use Rattle.std.specs.List.{filter, filter_map}
 use mathlib.Core.List.{IsPrefix}
-use Rattle.nook_defs.specs.declared.calls.Answer.{Answer}
-use Rattle.nook_defs.specs.Classes.{same_class}
-use Rattle.nook_defs.specs.declared.classes.Class.TheVariants as class
-use Rattle.nook_defs.specs.declared.desks.DeskRefused.{DeskRefused}
-use Rattle.nook_defs.specs.declared.desks.DeskRefused.TheVariants as refused
-use Rattle.nook_defs.specs.declared.steps.Event.{Event}
-use Rattle.nook_defs.specs.declared.steps.Event.TheVariants as event
-use Rattle.nook_defs.specs.declared.calls.Op.{Op}
-use Rattle.nook_defs.specs.declared.scenario.PartSpec.{PartSpec}
-use Rattle.nook_defs.specs.declared.desks.Receipt.{Receipt}
-use Rattle.nook_defs.specs.declared.scenario.ThreadSpec.{ThreadSpec}
-use Rattle.nook_defs.specs.declared.limits.TheConstants.{MOST_ARRIVALS, MOST_CALLS, MOST_FRAME_WORDS, MOST_OPS}
-use Rattle.nook_defs.specs.declared.limits.TheConstants.{MOST_THREADS}
-use Rattle.nook_defs.specs.Places.{at_number}
-use Rattle.nook_defs.specs.Runs.{IsRun, state_of}
-use Rattle.nook_defs.specs.State.{PartState}
+use Rattle.nook_data.specs.declared.calls.Answer.{Answer}
+use Rattle.nook_data.specs.Classes.{same_class}
+use Rattle.nook_data.specs.declared.classes.Class.TheVariants as class
+use Rattle.nook_data.specs.declared.desks.DeskRefused.{DeskRefused}
+use Rattle.nook_data.specs.declared.desks.DeskRefused.TheVariants as refused
+use Rattle.nook_data.specs.declared.steps.Event.{Event}
+use Rattle.nook_data.specs.declared.steps.Event.TheVariants as event
+use Rattle.nook_data.specs.declared.calls.Op.{Op}
+use Rattle.nook_data.specs.declared.scenario.PartSpec.{PartSpec}
+use Rattle.nook_data.specs.declared.desks.Receipt.{Receipt}
+use Rattle.nook_data.specs.declared.scenario.ThreadSpec.{ThreadSpec}
+use Rattle.nook_data.specs.declared.limits.TheConstants.{MOST_ARRIVALS, MOST_CALLS, MOST_FRAME_WORDS, MOST_OPS}
+use Rattle.nook_data.specs.declared.limits.TheConstants.{MOST_THREADS}
+use Rattle.nook_data.specs.Places.{at_number}
+use Rattle.part_defs.specs.Runs.{IsRun, state_of}
+use Rattle.part_defs.specs.State.{PartState}
 use Rattle.desk_like.specs.Desks.{Accounts, Answers, DeskView, HasNoneOpen, HasOpen, IsAlone, IsAt, IsReceipt}
 use Rattle.desk_like.specs.Desks.{IsRisingFrom}
 use Rattle.app_threads.specs.declared.stop.WorkerStop.{WorkerStop}

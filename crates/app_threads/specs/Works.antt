@@ -1,11 +1,11 @@
 -- Which workers there are, what each is to do, and how it ends.
 use Rattle.std.specs.Prelude.{◌≡◌, ℕ, ◌+◌, ◌<◌, ◌==◌, if◌then◌else◌, List, [], ◌∷◌, ◌++◌, length, slice_get}
 use Rattle.std.specs.Prelude.{slice_index_or, Option, Some, None, Result, Ok, Err}
-use Rattle.nook_defs.specs.declared.desks.DeskRefused.{DeskRefused}
-use Rattle.nook_defs.specs.declared.calls.Op.{Op}
-use Rattle.nook_defs.specs.declared.scenario.PartSpec.{PartSpec}
-use Rattle.nook_defs.specs.declared.desks.Receipt.{Receipt}
-use Rattle.nook_defs.specs.declared.scenario.ThreadSpec.{ThreadSpec}
+use Rattle.nook_data.specs.declared.desks.DeskRefused.{DeskRefused}
+use Rattle.nook_data.specs.declared.calls.Op.{Op}
+use Rattle.nook_data.specs.declared.scenario.PartSpec.{PartSpec}
+use Rattle.nook_data.specs.declared.desks.Receipt.{Receipt}
+use Rattle.nook_data.specs.declared.scenario.ThreadSpec.{ThreadSpec}
 use Rattle.desk_like.specs.Desks.{DeskView}
 use Rattle.app_threads.specs.declared.stop.WorkerStop.{WorkerStop}
 use Rattle.app_threads.specs.declared.stop.WorkerStop.TheVariants as stop

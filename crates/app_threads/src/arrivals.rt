@@ -8,9 +8,9 @@ use crate::seats::arrive_at;
 use crate::stop::WorkerStop;
 use crate::work::Work;
 use desk_like::DeskLike;
-use nook_defs::desks::Receipts;
-use nook_defs::limits::{MOST_ARRIVALS, MOST_FRAME_WORDS};
-use nook_defs::lists::{Frames, Words};
+use nook_data::desks::Receipts;
+use nook_data::limits::{MOST_ARRIVALS, MOST_FRAME_WORDS};
+use nook_data::lists::{Frames, Words};
 use std::alloc::Global;
 use std::sync::Wait;
 

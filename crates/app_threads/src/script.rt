@@ -8,10 +8,10 @@ use crate::seats::call_at;
 use crate::stop::WorkerStop;
 use crate::work::Work;
 use desk_like::DeskLike;
-use nook_defs::calls::{Op, PartOps};
-use nook_defs::desks::{Receipt, Receipts};
-use nook_defs::limits::{MOST_OPS, MOST_THREADS};
-use nook_defs::outside::Gate;
+use nook_data::calls::{Op, PartOps};
+use nook_data::desks::{Receipt, Receipts};
+use nook_data::limits::{MOST_OPS, MOST_THREADS};
+use nook_io::outside::Gate;
 use std::alloc::Global;
 use std::sync::Wait;
 

@@ -6,11 +6,11 @@ ghost use Rattle.app_threads.specs.Workers.{AreSeats, AtDesks, IsNetAt, IsSeatAt
 ghost use Rattle.app_threads.specs.Steps.{Halve, IsStepAt, Same, Splits, Starts, TakesIn, TakesInOne};
 
 use desk_like::DeskLike;
-use nook_defs::calls::Op;
-use nook_defs::desks::{DeskRefused, Receipt};
-use nook_defs::limits::{MOST_FRAME_WORDS, MOST_THREADS};
-use nook_defs::lists::{Frames, Words};
-use nook_defs::memory::NoMemory;
+use nook_data::calls::Op;
+use nook_data::desks::{DeskRefused, Receipt};
+use nook_data::limits::{MOST_FRAME_WORDS, MOST_THREADS};
+use nook_data::lists::{Frames, Words};
+use nook_data::memory::NoMemory;
 use std::alloc::Global;
 use std::sync::Wait;
 

@@ -4,8 +4,8 @@ ghost use Rattle.std.specs.Prelude.{◌≡◌};
 ghost use Rattle.app_threads.specs.declared.stop.WorkerStop.TheVariants as stop;
 
 use crate::work::Work;
-use nook_defs::desks::DeskRefused;
-use nook_defs::memory::NoMemory;
+use nook_data::desks::DeskRefused;
+use nook_data::memory::NoMemory;
 
 /// Why there is no table of receipts.
 #[derive(Clone, Copy, Debug, PartialEq, Eq)]

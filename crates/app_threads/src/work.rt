@@ -4,11 +4,11 @@ ghost use Rattle.std.specs.Prelude.{◌≡◌, ◌≤◌, ◌++◌, length, IfOk
 ghost use Rattle.app_threads.specs.Works.{all_works, arrival_works, script_works};
 
 use crate::stop::WorkerStop;
-use nook_defs::desks::Receipts;
-use nook_defs::limits::{MOST_PARTS, MOST_THREADS};
-use nook_defs::lists::Frames;
-use nook_defs::memory::NoMemory;
-use nook_defs::scenario::ThreadSpecs;
+use nook_data::desks::Receipts;
+use nook_data::limits::{MOST_PARTS, MOST_THREADS};
+use nook_data::lists::Frames;
+use nook_data::memory::NoMemory;
+use nook_data::scenario::ThreadSpecs;
 use std::alloc::Global;
 
 /// What a worker is to do.

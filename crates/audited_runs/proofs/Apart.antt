@@ -2,13 +2,13 @@
 use Rattle.std.proofs.Common.{◌≡◌, ℕ, zero, suc, ◌+◌, ◌<◌, Some, List, [], ◌∷◌, length, map, filter, slice_get, slice_index_or, slice_set, refl, sym, ap, ap₂, ◌∙◌, arith, eq-eqb, ne_eqb}
 use Rattle.std.specs.List.{AllByRecursion}
 use Rattle.std.proofs.lemmas.List.Elements.{recursion_from_All}
-use Rattle.nook_defs.specs.Simulation.{RunningPart, ThreadState, answers_of_thread}
-use Rattle.nook_defs.specs.Valid.{IsValidThread}
-use Rattle.nook_defs.specs.Views.Limits.{IsValidStep}
-use Rattle.nook_defs.specs.declared.calls.Answer.{Answer}
-use Rattle.nook_defs.specs.declared.calls.Op.{Op}
-use Rattle.nook_defs.specs.declared.scenario.ThreadSpec.{ThreadSpec}
-use Rattle.nook_defs.proofs.Options.{none_is_some, same_inside}
+use Rattle.run_defs.specs.Simulation.{RunningPart, ThreadState, answers_of_thread}
+use Rattle.nook_data.specs.Valid.{IsValidThread}
+use Rattle.nook_data.specs.Views.Limits.{IsValidStep}
+use Rattle.nook_data.specs.declared.calls.Answer.{Answer}
+use Rattle.nook_data.specs.declared.calls.Op.{Op}
+use Rattle.nook_data.specs.declared.scenario.ThreadSpec.{ThreadSpec}
+use Rattle.nook_data.proofs.Options.{none_is_some, same_inside}
 use Rattle.run_laws.specs.Audit.{Done, answers_in_order, answers_to, in_script_order}
 use Rattle.audited_runs.proofs.Shares.{filter_none, filter_same, is_from, share_of}
 

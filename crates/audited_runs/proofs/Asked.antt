@@ -3,26 +3,26 @@ use Rattle.std.proofs.Common.{◌≡◌, ℕ, zero, suc, ◌+◌, ◌==◌, true
 use Rattle.std.proofs.lemmas.List.Elements.{recursion_from_All}
 use Rattle.std.specs.List.{AllByRecursion}
 use Rattle.desk_like.specs.Desks.{IsAt, IsInvoke}
-use Rattle.nook_defs.specs.Log.{opening_log}
-use Rattle.nook_defs.specs.Places.{at_number}
-use Rattle.nook_defs.specs.Runs.{IsRun, next_any, state_of}
-use Rattle.nook_defs.specs.Steps.{opening}
-use Rattle.nook_defs.specs.Valid.{IsValidPart, IsValidScenario}
-use Rattle.nook_defs.specs.declared.calls.Answer.{Answer}
-use Rattle.nook_defs.specs.declared.steps.Event.{Event}
-use Rattle.nook_defs.specs.declared.steps.Event.TheVariants as event
-use Rattle.nook_defs.specs.declared.calls.Op.{Op}
-use Rattle.nook_defs.specs.declared.scenario.PartSpec.{PartSpec}
-use Rattle.nook_defs.specs.declared.desks.Receipt.{Receipt}
-use Rattle.nook_defs.specs.declared.scenario.Scenario.{Scenario}
-use Rattle.nook_defs.specs.declared.scenario.ThreadSpec.{ThreadSpec}
+use Rattle.part_defs.specs.Log.{opening_log}
+use Rattle.nook_data.specs.Places.{at_number}
+use Rattle.part_defs.specs.Runs.{IsRun, next_any, state_of}
+use Rattle.part_defs.specs.Steps.{opening}
+use Rattle.nook_data.specs.Valid.{IsValidPart, IsValidScenario}
+use Rattle.nook_data.specs.declared.calls.Answer.{Answer}
+use Rattle.nook_data.specs.declared.steps.Event.{Event}
+use Rattle.nook_data.specs.declared.steps.Event.TheVariants as event
+use Rattle.nook_data.specs.declared.calls.Op.{Op}
+use Rattle.nook_data.specs.declared.scenario.PartSpec.{PartSpec}
+use Rattle.nook_data.specs.declared.desks.Receipt.{Receipt}
+use Rattle.nook_data.specs.declared.scenario.Scenario.{Scenario}
+use Rattle.nook_data.specs.declared.scenario.ThreadSpec.{ThreadSpec}
 use Rattle.part_laws.proofs.Places.{from_map, split}
 use Rattle.part_laws.proofs.RunBound.{opening_tied}
 use Rattle.part_laws.proofs.StepsFit.{opening_fit}
 use Rattle.part_laws.proofs.ValidFits.{valid_fits}
 use Rattle.run_ends.specs.Journals.{AreRuns}
 use Rattle.threaded_run.specs.Threaded.{AreServed, AreSettled, HasArrivals, HaveArrivals, HaveReceipts, IsServed, IsThreaded, invoked_on, journal_at}
-use Rattle.nook_defs.proofs.Options.{none_is_some, same_inside}
+use Rattle.nook_data.proofs.Options.{none_is_some, same_inside}
 use Rattle.run_laws.specs.Audit.{is_on, opening_section, thread_on}
 use Rattle.run_laws.specs.Fitting.{AllFit}
 use Rattle.audited_runs.proofs.Exact.{HasLeft, HasThread, InvokedAt, IsExact, IsInvokeOf, exact_fits}

@@ -2,26 +2,27 @@
 use Rattle.std.proofs.Common.{◌≡◌, ℕ, suc, ◌+◌, ◌<◌, ◌≤◌, cond, true, Option, Some, None, List, [], ◌∷◌, ◌++◌, length, length-append, map, slice_get, refl, sym, ap, ◌∙◌, subst, arith, append_assoc, le-leb, lt-ltb}
 use Rattle.std.specs.List.{AllByRecursion}
 use Rattle.std.proofs.lemmas.List.Elements.{recursion_from_All}
-use Rattle.nook_defs.specs.declared.classes.Class.{Class}
-use Rattle.nook_defs.specs.declared.classes.Class.TheVariants as class
-use Rattle.nook_defs.specs.declared.steps.Event.{Event}
-use Rattle.nook_defs.specs.declared.steps.Event.TheVariants as event
-use Rattle.nook_defs.specs.declared.scenario.PartSpec.{PartSpec}
-use Rattle.nook_defs.specs.declared.scenario.Scenario.{Scenario}
-use Rattle.nook_defs.specs.declared.steps.Step.{Step}
-use Rattle.nook_defs.specs.declared.steps.Step.TheVariants as step
-use Rattle.nook_defs.specs.declared.scenario.ThreadSpec.{ThreadSpec}
-use Rattle.nook_defs.specs.Runs.{next_any, step_of}
-use Rattle.nook_defs.specs.Simulation.{IsScheduledRun, RunningPart, Simulation, ThreadState, Waiting, answers_of_thread, arrival, coming_after, journal_of, journals_of, opening_part, part_after}
-use Rattle.nook_defs.specs.State.{PartState}
-use Rattle.nook_defs.specs.Steps.{enabled, opening, stepped}
-use Rattle.nook_defs.specs.Valid.{FitsClass, IsValidPart, IsValidScenario}
-use Rattle.nook_defs.specs.Views.Limits.{IsValidFrame}
+use Rattle.nook_data.specs.declared.classes.Class.{Class}
+use Rattle.nook_data.specs.declared.classes.Class.TheVariants as class
+use Rattle.nook_data.specs.declared.steps.Event.{Event}
+use Rattle.nook_data.specs.declared.steps.Event.TheVariants as event
+use Rattle.nook_data.specs.declared.scenario.PartSpec.{PartSpec}
+use Rattle.nook_data.specs.declared.scenario.Scenario.{Scenario}
+use Rattle.nook_data.specs.declared.steps.Step.{Step}
+use Rattle.nook_data.specs.declared.steps.Step.TheVariants as step
+use Rattle.nook_data.specs.declared.scenario.ThreadSpec.{ThreadSpec}
+use Rattle.part_defs.specs.Runs.{next_any, step_of}
+use Rattle.run_defs.specs.Simulation.{IsScheduledRun, RunningPart, Simulation, ThreadState, Waiting, answers_of_thread}
+use Rattle.run_defs.specs.Simulation.{arrival, coming_after, journal_of, journals_of, opening_part, part_after}
+use Rattle.part_defs.specs.State.{PartState}
+use Rattle.part_defs.specs.Steps.{enabled, opening, stepped}
+use Rattle.nook_data.specs.Valid.{FitsClass, IsValidPart, IsValidScenario}
+use Rattle.nook_data.specs.Views.Limits.{IsValidFrame}
 use Rattle.part_laws.proofs.Counts.{step_counted}
 use Rattle.part_laws.proofs.RunsDetermined.{step_named}
 use Rattle.part_laws.specs.Bound.{is_arrival}
 use Rattle.run_laws.proofs.Reached.{all_answered, none_arrives, parts_settled}
-use Rattle.nook_defs.proofs.Options.{none_is_some}
+use Rattle.nook_data.proofs.Options.{none_is_some}
 use Rattle.run_laws.specs.Audit.{Section, are_through, arrival_of, has_nothing, is_complete, opening_section, section_after}
 use Rattle.run_laws.specs.Fitting.{AllFit, IsNext, section_from}
 use Rattle.audited_runs.proofs.Reached.{AreSections, IsReached, IsSectionOf, run_reached}

@@ -2,18 +2,18 @@
 use Rattle.std.proofs.Common.{◌==◌, if◌then◌else◌, drop, ◌≡◌, ℕ, zero, suc, ◌+◌, Bool, true, false, Option, Some, None, List, [], ◌∷◌, filter, length, slice_get, refl, sym, ap, ◌∙◌, subst, arith, eq-eqb, true≢false}
 use Rattle.std.proofs.lemmas.Bool.{and_from}
 use Rattle.desk_like.specs.Desks.{IsArrive, IsAt}
-use Rattle.nook_defs.specs.Places.{at_number}
-use Rattle.nook_defs.specs.Runs.{IsRunFrom, next_any, state_after, state_from, step_of}
-use Rattle.nook_defs.specs.Simulation.{ThreadState, Waiting, coming_after, started, threads_after, thread_after}
-use Rattle.nook_defs.proofs.Changes.{settled, settled_by}
-use Rattle.nook_defs.specs.Runs.{answer_at}
-use Rattle.nook_defs.specs.State.{PartState}
-use Rattle.nook_defs.specs.declared.calls.Answer.{Answer}
-use Rattle.nook_defs.specs.declared.steps.Event.{Event}
-use Rattle.nook_defs.specs.declared.steps.Event.TheVariants as event
-use Rattle.nook_defs.specs.declared.calls.Op.{Op}
-use Rattle.nook_defs.specs.declared.steps.Step.{Step}
-use Rattle.nook_defs.specs.declared.steps.Step.TheVariants as step
+use Rattle.nook_data.specs.Places.{at_number}
+use Rattle.part_defs.specs.Runs.{IsRunFrom, next_any, state_after, state_from, step_of}
+use Rattle.run_defs.specs.Simulation.{ThreadState, Waiting, coming_after, started, threads_after, thread_after}
+use Rattle.run_defs.proofs.RunChanges.{settled, settled_by}
+use Rattle.nook_data.specs.Answers.{answer_at}
+use Rattle.part_defs.specs.State.{PartState}
+use Rattle.nook_data.specs.declared.calls.Answer.{Answer}
+use Rattle.nook_data.specs.declared.steps.Event.{Event}
+use Rattle.nook_data.specs.declared.steps.Event.TheVariants as event
+use Rattle.nook_data.specs.declared.calls.Op.{Op}
+use Rattle.nook_data.specs.declared.steps.Step.{Step}
+use Rattle.nook_data.specs.declared.steps.Step.TheVariants as step
 use Rattle.part_laws.proofs.Places.{split}
 use Rattle.part_laws.proofs.RunProgress.{none_still}
 use Rattle.part_laws.proofs.StepsFit.{fit_after}
@@ -22,7 +22,7 @@ use Rattle.part_laws.specs.Fit.{IsFit}
 use Rattle.part_laws.specs.Tied.{IsTied}
 use Rattle.run_laws.proofs.Numbers.{number}
 use Rattle.threaded_run.specs.Threaded.{ArriveAt}
-use Rattle.nook_defs.proofs.Options.{none_is_some, same_inside}
+use Rattle.nook_data.proofs.Options.{none_is_some, same_inside}
 use Rattle.run_laws.specs.Audit.{Section, are_through, arrival_of, has_nothing, invocation_by, is_complete, is_through, section_after}
 use Rattle.run_laws.specs.Fitting.{FitsFrom, IsNext}
 use Rattle.audited_runs.proofs.Placed.{AreAll, passes_first, passes_not}

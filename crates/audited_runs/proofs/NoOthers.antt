@@ -1,17 +1,17 @@
 -- Journals that fit have no other invocations and arrivals than were asked for.
 use Rattle.std.proofs.Common.{drop, ◌≡◌, ℕ, zero, suc, ◌+◌, is_none, Bool, true, false, Option, Some, None, List, [], ◌∷◌, filter, length, map, slice_get, refl, sym, ap, ◌∙◌, subst, arith, eqb-true, true≢false}
 use Rattle.std.proofs.lemmas.Bool.{and_parts}
-use Rattle.nook_defs.specs.Runs.{next_any, step_of}
-use Rattle.nook_defs.specs.Simulation.{ThreadState, coming_after, started, threads_after, thread_after}
-use Rattle.nook_defs.specs.declared.steps.Event.{Event}
-use Rattle.nook_defs.specs.declared.steps.Event.TheVariants as event
-use Rattle.nook_defs.specs.declared.calls.Op.{Op}
-use Rattle.nook_defs.specs.declared.scenario.PartSpec.{PartSpec}
-use Rattle.nook_defs.specs.declared.steps.Step.TheVariants as step
-use Rattle.nook_defs.specs.declared.scenario.ThreadSpec.{ThreadSpec}
+use Rattle.part_defs.specs.Runs.{next_any, step_of}
+use Rattle.run_defs.specs.Simulation.{ThreadState, coming_after, started, threads_after, thread_after}
+use Rattle.nook_data.specs.declared.steps.Event.{Event}
+use Rattle.nook_data.specs.declared.steps.Event.TheVariants as event
+use Rattle.nook_data.specs.declared.calls.Op.{Op}
+use Rattle.nook_data.specs.declared.scenario.PartSpec.{PartSpec}
+use Rattle.nook_data.specs.declared.steps.Step.TheVariants as step
+use Rattle.nook_data.specs.declared.scenario.ThreadSpec.{ThreadSpec}
 use Rattle.part_laws.proofs.Places.{split}
 use Rattle.threaded_run.specs.Others.{HasNoOthers, HaveNoOthers, is_arrival, is_invocation_by, operations_on}
-use Rattle.nook_defs.proofs.Options.{none_is_some}
+use Rattle.nook_data.proofs.Options.{none_is_some}
 use Rattle.run_laws.specs.Audit.{Section, are_through, arrival_of, has_nothing, invocation_by, is_complete, opening_section, section_after, thread_on}
 use Rattle.run_laws.specs.Fitting.{AllFit, FitsFrom, IsNext}
 use Rattle.audited_runs.proofs.Exact.{started_rest, started_same, told_rest}

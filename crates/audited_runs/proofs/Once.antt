@@ -3,34 +3,38 @@ use Rattle.std.proofs.Common.{◌≡◌, ℕ, zero, suc, ◌+◌, ◌<◌, ◌==
 use Rattle.std.specs.List.{find}
 use Rattle.std.proofs.lemmas.Bool.{and_left, and_right, cases_order, lt-leb}
 use Rattle.desk_like.specs.Desks.{Answers, IsAt}
-use Rattle.nook_defs.specs.Calls.{after_admit, answer_in, after_enter, after_invoke}
-use Rattle.nook_defs.specs.Classes.{admit, static_check}
-use Rattle.nook_defs.specs.Crossing.{Crossed, after_crossing}
-use Rattle.nook_defs.specs.Domain.{domain_burst}
-use Rattle.nook_defs.specs.Log.{call_of_thread, gone_answers, is_call, open_call, queue_after, shadow_answer, stop_answers, with_answer}
-use Rattle.nook_defs.proofs.Cases.{entered_by, invoked_by, is_of_thread, stage_by, with_burst}
-use Rattle.nook_defs.specs.Answers.{one_answer}
-use Rattle.nook_defs.specs.Runs.{IsRun, IsRunFrom, answer_among, answer_at, event_of, state_after, state_from, state_of, step_of}
-use Rattle.nook_defs.specs.Views.CallLogs.{answered_at, answered_from}
-use Rattle.nook_defs.specs.Stages.{collects, gives_up_part, inits, is_given_up, loads_image, replays_open, replays_set, resets, resumes, stage_done, stage_due, stage_stepped, stops}
-use Rattle.nook_defs.specs.State.{CallLog, PartState}
-use Rattle.nook_defs.specs.Steps.{after_arrival, burst_stepped, faults_of_burst, opening, served_number, stepped}
-use Rattle.nook_defs.specs.declared.classes.Admit.{Admit}
-use Rattle.nook_defs.specs.declared.classes.Admit.TheVariants as admits
-use Rattle.nook_defs.specs.declared.calls.Answer.{Answer}
-use Rattle.nook_defs.specs.declared.calls.CallEntry.{CallEntry}
-use Rattle.nook_defs.specs.declared.steps.Event.{Event}
-use Rattle.nook_defs.specs.declared.calls.Op.{Op}
-use Rattle.nook_defs.specs.declared.scenario.PartSpec.{PartSpec}
-use Rattle.nook_defs.specs.declared.steps.Stage.{Stage}
-use Rattle.nook_defs.specs.declared.steps.Stage.TheVariants as stage
-use Rattle.nook_defs.specs.declared.steps.Step.{Step}
-use Rattle.nook_defs.specs.declared.steps.Step.TheVariants as step
+use Rattle.part_defs.specs.Calls.{after_admit, answer_in, after_enter, after_invoke}
+use Rattle.nook_data.specs.Classes.{admit, static_check}
+use Rattle.part_defs.specs.Crossing.{Crossed, after_crossing}
+use Rattle.part_defs.specs.Domain.{domain_burst}
+use Rattle.part_defs.specs.Log.{call_of_thread, gone_answers, is_call, open_call, queue_after, shadow_answer}
+use Rattle.part_defs.specs.Log.{stop_answers, with_answer}
+use Rattle.part_defs.proofs.PartCases.{entered_by, invoked_by, is_of_thread, stage_by, with_burst}
+use Rattle.nook_data.specs.Answers.{one_answer}
+use Rattle.part_defs.specs.Runs.{IsRun, IsRunFrom, event_of, state_after, state_from, state_of, step_of}
+use Rattle.nook_data.specs.Answers.{answer_among, answer_at}
+use Rattle.part_defs.specs.Views.CallLogs.{answered_at, answered_from}
+use Rattle.part_defs.specs.Stages.{collects, gives_up_part, inits, is_given_up, loads_image, replays_open, replays_set}
+use Rattle.part_defs.specs.Stages.{resets, resumes, stage_done, stage_due, stage_stepped, stops}
+use Rattle.part_defs.specs.State.{CallLog, PartState}
+use Rattle.part_defs.specs.Steps.{after_arrival, burst_stepped, opening, served_number, stepped}
+use Rattle.machine_defs.specs.BurstFaults.{faults_of_burst}
+use Rattle.nook_data.specs.declared.classes.Admit.{Admit}
+use Rattle.nook_data.specs.declared.classes.Admit.TheVariants as admits
+use Rattle.nook_data.specs.declared.calls.Answer.{Answer}
+use Rattle.nook_data.specs.declared.calls.CallEntry.{CallEntry}
+use Rattle.nook_data.specs.declared.steps.Event.{Event}
+use Rattle.nook_data.specs.declared.calls.Op.{Op}
+use Rattle.nook_data.specs.declared.scenario.PartSpec.{PartSpec}
+use Rattle.nook_data.specs.declared.steps.Stage.{Stage}
+use Rattle.nook_data.specs.declared.steps.Stage.TheVariants as stage
+use Rattle.nook_data.specs.declared.steps.Step.{Step}
+use Rattle.nook_data.specs.declared.steps.Step.TheVariants as step
 use Rattle.part_laws.proofs.Answered.{AnswersCall, crossed_shows, run_answered}
 use Rattle.part_laws.proofs.Places.{split}
 use Rattle.part_laws.specs.Answered.{is_answered}
 use Rattle.part_laws.specs.Fit.{IsFitSpec}
-use Rattle.nook_defs.proofs.Options.{none_is_some, same_inside}
+use Rattle.nook_data.proofs.Options.{none_is_some, same_inside}
 
 -- ---- an event answers no call that was answered before
 

@@ -3,7 +3,7 @@ use Rattle.std.proofs.Common.{◌≡◌, ℕ, suc, ◌<◌, ◌≤◌, ◌==◌,
 use Rattle.std.proofs.lemmas.Bool.{eqb-false}
 use Rattle.std.specs.List.{AllByRecursion}
 use Rattle.desk_like.specs.Desks.{IsRisingFrom}
-use Rattle.nook_defs.specs.declared.steps.Event.{Event}
+use Rattle.nook_data.specs.declared.steps.Event.{Event}
 use Rattle.part_laws.proofs.Places.{split}
 use Rattle.threaded_run.proofs.Placed.{AreBehind, IsPlaced, first_behind, passes_here, places_few, rest_behind}
 use Rattle.audited_runs.proofs.Shares.{filter_none, filter_same}

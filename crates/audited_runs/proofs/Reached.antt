@@ -3,21 +3,22 @@ use Rattle.std.proofs.Common.{◌≡◌, ℕ, zero, suc, ◌+◌, ◌==◌, true
 use Rattle.std.specs.List.{AllByRecursion}
 use Rattle.std.specs.Option.{option_map}
 use Rattle.std.proofs.lemmas.Option.{slice_get-map}
-use Rattle.nook_defs.specs.declared.steps.Event.{Event}
-use Rattle.nook_defs.specs.declared.calls.Op.{Op}
-use Rattle.nook_defs.specs.declared.scenario.PartSpec.{PartSpec}
-use Rattle.nook_defs.specs.declared.scenario.Scenario.{Scenario}
-use Rattle.nook_defs.specs.declared.steps.Step.{Step}
-use Rattle.nook_defs.specs.declared.steps.Step.TheVariants as step
-use Rattle.nook_defs.specs.declared.scenario.ThreadSpec.{ThreadSpec}
-use Rattle.nook_defs.specs.Runs.{event_of}
-use Rattle.nook_defs.specs.Schedules.{Order, picked}
-use Rattle.nook_defs.specs.Simulation.{Choice, RunningPart, Simulation, ThreadState, actor_of, begins, choices_of, opening_part, opening_thread, runs, part_after, stepped_by, taken, threads_after}
-use Rattle.nook_defs.proofs.Changes.{taken_by}
-use Rattle.nook_defs.specs.Steps.{enabled}
+use Rattle.nook_data.specs.declared.steps.Event.{Event}
+use Rattle.nook_data.specs.declared.calls.Op.{Op}
+use Rattle.nook_data.specs.declared.scenario.PartSpec.{PartSpec}
+use Rattle.nook_data.specs.declared.scenario.Scenario.{Scenario}
+use Rattle.nook_data.specs.declared.steps.Step.{Step}
+use Rattle.nook_data.specs.declared.steps.Step.TheVariants as step
+use Rattle.nook_data.specs.declared.scenario.ThreadSpec.{ThreadSpec}
+use Rattle.part_defs.specs.Runs.{event_of}
+use Rattle.run_defs.specs.Schedules.{Order, picked}
+use Rattle.run_defs.specs.Simulation.{Choice, RunningPart, Simulation, ThreadState, actor_of, begins, choices_of}
+use Rattle.run_defs.specs.Simulation.{opening_part, opening_thread, runs, part_after, stepped_by, taken, threads_after}
+use Rattle.run_defs.proofs.RunChanges.{taken_by}
+use Rattle.part_defs.specs.Steps.{enabled}
 use Rattle.part_laws.proofs.RunsDetermined.{step_named}
 use Rattle.run_laws.proofs.Choices.{IsGood, IsOwn, choices_good}
-use Rattle.nook_defs.proofs.Options.{none_is_some, same_inside}
+use Rattle.nook_data.proofs.Options.{none_is_some, same_inside}
 use Rattle.run_laws.specs.Audit.{Section, invocation_by, is_on, opening_section, section_after, thread_on}
 use Rattle.run_laws.specs.Fitting.{IsNext, section_from}
 use Rattle.audited_runs.proofs.Frames.{IsFrameNext, IsFramed, choices_framed}

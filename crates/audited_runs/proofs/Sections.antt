@@ -3,21 +3,22 @@ use Rattle.std.proofs.Common.{◌≡◌, ℕ, zero, suc, ◌+◌, ◌==◌, ◌&
 use Rattle.std.proofs.lemmas.Bool.{and_parts}
 use Rattle.std.proofs.lemmas.Option.{slice_get-map}
 use Rattle.std.specs.Option.{option_map}
-use Rattle.nook_defs.specs.Log.{call_of_thread, opening_log}
-use Rattle.nook_defs.specs.Runs.{answer_at, event_of, state_after, step_of}
-use Rattle.nook_defs.specs.Simulation.{ThreadState, Waiting, answers_of_thread, started, threads_after, thread_after}
-use Rattle.nook_defs.proofs.Changes.{settled, settled_by}
-use Rattle.nook_defs.specs.State.{PartState}
-use Rattle.nook_defs.specs.Steps.{enabled, opening}
-use Rattle.nook_defs.specs.Valid.{IsValidPart}
-use Rattle.nook_defs.specs.declared.calls.Answer.{Answer}
-use Rattle.nook_defs.specs.declared.steps.Event.{Event}
-use Rattle.nook_defs.specs.declared.steps.Event.TheVariants as event
-use Rattle.nook_defs.specs.declared.calls.Op.{Op}
-use Rattle.nook_defs.specs.declared.scenario.PartSpec.{PartSpec}
-use Rattle.nook_defs.specs.declared.steps.Step.{Step}
-use Rattle.nook_defs.specs.declared.steps.Step.TheVariants as step
-use Rattle.nook_defs.specs.declared.scenario.ThreadSpec.{ThreadSpec}
+use Rattle.part_defs.specs.Log.{call_of_thread, opening_log}
+use Rattle.nook_data.specs.Answers.{answer_at}
+use Rattle.part_defs.specs.Runs.{event_of, state_after, step_of}
+use Rattle.run_defs.specs.Simulation.{ThreadState, Waiting, answers_of_thread, started, threads_after, thread_after}
+use Rattle.run_defs.proofs.RunChanges.{settled, settled_by}
+use Rattle.part_defs.specs.State.{PartState}
+use Rattle.part_defs.specs.Steps.{enabled, opening}
+use Rattle.nook_data.specs.Valid.{IsValidPart}
+use Rattle.nook_data.specs.declared.calls.Answer.{Answer}
+use Rattle.nook_data.specs.declared.steps.Event.{Event}
+use Rattle.nook_data.specs.declared.steps.Event.TheVariants as event
+use Rattle.nook_data.specs.declared.calls.Op.{Op}
+use Rattle.nook_data.specs.declared.scenario.PartSpec.{PartSpec}
+use Rattle.nook_data.specs.declared.steps.Step.{Step}
+use Rattle.nook_data.specs.declared.steps.Step.TheVariants as step
+use Rattle.nook_data.specs.declared.scenario.ThreadSpec.{ThreadSpec}
 use Rattle.part_laws.proofs.Places.{split}
 use Rattle.part_laws.proofs.RunBound.{opening_tied}
 use Rattle.part_laws.proofs.StepsFit.{fit_after, opening_fit}
@@ -26,7 +27,7 @@ use Rattle.part_laws.proofs.ValidFits.{valid_fits}
 use Rattle.part_laws.specs.Fit.{IsFit}
 use Rattle.part_laws.specs.Tied.{IsTied}
 use Rattle.run_laws.proofs.Numbers.{none_found, number, started_number, step_says, told_number}
-use Rattle.nook_defs.proofs.Options.{none_is_some, same_inside}
+use Rattle.nook_data.proofs.Options.{none_is_some, same_inside}
 use Rattle.run_laws.specs.Audit.{Section, are_through, has_nothing, invocation_by, is_complete, is_through, opening_section, section_after, thread_on}
 use Rattle.run_laws.specs.Fitting.{FitsFrom, IsNext, section_from}
 use Rattle.threaded_run.proofs.Placed.{AreBehind}

@@ -1,14 +1,14 @@
 -- A part's journal serves each thread: its operations on the part were invoked in order and answered.
 use Rattle.std.proofs.Common.{ap, drop, ◌≡◌, ℕ, suc, ◌<◌, ◌==◌, if◌then◌else◌, Bool, true, Option, Some, None, List, [], ◌∷◌, ◌++◌, map, slice_get, refl, sym, ◌∙◌, subst, arith, append_assoc, eqb-true, eq-eqb}
 use Rattle.desk_like.specs.Desks.{Answers, IsAt, IsReceipt, IsRisingFrom}
-use Rattle.nook_defs.specs.Runs.{answer_at}
-use Rattle.nook_defs.specs.Simulation.{ThreadState, Waiting, started, thread_after}
-use Rattle.nook_defs.proofs.Changes.{settled, settled_by}
-use Rattle.nook_defs.specs.declared.calls.Answer.{Answer}
-use Rattle.nook_defs.specs.declared.steps.Event.{Event}
-use Rattle.nook_defs.specs.declared.steps.Event.TheVariants as event
-use Rattle.nook_defs.specs.declared.calls.Op.{Op}
-use Rattle.nook_defs.specs.declared.desks.Receipt.{Receipt}
+use Rattle.nook_data.specs.Answers.{answer_at}
+use Rattle.run_defs.specs.Simulation.{ThreadState, Waiting, started, thread_after}
+use Rattle.run_defs.proofs.RunChanges.{settled, settled_by}
+use Rattle.nook_data.specs.declared.calls.Answer.{Answer}
+use Rattle.nook_data.specs.declared.steps.Event.{Event}
+use Rattle.nook_data.specs.declared.steps.Event.TheVariants as event
+use Rattle.nook_data.specs.declared.calls.Op.{Op}
+use Rattle.nook_data.specs.declared.desks.Receipt.{Receipt}
 use Rattle.part_laws.proofs.Places.{split}
 
 abbrev pub invoked_at : Receipt → ℕ

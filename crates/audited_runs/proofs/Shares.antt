@@ -1,16 +1,17 @@
 -- What each part knows of a thread changes as the thread does.
 use Rattle.std.proofs.Common.{drop, ◌≡◌, ℕ, suc, ◌+◌, ◌==◌, if◌then◌else◌, Bool, true, false, Option, Some, None, List, [], ◌∷◌, ◌++◌, length, length-append, map, filter, slice_get, refl, sym, ap, ap₂, ◌∙◌, subst, arith, eqb-true, eq-eqb}
-use Rattle.nook_defs.specs.declared.calls.Answer.{Answer}
-use Rattle.nook_defs.specs.declared.steps.Event.{Event}
-use Rattle.nook_defs.specs.declared.steps.Event.TheVariants as event
-use Rattle.nook_defs.specs.declared.calls.Op.{Op}
-use Rattle.nook_defs.specs.declared.scenario.ThreadSpec.{ThreadSpec}
-use Rattle.nook_defs.specs.Runs.{answer_at, step_of}
-use Rattle.nook_defs.specs.Simulation.{ThreadState, Waiting, opening_thread, started, threads_after, thread_after}
-use Rattle.nook_defs.proofs.Changes.{settled, settled_by}
+use Rattle.nook_data.specs.declared.calls.Answer.{Answer}
+use Rattle.nook_data.specs.declared.steps.Event.{Event}
+use Rattle.nook_data.specs.declared.steps.Event.TheVariants as event
+use Rattle.nook_data.specs.declared.calls.Op.{Op}
+use Rattle.nook_data.specs.declared.scenario.ThreadSpec.{ThreadSpec}
+use Rattle.nook_data.specs.Answers.{answer_at}
+use Rattle.part_defs.specs.Runs.{step_of}
+use Rattle.run_defs.specs.Simulation.{ThreadState, Waiting, opening_thread, started, threads_after, thread_after}
+use Rattle.run_defs.proofs.RunChanges.{settled, settled_by}
 use Rattle.part_laws.proofs.Places.{split}
 use Rattle.run_laws.proofs.Choices.{IsOwn}
-use Rattle.nook_defs.proofs.Options.{same_inside}
+use Rattle.nook_data.proofs.Options.{same_inside}
 use Rattle.run_laws.specs.Audit.{is_on}
 
 -- ---- a thread, as a part knows it

@@ -1,9 +1,9 @@
 -- The beginning of a journal that fits.
 use Rattle.std.proofs.Common.{◌≡◌, true, List, [], ◌∷◌, ◌++◌, refl, sym, ap, ◌∙◌, subst}
-use Rattle.nook_defs.specs.declared.steps.Event.{Event}
-use Rattle.nook_defs.specs.declared.steps.Step.{Step}
-use Rattle.nook_defs.specs.Runs.{event_of, step_of}
-use Rattle.nook_defs.specs.Steps.{enabled}
+use Rattle.nook_data.specs.declared.steps.Event.{Event}
+use Rattle.nook_data.specs.declared.steps.Step.{Step}
+use Rattle.part_defs.specs.Runs.{event_of, step_of}
+use Rattle.part_defs.specs.Steps.{enabled}
 use Rattle.part_laws.proofs.RunsDetermined.{step_named}
 use Rattle.run_laws.specs.Audit.{Section, is_complete, section_after}
 use Rattle.run_laws.specs.Fitting.{FitsFrom, IsNext, section_from}

@@ -2,15 +2,16 @@
 use Rattle.std.proofs.Common.{◌≡◌, ℕ, suc, ◌+◌, nat_lt, Bool, true, false, List, [], ◌∷◌, ◌++◌, length, map, min, nat_le, if◌then◌else◌, slice_get, refl, sym, ap, ap₂, ◌∙◌, subst, arith, add-one}
 use Rattle.std.specs.List.{AllByRecursion}
 use Rattle.std.proofs.lemmas.List.Elements.{recursion_from_All}
-use Rattle.nook_defs.specs.Listening.{Listening, count_if, hears}
-use Rattle.nook_defs.specs.ReportText.{parts_text, report_text, status_line, status_of, taps_text, threads_text}
-use Rattle.nook_defs.specs.Simulation.{IsScheduledRun, RunningPart, Simulation, ThreadState, answer_table, begins, journal_of, journals_of}
-use Rattle.nook_defs.specs.Listening.{heard_events, tap_result}
-use Rattle.nook_defs.specs.Valid.{IsValidScenario, IsValidThread}
-use Rattle.nook_defs.specs.declared.steps.Event.{Event}
-use Rattle.nook_defs.specs.declared.scenario.PartSpec.{PartSpec}
-use Rattle.nook_defs.specs.declared.scenario.Scenario.{Scenario}
-use Rattle.nook_defs.specs.declared.scenario.ThreadSpec.{ThreadSpec}
+use Rattle.nook_io.specs.Listening.{Listening, count_if, hears}
+use Rattle.report_defs.specs.ReportText.{parts_text, report_text, status_line, status_of, taps_text, threads_text}
+use Rattle.run_defs.specs.Simulation.{IsScheduledRun, RunningPart, Simulation, ThreadState, answer_table, begins}
+use Rattle.run_defs.specs.Simulation.{journal_of, journals_of}
+use Rattle.nook_io.specs.Listening.{heard_events, tap_result}
+use Rattle.nook_data.specs.Valid.{IsValidScenario, IsValidThread}
+use Rattle.nook_data.specs.declared.steps.Event.{Event}
+use Rattle.nook_data.specs.declared.scenario.PartSpec.{PartSpec}
+use Rattle.nook_data.specs.declared.scenario.Scenario.{Scenario}
+use Rattle.nook_data.specs.declared.scenario.ThreadSpec.{ThreadSpec}
 use Rattle.run_laws.proofs.Reached.{parts_answered}
 use Rattle.sim_run.proofs.Publishing.{journals_are_heard}
 use Rattle.run_ends.specs.Journals.{with_part}

@@ -4,19 +4,19 @@ use Rattle.std.proofs.lemmas.Bool.{and_parts}
 use Rattle.std.proofs.lemmas.List.Elements.{recursion_from_All}
 use Rattle.std.specs.List.{AllByRecursion}
 use Rattle.desk_like.specs.Desks.{IsRisingFrom}
-use Rattle.nook_defs.specs.Runs.{next_any, state_of, step_of}
-use Rattle.nook_defs.specs.Simulation.{coming_after}
-use Rattle.nook_defs.specs.Valid.{IsValidPart, IsValidScenario, IsValidThread}
-use Rattle.nook_defs.specs.Views.Limits.{IsValidStep}
-use Rattle.nook_defs.specs.declared.steps.Event.{Event}
-use Rattle.nook_defs.specs.declared.steps.Event.TheVariants as event
-use Rattle.nook_defs.specs.declared.scenario.PartSpec.{PartSpec}
-use Rattle.nook_defs.specs.declared.scenario.Scenario.{Scenario}
-use Rattle.nook_defs.specs.declared.steps.Step.TheVariants as step
-use Rattle.nook_defs.specs.declared.scenario.ThreadSpec.{ThreadSpec}
+use Rattle.part_defs.specs.Runs.{next_any, state_of, step_of}
+use Rattle.run_defs.specs.Simulation.{coming_after}
+use Rattle.nook_data.specs.Valid.{IsValidPart, IsValidScenario, IsValidThread}
+use Rattle.nook_data.specs.Views.Limits.{IsValidStep}
+use Rattle.nook_data.specs.declared.steps.Event.{Event}
+use Rattle.nook_data.specs.declared.steps.Event.TheVariants as event
+use Rattle.nook_data.specs.declared.scenario.PartSpec.{PartSpec}
+use Rattle.nook_data.specs.declared.scenario.Scenario.{Scenario}
+use Rattle.nook_data.specs.declared.steps.Step.TheVariants as step
+use Rattle.nook_data.specs.declared.scenario.ThreadSpec.{ThreadSpec}
 use Rattle.threaded_run.specs.Threaded.{AreServed, AreSettled, ArriveAt, HasArrivals, HaveArrivals, IsThreaded}
 use Rattle.run_laws.proofs.Leading.{section_led}
-use Rattle.nook_defs.proofs.Options.{none_is_some}
+use Rattle.nook_data.proofs.Options.{none_is_some}
 use Rattle.run_laws.specs.Audit.{Section, answers_in_order, are_through, arrival_of, has_nothing, is_complete, opening_section, section_after}
 use Rattle.run_laws.specs.Fitting.{AllFit, FitsFrom, IsNext, section_from, sections_of}
 use Rattle.audited_runs.proofs.Apart.{low_ops}

@@ -1,15 +1,15 @@
 -- The report of a run by threads is the report of journals that fit.
 use Rattle.std.proofs.Common.{◌≡◌, ℕ, suc, ◌+◌, List, [], ◌∷◌, ◌++◌, map, refl, sym, ap, ap₂, ◌∙◌, add-one}
 use Rattle.std.proofs.lemmas.List.Elements.{recursion_from_All}
-use Rattle.nook_defs.specs.Listening.{Listening}
-use Rattle.nook_defs.specs.ReportText.{parts_text, report_text, status_line, status_of, taps_text, threads_text}
-use Rattle.nook_defs.specs.Listening.{heard_events, tap_result}
-use Rattle.nook_defs.specs.Valid.{IsValidPart, IsValidScenario}
-use Rattle.nook_defs.specs.declared.calls.Answer.{Answer}
-use Rattle.nook_defs.specs.declared.steps.Event.{Event}
-use Rattle.nook_defs.specs.declared.scenario.PartSpec.{PartSpec}
-use Rattle.nook_defs.specs.declared.scenario.Scenario.{Scenario}
-use Rattle.nook_defs.specs.declared.scenario.ThreadSpec.{ThreadSpec}
+use Rattle.nook_io.specs.Listening.{Listening}
+use Rattle.report_defs.specs.ReportText.{parts_text, report_text, status_line, status_of, taps_text, threads_text}
+use Rattle.nook_io.specs.Listening.{heard_events, tap_result}
+use Rattle.nook_data.specs.Valid.{IsValidPart, IsValidScenario}
+use Rattle.nook_data.specs.declared.calls.Answer.{Answer}
+use Rattle.nook_data.specs.declared.steps.Event.{Event}
+use Rattle.nook_data.specs.declared.scenario.PartSpec.{PartSpec}
+use Rattle.nook_data.specs.declared.scenario.Scenario.{Scenario}
+use Rattle.nook_data.specs.declared.scenario.ThreadSpec.{ThreadSpec}
 use Rattle.run_ends.specs.Journals.{AreRuns, with_part}
 use Rattle.sim_run.specs.Published.{heard_in_journals}
 use Rattle.threaded_run.specs.Threaded.{IsThreaded, in_parts}

@@ -2,20 +2,20 @@
 use Rattle.std.proofs.Common.{◌≡◌, ℕ, zero, suc, ◌+◌, ◌==◌, Bool, true, Some, List, [], ◌∷◌, filter, length, slice_get, slice_index_or, refl, sym, ap, ap₂, ◌∙◌, subst, arith, eq-eqb, inl, inr, ◌⊎◌}
 use Rattle.std.specs.List.{AllByRecursion}
 use Rattle.desk_like.specs.Desks.{Answers, IsAt, IsInvoke, IsReceipt, IsRisingFrom}
-use Rattle.nook_defs.specs.Places.{at_number}
-use Rattle.nook_defs.specs.Valid.{IsValidPart}
-use Rattle.nook_defs.specs.declared.calls.Answer.{Answer}
-use Rattle.nook_defs.specs.declared.steps.Event.{Event}
-use Rattle.nook_defs.specs.declared.steps.Event.TheVariants as event
-use Rattle.nook_defs.specs.declared.calls.Op.{Op}
-use Rattle.nook_defs.specs.declared.scenario.PartSpec.{PartSpec}
-use Rattle.nook_defs.specs.declared.desks.Receipt.{Receipt}
-use Rattle.nook_defs.specs.declared.scenario.ThreadSpec.{ThreadSpec}
+use Rattle.nook_data.specs.Places.{at_number}
+use Rattle.nook_data.specs.Valid.{IsValidPart}
+use Rattle.nook_data.specs.declared.calls.Answer.{Answer}
+use Rattle.nook_data.specs.declared.steps.Event.{Event}
+use Rattle.nook_data.specs.declared.steps.Event.TheVariants as event
+use Rattle.nook_data.specs.declared.calls.Op.{Op}
+use Rattle.nook_data.specs.declared.scenario.PartSpec.{PartSpec}
+use Rattle.nook_data.specs.declared.desks.Receipt.{Receipt}
+use Rattle.nook_data.specs.declared.scenario.ThreadSpec.{ThreadSpec}
 use Rattle.part_laws.proofs.Places.{split}
 use Rattle.part_laws.proofs.ValidFits.{valid_fits}
 use Rattle.run_ends.specs.Journals.{AreRuns}
 use Rattle.threaded_run.specs.Threaded.{AreServed, HaveReceipts, answers_by, invoked_on, journal_at}
-use Rattle.nook_defs.proofs.Options.{none_is_some, same_inside}
+use Rattle.nook_data.proofs.Options.{none_is_some, same_inside}
 use Rattle.run_laws.specs.Audit.{is_on}
 use Rattle.audited_runs.proofs.Asked.{invoked_are, placed_are}
 use Rattle.threaded_run.proofs.Counted.{if_false, if_true}

@@ -1,10 +1,10 @@
 -- What is found of a burst is traced: the domain before it, and its event.
 use Rattle.std.proofs.Common.{◌≡◌, ◌∙◌, ◌-◌, ◌<◌, ◌≤◌, ℕ, zero, suc, Bool, false, Option, Some, None, List, [], ◌∷◌, Result, Ok, Err, get_or, length, option_map, slice_get, refl, sym, ap, arith, subst}
 use Rattle.std.proofs.lemmas.Option.{slice_get-get_or}
-use Rattle.nook_defs.specs.Simulation.{IsScheduledRun, Simulation, journals_of}
-use Rattle.nook_defs.specs.Valid.{IsValidScenario}
-use Rattle.nook_defs.specs.declared.scenario.PartSpec.{PartSpec}
-use Rattle.nook_defs.specs.declared.scenario.Scenario.{Scenario}
+use Rattle.run_defs.specs.Simulation.{IsScheduledRun, Simulation, journals_of}
+use Rattle.nook_data.specs.Valid.{IsValidScenario}
+use Rattle.nook_data.specs.declared.scenario.PartSpec.{PartSpec}
+use Rattle.nook_data.specs.declared.scenario.Scenario.{Scenario}
 use Rattle.report_text.specs.declared.write.WriteStop.{WriteStop}
 use Rattle.report_text.specs.declared.write.WriteStop.TheVariants.{Fault}
 use Rattle.sim_run.proofs.Ending.{scheduled_ends}

@@ -1,13 +1,13 @@
 -- What the writing of a trace leaves, piece by piece.
 use Rattle.std.proofs.Common.{◌≡◌, ℕ, Bool, true, false, Option, Some, None, List, [], Result, Ok, Err, refl, sym, ap, subst}
 use Rattle.std.proofs.Math.Nat.{le_refl}
-use Rattle.nook_defs.specs.State.{DomainState}
-use Rattle.nook_defs.specs.Steps.{faults_of_burst}
-use Rattle.nook_defs.specs.declared.devices.DeviceState.{DeviceState}
-use Rattle.nook_defs.specs.declared.entries.Entry.{Entry}
-use Rattle.nook_defs.specs.declared.scenario.Fault.{Fault}
-use Rattle.nook_defs.specs.declared.scenario.PartSpec.{PartSpec}
-use Rattle.nook_defs.specs.declared.machine.Context.{Context}
+use Rattle.part_defs.specs.State.{DomainState}
+use Rattle.machine_defs.specs.BurstFaults.{faults_of_burst}
+use Rattle.nook_data.specs.declared.devices.DeviceState.{DeviceState}
+use Rattle.nook_data.specs.declared.entries.Entry.{Entry}
+use Rattle.nook_data.specs.declared.scenario.Fault.{Fault}
+use Rattle.nook_data.specs.declared.scenario.PartSpec.{PartSpec}
+use Rattle.nook_data.specs.declared.machine.Context.{Context}
 use Rattle.report_text.proofs.WroteLemmas.{appends_nothing}
 use Rattle.report_text.specs.Writing.{Wrote}
 use Rattle.report_text.specs.declared.write.WriteStop.{WriteStop}

@@ -1,20 +1,20 @@
 use Rattle.std.specs.Prelude.{◌≡◌, ℕ, nat_le, if◌then◌else◌, Option, Some, None, List, [], ◌++◌, codes, slice_get}
-use Rattle.nook_defs.specs.declared.limits.TheConstants.{SHADOW}
-use Rattle.nook_defs.specs.declared.machine.Act.{Act}
-use Rattle.nook_defs.specs.declared.calls.Answer.{Answer}
-use Rattle.nook_defs.specs.declared.steps.End.{End}
-use Rattle.nook_defs.specs.declared.steps.Event.{Event}
-use Rattle.nook_defs.specs.declared.steps.Event.TheVariants as event
-use Rattle.nook_defs.specs.declared.steps.FailCause.{FailCause}
-use Rattle.nook_defs.specs.declared.scenario.Fault.{Fault}
-use Rattle.nook_defs.specs.declared.scenario.PartSpec.{PartSpec}
-use Rattle.nook_defs.specs.declared.scenario.Scenario.{Scenario}
-use Rattle.nook_defs.specs.declared.machine.Context.{Context}
-use Rattle.nook_defs.specs.Domain.{context_of, machine_of}
-use Rattle.nook_defs.specs.ReportLines.{acts_tail, answer_tail, cause_tail, end_text, line_feed, spaced, with_number}
-use Rattle.nook_defs.specs.Simulation.{IsScheduledRun, Simulation, journals_of}
-use Rattle.nook_defs.specs.State.{DomainState}
-use Rattle.nook_defs.specs.Steps.{faults_of_burst}
+use Rattle.nook_data.specs.declared.limits.TheConstants.{SHADOW}
+use Rattle.nook_data.specs.declared.machine.Act.{Act}
+use Rattle.nook_data.specs.declared.calls.Answer.{Answer}
+use Rattle.nook_data.specs.declared.steps.End.{End}
+use Rattle.nook_data.specs.declared.steps.Event.{Event}
+use Rattle.nook_data.specs.declared.steps.Event.TheVariants as event
+use Rattle.nook_data.specs.declared.steps.FailCause.{FailCause}
+use Rattle.nook_data.specs.declared.scenario.Fault.{Fault}
+use Rattle.nook_data.specs.declared.scenario.PartSpec.{PartSpec}
+use Rattle.nook_data.specs.declared.scenario.Scenario.{Scenario}
+use Rattle.nook_data.specs.declared.machine.Context.{Context}
+use Rattle.part_defs.specs.Domain.{context_of, machine_of}
+use Rattle.report_defs.specs.ReportLines.{acts_tail, answer_tail, cause_tail, end_text, line_feed, spaced, with_number}
+use Rattle.run_defs.specs.Simulation.{IsScheduledRun, Simulation, journals_of}
+use Rattle.part_defs.specs.State.{DomainState}
+use Rattle.machine_defs.specs.BurstFaults.{faults_of_burst}
 use Rattle.sim_run.specs.Bursts.{burst_found}
 use Rattle.turn_trace.specs.Bursts.{TracedBurst, burst_trace}
 use Rattle.turn_trace.specs.Lines.{start_line, step_lines, unstruck_lines}

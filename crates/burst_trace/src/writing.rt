@@ -1,8 +1,8 @@
 //! The writing of a trace.
 
 ghost use Rattle.std.specs.Prelude.{◌≡◌, ℕ, ◌++◌, false, IfOk, Ok, OnOk};
-ghost use Rattle.nook_defs.specs.Steps.{faults_of_burst};
-ghost use Rattle.nook_defs.specs.Valid.{IsValidScenario};
+ghost use Rattle.machine_defs.specs.BurstFaults.{faults_of_burst};
+ghost use Rattle.nook_data.specs.Valid.{IsValidScenario};
 ghost use Rattle.report_text.specs.Writing.{Wrote};
 ghost use Rattle.turn_trace.specs.Lines.{step_lines, unstruck_lines};
 ghost use Rattle.burst_trace.specs.Text.{burst_lines, end_line, event_end, event_trace, head_line, inside_of};
@@ -11,14 +11,14 @@ ghost use Rattle.burst_trace.specs.Writing.{Traces, WroteTrace};
 
 use domain_call::Domain;
 use fault_script::FaultScript;
-use nook_defs::calls::Answer;
-use nook_defs::limits::SHADOW;
-use nook_defs::lists::TryCopy;
-use nook_defs::machine::{Acts, Context};
-use nook_defs::memory::NoMemory;
-use nook_defs::outside::Sink;
-use nook_defs::scenario::{Fault, PartSpec, Scenario};
-use nook_defs::steps::{End, Event, FailCause};
+use nook_data::calls::Answer;
+use nook_data::limits::SHADOW;
+use nook_data::lists::TryCopy;
+use nook_data::machine::{Acts, Context};
+use nook_data::memory::NoMemory;
+use nook_data::scenario::{Fault, PartSpec, Scenario};
+use nook_data::steps::{End, Event, FailCause};
+use nook_io::outside::Sink;
 use report_text::{Line, WriteStop, push_number, push_outcome, write_text};
 use sim_run::{FoundBurst, run_to_burst};
 use std::alloc::Global;

@@ -10,13 +10,13 @@ use Rattle.claim_index.proofs.Claims.{claim_call}
 use Rattle.claim_index.proofs.Firsts.{first_before, none_before}
 use Rattle.claim_index.specs.Indexed.{number_before}
 use Rattle.claim_index.specs.Claims.{AreRising, first_that, HasBlocks, HaveBlocks, blocker_of, blocks_claim, claim_by, claim_of, claimed_by, claims_of, conflict, end_claimed, first_blocking, first_claimed, is_claim, is_oldest, is_reading, is_writing, meets, takes_all, takes_frames, takes_stream}
-use Rattle.nook_defs.specs.declared.calls.CallEntry.{CallEntry}
-use Rattle.nook_defs.specs.declared.classes.Class.{Class}
-use Rattle.nook_defs.specs.declared.classes.Class.TheVariants as class
-use Rattle.nook_defs.specs.declared.calls.Op.{Op}
-use Rattle.nook_defs.specs.declared.calls.Op.TheVariants as op
-use Rattle.nook_defs.specs.Classes.{blocks_of_op, conflicts, first_of_op, is_of_stream, is_recv, is_set, is_write}
-use Rattle.nook_defs.specs.Log.{blocks_call, is_call, open_call}
+use Rattle.nook_data.specs.declared.calls.CallEntry.{CallEntry}
+use Rattle.nook_data.specs.declared.classes.Class.{Class}
+use Rattle.nook_data.specs.declared.classes.Class.TheVariants as class
+use Rattle.nook_data.specs.declared.calls.Op.{Op}
+use Rattle.nook_data.specs.declared.calls.Op.TheVariants as op
+use Rattle.nook_data.specs.Classes.{blocks_of_op, conflicts, first_of_op, is_of_stream, is_recv, is_set, is_write}
+use Rattle.part_defs.specs.Log.{blocks_call, is_call, open_call}
 
 -- what an operation claims, test by test
 record Agrees (o : Op) : Type 0 where

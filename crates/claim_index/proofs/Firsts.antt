@@ -6,8 +6,8 @@ use Rattle.std.proofs.lemmas.Bool.{cases_Bool, cases_lt, eq-eqb, eqb-true, ne_eq
 use Rattle.claim_index.specs.declared.claim.Claim.{Claim}
 use Rattle.claim_index.specs.declared.claim.Claimed.{Claimed}
 use Rattle.claim_index.specs.declared.claim.Claimed.TheVariants as claimed
-use Rattle.nook_defs.specs.declared.classes.Class.{Class}
-use Rattle.nook_defs.specs.declared.classes.Class.TheVariants as class
+use Rattle.nook_data.specs.declared.classes.Class.{Class}
+use Rattle.nook_data.specs.declared.classes.Class.TheVariants as class
 use Rattle.claim_index.specs.Claims.{AreRising, HasBlocks, HaveBlocks, clashes, conflict, first_that, first_claimed, end_claimed, is_reading, is_writing, meets, takes_all}
 use Rattle.claim_index.specs.Indexed.{calls_that, is_claimed, is_touched, is_within, least, number_before}
 

@@ -5,7 +5,7 @@ ghost use Rattle.std.specs.Prelude.{OnErr};
 ghost use Rattle.claim_index.specs.Indexed.{HasRoomAt, is_within, least, numbers_at};
 
 use crate::claimants::first_of;
-use nook_defs::memory::NoMemory;
+use nook_data::memory::NoMemory;
 use std::alloc::Global;
 use std::collections::BTreeMap;
 

@@ -3,8 +3,8 @@
 ghost use Rattle.std.specs.Prelude.{◌≡◌};
 ghost use Rattle.claim_index.specs.Claims.{claimed_by};
 
-use nook_defs::calls::Op;
-use nook_defs::limits::BLOCK_WORDS;
+use nook_data::calls::Op;
+use nook_data::limits::BLOCK_WORDS;
 
 /// What a call claims. Of two calls with claims that conflict, the later waits for the earlier.
 #[derive(Clone, Copy, Debug, PartialEq, Eq)]

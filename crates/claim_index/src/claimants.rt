@@ -8,8 +8,8 @@ ghost use Rattle.claim_index.specs.Indexed.{AreByBlock, AreClaimantsOf, is_touch
 
 use crate::by_block::ByBlock;
 use crate::claim::{Claim, Claimed};
-use nook_defs::classes::Class;
-use nook_defs::memory::NoMemory;
+use nook_data::classes::Class;
+use nook_data::memory::NoMemory;
 use std::alloc::Global;
 
 /// The numbers of the open calls by what they claim.

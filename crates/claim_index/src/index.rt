@@ -4,13 +4,13 @@ ghost use Rattle.std.specs.Prelude.{◌≡◌, ◌<◌, ◌++◌, ◌∷◌, [],
 ghost use Rattle.claim_index.specs.Claims.{AreBelow, AreRising, HasBlocks, blocker_of, claim_by, claims_of, conflict};
 ghost use Rattle.claim_index.specs.Claims.{first_blocking, first_that, is_oldest, without_call};
 ghost use Rattle.claim_index.specs.Indexed.{number_before};
-ghost use Rattle.nook_defs.specs.Log.{open_call};
-ghost use Rattle.nook_defs.specs.declared.calls.CallEntry.{CallEntry};
+ghost use Rattle.part_defs.specs.Log.{open_call};
+ghost use Rattle.nook_data.specs.declared.calls.CallEntry.{CallEntry};
 
 use crate::claim::{Claim, Claimed};
 use crate::claimants::Claimants;
-use nook_defs::classes::Class;
-use nook_defs::memory::NoMemory;
+use nook_data::classes::Class;
+use nook_data::memory::NoMemory;
 use std::alloc::Global;
 use std::marker::Model;
 

@@ -2,12 +2,12 @@
 #![tactic(auto)]
 
 ghost use Rattle.std.specs.Prelude.{◌≡◌, ◌+◌, ◌^◌, ◌≤◌, true};
-ghost use Rattle.nook_defs.specs.Classes.{accept, admit, blocks_of_op, first_of_op, is_of_class};
+ghost use Rattle.nook_data.specs.Classes.{accept, admit, blocks_of_op, first_of_op, is_of_class};
 
 use class_table::{blocks_of_op, entry_place, first_of_op};
-use nook_defs::calls::Op;
-use nook_defs::classes::{Accept, Admit, Class, ClassState};
-use nook_defs::steps::FailCause;
+use nook_data::calls::Op;
+use nook_data::classes::{Accept, Admit, Class, ClassState};
+use nook_data::steps::FailCause;
 
 /// The status that tells that block 0 of a Read or Write failed; the next tells block 1, and so on.
 const FIRST_IO_STATUS: u32 = 256;

@@ -2,12 +2,12 @@
 #![tactic(auto)]
 
 ghost use Rattle.std.specs.Prelude.{◌≡◌, true};
-ghost use Rattle.nook_defs.specs.Classes.{accept, admit, is_of_class};
+ghost use Rattle.nook_data.specs.Classes.{accept, admit, is_of_class};
 
 use class_table::entry_place;
-use nook_defs::calls::{Answer, Op};
-use nook_defs::classes::{Accept, Admit, Class, ClassState};
-use nook_defs::steps::FailCause;
+use nook_data::calls::{Answer, Op};
+use nook_data::classes::{Accept, Admit, Class, ClassState};
+use nook_data::steps::FailCause;
 
 /// What becomes of an operation of class sound when it is entered. An Open goes to its driver where the stream
 /// is free, a Play or Close where the calling thread has it; else they are answered at once.

@@ -1,10 +1,10 @@
 //! The four configuration words of a class: what each is at first, and how great it may be.
 
 ghost use Rattle.std.specs.Prelude.{◌≡◌, ◌<◌};
-ghost use Rattle.nook_defs.specs.Classes.{default_of, defaults_of, maximum_of};
+ghost use Rattle.nook_data.specs.Classes.{default_of, defaults_of, maximum_of};
 
-use nook_defs::classes::Class;
-use nook_defs::lists::Word;
+use nook_data::classes::Class;
+use nook_data::lists::Word;
 
 /// What a register and the record hold at first, for key 0 to 3.
 pub fn default_of(class: Class, key: u32) -> Word

@@ -1,14 +1,14 @@
 //! Conflicts: of two open calls whose operations conflict, the later waits for the earlier.
 
 ghost use Rattle.std.specs.Prelude.{◌≡◌, ℕ, ◌+◌};
-ghost use Rattle.nook_defs.specs.Classes.{clash, conflicts, first_of_op, is_of_stream, is_recv, is_set, is_write};
-ghost use Rattle.nook_defs.specs.Classes.{share_block};
-ghost use Rattle.nook_defs.specs.declared.classes.Class.{Class};
-ghost use Rattle.nook_defs.specs.declared.calls.Op.{Op};
+ghost use Rattle.nook_data.specs.Classes.{clash, conflicts, first_of_op, is_of_stream, is_recv, is_set, is_write};
+ghost use Rattle.nook_data.specs.Classes.{share_block};
+ghost use Rattle.nook_data.specs.declared.classes.Class.{Class};
+ghost use Rattle.nook_data.specs.declared.calls.Op.{Op};
 
 use crate::operation::{blocks_of_op, first_of_op};
-use nook_defs::calls::Op;
-use nook_defs::classes::Class;
+use nook_data::calls::Op;
+use nook_data::classes::Class;
 
 /// Whether two operations of the class conflict: a Set does with every other; of class block, a Write with a
 /// Read or Write of a common block; of class net, two Recvs; of class sound, any two of Open, Play and Close.

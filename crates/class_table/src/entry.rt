@@ -1,10 +1,10 @@
 //! The entries of a driver: at which place, from 0, each stands in the class's order.
 
 ghost use Rattle.std.specs.Prelude.{◌≡◌};
-ghost use Rattle.nook_defs.specs.Classes.{entry_place, get_place, init_place, open_place, set_place};
+ghost use Rattle.nook_data.specs.Classes.{entry_place, get_place, init_place, open_place, set_place};
 
-use nook_defs::calls::Op;
-use nook_defs::classes::Class;
+use nook_data::calls::Op;
+use nook_data::classes::Class;
 
 /// The place of the entry of an operation of the class.
 pub fn entry_place(class: Class, op: &Op) -> u32

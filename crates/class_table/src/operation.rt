@@ -1,14 +1,14 @@
 //! The static check: what is wrong with an operation whatever its part's state.
 
 ghost use Rattle.std.specs.Prelude.{◌≡◌, ◌+◌, ◌<◌, ◌≤◌, ◌^◌, IsNone};
-ghost use Rattle.nook_defs.specs.Classes.{blocks_of_op, check_length, check_op, check_range, first_of_op, is_of_class};
-ghost use Rattle.nook_defs.specs.Classes.{static_check};
+ghost use Rattle.nook_data.specs.Classes.{blocks_of_op, check_length, check_op, check_range, first_of_op, is_of_class};
+ghost use Rattle.nook_data.specs.Classes.{static_check};
 
 use crate::config::maximum_of;
-use nook_defs::calls::{Answer, Op};
-use nook_defs::classes::Class;
-use nook_defs::limits::{BLOCK_WORDS, MOST_BLOCKS, MOST_FRAME_WORDS};
-use nook_defs::lists::Words;
+use nook_data::calls::{Answer, Op};
+use nook_data::classes::Class;
+use nook_data::limits::{BLOCK_WORDS, MOST_BLOCKS, MOST_FRAME_WORDS};
+use nook_data::lists::Words;
 
 /// The answer that an operation gets in every state, if there is one: it is of another class, a length or a key
 /// is wrong, a value is too great, or a block lies past the end of a disk of `blocks` blocks.

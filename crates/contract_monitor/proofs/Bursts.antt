@@ -3,15 +3,16 @@ use Rattle.std.proofs.Common.{◌≡◌, ◌<◌, ◌+◌, ◌==◌, ℕ, suc, B
 use Rattle.std.specs.List.{count_by, filter, fold, list_any}
 use Rattle.std.proofs.lemmas.List.{map-append, take_more}
 use Rattle.std.proofs.lemmas.List.Sums.{fold-append, sum_by-cons}
-use Rattle.nook_defs.specs.declared.machine.Act.{Act}
-use Rattle.nook_defs.specs.declared.machine.Act.TheVariants as act
-use Rattle.nook_defs.specs.declared.calls.Answer.{Answer}
-use Rattle.nook_defs.specs.declared.steps.End.{End}
-use Rattle.nook_defs.specs.declared.steps.FailCause.{FailCause}
-use Rattle.nook_defs.specs.declared.clause.Clause.{Clause}
-use Rattle.nook_defs.specs.Contract.{Known, OpenCall, acts, after_deed, after_failure, call_of, crossing_deeds, deeds_of, is_answered_in}
-use Rattle.nook_defs.proofs.Changes.{after_deeds, with_acts}
-use Rattle.nook_defs.specs.Losses.{Tally, handed_result, is_played, is_sent}
+use Rattle.nook_data.specs.declared.machine.Act.{Act}
+use Rattle.nook_data.specs.declared.machine.Act.TheVariants as act
+use Rattle.nook_data.specs.declared.calls.Answer.{Answer}
+use Rattle.nook_data.specs.declared.steps.End.{End}
+use Rattle.nook_data.specs.declared.steps.FailCause.{FailCause}
+use Rattle.nook_data.specs.declared.clause.Clause.{Clause}
+use Rattle.promise_defs.specs.Contract.{Known, OpenCall, acts, after_deed, after_failure, call_of, crossing_deeds}
+use Rattle.promise_defs.specs.Contract.{deeds_of, is_answered_in}
+use Rattle.promise_defs.proofs.PromiseChanges.{after_deeds, with_acts}
+use Rattle.promise_defs.specs.Losses.{Tally, handed_result, is_played, is_sent}
 use Rattle.contract_monitor.specs.Calls.{change_tally, tally_played, tally_sent}
 use Rattle.contract_monitor.specs.Judging.{act_broken, first_broken, smaller}
 use Rattle.contract_monitor.specs.Keeping.{Kept, count_act, count_handed, kept_act, kept_answered, kept_burst, kept_crossing, kept_deed, tally_act}

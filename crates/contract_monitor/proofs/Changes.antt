@@ -3,8 +3,8 @@ use Rattle.std.proofs.Common.{◌≡◌, ◌≤◌, ◌<◌, ◌+◌, ◌==◌, 
 use Rattle.std.specs.List.{filter, list_any}
 use Rattle.std.proofs.lemmas.List.{length-map}
 use Rattle.std.proofs.Math.Seq.{map-set_same}
-use Rattle.nook_defs.specs.Contract.{OpenCall, change_first}
-use Rattle.nook_defs.specs.Losses.{Tally}
+use Rattle.promise_defs.specs.Contract.{OpenCall, change_first}
+use Rattle.promise_defs.specs.Losses.{Tally}
 use Rattle.contract_monitor.specs.declared.calls.Call.{Call}
 use Rattle.contract_monitor.specs.declared.calls.Change.{Change}
 use Rattle.contract_monitor.specs.declared.calls.Change.TheVariants as changed

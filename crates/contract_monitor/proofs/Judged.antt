@@ -2,17 +2,19 @@
 use Rattle.std.proofs.Common.{◌≡◌, ◌==◌, ◌&&◌, ◌||◌, ℕ, zero, suc, Bool, true, false, not, cond, if◌then◌else◌, nat_lt, List, [], ◌∷◌, ◌++◌, Option, Some, None, refl, sym, ap, ap₂, ◌∙◌, arith}
 use Rattle.std.specs.List.{find}
 use Rattle.std.proofs.lemmas.Bool.Decides.{nat_tests}
-use Rattle.nook_defs.specs.declared.machine.Act.{Act}
-use Rattle.nook_defs.specs.declared.machine.Act.TheVariants as act
-use Rattle.nook_defs.specs.declared.calls.Answer.{Answer}
-use Rattle.nook_defs.specs.declared.calls.Answer.TheVariants as answer
-use Rattle.nook_defs.specs.declared.calls.Op.{Op}
-use Rattle.nook_defs.specs.declared.calls.Op.TheVariants.{Read, Write, Send, Recv, Open, Play, Close, Get, Set}
-use Rattle.nook_defs.specs.declared.clause.Clause.{Clause}
-use Rattle.nook_defs.specs.declared.clause.Clause.TheVariants.{UnsentSend, OutOfOrder, LeftInRing, UnmadeSet}
-use Rattle.nook_defs.specs.Contract.{Deed, Known, OpenCall, acts, after_deed, all_clauses, breaks, call_of, hands_up, is_broken_by, is_front, is_replayed, clause_number, replays, replies}
-use Rattle.nook_defs.specs.Devices.{is_empty}
-use Rattle.nook_defs.proofs.Changes.{after_deeds}
+use Rattle.nook_data.specs.declared.machine.Act.{Act}
+use Rattle.nook_data.specs.declared.machine.Act.TheVariants as act
+use Rattle.nook_data.specs.declared.calls.Answer.{Answer}
+use Rattle.nook_data.specs.declared.calls.Answer.TheVariants as answer
+use Rattle.nook_data.specs.declared.calls.Op.{Op}
+use Rattle.nook_data.specs.declared.calls.Op.TheVariants.{Read, Write, Send, Recv, Open, Play, Close, Get, Set}
+use Rattle.nook_data.specs.declared.clause.Clause.{Clause}
+use Rattle.nook_data.specs.declared.clause.Clause.TheVariants.{UnsentSend, OutOfOrder, LeftInRing, UnmadeSet}
+use Rattle.promise_defs.specs.Contract.{Deed, Known, OpenCall, acts, after_deed, breaks, call_of, hands_up}
+use Rattle.promise_defs.specs.Contract.{is_broken_by, is_front, is_replayed, replays, replies}
+use Rattle.nook_data.specs.Clauses.{all_clauses, clause_number}
+use Rattle.nook_data.specs.Frames.{is_empty}
+use Rattle.promise_defs.proofs.PromiseChanges.{after_deeds}
 use Rattle.contract_monitor.specs.Judging.{act_broken, first_broken, least, reply_broken, reply_broken_of, smaller, unless}
 
 -- ---- clauses in the order of their numbers

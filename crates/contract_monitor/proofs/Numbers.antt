@@ -4,14 +4,16 @@ use Rattle.std.specs.List.{count_by, fold, sum_by}
 use Rattle.std.proofs.lemmas.Grind.{flat_map-append}
 use Rattle.std.proofs.lemmas.List.{append-nil}
 use Rattle.std.proofs.lemmas.List.Sums.{fold-append, sum_by-append, sum_by-cons}
-use Rattle.nook_defs.specs.declared.machine.Act.{Act}
-use Rattle.nook_defs.specs.declared.machine.Act.TheVariants as act
-use Rattle.nook_defs.specs.declared.calls.Answer.{Answer}
-use Rattle.nook_defs.specs.declared.steps.Event.{Event}
-use Rattle.nook_defs.specs.declared.steps.Event.TheVariants as event
-use Rattle.nook_defs.specs.declared.steps.Stage.TheVariants as stage
-use Rattle.nook_defs.specs.Answers.{answers_of}
-use Rattle.nook_defs.specs.Losses.{FramePlaces, Tally, all_answers, handed_result, is_arrival, is_busy, is_lost_arrival, is_popped, is_received, is_refused, is_taken, lost_by, lost_from, losses, no_places, one_if, places_after, tallies_after, tallies_during}
+use Rattle.nook_data.specs.declared.machine.Act.{Act}
+use Rattle.nook_data.specs.declared.machine.Act.TheVariants as act
+use Rattle.nook_data.specs.declared.calls.Answer.{Answer}
+use Rattle.nook_data.specs.declared.steps.Event.{Event}
+use Rattle.nook_data.specs.declared.steps.Event.TheVariants as event
+use Rattle.nook_data.specs.declared.steps.Stage.TheVariants as stage
+use Rattle.nook_data.specs.Answers.{answers_of}
+use Rattle.promise_defs.specs.Losses.{FramePlaces, Tally, all_answers, handed_result, is_arrival, is_busy}
+use Rattle.promise_defs.specs.Losses.{is_lost_arrival, is_popped, is_received, is_refused, is_taken, lost_by, lost_from}
+use Rattle.promise_defs.specs.Losses.{losses, no_places, one_if, places_after, tallies_after, tallies_during}
 use Rattle.contract_monitor.specs.Keeping.{Counts, count_act, count_answer, count_handed, counts_after, counts_during, samples_lost, sends_lost, told}
 use Rattle.contract_monitor.specs.Monitors.{counts_of}
 

@@ -1,7 +1,7 @@
 -- One block more of those that a Read asks for.
 use Rattle.std.proofs.Common.{◌≡◌, ℕ, suc, ◌+◌, ◌-◌, ◌<◌, List, [], ◌++◌, slice_get, ap, ◌∙◌, arith}
 use Rattle.std.specs.Option.{unwrap_or}
-use Rattle.nook_defs.specs.Blocks.{get_blocks}
+use Rattle.promise_defs.specs.Blocks.{get_blocks}
 
 left_is : (count i : ℕ) → i < count → count - i ≡ suc (count - (i + 1))
 left_is count i l = omega arith

@@ -2,14 +2,16 @@
 use Rattle.std.proofs.Common.{◌≡◌, ℕ, suc, ◌+◌, Bool, true, false, cond, Option, Some, None, List, [], ◌∷◌, ◌++◌, length, refl, sym, ap, ◌∙◌, arith, add-zero, length-append}
 use Rattle.std.specs.List.{filter, find, fold}
 use Rattle.std.proofs.lemmas.List.Sums.{fold-append}
-use Rattle.nook_defs.specs.declared.verdicts.Break.{Break}
-use Rattle.nook_defs.specs.declared.classes.Class.{Class}
-use Rattle.nook_defs.specs.declared.steps.Event.{Event}
-use Rattle.nook_defs.specs.declared.steps.Event.TheVariants as event
-use Rattle.nook_defs.specs.declared.clause.Clause.{Clause}
-use Rattle.nook_defs.specs.Contract.{Known, known_after, all_clauses, break_from, broken, deeds_of, first_break, is_broken_by, known_first, clause_number}
-use Rattle.nook_defs.proofs.Changes.{break_or}
-use Rattle.nook_defs.specs.Losses.{losses, tallies_after}
+use Rattle.nook_data.specs.declared.verdicts.Break.{Break}
+use Rattle.nook_data.specs.declared.classes.Class.{Class}
+use Rattle.nook_data.specs.declared.steps.Event.{Event}
+use Rattle.nook_data.specs.declared.steps.Event.TheVariants as event
+use Rattle.nook_data.specs.declared.clause.Clause.{Clause}
+use Rattle.promise_defs.specs.Contract.{Known, known_after, break_from, broken, deeds_of, first_break, is_broken_by}
+use Rattle.promise_defs.specs.Contract.{known_first}
+use Rattle.nook_data.specs.Clauses.{all_clauses, clause_number}
+use Rattle.promise_defs.proofs.PromiseChanges.{break_or}
+use Rattle.promise_defs.specs.Losses.{losses, tallies_after}
 use Rattle.contract_monitor.specs.Judging.{event_broken}
 use Rattle.contract_monitor.specs.Keeping.{Kept, kept_after, kept_first, told}
 use Rattle.contract_monitor.specs.Monitors.{Monitored, StandsFor, after_event, break_of, or_break}

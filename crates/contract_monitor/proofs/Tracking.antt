@@ -3,24 +3,27 @@ use Rattle.std.proofs.Common.{◌≡◌, ◌≤◌, ◌==◌, ℕ, Bool, true, f
 use Rattle.std.specs.List.{filter, fold}
 use Rattle.std.proofs.lemmas.List.{drop-drop, drop-append-le}
 use Rattle.std.proofs.lemmas.List.Sums.{fold-append}
-use Rattle.nook_defs.specs.declared.machine.Act.{Act}
-use Rattle.nook_defs.specs.declared.machine.Act.TheVariants as act
-use Rattle.nook_defs.specs.declared.calls.Answer.{Answer}
-use Rattle.nook_defs.specs.declared.calls.Answer.TheVariants as answer
-use Rattle.nook_defs.specs.declared.steps.End.{End}
-use Rattle.nook_defs.specs.declared.steps.End.TheVariants as end
-use Rattle.nook_defs.specs.declared.steps.Event.{Event}
-use Rattle.nook_defs.specs.declared.steps.Event.TheVariants as event
-use Rattle.nook_defs.specs.declared.steps.FailCause.{FailCause}
-use Rattle.nook_defs.specs.declared.calls.Op.{Op}
-use Rattle.nook_defs.specs.declared.calls.Op.TheVariants.{Read, Write, Send, Recv, Play, Get, Set}
-use Rattle.nook_defs.specs.declared.steps.Stage.{Stage}
-use Rattle.nook_defs.specs.declared.steps.Stage.TheVariants as stage
-use Rattle.nook_defs.specs.Answers.{one_answer}
-use Rattle.nook_defs.specs.declared.clause.Clause.{Clause}
-use Rattle.nook_defs.specs.declared.clause.Clause.TheVariants.{OutOfOrder}
-use Rattle.nook_defs.specs.Contract.{Deed, Known, OpenCall, acts, known_after, after_deed, after_failure, after_stage, call_of, crossing_deeds, deeds_of, hands_up, is_answered_in, is_front, clause_number, replays, replies}
-use Rattle.nook_defs.proofs.Changes.{after_deeds}
+use Rattle.nook_data.specs.declared.machine.Act.{Act}
+use Rattle.nook_data.specs.declared.machine.Act.TheVariants as act
+use Rattle.nook_data.specs.declared.calls.Answer.{Answer}
+use Rattle.nook_data.specs.declared.calls.Answer.TheVariants as answer
+use Rattle.nook_data.specs.declared.steps.End.{End}
+use Rattle.nook_data.specs.declared.steps.End.TheVariants as end
+use Rattle.nook_data.specs.declared.steps.Event.{Event}
+use Rattle.nook_data.specs.declared.steps.Event.TheVariants as event
+use Rattle.nook_data.specs.declared.steps.FailCause.{FailCause}
+use Rattle.nook_data.specs.declared.calls.Op.{Op}
+use Rattle.nook_data.specs.declared.calls.Op.TheVariants.{Read, Write, Send, Recv, Play, Get, Set}
+use Rattle.nook_data.specs.declared.steps.Stage.{Stage}
+use Rattle.nook_data.specs.declared.steps.Stage.TheVariants as stage
+use Rattle.nook_data.specs.Answers.{one_answer}
+use Rattle.nook_data.specs.declared.clause.Clause.{Clause}
+use Rattle.nook_data.specs.declared.clause.Clause.TheVariants.{OutOfOrder}
+use Rattle.promise_defs.specs.Contract.{Deed, Known, OpenCall, acts, known_after, after_deed, after_failure}
+use Rattle.promise_defs.specs.Contract.{after_stage, call_of, crossing_deeds, deeds_of, hands_up, is_answered_in}
+use Rattle.promise_defs.specs.Contract.{is_front, replays, replies}
+use Rattle.nook_data.specs.Clauses.{clause_number}
+use Rattle.promise_defs.proofs.PromiseChanges.{after_deeds}
 use Rattle.contract_monitor.specs.Judging.{act_broken, event_broken, first_broken, least, reply_broken, reply_broken_of, smaller, unless}
 use Rattle.contract_monitor.specs.Keeping.{kept_deed, shorter, shorter_after}
 use Rattle.contract_monitor.specs.Monitors.{Tracks}

@@ -1,7 +1,7 @@
 use Rattle.std.specs.Prelude.{ℕ, zero, suc, List, [], ◌∷◌, map, ◌==◌, if◌then◌else◌}
-use Rattle.nook_defs.specs.Contract.{OpenCall, change_call}
-use Rattle.nook_defs.proofs.Changes.{enter_call, failed_at, handed_frame, sent_more}
-use Rattle.nook_defs.specs.Losses.{Tally}
+use Rattle.promise_defs.specs.Contract.{OpenCall, change_call}
+use Rattle.promise_defs.proofs.PromiseChanges.{enter_call, failed_at, handed_frame, sent_more}
+use Rattle.promise_defs.specs.Losses.{Tally}
 use Rattle.contract_monitor.specs.declared.calls.Call.{Call}
 use Rattle.contract_monitor.specs.declared.calls.Change.{Change}
 use Rattle.contract_monitor.specs.declared.calls.Change.TheVariants as changed

@@ -1,24 +1,26 @@
 use Rattle.std.specs.Prelude.{ℕ, Bool, false, List, [], ◌∷◌, find, length, Option, Some, None, nat_lt, ◌==◌, ◌||◌, not}
 use Rattle.std.specs.Prelude.{if◌then◌else◌, slice_index, bytes_eq}
 use Rattle.std.specs.List.{list_any}
-use Rattle.nook_defs.specs.declared.machine.Act.{Act}
-use Rattle.nook_defs.specs.declared.machine.Act.TheVariants as act
-use Rattle.nook_defs.specs.declared.calls.Answer.{Answer}
-use Rattle.nook_defs.specs.declared.calls.Answer.TheVariants as answer
-use Rattle.nook_defs.specs.declared.steps.Event.{Event}
-use Rattle.nook_defs.specs.declared.steps.Event.TheVariants as event
-use Rattle.nook_defs.specs.declared.calls.Op.{Op}
-use Rattle.nook_defs.specs.declared.calls.Op.TheVariants.{Read, Write, Send, Recv, Play, Get, Set}
-use Rattle.nook_defs.specs.Blocks.{get_blocks, has_block, holds_from}
-use Rattle.nook_defs.specs.declared.clause.Clause.{Clause}
-use Rattle.nook_defs.specs.declared.clause.Clause.TheVariants.{UnaskedStore, OtherStore, UnstoredWrite, OtherRead}
-use Rattle.nook_defs.specs.declared.clause.Clause.TheVariants.{UnaskedFrame, SecondFrame, UnsentSend, LeftInRing}
-use Rattle.nook_defs.specs.declared.clause.Clause.TheVariants.{OtherSample, UnplayedPlay, UnaskedRegister, UnmadeSet}
-use Rattle.nook_defs.specs.declared.clause.Clause.TheVariants.{OtherGet, UnseenFailure}
-use Rattle.nook_defs.specs.Contract.{Deed, Known, OpenCall, replies, replays, all_clauses, breaks, deeds_of, is_asked}
-use Rattle.nook_defs.specs.Contract.{is_broken_by, is_next_of, is_send_of, clause_number, play_inside, may_store}
-use Rattle.nook_defs.specs.Contract.{stores_other}
-use Rattle.nook_defs.specs.Devices.{is_empty}
+use Rattle.nook_data.specs.declared.machine.Act.{Act}
+use Rattle.nook_data.specs.declared.machine.Act.TheVariants as act
+use Rattle.nook_data.specs.declared.calls.Answer.{Answer}
+use Rattle.nook_data.specs.declared.calls.Answer.TheVariants as answer
+use Rattle.nook_data.specs.declared.steps.Event.{Event}
+use Rattle.nook_data.specs.declared.steps.Event.TheVariants as event
+use Rattle.nook_data.specs.declared.calls.Op.{Op}
+use Rattle.nook_data.specs.declared.calls.Op.TheVariants.{Read, Write, Send, Recv, Play, Get, Set}
+use Rattle.promise_defs.specs.Blocks.{get_blocks, has_block, holds_from}
+use Rattle.nook_data.specs.declared.clause.Clause.{Clause}
+use Rattle.nook_data.specs.declared.clause.Clause.TheVariants.{UnaskedStore, OtherStore, UnstoredWrite, OtherRead}
+use Rattle.nook_data.specs.declared.clause.Clause.TheVariants.{UnaskedFrame, SecondFrame, UnsentSend, LeftInRing}
+use Rattle.nook_data.specs.declared.clause.Clause.TheVariants.{OtherSample, UnplayedPlay, UnaskedRegister, UnmadeSet}
+use Rattle.nook_data.specs.declared.clause.Clause.TheVariants.{OtherGet, UnseenFailure}
+use Rattle.promise_defs.specs.Contract.{Deed, Known, OpenCall, replies, replays, breaks, deeds_of, is_asked}
+use Rattle.nook_data.specs.Clauses.{all_clauses}
+use Rattle.promise_defs.specs.Contract.{is_broken_by, is_next_of, is_send_of, play_inside, may_store}
+use Rattle.nook_data.specs.Clauses.{clause_number}
+use Rattle.promise_defs.specs.Contract.{stores_other}
+use Rattle.nook_data.specs.Frames.{is_empty}
 
 -- the clause with the smaller number
 abbrev pub smaller : Option Clause → Option Clause → Option Clause

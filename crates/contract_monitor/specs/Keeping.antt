@@ -1,25 +1,27 @@
 use Rattle.std.specs.Prelude.{ℕ, suc, Bool, List, [], ◌∷◌, ◌++◌, filter, fold, length, drop, Option, Some, None, ◌+◌}
 use Rattle.std.specs.Prelude.{◌-◌, ◌==◌, not, if◌then◌else◌}
 use Rattle.std.specs.List.{list_any}
-use Rattle.nook_defs.specs.declared.machine.Act.{Act}
-use Rattle.nook_defs.specs.declared.machine.Act.TheVariants as act
-use Rattle.nook_defs.specs.declared.calls.Answer.{Answer}
-use Rattle.nook_defs.specs.declared.classes.Class.{Class}
-use Rattle.nook_defs.specs.declared.steps.End.{End}
-use Rattle.nook_defs.specs.declared.steps.Event.{Event}
-use Rattle.nook_defs.specs.declared.steps.Event.TheVariants as event
-use Rattle.nook_defs.specs.declared.steps.FailCause.{FailCause}
-use Rattle.nook_defs.specs.declared.verdicts.Losses.{Losses}
-use Rattle.nook_defs.specs.declared.calls.Op.{Op}
-use Rattle.nook_defs.specs.declared.steps.Stage.{Stage}
-use Rattle.nook_defs.specs.declared.steps.Stage.TheVariants as stage
-use Rattle.nook_defs.specs.Answers.{answers_of}
-use Rattle.nook_defs.specs.Contract.{Deed, Known, acts, after_deed, after_failure, after_stage, change_call}
-use Rattle.nook_defs.specs.Contract.{crossing_deeds, deeds_of, during, hands_up, is_answered_in, known_first, new_call}
-use Rattle.nook_defs.specs.Contract.{replays, replies}
-use Rattle.nook_defs.proofs.Changes.{enter_call, unplayed, unsent}
-use Rattle.nook_defs.specs.Losses.{FramePlaces, Tally, handed_result, in_driver, in_ring, is_busy, is_received, lost_by}
-use Rattle.nook_defs.specs.Losses.{new_tally, no_places, one_if, places_reset, tallies_after, tallies_during}
+use Rattle.nook_data.specs.declared.machine.Act.{Act}
+use Rattle.nook_data.specs.declared.machine.Act.TheVariants as act
+use Rattle.nook_data.specs.declared.calls.Answer.{Answer}
+use Rattle.nook_data.specs.declared.classes.Class.{Class}
+use Rattle.nook_data.specs.declared.steps.End.{End}
+use Rattle.nook_data.specs.declared.steps.Event.{Event}
+use Rattle.nook_data.specs.declared.steps.Event.TheVariants as event
+use Rattle.nook_data.specs.declared.steps.FailCause.{FailCause}
+use Rattle.nook_data.specs.declared.verdicts.Losses.{Losses}
+use Rattle.nook_data.specs.declared.calls.Op.{Op}
+use Rattle.nook_data.specs.declared.steps.Stage.{Stage}
+use Rattle.nook_data.specs.declared.steps.Stage.TheVariants as stage
+use Rattle.nook_data.specs.Answers.{answers_of}
+use Rattle.promise_defs.specs.Contract.{Deed, Known, acts, after_deed, after_failure, after_stage, change_call}
+use Rattle.promise_defs.specs.Contract.{crossing_deeds, deeds_of, during, hands_up, is_answered_in, known_first}
+use Rattle.promise_defs.specs.Contract.{new_call}
+use Rattle.promise_defs.specs.Contract.{replays, replies}
+use Rattle.promise_defs.proofs.PromiseChanges.{enter_call, unplayed, unsent}
+use Rattle.promise_defs.specs.Losses.{FramePlaces, Tally, handed_result, in_driver, in_ring, is_busy, is_received}
+use Rattle.promise_defs.specs.Losses.{lost_by}
+use Rattle.promise_defs.specs.Losses.{new_tally, no_places, one_if, places_reset, tallies_after, tallies_during}
 use Rattle.contract_monitor.specs.Calls.{change_tally, tally_played, tally_sent}
 
 -- what is counted: Sends and samples that were lost, answers Busy; frames that arrived, that were answered, that the

@@ -1,11 +1,13 @@
 use Rattle.std.specs.Prelude.{◌≡◌, ℕ, ◌+◌, true, List, [], length, fold, count_by, Option, Some, None}
-use Rattle.nook_defs.specs.declared.verdicts.Break.{Break}
-use Rattle.nook_defs.specs.declared.classes.Class.{Class}
-use Rattle.nook_defs.specs.declared.steps.Event.{Event}
-use Rattle.nook_defs.specs.declared.clause.Clause.{Clause}
-use Rattle.nook_defs.specs.Contract.{Known, known_after, first_break, is_front, known_first, clause_number}
-use Rattle.nook_defs.specs.Losses.{all_answers, is_arrival, is_busy, is_lost_arrival, is_received, is_refused, is_taken}
-use Rattle.nook_defs.specs.Losses.{lost_samples, lost_sends, no_places, places_after, tallies_after}
+use Rattle.nook_data.specs.declared.verdicts.Break.{Break}
+use Rattle.nook_data.specs.declared.classes.Class.{Class}
+use Rattle.nook_data.specs.declared.steps.Event.{Event}
+use Rattle.nook_data.specs.declared.clause.Clause.{Clause}
+use Rattle.promise_defs.specs.Contract.{Known, known_after, first_break, is_front, known_first}
+use Rattle.nook_data.specs.Clauses.{clause_number}
+use Rattle.promise_defs.specs.Losses.{all_answers, is_arrival, is_busy, is_lost_arrival, is_received, is_refused}
+use Rattle.promise_defs.specs.Losses.{is_taken}
+use Rattle.promise_defs.specs.Losses.{lost_samples, lost_sends, no_places, places_after, tallies_after}
 use Rattle.contract_monitor.specs.Judging.{event_broken}
 use Rattle.contract_monitor.specs.Keeping.{Counts, Kept, kept_after, shorter}
 

@@ -1,10 +1,10 @@
 //! The acts of a burst.
 
 ghost use Rattle.std.specs.Prelude.{◌≡◌, fold, map, slice_set, IfOk, OnOk};
-ghost use Rattle.nook_defs.specs.Contract.{acts as acted, call_of, is_asked};
+ghost use Rattle.promise_defs.specs.Contract.{acts as acted, call_of, is_asked};
 ghost use Rattle.contract_monitor.specs.Judging.{act_broken, first_broken, register_broken, sent_broken, store_broken};
 ghost use Rattle.contract_monitor.specs.Keeping.{kept_act};
-ghost use Rattle.nook_defs.specs.declared.machine.Act.{Act};
+ghost use Rattle.nook_data.specs.declared.machine.Act.{Act};
 
 use crate::blocks::set_block;
 use crate::calls::{Change, change_calls, more, play_one};
@@ -14,10 +14,10 @@ use crate::watching::{
     had_frame, is_asked_for_other, is_asked_to_set, is_asked_to_store, is_next_sample,
     is_replay_of, is_send_of, register,
 };
-use nook_defs::clause::Clause;
-use nook_defs::lists::{TryCopy, Words};
-use nook_defs::machine::Act;
-use nook_defs::memory::NoMemory;
+use nook_data::clause::Clause;
+use nook_data::lists::{TryCopy, Words};
+use nook_data::machine::Act;
+use nook_data::memory::NoMemory;
 
 impl Known {
     /// The acts of a burst of a call, and the smallest clause that they break.

@@ -2,16 +2,16 @@
 
 ghost use Rattle.std.specs.Prelude.{◌≡◌, ◌++◌, ◌*◌, [], length, take, drop, replicate, slice_get, slice_set, unwrap_or};
 ghost use Rattle.std.specs.Prelude.{IfOk, OnOk};
-ghost use Rattle.nook_defs.specs.Blocks.{blank_blocks, get_blocks, has_block, holds_from, words_for};
-ghost use Rattle.nook_defs.specs.Classes.{covers};
+ghost use Rattle.promise_defs.specs.Blocks.{blank_blocks, get_blocks, has_block, holds_from, words_for};
+ghost use Rattle.nook_data.specs.Classes.{covers};
 ghost use Rattle.contract_monitor.specs.Questions.{holds_block};
 
 use class_table::{blocks_of_op, first_of_op};
-use nook_defs::calls::Op;
-use nook_defs::classes::Class;
-use nook_defs::limits::BLOCK_WORDS;
-use nook_defs::lists::{TryCopy, Words};
-use nook_defs::memory::NoMemory;
+use nook_data::calls::Op;
+use nook_data::classes::Class;
+use nook_data::limits::BLOCK_WORDS;
+use nook_data::lists::{TryCopy, Words};
+use nook_data::memory::NoMemory;
 use std::alloc::Global;
 use std::collections::VecDeque;
 

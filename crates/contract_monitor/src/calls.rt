@@ -3,15 +3,15 @@
 ghost use Rattle.std.specs.Prelude.{◌≡◌, ◌+◌, ◌<◌, ◌==◌, None, Some, MatchOption, OnOk, IfOk, map, filter, find};
 ghost use Rattle.std.specs.Prelude.{length, not, slice_get, if◌then◌else◌};
 ghost use Rattle.std.specs.List.{list_any};
-ghost use Rattle.nook_defs.specs.Contract.{call_of, change_first, is_answered_in, is_playing, leave_call, new_call};
-ghost use Rattle.nook_defs.specs.Contract.{play_inside, played_more};
-ghost use Rattle.nook_defs.specs.Losses.{new_tally};
+ghost use Rattle.promise_defs.specs.Contract.{call_of, change_first, is_answered_in, is_playing, leave_call, new_call};
+ghost use Rattle.promise_defs.specs.Contract.{play_inside, played_more};
+ghost use Rattle.promise_defs.specs.Losses.{new_tally};
 ghost use Rattle.contract_monitor.specs.Calls.{open_calls, open_change, open_of, tally_calls, tally_change, tally_of};
 
 use crate::blocks::copy_queue;
-use nook_defs::calls::{Answer, Op};
-use nook_defs::lists::TryCopy;
-use nook_defs::memory::NoMemory;
+use nook_data::calls::{Answer, Op};
+use nook_data::lists::TryCopy;
+use nook_data::memory::NoMemory;
 use std::alloc::Global;
 use std::collections::VecDeque;
 

@@ -3,7 +3,7 @@
 ghost use Rattle.std.specs.Prelude.{◌≡◌};
 ghost use Rattle.contract_monitor.specs.Judging.{smaller, unless};
 
-use nook_defs::clause::Clause;
+use nook_data::clause::Clause;
 
 /// The clause, unless it is kept.
 pub fn unless(kept: bool, clause: Clause) -> Option<Clause>

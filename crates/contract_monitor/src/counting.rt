@@ -1,18 +1,18 @@
 //! Calls that come and their answers, frames handed up, and arrivals.
 
 ghost use Rattle.std.specs.Prelude.{◌≡◌, ◌∷◌, [], fold, map, OnOk};
-ghost use Rattle.nook_defs.specs.Answers.{one_answer};
-ghost use Rattle.nook_defs.specs.Losses.{handed_result, is_busy, is_done, is_received, lost_by, one_if};
+ghost use Rattle.nook_data.specs.Answers.{one_answer};
+ghost use Rattle.promise_defs.specs.Losses.{handed_result, is_busy, is_done, is_received, lost_by, one_if};
 ghost use Rattle.contract_monitor.specs.Calls.{tally_of};
 ghost use Rattle.contract_monitor.specs.Keeping.{count_answer, count_handed, kept_answered, kept_arrival, kept_enter};
 ghost use Rattle.contract_monitor.specs.Keeping.{kept_invoke, samples_lost, sends_lost, with_counts};
 
 use crate::calls::{Call, Change, change_calls, close_call, close_calls, find_call, more};
 use crate::known::Known;
-use nook_defs::calls::{Answer, Op};
-use nook_defs::lists::{TryCopy, Words};
-use nook_defs::memory::NoMemory;
-use nook_defs::steps::End;
+use nook_data::calls::{Answer, Op};
+use nook_data::lists::{TryCopy, Words};
+use nook_data::memory::NoMemory;
+use nook_data::steps::End;
 
 impl Known {
     /// A call is invoked.

@@ -1,9 +1,9 @@
 //! The crossings of bursts, and the stages.
 
 ghost use Rattle.std.specs.Prelude.{◌≡◌, ◌∷◌, [], fold, None, true, OnOk, IfOk, if◌then◌else◌};
-ghost use Rattle.nook_defs.specs.Classes.{is_write};
-ghost use Rattle.nook_defs.specs.Contract.{OpenCall, call_of, crossing_deeds, hands_up};
-ghost use Rattle.nook_defs.specs.Losses.{is_done};
+ghost use Rattle.nook_data.specs.Classes.{is_write};
+ghost use Rattle.promise_defs.specs.Contract.{OpenCall, call_of, crossing_deeds, hands_up};
+ghost use Rattle.promise_defs.specs.Losses.{is_done};
 ghost use Rattle.contract_monitor.specs.Calls.{open_of};
 ghost use Rattle.contract_monitor.specs.Judging.{first_broken, reply_broken, reply_broken_of, reply_deeds, unless};
 ghost use Rattle.contract_monitor.specs.Keeping.{kept_crossing, kept_deed, kept_stage, with_known};
@@ -14,11 +14,11 @@ use crate::clauses::unless;
 use crate::known::{Known, in_driver, in_ring};
 use crate::watching::{is_replayed, register};
 use class_table::defaults_of;
-use nook_defs::calls::{Answer, Op};
-use nook_defs::clause::Clause;
-use nook_defs::lists::{TryCopy, Words};
-use nook_defs::memory::NoMemory;
-use nook_defs::steps::{End, FailCause, Stage};
+use nook_data::calls::{Answer, Op};
+use nook_data::clause::Clause;
+use nook_data::lists::{TryCopy, Words};
+use nook_data::memory::NoMemory;
+use nook_data::steps::{End, FailCause, Stage};
 
 impl Known {
     /// The crossing of a burst, and the smallest clause that it breaks.

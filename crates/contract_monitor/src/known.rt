@@ -1,7 +1,7 @@
 //! What is known of a part after some of its events.
 
 ghost use Rattle.std.specs.Prelude.{◌≡◌, ◌-◌, IfOk, OnOk};
-ghost use Rattle.nook_defs.specs.Contract.{deeds_of};
+ghost use Rattle.promise_defs.specs.Contract.{deeds_of};
 ghost use Rattle.contract_monitor.specs.Judging.{event_broken, first_broken};
 ghost use Rattle.contract_monitor.specs.Keeping.{kept_after, kept_burst, kept_first, told};
 
@@ -9,14 +9,14 @@ use crate::blocks::{blank_blocks, copy_blocks, copy_queue};
 use crate::calls::{Call, copy_calls};
 use crate::clauses::smaller;
 use class_table::defaults_of;
-use nook_defs::calls::Answer;
-use nook_defs::classes::Class;
-use nook_defs::clause::Clause;
-use nook_defs::lists::{TryCopy, Words};
-use nook_defs::machine::Act;
-use nook_defs::memory::NoMemory;
-use nook_defs::steps::{End, Event, FailCause};
-use nook_defs::verdicts::Losses;
+use nook_data::calls::Answer;
+use nook_data::classes::Class;
+use nook_data::clause::Clause;
+use nook_data::lists::{TryCopy, Words};
+use nook_data::machine::Act;
+use nook_data::memory::NoMemory;
+use nook_data::steps::{End, Event, FailCause};
+use nook_data::verdicts::Losses;
 use std::alloc::Global;
 use std::collections::VecDeque;
 use std::marker::Model;

@@ -2,21 +2,21 @@
 
 ghost use Rattle.std.specs.Prelude.{◌≡◌, ◌∷◌, ◌++◌, [], ℕ, List, IfOk, IfSome, OnErr, OnOk};
 ghost use Rattle.std.specs.Option.{ForSome};
-ghost use Rattle.nook_defs.specs.declared.classes.Class.{Class};
-ghost use Rattle.nook_defs.specs.declared.steps.Event.{Event};
-ghost use Rattle.nook_defs.specs.Contract.{first_break};
-ghost use Rattle.nook_defs.specs.Losses.{losses};
+ghost use Rattle.nook_data.specs.declared.classes.Class.{Class};
+ghost use Rattle.nook_data.specs.declared.steps.Event.{Event};
+ghost use Rattle.promise_defs.specs.Contract.{first_break};
+ghost use Rattle.promise_defs.specs.Losses.{losses};
 ghost use Rattle.contract_monitor.specs.Keeping.{kept_after, told};
 ghost use Rattle.contract_monitor.specs.Monitors.{StandsFor, after_event, break_of, or_break};
 
 use crate::calls::more;
 use crate::known::Known;
-use nook_defs::classes::Class;
-use nook_defs::clause::Clause;
-use nook_defs::lists::TryCopy;
-use nook_defs::memory::NoMemory;
-use nook_defs::steps::Event;
-use nook_defs::verdicts::{Break, Losses};
+use nook_data::classes::Class;
+use nook_data::clause::Clause;
+use nook_data::lists::TryCopy;
+use nook_data::memory::NoMemory;
+use nook_data::steps::Event;
+use nook_data::verdicts::{Break, Losses};
 use std::alloc::Global;
 use std::marker::Model;
 use std::mem;

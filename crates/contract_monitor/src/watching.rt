@@ -2,15 +2,15 @@
 
 ghost use Rattle.std.specs.Prelude.{◌≡◌, map, slice_index};
 ghost use Rattle.std.specs.List.{list_any};
-ghost use Rattle.nook_defs.specs.Classes.{is_next, sends};
-ghost use Rattle.nook_defs.specs.Contract.{call_of, is_next_of, is_replay_of, is_replayed, is_send_of, is_setting};
-ghost use Rattle.nook_defs.specs.Contract.{play_inside, sets, may_store, stores_other};
+ghost use Rattle.nook_data.specs.Classes.{is_next, sends};
+ghost use Rattle.promise_defs.specs.Contract.{call_of, is_next_of, is_replay_of, is_replayed, is_send_of, is_setting};
+ghost use Rattle.promise_defs.specs.Contract.{play_inside, sets, may_store, stores_other};
 ghost use Rattle.contract_monitor.specs.Calls.{open_of};
 ghost use Rattle.contract_monitor.specs.Judging.{had_frame};
 
 use crate::blocks::{covers, words_for};
 use crate::calls::{Call, find_call, find_playing};
-use nook_defs::calls::Op;
+use nook_data::calls::Op;
 
 /// Whether a call is a Write that is Inside and covers the block.
 fn stores(block: u64, call: &Call) -> bool

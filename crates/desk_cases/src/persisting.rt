@@ -4,9 +4,9 @@ ghost use Rattle.std.specs.Prelude.{◌<◌, IfSome};
 ghost use Rattle.part_server.specs.Desk.{IsDeskSeat};
 
 use desk_like::DeskLike;
-use nook_defs::calls::Op;
-use nook_defs::desks::{DeskRefused, Receipt};
-use nook_defs::lists::TryCopy;
+use nook_data::calls::Op;
+use nook_data::desks::{DeskRefused, Receipt};
+use nook_data::lists::TryCopy;
 use part_core::Part;
 use part_server::{DeskSeat, PartDesk};
 use scenario_gen::generate;

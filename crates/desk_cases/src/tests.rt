@@ -5,10 +5,10 @@ ghost use Rattle.part_server.specs.Desk.{IsDeskSeat};
 
 use crate::persisting::{Persisted, call_until_answered, desk_of, settle_at_last};
 use desk_like::DeskLike;
-use nook_defs::calls::{Answer, Op};
-use nook_defs::desks::DeskRefused;
-use nook_defs::lists::Words;
-use nook_defs::steps::{Event, Stage};
+use nook_data::calls::{Answer, Op};
+use nook_data::desks::DeskRefused;
+use nook_data::lists::Words;
+use nook_data::steps::{Event, Stage};
 use part_server::{DeskSeat, PartDesk};
 use std::alloc::Global;
 use std::sync::Wait;

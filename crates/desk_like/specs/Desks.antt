@@ -2,20 +2,21 @@
 use Rattle.std.specs.Prelude.{◌≡◌, ℕ, ◌<◌, ◌≤◌, Bool, true, false, List, [], ◌∷◌, ◌++◌, ◌⊎◌, length, All, Contains}
 use Rattle.std.specs.Prelude.{Some, None, Result, Ok, Err}
 use mathlib.Core.List.{IsPrefix}
-use Rattle.nook_defs.specs.declared.limits.TheConstants.{MOST_CALLS}
-use Rattle.nook_defs.specs.declared.calls.Answer.{Answer}
-use Rattle.nook_defs.specs.declared.calls.CallEntry.{CallEntry}
-use Rattle.nook_defs.specs.declared.desks.DeskRefused.{DeskRefused}
-use Rattle.nook_defs.specs.declared.desks.DeskRefused.TheVariants as refused
-use Rattle.nook_defs.specs.declared.steps.Event.{Event}
-use Rattle.nook_defs.specs.declared.steps.Event.TheVariants as event
-use Rattle.nook_defs.specs.declared.calls.Op.{Op}
-use Rattle.nook_defs.specs.declared.scenario.PartSpec.{PartSpec}
-use Rattle.nook_defs.specs.declared.desks.Receipt.{Receipt}
-use Rattle.nook_defs.specs.Log.{call_of_thread}
-use Rattle.nook_defs.specs.Places.{at_number}
-use Rattle.nook_defs.specs.Runs.{answer_at, state_of}
-use Rattle.nook_defs.specs.State.{PartState}
+use Rattle.nook_data.specs.declared.limits.TheConstants.{MOST_CALLS}
+use Rattle.nook_data.specs.declared.calls.Answer.{Answer}
+use Rattle.nook_data.specs.declared.calls.CallEntry.{CallEntry}
+use Rattle.nook_data.specs.declared.desks.DeskRefused.{DeskRefused}
+use Rattle.nook_data.specs.declared.desks.DeskRefused.TheVariants as refused
+use Rattle.nook_data.specs.declared.steps.Event.{Event}
+use Rattle.nook_data.specs.declared.steps.Event.TheVariants as event
+use Rattle.nook_data.specs.declared.calls.Op.{Op}
+use Rattle.nook_data.specs.declared.scenario.PartSpec.{PartSpec}
+use Rattle.nook_data.specs.declared.desks.Receipt.{Receipt}
+use Rattle.part_defs.specs.Log.{call_of_thread}
+use Rattle.nook_data.specs.Places.{at_number}
+use Rattle.nook_data.specs.Answers.{answer_at}
+use Rattle.part_defs.specs.Runs.{state_of}
+use Rattle.part_defs.specs.State.{PartState}
 use Rattle.shares.specs.Shares.{IsWhole, Share, half}
 
 -- What a seat knows: a beginning of its part's journal, the places in the journal of the events that were added through

@@ -5,16 +5,16 @@
 #![tactic(auto)]
 
 ghost use Rattle.desk_like.specs.Desks.{Accounts, ArriveEnds, CallEnds, DeskView, Joins, halved_view, new_view};
-ghost use Rattle.nook_defs.specs.Classes.{same_class};
-ghost use Rattle.nook_defs.specs.Runs.{IsRun};
-ghost use Rattle.nook_defs.specs.declared.classes.Class.TheVariants as class;
-ghost use Rattle.nook_defs.specs.declared.scenario.PartSpec.{PartSpec};
+ghost use Rattle.nook_data.specs.Classes.{same_class};
+ghost use Rattle.part_defs.specs.Runs.{IsRun};
+ghost use Rattle.nook_data.specs.declared.classes.Class.TheVariants as class;
+ghost use Rattle.nook_data.specs.declared.scenario.PartSpec.{PartSpec};
 ghost use Rattle.std.specs.Prelude.{length, true, ◌<◌, ◌≡◌, ◌≤◌};
 
-use nook_defs::calls::Op;
-use nook_defs::desks::{DeskRefused, Receipt};
-use nook_defs::limits::{MOST_FRAME_WORDS, MOST_THREADS};
-use nook_defs::lists::Words;
+use nook_data::calls::Op;
+use nook_data::desks::{DeskRefused, Receipt};
+use nook_data::limits::{MOST_FRAME_WORDS, MOST_THREADS};
+use nook_data::lists::Words;
 use std::alloc::Global;
 use std::sync::Wait;
 

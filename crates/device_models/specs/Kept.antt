@@ -1,8 +1,8 @@
 use Rattle.std.specs.Prelude.{◌≡◌, ◌<◌, length}
-use Rattle.nook_defs.specs.declared.devices.DeviceKind.{DeviceKind}
-use Rattle.nook_defs.specs.declared.devices.DeviceKind.TheVariants as kind
-use Rattle.nook_defs.specs.declared.devices.Disk.{Disk}
-use Rattle.nook_defs.specs.declared.limits.TheConstants.{BLOCK_WORDS}
+use Rattle.nook_data.specs.declared.devices.DeviceKind.{DeviceKind}
+use Rattle.nook_data.specs.declared.devices.DeviceKind.TheVariants as kind
+use Rattle.nook_data.specs.declared.devices.Disk.{Disk}
+use Rattle.nook_data.specs.declared.limits.TheConstants.{BLOCK_WORDS}
 
 -- what is true of every disk: a count for each block, and the position within the buffer
 abbrev pub IsKeptDisk : Disk → Type 0

@@ -1,24 +1,24 @@
 //! A device of any class.
 
 ghost use Rattle.std.specs.Prelude.{◌≡◌, ◌<◌, ◌≤◌, ℕ, List, length, IfOk, IsNone};
-ghost use Rattle.nook_defs.specs.Classes.{defaults_of};
-ghost use Rattle.nook_defs.specs.Devices.{has_room, input_of, kind_output, medium_of, opening_device, output_of};
-ghost use Rattle.nook_defs.specs.Devices.{reset_device, speaker_output, with_arrival};
-ghost use Rattle.nook_defs.specs.Views.Ports.{class_of, class_of_kind, defaults_for, device_of, given_by, IsTaken};
+ghost use Rattle.nook_data.specs.Classes.{defaults_of};
+ghost use Rattle.machine_defs.specs.Devices.{has_room, input_of, kind_output, medium_of, opening_device, output_of};
+ghost use Rattle.machine_defs.specs.Devices.{reset_device, speaker_output, with_arrival};
+ghost use Rattle.machine_defs.specs.Views.Ports.{class_of, class_of_kind, defaults_for, device_of, given_by, IsTaken};
 ghost use Rattle.device_models.specs.Kept.{IsKept};
-ghost use Rattle.nook_defs.specs.declared.devices.DeviceKind.TheVariants as speaker;
-ghost use Rattle.nook_defs.specs.declared.scenario.BadBlock.{BadBlock};
+ghost use Rattle.nook_data.specs.declared.devices.DeviceKind.TheVariants as speaker;
+ghost use Rattle.nook_data.specs.declared.scenario.BadBlock.{BadBlock};
 
 use crate::{disk, link};
 use class_table::defaults_of;
-use nook_defs::classes::Class;
-use nook_defs::devices::{DeviceKind, DeviceState, Disk, Link};
-use nook_defs::journal::ActLog;
-use nook_defs::limits::{BLOCK_WORDS, MOST_ACTS, MOST_FRAME_WORDS, MOST_RING_FRAMES};
-use nook_defs::lists::{Items, TryCopy, Word, Words};
-use nook_defs::memory::NoMemory;
-use nook_defs::ring::Ring;
-use nook_defs::scenario::BadBlocks;
+use nook_data::classes::Class;
+use nook_data::devices::{DeviceKind, DeviceState, Disk, Link};
+use nook_data::journal::ActLog;
+use nook_data::limits::{BLOCK_WORDS, MOST_ACTS, MOST_FRAME_WORDS, MOST_RING_FRAMES};
+use nook_data::lists::{Items, TryCopy, Word, Words};
+use nook_data::memory::NoMemory;
+use nook_data::ring::Ring;
+use nook_data::scenario::BadBlocks;
 use std::alloc::Global;
 use std::marker::Model;
 
@@ -35,7 +35,7 @@ pub struct Device {
 
 impl Model for Device {
     ghost use Rattle.device_models.specs.Kept.{IsKept};
-    ghost use Rattle.nook_defs.specs.declared.devices.DeviceState.{DeviceState};
+    ghost use Rattle.nook_data.specs.declared.devices.DeviceState.{DeviceState};
 
     ghost Value = { DeviceState };
 
@@ -47,7 +47,7 @@ impl Model for Device {
 impl Device {
     /// A disk of `blocks` blocks of zeros, of which those of `bad` fail. In a valid part `blocks` is 1 to 256, and
     /// each bad block is one of them.
-    #[tactic(auto, unfolding(nook_defs::specs::Devices::opening_device))]
+    #[tactic(auto, unfolding(machine_defs::specs::Devices::opening_device))]
     pub fn disk(alloc: Global, blocks: u32, bad: &BadBlocks) -> Result<Device, NoMemory>
         ensures { IfOk result (λ made. made ≡ opening_device Class.Block blocks bad.now (defaults_of Class.Block)) }
     {
@@ -71,7 +71,7 @@ impl Device {
     }
 
     /// A net device with an empty ring.
-    #[tactic(auto, unfolding(nook_defs::specs::Devices::opening_device))]
+    #[tactic(auto, unfolding(machine_defs::specs::Devices::opening_device))]
     pub fn net(alloc: Global) -> Result<Device, NoMemory>
         ensures { (blocks : ℕ) (bad : List BadBlock)
             → IfOk result (λ made. made ≡ opening_device Class.Net blocks bad (defaults_of Class.Net)) }
@@ -92,7 +92,7 @@ impl Device {
     }
 
     /// A sound device. It takes no memory.
-    #[tactic(auto, unfolding(nook_defs::specs::Devices::opening_device))]
+    #[tactic(auto, unfolding(machine_defs::specs::Devices::opening_device))]
     pub fn sound() -> Device
         ensures { (blocks : ℕ) (bad : List BadBlock)
             → result ≡ opening_device Class.Sound blocks bad (defaults_of Class.Sound) }
@@ -145,7 +145,7 @@ impl Device {
 
     /// A reset: the registers take the class's defaults, and all else is cleared but the medium and the counts of
     /// commands.
-    #[tactic(auto, unfolding(nook_defs::specs::Devices::reset_device))]
+    #[tactic(auto, unfolding(machine_defs::specs::Devices::reset_device))]
     pub fn reset(&mut self)
         ensures device { self.new ≡ reset_device (defaults_for self.old) self.old }
         ensures class { class_of self.new ≡ class_of self.old }
@@ -160,7 +160,7 @@ impl Device {
 
     /// A frame of 1 to 64 words arrives at a net device; false, with the frame dropped, exactly where the ring
     /// holds 16. It takes no memory.
-    #[tactic(auto, unfolding(nook_defs::specs::Devices::with_arrival))]
+    #[tactic(auto, unfolding(machine_defs::specs::Devices::with_arrival))]
     pub fn arrive(&mut self, frame: Words) -> bool
         requires net { class_of self.old ≡ Class.Net }
         requires some { 1 ≤ length frame }

@@ -5,16 +5,16 @@
 
 ghost use Rattle.std.specs.Prelude.{◌≡◌, ◌<◌, ◌∷◌, ◌++◌, ℕ, List, [], length, replicate, true, IfOk, IsNone};
 ghost use Rattle.device_models.specs.Kept.{IsKeptDisk};
-ghost use Rattle.nook_defs.specs.Devices.{command_act, commanded, disk_input, disk_output, is_command, is_failing};
-ghost use Rattle.nook_defs.specs.Devices.{reset_kind};
-ghost use Rattle.nook_defs.specs.Views.Ports.{device_of, given_by, IsTaken};
-ghost use Rattle.nook_defs.specs.declared.devices.DeviceKind.TheVariants as kinds;
+ghost use Rattle.machine_defs.specs.Devices.{command_act, commanded, disk_input, disk_output, is_command, is_failing};
+ghost use Rattle.machine_defs.specs.Devices.{reset_kind};
+ghost use Rattle.machine_defs.specs.Views.Ports.{device_of, given_by, IsTaken};
+ghost use Rattle.nook_data.specs.declared.devices.DeviceKind.TheVariants as kinds;
 
-use nook_defs::devices::Disk;
-use nook_defs::journal::ActLog;
-use nook_defs::limits::{BLOCK_WORDS, MOST_ACTS};
-use nook_defs::lists::{Items, Word};
-use nook_defs::memory::NoMemory;
+use nook_data::devices::Disk;
+use nook_data::journal::ActLog;
+use nook_data::limits::{BLOCK_WORDS, MOST_ACTS};
+use nook_data::lists::{Items, Word};
+use nook_data::memory::NoMemory;
 use std::alloc::Global;
 
 /// The command that loads a block.

@@ -1,9 +1,9 @@
 //! What is true of the ports by their definition.
 
 ghost use Rattle.std.specs.Prelude.{◌≡◌, ℕ};
-ghost use Rattle.nook_defs.specs.Devices.{input_of, output_of};
-ghost use Rattle.nook_defs.specs.Views.Ports.{class_of, device_after, device_given};
-ghost use Rattle.nook_defs.specs.declared.devices.DeviceState.{DeviceState};
+ghost use Rattle.machine_defs.specs.Devices.{input_of, output_of};
+ghost use Rattle.machine_defs.specs.Views.Ports.{class_of, device_after, device_given};
+ghost use Rattle.nook_data.specs.declared.devices.DeviceState.{DeviceState};
 
 /// A law: whatever its driver does at a port, a device stays of its class.
 pub fn ports_keep_the_class()

@@ -4,14 +4,14 @@
 //! reads the first frame of the ring, and gives the command 2, which lets that frame leave.
 
 ghost use Rattle.std.specs.Prelude.{◌≡◌, ◌<◌, ℕ, List, length, true, IsNone};
-ghost use Rattle.nook_defs.specs.Devices.{link_command, link_input, link_output, next_reading, reset_kind};
-ghost use Rattle.nook_defs.specs.Views.Ports.{device_of, given_by, IsTaken};
-ghost use Rattle.nook_defs.specs.declared.devices.DeviceKind.TheVariants as kinds;
+ghost use Rattle.machine_defs.specs.Devices.{link_command, link_input, link_output, next_reading, reset_kind};
+ghost use Rattle.machine_defs.specs.Views.Ports.{device_of, given_by, IsTaken};
+ghost use Rattle.nook_data.specs.declared.devices.DeviceKind.TheVariants as kinds;
 
-use nook_defs::devices::Link;
-use nook_defs::journal::ActLog;
-use nook_defs::limits::{MOST_ACTS, MOST_FRAME_WORDS};
-use nook_defs::lists::Word;
+use nook_data::devices::Link;
+use nook_data::journal::ActLog;
+use nook_data::limits::{MOST_ACTS, MOST_FRAME_WORDS};
+use nook_data::lists::Word;
 
 /// The words of the transmit buffer: those of a frame.
 const BUFFER_WORDS: u32 = MOST_FRAME_WORDS as u32;

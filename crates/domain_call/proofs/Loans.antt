@@ -3,16 +3,18 @@ use Rattle.std.proofs.Common.{◌≡◌, ◌≢◌, ◌∙◌, ℕ, zero, suc, �
 use Rattle.std.specs.List.{list_any, range_with_len}
 use Rattle.std.proofs.lemmas.Bool.{or_parts}
 use Rattle.std.proofs.lemmas.List.{drop_all}
-use Rattle.nook_defs.specs.declared.entries.Entry.{Entry}
-use Rattle.nook_defs.specs.declared.entries.Entry.TheVariants as entry
-use Rattle.nook_defs.specs.declared.machine.Service.{Service}
-use Rattle.nook_defs.specs.declared.machine.Service.TheVariants as service
-use Rattle.nook_defs.specs.Domain.{Lent, lent_entries}
-use Rattle.nook_defs.specs.Entries.{comes_before, with_entry, with_live, registered, collected, without_heap, without_borrow, without_buffer, is_buffer_of, is_borrow_of, is_heap_at, is_registration, free_start, borrow_start}
-use Rattle.nook_defs.specs.Views.PageMap.{lent_contexts, none_lent}
-use Rattle.nook_defs.specs.Pages.{is_lent}
-use Rattle.nook_defs.proofs.Cases.{lends}
-use Rattle.nook_defs.specs.Services.{served, alloc_served, borrow_served, give_back_served}
+use Rattle.nook_data.specs.declared.entries.Entry.{Entry}
+use Rattle.nook_data.specs.declared.entries.Entry.TheVariants as entry
+use Rattle.nook_data.specs.declared.machine.Service.{Service}
+use Rattle.nook_data.specs.declared.machine.Service.TheVariants as service
+use Rattle.part_defs.specs.Domain.{Lent, lent_entries}
+use Rattle.machine_defs.specs.Entries.{comes_before, with_entry, with_live, registered, collected, without_heap}
+use Rattle.machine_defs.specs.Entries.{without_borrow, without_buffer, is_buffer_of, is_borrow_of, is_heap_at}
+use Rattle.machine_defs.specs.Entries.{is_registration, free_start, borrow_start}
+use Rattle.machine_defs.specs.Views.PageMap.{lent_contexts, none_lent}
+use Rattle.machine_defs.specs.Pages.{is_lent}
+use Rattle.machine_defs.proofs.MachineCases.{lends}
+use Rattle.machine_defs.specs.Services.{served, alloc_served, borrow_served, give_back_served}
 use Rattle.param_wrappers.specs.Crossing.{with_loan}
 
 -- a test of each of n numbers from a on, where one test changes

@@ -2,15 +2,15 @@
 use Rattle.std.proofs.Common.{◌≡◌, ◌∙◌, ℕ, ◌+◌, ◌-◌, ◌≤◌, List, [], ◌++◌, drop, take, length, length-append, replicate, arith, refl, sym, ap}
 use Rattle.std.proofs.Math.Seq.{take-append_seam, drop-append_seam, drop-append-add}
 use Rattle.std.proofs.lemmas.List.{length-replicate}
-use Rattle.nook_defs.specs.declared.scenario.BadBlock.{BadBlock}
-use Rattle.nook_defs.specs.declared.classes.Class.{Class}
-use Rattle.nook_defs.specs.declared.classes.Class.TheVariants as class
-use Rattle.nook_defs.specs.Devices.{opening_device}
-use Rattle.nook_defs.specs.Entries.{opening_entries}
-use Rattle.nook_defs.proofs.Padded.{length-padded_words}
-use Rattle.nook_defs.specs.Views.PageMap.{lent_contexts, none_lent}
-use Rattle.nook_defs.specs.Views.Ports.{class_of}
-use Rattle.nook_defs.specs.Pages.{opening_memory, opening_objects, padded_words, with_words}
+use Rattle.nook_data.specs.declared.scenario.BadBlock.{BadBlock}
+use Rattle.nook_data.specs.declared.classes.Class.{Class}
+use Rattle.nook_data.specs.declared.classes.Class.TheVariants as class
+use Rattle.machine_defs.specs.Devices.{opening_device}
+use Rattle.machine_defs.specs.Entries.{opening_entries}
+use Rattle.machine_defs.proofs.Padded.{length-padded_words}
+use Rattle.machine_defs.specs.Views.PageMap.{lent_contexts, none_lent}
+use Rattle.machine_defs.specs.Views.Ports.{class_of}
+use Rattle.machine_defs.specs.Pages.{opening_memory, opening_objects, padded_words, with_words}
 
 -- words in place of as many words
 replaced : (before old new rest : List ℕ) (start : ℕ) → start ≡ length before → length new ≡ length old → with_words start new (before ++ (old ++ rest)) ≡ before ++ (new ++ rest)

@@ -1,15 +1,15 @@
 use Rattle.std.specs.Prelude.{◌≡◌, ℕ, ◌+◌, Bool, List, Option, length}
-use Rattle.nook_defs.specs.declared.classes.Class.{Class}
-use Rattle.nook_defs.specs.declared.devices.DeviceState.{DeviceState}
-use Rattle.nook_defs.specs.declared.entries.Entry.{Entry}
-use Rattle.nook_defs.specs.declared.scenario.PartSpec.{PartSpec}
-use Rattle.nook_defs.specs.declared.machine.Service.{Service}
-use Rattle.nook_defs.specs.declared.memory_map.TheConstants.{DATA_START}
-use Rattle.nook_defs.specs.Domain.{opening_domain}
-use Rattle.nook_defs.specs.Views.PageMap.{lent_contexts}
-use Rattle.nook_defs.specs.Views.Ports.{class_of}
-use Rattle.nook_defs.specs.Services.{Served, served}
-use Rattle.nook_defs.specs.State.{DomainState}
+use Rattle.nook_data.specs.declared.classes.Class.{Class}
+use Rattle.nook_data.specs.declared.devices.DeviceState.{DeviceState}
+use Rattle.nook_data.specs.declared.entries.Entry.{Entry}
+use Rattle.nook_data.specs.declared.scenario.PartSpec.{PartSpec}
+use Rattle.nook_data.specs.declared.machine.Service.{Service}
+use Rattle.nook_data.specs.declared.memory_map.TheConstants.{DATA_START}
+use Rattle.part_defs.specs.Domain.{opening_domain}
+use Rattle.machine_defs.specs.Views.PageMap.{lent_contexts}
+use Rattle.machine_defs.specs.Views.Ports.{class_of}
+use Rattle.machine_defs.specs.Services.{Served, served}
+use Rattle.part_defs.specs.State.{DomainState}
 
 -- what a domain is to contracts: its part of the state, and what stays as the part began: where the heap begins, and
 -- the class

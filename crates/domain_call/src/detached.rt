@@ -1,13 +1,13 @@
 //! Pages and a device that are taken out of their domain, for a machine that is run turn by turn.
 
 ghost use Rattle.std.specs.Prelude.{◌≡◌, []};
-ghost use Rattle.nook_defs.specs.Views.PageMap.{lent_contexts};
+ghost use Rattle.machine_defs.specs.Views.PageMap.{lent_contexts};
 
 use device_models::Device;
 use domain_pages::PageMap;
 use driver_isa::Bus;
-use nook_defs::journal::ActLog;
-use nook_defs::lists::Word;
+use nook_data::journal::ActLog;
+use nook_data::lists::Word;
 use object_tracker::Tracker;
 
 /// Pages and a device of their own; what the tracker records says where a machine may write.

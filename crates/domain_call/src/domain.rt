@@ -2,12 +2,13 @@
 
 ghost use Rattle.std.specs.Prelude.{◌≡◌, ◌+◌, ◌<◌, ◌≤◌, is_some, length, slice_index, IfOk};
 ghost use Rattle.std.specs.List.{list_any};
-ghost use Rattle.nook_defs.specs.Classes.{defaults_of};
-ghost use Rattle.nook_defs.specs.Devices.{opening_device};
-ghost use Rattle.nook_defs.specs.Views.PageMap.{none_lent};
-ghost use Rattle.nook_defs.specs.Domain.{attempt_bursts, buffer_words, context_of, first_argument, second_argument};
-ghost use Rattle.nook_defs.specs.Entries.{is_buffer_of, is_registered};
-ghost use Rattle.nook_defs.specs.Pages.{buffer_start, opening_memory};
+ghost use Rattle.nook_data.specs.Classes.{defaults_of};
+ghost use Rattle.machine_defs.specs.Devices.{opening_device};
+ghost use Rattle.machine_defs.specs.Views.PageMap.{none_lent};
+ghost use Rattle.part_defs.specs.Domain.{attempt_bursts, buffer_words, context_of, first_argument, second_argument};
+ghost use Rattle.machine_defs.specs.Entries.{is_buffer_of, is_registered};
+ghost use Rattle.nook_data.specs.Layout.{buffer_start};
+ghost use Rattle.machine_defs.specs.Pages.{opening_memory};
 ghost use Rattle.domain_call.specs.Standing.{opening_standing};
 
 mod bursts;
@@ -19,15 +20,15 @@ mod serving;
 use class_table::defaults_of;
 use device_models::Device;
 use domain_pages::PageMap;
-use nook_defs::classes::Class;
-use nook_defs::limits::CONTEXTS;
-use nook_defs::lists::{TryCopy, Word, Words};
-use nook_defs::machine::Context;
-use nook_defs::memory::{NoMemory, Room};
-use nook_defs::memory_map::{
+use nook_data::classes::Class;
+use nook_data::limits::CONTEXTS;
+use nook_data::lists::{TryCopy, Word, Words};
+use nook_data::machine::Context;
+use nook_data::memory::{NoMemory, Room};
+use nook_data::memory_map::{
     BUFFER_WORDS, BUFFERS_END, DATA_START, DATA_WORDS, OBJECT_WORDS, buffer_start,
 };
-use nook_defs::scenario::PartSpec;
+use nook_data::scenario::PartSpec;
 use object_tracker::Tracker;
 use std::alloc::Global;
 use std::marker::Model;
@@ -79,7 +80,7 @@ impl Drop for Domain {
 
 impl Domain {
     /// The domain of a part before its driver is loaded. The image has at most 2,048 initial words.
-    #[tactic(auto, unfolding(nook_defs::specs::Domain::opening_domain), using(crate::proofs::Opening::lent_opening, crate::proofs::Opening::opening_class))]
+    #[tactic(auto, unfolding(part_defs::specs::Domain::opening_domain), using(crate::proofs::Opening::lent_opening, crate::proofs::Opening::opening_class))]
     pub fn new(alloc: Global, spec: &PartSpec) -> Result<Domain, NoMemory>
         requires { length spec.now.image.initial ≤ DATA_WORDS }
         ensures { IfOk result (λ made. made ≡ opening_standing spec.now) }

@@ -1,13 +1,13 @@
 //! What a driver's machine reaches of a domain during a burst.
 
 ghost use Rattle.std.specs.Prelude.{◌≡◌, ◌∷◌, []};
-ghost use Rattle.nook_defs.specs.Views.PageMap.{lent_contexts};
+ghost use Rattle.machine_defs.specs.Views.PageMap.{lent_contexts};
 
 use device_models::Device;
 use domain_pages::PageMap;
 use driver_isa::Bus;
-use nook_defs::journal::ActLog;
-use nook_defs::lists::Word;
+use nook_data::journal::ActLog;
+use nook_data::lists::Word;
 use object_tracker::Tracker;
 
 /// Pages and a device, lent to a machine; what the tracker records says where it may write.

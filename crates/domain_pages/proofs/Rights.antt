@@ -2,9 +2,9 @@
 use Rattle.std.proofs.Common.{◌≡◌, ◌⊎◌, inl, inr, ℕ, ◌-◌, ◌/◌, ◌<◌, ◌≤◌, Bool, false, List, arith, refl, slice_index_or}
 use Rattle.std.proofs.lemmas.Bool.{cases_lt}
 use Rattle.std.proofs.lemmas.List.FromFn.{get_or-map-range_with_len}
-use Rattle.nook_defs.specs.declared.entries.Entry.{Entry}
-use Rattle.nook_defs.specs.Pages.{is_lent, may_write}
-use Rattle.nook_defs.specs.Views.PageMap.{may_change, lent_contexts}
+use Rattle.nook_data.specs.declared.entries.Entry.{Entry}
+use Rattle.machine_defs.specs.Pages.{is_lent, may_write}
+use Rattle.machine_defs.specs.Views.PageMap.{may_change, lent_contexts}
 
 lent_at : (entries : List Entry) (context : ℕ) → context < 17 → slice_index_or (lent_contexts entries) context false ≡ is_lent entries context
 lent_at entries context few = get_or-map-range_with_len (is_lent entries) 0 17 context context false few (omega arith)

@@ -9,10 +9,11 @@ use Rattle.std.proofs.lemmas.List.{with_items_is}
 use Rattle.std.proofs.Math.Seq.{paste, take-set-lt}
 use Rattle.std.proofs.lemmas.List.Edits.{fill_from_more, paste_all, paste-paste, between_more}
 use Rattle.std.proofs.lemmas.List.FromFn.{fill_by_all, length-map-range_with_len, get_or-map-range_with_len}
-use Rattle.nook_defs.specs.declared.scenario.Image.{Image}
-use Rattle.nook_defs.specs.Pages.{opening_memory, opening_object, opening_objects, padded_words, loaded_memory, with_words}
-use Rattle.nook_defs.proofs.Padded.{length-padded_words}
-use Rattle.nook_defs.specs.Views.PageMap.{PageMap, none_written, none_lent, page_written}
+use Rattle.nook_data.specs.declared.scenario.Image.{Image}
+use Rattle.machine_defs.specs.Pages.{opening_memory, opening_object, opening_objects, padded_words, loaded_memory}
+use Rattle.machine_defs.specs.Pages.{with_words}
+use Rattle.machine_defs.proofs.Padded.{length-padded_words}
+use Rattle.machine_defs.specs.Views.PageMap.{PageMap, none_written, none_lent, page_written}
 use Rattle.domain_pages.specs.Frames.{image_word, word_at, shown, opening_table, IsFramed}
 use Rattle.domain_pages.proofs.Own.{AreMarked, has_here}
 

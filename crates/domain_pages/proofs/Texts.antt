@@ -5,10 +5,10 @@ use Rattle.std.proofs.lemmas.Grind.{get_or_default_zero}
 use Rattle.std.proofs.lemmas.List.{append-nil, drop_all, get_or-replicate, get_or_past, get_or-set_same, get_or-set_other, length-set}
 use Rattle.std.specs.Global.{Vec}
 use Rattle.std.specs.Vec.{with_items}
-use Rattle.nook_defs.specs.declared.scenario.Image.{Image}
-use Rattle.nook_defs.specs.Views.PageMap.{pages_loaded}
-use Rattle.nook_defs.specs.Pages.{fetch_word, opening_memory, padded_words, with_words}
-use Rattle.nook_defs.proofs.Padded.{length-padded_words}
+use Rattle.nook_data.specs.declared.scenario.Image.{Image}
+use Rattle.machine_defs.specs.Views.PageMap.{pages_loaded}
+use Rattle.machine_defs.specs.Pages.{fetch_word, opening_memory, padded_words, with_words}
+use Rattle.machine_defs.proofs.Padded.{length-padded_words}
 use Rattle.domain_pages.specs.Frames.{word_at, shown, opening_table, IsFramed, IsText}
 use Rattle.domain_pages.proofs.Own.{AreMarked, has_here}
 use Rattle.domain_pages.proofs.Shown.{image_high, image_low, items_back, length-shown, map_of, padded_at, shown_at, shown_by, shown_loaded, shown_opening, table_low, take_opening, words_at}

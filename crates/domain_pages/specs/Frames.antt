@@ -1,6 +1,7 @@
 use Rattle.std.specs.Prelude.{◌≡◌, ℕ, ◌+◌, ◌-◌, ◌/◌, ◌<◌, ◌≤◌, ◌&&◌, ◌||◌, nat_le, nat_lt, if◌then◌else◌, Bool, true, false, List, ◌++◌, map, replicate, length, slice_index, slice_index_or}
 use Rattle.std.specs.List.{range_with_len}
-use Rattle.nook_defs.specs.declared.memory_map.TheConstants.{DATA_START, MEMORY_WORDS, OBJECTS, OWN_PAGES, PAGES, PAGE_WORDS, TEXT_WORDS}
+use Rattle.nook_data.specs.declared.memory_map.TheConstants.{DATA_START, MEMORY_WORDS, OBJECTS, OWN_PAGES, PAGES}
+use Rattle.nook_data.specs.declared.memory_map.TheConstants.{PAGE_WORDS, TEXT_WORDS}
 
 -- How a page map shows its words: a page that has a frame of its own shows the frame, every other page the image.
 

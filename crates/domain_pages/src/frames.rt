@@ -1,12 +1,12 @@
 //! Frames and the table that says which pages have one, as plain slices.
 
 ghost use Rattle.std.specs.Prelude.{◌≡◌, ◌+◌, ◌*◌, ◌/◌, ◌<◌, ◌≤◌, ◌⊎◌, ◌&&◌, ◌||◌, nat_le, nat_lt, ℕ, [], List, true, false, length, take, slice_index, slice_index_or, slice_set, IfOk};
-ghost use Rattle.nook_defs.specs.Pages.{opening_memory, padded_words, with_words};
+ghost use Rattle.machine_defs.specs.Pages.{opening_memory, padded_words, with_words};
 ghost use Rattle.domain_pages.specs.Frames.{has_some, image_word, word_at, shown, opening_table, IsFramed, IsText, with_own};
 
-use nook_defs::lists::Word;
-use nook_defs::memory::NoMemory;
-use nook_defs::memory_map::{
+use nook_data::lists::Word;
+use nook_data::memory::NoMemory;
+use nook_data::memory_map::{
     BUFFERS_END, MEMORY_WORDS, OBJECT_WORDS, OBJECTS, OWN_PAGES, PAGE_WORDS, PAGES, TEXT_WORDS,
 };
 use std::alloc::Global;

@@ -1,19 +1,20 @@
 //! The page map.
 
 ghost use Rattle.std.specs.Prelude.{◌≡◌, ◌+◌, ◌/◌, ◌<◌, ◌≤◌, true, false, length, slice_get, slice_set, slice_range, slice_index, slice_index_or, IfOk, OnOk, OnErr};
-ghost use Rattle.nook_defs.specs.Pages.{read_word, fetch_word, padded_words, with_words};
-ghost use Rattle.nook_defs.specs.Views.PageMap.{opening_pages, may_change, page_written, driver_written, pages_loaded};
+ghost use Rattle.machine_defs.specs.Pages.{read_word, fetch_word, padded_words, with_words};
+ghost use Rattle.machine_defs.specs.Views.PageMap.{opening_pages, may_change, page_written, driver_written};
+ghost use Rattle.machine_defs.specs.Views.PageMap.{pages_loaded};
 ghost use Rattle.domain_pages.specs.Frames.{with_own};
 
 use crate::frames::{opening_frames, opening_table, put, put_all, word_at, write_all};
-use nook_defs::limits::CONTEXTS;
-use nook_defs::lists::{Items, TryCopy, Word, Words};
-use nook_defs::memory::{NoMemory, Room};
-use nook_defs::memory_map::{
+use nook_data::limits::CONTEXTS;
+use nook_data::lists::{Items, TryCopy, Word, Words};
+use nook_data::memory::{NoMemory, Room};
+use nook_data::memory_map::{
     BUFFER_WORDS, BUFFERS_END, DATA_START, DATA_WORDS, MEMORY_WORDS, OWN_PAGES, PAGES, STACKS_END,
     TEXT_WORDS,
 };
-use nook_defs::scenario::Image;
+use nook_data::scenario::Image;
 use std::alloc::Global;
 use std::marker::Model;
 
@@ -32,8 +33,8 @@ pub struct PageMap {
 
 impl Model for PageMap {
     ghost use Rattle.std.specs.Prelude.{take};
-    ghost use Rattle.nook_defs.specs.Views.PageMap.{PageMap};
-    ghost use Rattle.nook_defs.specs.declared.memory_map.TheConstants.{OWN_PAGES};
+    ghost use Rattle.machine_defs.specs.Views.PageMap.{PageMap};
+    ghost use Rattle.nook_data.specs.declared.memory_map.TheConstants.{OWN_PAGES};
     ghost use Rattle.domain_pages.specs.Frames.{shown, IsFramed, IsText};
 
     ghost Value = { PageMap };

@@ -1,11 +1,11 @@
 -- Lines and members of entries.
 use Rattle.std.proofs.Common.{◌≡◌, ◌<◌, ◌^◌, ℕ, List, [], ◌∷◌, length, refl, arith}
-use Rattle.nook_defs.specs.Classes.{entry_count}
-use Rattle.nook_defs.specs.Disassembler.{entry_lines}
-use Rattle.nook_defs.specs.declared.classes.Class.{Class}
-use Rattle.nook_defs.specs.declared.classes.Class.TheVariants as class
-use Rattle.nook_defs.specs.declared.input.Key.{Key}
-use Rattle.nook_defs.specs.ImageText.{entry_members}
+use Rattle.nook_data.specs.Classes.{entry_count}
+use Rattle.asm_defs.specs.Disassembler.{entry_lines}
+use Rattle.nook_data.specs.declared.classes.Class.{Class}
+use Rattle.nook_data.specs.declared.classes.Class.TheVariants as class
+use Rattle.asm_defs.specs.declared.keys.Key.{Key}
+use Rattle.asm_defs.specs.ImageText.{entry_members}
 use Rattle.serde_json.specs.Data.{Members}
 
 pub no_places : (entries : List Key) (places : List ℕ) → length places ≡ 0 → entry_lines entries places ≡ []

@@ -4,10 +4,10 @@ use Rattle.std.specs.Cmp.Lexicographic.{slice_cmp}
 use Rattle.std.specs.Ordering.{nat_cmp, match_ordering}
 use Rattle.serde_json.specs.Data.{Data, number, unsigned, Members, no_members, member, put}
 use Rattle.serde_json.specs.Written.{has_float, items_have_float, members_have_float}
-use Rattle.nook_defs.specs.ImageText.{entry_members, image_data, word_items}
-use Rattle.nook_defs.specs.Keys.{entry_keys, key_text}
-use Rattle.nook_defs.specs.declared.scenario.Image.{Image}
-use Rattle.nook_defs.specs.declared.input.Key.{Key}
+use Rattle.asm_defs.specs.ImageText.{entry_members, image_data, word_items}
+use Rattle.asm_defs.specs.Keys.{entry_keys, key_text}
+use Rattle.nook_data.specs.declared.scenario.Image.{Image}
+use Rattle.asm_defs.specs.declared.keys.Key.{Key}
 
 words_have_none : (words : List ℕ) → items_have_float (word_items words) ≡ false
 words_have_none [] = refl

@@ -3,7 +3,7 @@ use Rattle.std.proofs.Common.{◌≡◌, ℕ, true, false, List, [], ◌∷◌, 
 use Rattle.std.specs.Prelude.{filter}
 use Rattle.std.specs.Borrow.{Bor}
 use Rattle.std.proofs.lemmas.List.{map-append}
-use Rattle.nook_defs.specs.AsmTokens.{is_not_empty, without_empty_last}
+use Rattle.asm_defs.specs.AsmTokens.{is_not_empty, without_empty_last}
 
 last_of : (front : List (List ℕ)) (last : List ℕ) → without_empty_last (front ++ last ∷ []) ≡ front ++ filter is_not_empty (last ∷ [])
 last_of [] last = refl

@@ -4,18 +4,19 @@ use Rattle.std.specs.Prelude.{None, Result, Ok, Err}
 use Rattle.std.specs.Borrow.{Bor}
 use Rattle.std.specs.Result.{IsErrAnd}
 use Rattle.std.proofs.Math.Seq.{drop-cons}
-use Rattle.nook_defs.specs.AsmLines.{Labels, definition_of, first_of, line_says}
-use Rattle.nook_defs.specs.Views.Assembling.{no_labels}
-use Rattle.nook_defs.specs.AsmTokens.{tokens_of, lines_of}
-use Rattle.nook_defs.specs.Assembler.{Draft, Cursor, all_given, assembled, at_line, draft_after, draft_from, first_draft, first_cursor, image_with, label_of, labels_from, one_word, cursor_after}
-use Rattle.nook_defs.specs.Views.Assembling.{next_line}
-use Rattle.nook_defs.specs.declared.assembler.AsmFault.{AsmFault}
-use Rattle.nook_defs.specs.declared.assembler.AsmKind.{AsmKind}
-use Rattle.nook_defs.specs.declared.assembler.Label.{Label}
-use Rattle.nook_defs.specs.declared.assembler.Section.{Section}
-use Rattle.nook_defs.specs.declared.assembler.Section.TheVariants as section
-use Rattle.nook_defs.specs.declared.assembler.Statement.{Statement}
-use Rattle.nook_defs.specs.declared.assembler.Statement.TheVariants as statement
+use Rattle.asm_defs.specs.AsmLines.{Labels, definition_of, first_of, line_says}
+use Rattle.asm_defs.specs.Views.Assembling.{no_labels}
+use Rattle.asm_defs.specs.AsmTokens.{tokens_of, lines_of}
+use Rattle.asm_defs.specs.Assembler.{Draft, Cursor, all_given, assembled, at_line, draft_after, draft_from, first_draft}
+use Rattle.asm_defs.specs.Assembler.{first_cursor, image_with, label_of, labels_from, one_word, cursor_after}
+use Rattle.asm_defs.specs.Views.Assembling.{next_line}
+use Rattle.asm_defs.specs.declared.assembler.AsmFault.{AsmFault}
+use Rattle.asm_defs.specs.declared.assembler.AsmKind.{AsmKind}
+use Rattle.asm_defs.specs.declared.assembler.Label.{Label}
+use Rattle.asm_defs.specs.declared.assembler.Section.{Section}
+use Rattle.asm_defs.specs.declared.assembler.Section.TheVariants as section
+use Rattle.asm_defs.specs.declared.assembler.Statement.{Statement}
+use Rattle.asm_defs.specs.declared.assembler.Statement.TheVariants as statement
 use Rattle.driver_asm.specs.Answers.{Gives, Fails}
 use Rattle.driver_asm.specs.declared.error.AsmError.{AsmError}
 use Rattle.driver_asm.specs.declared.error.AsmError.TheVariants as errors

@@ -4,14 +4,14 @@ use Rattle.std.specs.Prelude.{Result, Ok, Err}
 use Rattle.std.specs.Borrow.{Bor}
 use Rattle.std.specs.Result.{IsErrAnd}
 use Rattle.std.proofs.lemmas.List.{drop_all}
-use Rattle.nook_defs.specs.AsmLines.{Labels, first_of}
-use Rattle.nook_defs.specs.AsmTokens.{lines_of, tokens_of}
-use Rattle.nook_defs.specs.Assembler.{Draft, assembled, draft_after, draft_from, first_draft, first_cursor, labels_from}
-use Rattle.nook_defs.specs.declared.assembler.AsmFault.{AsmFault}
-use Rattle.nook_defs.specs.declared.assembler.Label.{Label}
-use Rattle.nook_defs.specs.declared.assembler.Section.{Section}
-use Rattle.nook_defs.specs.declared.assembler.Section.TheVariants as section
-use Rattle.nook_defs.specs.declared.scenario.Image.{Image}
+use Rattle.asm_defs.specs.AsmLines.{Labels, first_of}
+use Rattle.asm_defs.specs.AsmTokens.{lines_of, tokens_of}
+use Rattle.asm_defs.specs.Assembler.{Draft, assembled, draft_after, draft_from, first_draft, first_cursor, labels_from}
+use Rattle.asm_defs.specs.declared.assembler.AsmFault.{AsmFault}
+use Rattle.asm_defs.specs.declared.assembler.Label.{Label}
+use Rattle.asm_defs.specs.declared.assembler.Section.{Section}
+use Rattle.asm_defs.specs.declared.assembler.Section.TheVariants as section
+use Rattle.nook_data.specs.declared.scenario.Image.{Image}
 use Rattle.driver_asm.proofs.Lines.{lines_split}
 use Rattle.driver_asm.specs.Answers.{Fails}
 use Rattle.driver_asm.specs.Listed.{MakesAll, if_longer, listed, makers, words_in}

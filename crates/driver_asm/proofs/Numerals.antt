@@ -5,7 +5,7 @@ use Rattle.std.specs.Str.Parse.{digits_value}
 use Rattle.std.proofs.lemmas.Int.Digits.{digits_value_more}
 use Rattle.std.proofs.Math.Nat.{mul-le-mul_left, min-eq_left, min-eq_right}
 use Rattle.std.proofs.lemmas.Bool.{cases_lt}
-use Rattle.nook_defs.specs.AsmTokens.{numeral_value}
+use Rattle.asm_defs.specs.AsmTokens.{numeral_value}
 
 -- a product with a number that is too large is too large
 too_large : (v base : ℕ) → 1 ≤ base → 4294967296 ≤ v → 4294967296 ≤ v * base

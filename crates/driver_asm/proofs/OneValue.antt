@@ -1,8 +1,8 @@
 -- What takes one value, by the value of the one token that there is.
 use Rattle.std.proofs.Common.{◌≡◌, ℕ, List, [], ◌∷◌, refl, Some}
-use Rattle.nook_defs.specs.AsmLines.{Labels, entry_value, operands_of, operands_with, right_or_wrong, word_statement}
-use Rattle.nook_defs.specs.declared.assembler.Form.TheVariants as form
-use Rattle.nook_defs.specs.declared.assembler.Statement.TheVariants as statement
+use Rattle.asm_defs.specs.AsmLines.{Labels, entry_value, operands_of, operands_with, right_or_wrong, word_statement}
+use Rattle.nook_data.specs.declared.machine.Form.TheVariants as form
+use Rattle.asm_defs.specs.declared.assembler.Statement.TheVariants as statement
 use Rattle.driver_asm.specs.Lexing.{only_value}
 
 pub word_of_value : (labels : Labels) (tokens : List (List ℕ)) → word_statement labels tokens ≡ right_or_wrong statement.Word (only_value labels tokens)

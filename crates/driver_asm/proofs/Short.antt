@@ -1,8 +1,8 @@
 -- Lists of two and three tokens.
 use Rattle.std.proofs.Common.{◌≡◌, ℕ, ◌<◌, ◌≤◌, List, [], ◌∷◌, length, get_or, arith, Some}
-use Rattle.nook_defs.specs.AsmLines.{Labels, operands_of, operands_with, value_of}
-use Rattle.nook_defs.specs.AsmTokens.{register_named}
-use Rattle.nook_defs.specs.declared.assembler.Form.TheVariants as form
+use Rattle.asm_defs.specs.AsmLines.{Labels, operands_of, operands_with, value_of}
+use Rattle.asm_defs.specs.AsmTokens.{register_named}
+use Rattle.nook_data.specs.declared.machine.Form.TheVariants as form
 
 two : (tokens : List (List ℕ)) (a b : List ℕ) → 2 ≤ length tokens → length tokens < 3 → a ≡ get_or tokens 0 a → b ≡ get_or tokens 1 b → tokens ≡ a ∷ b ∷ []
 two [] a b low high p q = absurd (omega (arith, low))

@@ -2,7 +2,7 @@
 use Rattle.std.proofs.Common.{◌≡◌, ℕ, List, [], ◌∷◌, map, refl, ap}
 use Rattle.serde_json.specs.Data.{item}
 use Rattle.serde_json.specs.View.{items_of}
-use Rattle.nook_defs.specs.ImageText.{word_items}
+use Rattle.asm_defs.specs.ImageText.{word_items}
 use Rattle.driver_asm.specs.Names.{hex_data}
 
 pub items_are : (words : List ℕ) → items_of (map hex_data words) ≡ word_items words

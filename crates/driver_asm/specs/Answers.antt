@@ -1,6 +1,6 @@
 use Rattle.std.specs.Prelude.{◌≡◌, ⊤, Result, Ok, Err}
-use Rattle.nook_defs.specs.declared.assembler.AsmFault.{AsmFault}
-use Rattle.nook_defs.specs.declared.assembler.AsmKind.{AsmKind}
+use Rattle.asm_defs.specs.declared.assembler.AsmFault.{AsmFault}
+use Rattle.asm_defs.specs.declared.assembler.AsmKind.{AsmKind}
 use Rattle.driver_asm.specs.declared.error.AsmError.{AsmError}
 use Rattle.driver_asm.specs.declared.error.AsmError.TheVariants as error
 use Rattle.driver_asm.specs.declared.error.LineStop.{LineStop}

@@ -1,10 +1,10 @@
 use Rattle.std.specs.Prelude.{ℕ, List, [], ◌∷◌, Bool, true, ◌&&◌, nat_le, Option, Some, None, if◌then◌else◌}
-use Rattle.nook_defs.specs.AsmTokens.{is_numeral, numeral_value}
-use Rattle.nook_defs.specs.AsmLines.{Labels, value_of}
-use Rattle.nook_defs.specs.declared.assembler.Value.{Value}
-use Rattle.nook_defs.specs.declared.assembler.Operands.{Operands}
-use Rattle.nook_defs.specs.declared.assembler.Statement.{Statement}
-use Rattle.nook_defs.specs.declared.assembler.Statement.TheVariants as statement
+use Rattle.asm_defs.specs.AsmTokens.{is_numeral, numeral_value}
+use Rattle.asm_defs.specs.AsmLines.{Labels, value_of}
+use Rattle.asm_defs.specs.declared.assembler.Value.{Value}
+use Rattle.asm_defs.specs.declared.assembler.Operands.{Operands}
+use Rattle.asm_defs.specs.declared.assembler.Statement.{Statement}
+use Rattle.asm_defs.specs.declared.assembler.Statement.TheVariants as statement
 
 -- the number that digits of a base write, where they are digits
 abbrev pub numeral : ℕ → List ℕ → Option ℕ

@@ -1,12 +1,12 @@
 use Rattle.std.specs.Prelude.{◌≡◌, ℕ, ◌+◌, List, [], ◌∷◌, ◌++◌, length, nat_lt, Bool, Result, Ok, Err, if◌then◌else◌}
-use Rattle.nook_defs.specs.AsmLines.{Labels, first_of}
-use Rattle.nook_defs.specs.AsmTokens.{lines_of, tokens_of}
-use Rattle.nook_defs.specs.Assembler.{Draft, assembled, at_line, draft_after, first_draft, first_cursor, labels_from}
-use Rattle.nook_defs.specs.Results.{◌>>=◌}
-use Rattle.nook_defs.specs.declared.assembler.AsmFault.{AsmFault}
-use Rattle.nook_defs.specs.declared.assembler.AsmKind.{AsmKind}
-use Rattle.nook_defs.specs.declared.assembler.Section.{Section}
-use Rattle.nook_defs.specs.declared.assembler.Section.TheVariants as section
+use Rattle.asm_defs.specs.AsmLines.{Labels, first_of}
+use Rattle.asm_defs.specs.AsmTokens.{lines_of, tokens_of}
+use Rattle.asm_defs.specs.Assembler.{Draft, assembled, at_line, draft_after, first_draft, first_cursor, labels_from}
+use Rattle.asm_defs.specs.Results.{◌>>=◌}
+use Rattle.asm_defs.specs.declared.assembler.AsmFault.{AsmFault}
+use Rattle.asm_defs.specs.declared.assembler.AsmKind.{AsmKind}
+use Rattle.asm_defs.specs.declared.assembler.Section.{Section}
+use Rattle.asm_defs.specs.declared.assembler.Section.TheVariants as section
 use Rattle.driver_asm.specs.Answers.{Fails}
 use Rattle.driver_asm.specs.declared.error.AsmError.{AsmError}
 use Rattle.driver_asm.specs.declared.listed.Listed.{Listed}

@@ -2,10 +2,10 @@
 
 ghost use Rattle.std.specs.Prelude.{◌≡◌, ◌-◌, ◌<◌, ◌≤◌, [], ◌∷◌, ◌++◌, ◌||◌, IfOk, IfSome, Ok, true, false, length};
 ghost use Rattle.std.specs.Prelude.{slice_get};
-ghost use Rattle.nook_defs.specs.AsmLines.{definition_of, first_of};
-ghost use Rattle.nook_defs.specs.Assembler.{all_given, draft_after, is_above, first_draft, image_with, is_out_of_range};
-ghost use Rattle.nook_defs.specs.Assembler.{is_second_given, is_second_label, known, with_statement, with_word};
-ghost use Rattle.nook_defs.specs.Views.Assembling.{is_given, with_class};
+ghost use Rattle.asm_defs.specs.AsmLines.{definition_of, first_of};
+ghost use Rattle.asm_defs.specs.Assembler.{all_given, draft_after, is_above, first_draft, image_with, is_out_of_range};
+ghost use Rattle.asm_defs.specs.Assembler.{is_second_given, is_second_label, known, with_statement, with_word};
+ghost use Rattle.asm_defs.specs.Views.Assembling.{is_given, with_class};
 ghost use Rattle.driver_asm.specs.Answers.{Takes};
 ghost use Rattle.driver_asm.specs.Lexing.{has_registers};
 
@@ -14,14 +14,14 @@ use crate::labels::LabelTable;
 use crate::mnemonics::instr_with;
 use crate::statements::{definition_of, line_says};
 use crate::tokens::Token;
+use asm_defs::assembler::{AsmKind, Operands, Section, Statement, Value};
+use asm_defs::keys::entry_keys;
 use driver_isa::encode;
-use nook_defs::assembler::{AsmKind, Operands, Section, Statement, Value};
-use nook_defs::classes::Class;
-use nook_defs::keys::entry_keys;
-use nook_defs::lists::{Word, Words};
-use nook_defs::memory::NoMemory;
-use nook_defs::memory_map::{DATA_WORDS, TEXT_WORDS};
-use nook_defs::scenario::Image;
+use nook_data::classes::Class;
+use nook_data::lists::{Word, Words};
+use nook_data::memory::NoMemory;
+use nook_data::memory_map::{DATA_WORDS, TEXT_WORDS};
+use nook_data::scenario::Image;
 use std::alloc::Global;
 use std::marker::Model;
 
@@ -36,7 +36,7 @@ pub struct Draft {
 }
 
 impl Model for Draft {
-    ghost use Rattle.nook_defs.specs.Assembler as specs;
+    ghost use Rattle.asm_defs.specs.Assembler as specs;
 
     ghost Value = { specs.Draft };
 
@@ -78,7 +78,7 @@ impl Draft {
     }
 
     /// The draft after a line, or the smallest kind of fault that the line has.
-    #[tactic(auto, unfolding(nook_defs::specs::Assembler::draft_after))]
+    #[tactic(auto, unfolding(asm_defs::specs::Assembler::draft_after))]
     pub fn after(
         self,
         alloc: Global,

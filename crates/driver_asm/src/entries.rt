@@ -1,12 +1,11 @@
 //! The place of an entry by its name.
 
 ghost use Rattle.std.specs.Prelude.{◌≡◌, ◌^◌, ◌<◌, length};
-ghost use Rattle.nook_defs.specs.AsmLines.{place_among};
-ghost use Rattle.nook_defs.specs.Keys.{entry_keys};
+ghost use Rattle.asm_defs.specs.AsmLines.{place_among};
+ghost use Rattle.asm_defs.specs.Keys.{entry_keys};
 
-use nook_defs::classes::Class;
-use nook_defs::input::Key;
-use nook_defs::keys::{entry_keys, key_text};
+use asm_defs::keys::{Key, entry_keys, key_text};
+use nook_data::classes::Class;
 
 /// The place of an entry's name among the entries of a class.
 #[tactic(auto, using(crate::proofs::EntryLines::few_entries))]

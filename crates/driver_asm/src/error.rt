@@ -2,8 +2,8 @@
 
 ghost use Rattle.std.specs.Prelude.{◌≡◌};
 
-use nook_defs::assembler::AsmKind;
-use nook_defs::memory::NoMemory;
+use asm_defs::assembler::AsmKind;
+use nook_data::memory::NoMemory;
 use thiserror::Error;
 
 /// Why a text is not assembled.

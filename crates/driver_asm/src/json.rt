@@ -4,16 +4,15 @@ ghost use Rattle.std.specs.Prelude.{◌≡◌, ◌<◌, ◌∷◌, ◌++◌, [],
 ghost use Rattle.std.specs.Fmt.{digit_glyph};
 ghost use Rattle.serde_json.specs.Data.{array, member, no_members, object, string};
 ghost use Rattle.serde_json.specs.View.{members_view, view};
-ghost use Rattle.nook_defs.specs.ImageText.{entry_members, hex_text, image_data, image_text, word_items};
-ghost use Rattle.nook_defs.specs.Keys.{entry_keys};
+ghost use Rattle.asm_defs.specs.ImageText.{entry_members, hex_text, image_data, image_text, word_items};
+ghost use Rattle.asm_defs.specs.Keys.{entry_keys};
 ghost use Rattle.driver_asm.specs.Names.{hex_data};
 
-use nook_defs::classes::Class;
-use nook_defs::input::Key;
-use nook_defs::keys::{class_text, entry_keys, key_text};
-use nook_defs::lists::{Word, Words8};
-use nook_defs::memory::NoMemory;
-use nook_defs::scenario::Image;
+use asm_defs::keys::{Key, entry_keys, key_text};
+use nook_data::classes::{Class, class_text};
+use nook_data::lists::{Word, Words8};
+use nook_data::memory::NoMemory;
+use nook_data::scenario::Image;
 use serde_json::{Map, Value, json, put};
 use std::alloc::{AllocError, Global};
 use std::fmt::Write;
@@ -24,7 +23,7 @@ use std::fmt::Write;
 /// # Errors
 ///
 /// Want of memory.
-#[tactic(auto, unfolding(nook_defs::specs::ImageText::image_text), using(crate::proofs::Floats::image_has_none))]
+#[tactic(auto, unfolding(asm_defs::specs::ImageText::image_text), using(crate::proofs::Floats::image_has_none))]
 pub fn write_image(alloc: Global, image: &Image) -> Result<Words8, NoMemory>
     ensures { IfOk result (λ text. text ≡ image_text image.now) }
 {
@@ -39,7 +38,7 @@ pub fn write_image(alloc: Global, image: &Image) -> Result<Words8, NoMemory>
 /// # Errors
 ///
 /// Want of memory.
-#[tactic(auto, unfolding(nook_defs::specs::ImageText::image_data))]
+#[tactic(auto, unfolding(asm_defs::specs::ImageText::image_data))]
 pub fn image_value(alloc: Global, image: &Image) -> Result<Value, NoMemory>
     ensures { IfOk result (λ value. view value ≡ image_data image.now) }
 {

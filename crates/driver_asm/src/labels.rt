@@ -1,16 +1,16 @@
 //! The labels of a text, each with its first definition.
 
 ghost use Rattle.std.specs.Prelude.{◌≡◌, ◌<◌, ◌^◌, ◌++◌, IfOk, Some, [], OnOk};
-ghost use Rattle.nook_defs.specs.AsmLines.{first_of};
-ghost use Rattle.nook_defs.specs.Views.Assembling.{label_value, no_labels};
-ghost use Rattle.nook_defs.specs.Assembler.{label_of};
-ghost use Rattle.nook_defs.specs.Views.Assembling.{is_other_line};
+ghost use Rattle.asm_defs.specs.AsmLines.{first_of};
+ghost use Rattle.asm_defs.specs.Views.Assembling.{label_value, no_labels};
+ghost use Rattle.asm_defs.specs.Assembler.{label_of};
+ghost use Rattle.asm_defs.specs.Views.Assembling.{is_other_line};
 
 use crate::line::NextPlaces;
 use crate::tokens::register_named;
-use nook_defs::assembler::{Label, Value};
-use nook_defs::lists::{Items, Words8};
-use nook_defs::memory::NoMemory;
+use asm_defs::assembler::{Label, Value};
+use nook_data::lists::{Items, Words8};
+use nook_data::memory::NoMemory;
 use std::alloc::Global;
 use std::marker::Model;
 
@@ -22,7 +22,7 @@ pub struct LabelTable {
 
 impl Model for LabelTable {
     ghost use Rattle.std.specs.Prelude.{List};
-    ghost use Rattle.nook_defs.specs.declared.assembler.Label.{Label};
+    ghost use Rattle.asm_defs.specs.declared.assembler.Label.{Label};
 
     ghost Value = { List Label };
 

@@ -1,11 +1,11 @@
 //! Where the next words go, and what a line does to that.
 
 ghost use Rattle.std.specs.Prelude.{◌≡◌, ◌<◌, ◌^◌, ◌+◌, ◌≤◌, ℕ, Result};
-ghost use Rattle.nook_defs.specs.Assembler.{first_cursor, one_word, place_in, cursor_after};
-ghost use Rattle.nook_defs.specs.Views.Assembling.{next_line};
+ghost use Rattle.asm_defs.specs.Assembler.{first_cursor, one_word, place_in, cursor_after};
+ghost use Rattle.asm_defs.specs.Views.Assembling.{next_line};
 
-use nook_defs::assembler::{AsmKind, Section, Statement};
-use nook_defs::memory_map::DATA_START;
+use asm_defs::assembler::{AsmKind, Section, Statement};
+use nook_data::memory_map::DATA_START;
 use std::marker::Model;
 
 /// Where the next words go: the line, its section, and the words that each section has so far.
@@ -18,7 +18,7 @@ pub struct NextPlaces {
 }
 
 impl Model for NextPlaces {
-    ghost use Rattle.nook_defs.specs.Assembler.{Cursor};
+    ghost use Rattle.asm_defs.specs.Assembler.{Cursor};
 
     ghost Value = { Cursor };
 

@@ -1,9 +1,9 @@
 //! A text with where each of its words and labels comes from.
 
 ghost use Rattle.std.specs.Prelude.{◌≡◌, ◌++◌, ◌<◌, IfOk, map};
-ghost use Rattle.nook_defs.specs.AsmLines.{first_of};
-ghost use Rattle.nook_defs.specs.AsmTokens.{tokens_of};
-ghost use Rattle.nook_defs.specs.Assembler.{draft_after, draft_from, first_draft};
+ghost use Rattle.asm_defs.specs.AsmLines.{first_of};
+ghost use Rattle.asm_defs.specs.AsmTokens.{tokens_of};
+ghost use Rattle.asm_defs.specs.Assembler.{draft_after, draft_from, first_draft};
 ghost use Rattle.driver_asm.specs.Answers.{Gives};
 ghost use Rattle.driver_asm.specs.Listed.{Grows, MakesAll, line_if, listed};
 
@@ -12,10 +12,10 @@ use crate::error::AsmError;
 use crate::labels::LabelTable;
 use crate::passes::{after_line, at_line, labels_of, line_behind};
 use crate::pieces::lines_of;
-use nook_defs::assembler::Label;
-use nook_defs::lists::Items;
-use nook_defs::memory::NoMemory;
-use nook_defs::scenario::Image;
+use asm_defs::assembler::Label;
+use nook_data::lists::Items;
+use nook_data::memory::NoMemory;
+use nook_data::scenario::Image;
 use std::alloc::Global;
 
 /// An assembled text: its image, for each word the number of the line that made it, and the labels in the order of

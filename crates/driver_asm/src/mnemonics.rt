@@ -1,14 +1,13 @@
 //! The names of instructions.
 
 ghost use Rattle.std.specs.Prelude.{◌≡◌};
-ghost use Rattle.nook_defs.specs.Mnemonics.{mnemonic_named, mnemonic_text, form_of, instr_with, fields, fields_of};
+ghost use Rattle.machine_defs.specs.Mnemonics.{mnemonic_named, mnemonic_text, form_of, instr_with, fields, fields_of};
 
-use nook_defs::assembler::{Form, Mnemonic};
-use nook_defs::machine::Instr;
+use nook_data::machine::{Form, Instr, Mnemonic};
 use std::marker::Model;
 
 /// The mnemonic of a name.
-#[tactic(auto, unfolding(nook_defs::specs::Mnemonics::mnemonic_named))]
+#[tactic(auto, unfolding(machine_defs::specs::Mnemonics::mnemonic_named))]
 pub fn mnemonic_named(name: &[u8]) -> Option<Mnemonic>
     ensures { result ≡ mnemonic_named name.now }
 {
@@ -141,7 +140,7 @@ pub struct Fields {
 }
 
 impl Model for Fields {
-    ghost use Rattle.nook_defs.specs.Mnemonics as specs;
+    ghost use Rattle.machine_defs.specs.Mnemonics as specs;
 
     ghost Value = { specs.Fields };
 

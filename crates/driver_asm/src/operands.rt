@@ -1,17 +1,18 @@
 //! Operands: registers and values.
 
 ghost use Rattle.std.specs.Prelude.{◌≡◌, ◌≤◌, ℕ, IfSome, true};
-ghost use Rattle.nook_defs.specs.AsmLines.{first_of, operands_of, operands_with, value_of};
-ghost use Rattle.nook_defs.specs.Views.Assembling.{no_register, no_value, value_by};
-ghost use Rattle.nook_defs.specs.declared.assembler.Form.TheVariants as form;
+ghost use Rattle.asm_defs.specs.AsmLines.{first_of, operands_of, operands_with, value_of};
+ghost use Rattle.asm_defs.specs.Views.Assembling.{no_register, no_value, value_by};
+ghost use Rattle.nook_data.specs.declared.machine.Form.TheVariants as form;
 ghost use Rattle.driver_asm.specs.Lexing.{names_registers, only_value};
 
 use crate::labels::LabelTable;
 use crate::tokens::{Token, register_named};
-use nook_defs::assembler::{Form, Operands, TokenKind, Value};
+use asm_defs::assembler::{Operands, TokenKind, Value};
+use nook_data::machine::Form;
 
 /// The value of a token: a number, or the place of a label. A register's name is no label.
-#[tactic(auto, unfolding(nook_defs::specs::AsmLines::value_of))]
+#[tactic(auto, unfolding(asm_defs::specs::AsmLines::value_of))]
 pub fn value_of(labels: &LabelTable, token: &Token) -> Option<Value>
     ensures { result ≡ value_of (first_of labels.now) token.now }
 {
@@ -46,7 +47,7 @@ fn no_value() -> Option<Value>
 }
 
 /// The operands of a form without any.
-#[tactic(auto, unfolding(nook_defs::specs::AsmLines::operands_of))]
+#[tactic(auto, unfolding(asm_defs::specs::AsmLines::operands_of))]
 fn no_operands(labels: &LabelTable, tokens: &[Token]) -> Option<Operands>
     ensures operands { result ≡ operands_of (first_of labels.now) form.Bare tokens.now }
     ensures registers { IfSome result (λ operands. names_registers operands ≡ true) }
@@ -58,7 +59,7 @@ fn no_operands(labels: &LabelTable, tokens: &[Token]) -> Option<Operands>
 }
 
 /// One register.
-#[tactic(auto, unfolding(nook_defs::specs::AsmLines::operands_of))]
+#[tactic(auto, unfolding(asm_defs::specs::AsmLines::operands_of))]
 fn one_register(labels: &LabelTable, tokens: &[Token]) -> Option<Operands>
     ensures operands { result ≡ operands_of (first_of labels.now) form.A tokens.now }
     ensures registers { IfSome result (λ operands. names_registers operands ≡ true) }
@@ -89,7 +90,7 @@ fn one_value(labels: &LabelTable, tokens: &[Token]) -> Option<Operands>
 }
 
 /// Two registers.
-#[tactic(auto, unfolding(nook_defs::specs::AsmLines::operands_of))]
+#[tactic(auto, unfolding(asm_defs::specs::AsmLines::operands_of))]
 fn two_registers(labels: &LabelTable, tokens: &[Token]) -> Option<Operands>
     ensures operands { result ≡ operands_of (first_of labels.now) form.AB tokens.now }
     ensures registers { IfSome result (λ operands. names_registers operands ≡ true) }
@@ -105,7 +106,7 @@ fn two_registers(labels: &LabelTable, tokens: &[Token]) -> Option<Operands>
 }
 
 /// A register and a value.
-#[tactic(auto, unfolding(nook_defs::specs::AsmLines::operands_of))]
+#[tactic(auto, unfolding(asm_defs::specs::AsmLines::operands_of))]
 fn register_and_value(labels: &LabelTable, tokens: &[Token]) -> Option<Operands>
     ensures operands { result ≡ operands_of (first_of labels.now) form.AImm tokens.now }
     ensures registers { IfSome result (λ operands. names_registers operands ≡ true) }
@@ -117,7 +118,7 @@ fn register_and_value(labels: &LabelTable, tokens: &[Token]) -> Option<Operands>
 }
 
 /// Two registers and a value.
-#[tactic(auto, unfolding(nook_defs::specs::AsmLines::operands_of))]
+#[tactic(auto, unfolding(asm_defs::specs::AsmLines::operands_of))]
 fn registers_and_value(labels: &LabelTable, tokens: &[Token]) -> Option<Operands>
     ensures operands { result ≡ operands_of (first_of labels.now) form.ABImm tokens.now }
     ensures registers { IfSome result (λ operands. names_registers operands ≡ true) }

@@ -1,13 +1,13 @@
 //! The two passes.
 
 ghost use Rattle.std.specs.Prelude.{◌≡◌, ◌+◌, ◌<◌, ◌^◌, ◌++◌, IfOk, OnOk, None, Result, map, length};
-ghost use Rattle.nook_defs.specs.AsmLines.{definition_of, first_of, line_says};
-ghost use Rattle.nook_defs.specs.Views.Assembling.{no_labels};
-ghost use Rattle.nook_defs.specs.AsmTokens.{tokens_of};
-ghost use Rattle.nook_defs.specs.Assembler.{all_given, label_of, cursor_after, assembled, at_line, draft_after};
-ghost use Rattle.nook_defs.specs.Assembler.{draft_from, first_draft, first_cursor, image_with, labels_from};
-ghost use Rattle.nook_defs.specs.Views.Assembling.{next_line};
-ghost use Rattle.nook_defs.specs.declared.assembler.AsmKind.{AsmKind};
+ghost use Rattle.asm_defs.specs.AsmLines.{definition_of, first_of, line_says};
+ghost use Rattle.asm_defs.specs.Views.Assembling.{no_labels};
+ghost use Rattle.asm_defs.specs.AsmTokens.{tokens_of};
+ghost use Rattle.asm_defs.specs.Assembler.{all_given, label_of, cursor_after, assembled, at_line, draft_after};
+ghost use Rattle.asm_defs.specs.Assembler.{draft_from, first_draft, first_cursor, image_with, labels_from};
+ghost use Rattle.asm_defs.specs.Views.Assembling.{next_line};
+ghost use Rattle.asm_defs.specs.declared.assembler.AsmKind.{AsmKind};
 ghost use Rattle.driver_asm.specs.Answers.{Gives, Takes};
 
 use crate::draft::Draft;
@@ -17,8 +17,8 @@ use crate::line::NextPlaces;
 use crate::pieces::{lines_of, tokens_of};
 use crate::statements::{definition_of, line_says};
 use crate::tokens::Token;
-use nook_defs::memory::NoMemory;
-use nook_defs::scenario::Image;
+use nook_data::memory::NoMemory;
+use nook_data::scenario::Image;
 use std::alloc::Global;
 
 /// Assembles a text of bytes.
@@ -27,7 +27,7 @@ use std::alloc::Global;
 ///
 /// `Bad` with the first line that has a fault, counted from 1, and the smallest kind of fault that it has. A class or
 /// an entry that is missing stands at the line behind the last. `NoMemory` where an allocation is refused.
-#[tactic(auto, unfolding(nook_defs::specs::Assembler::assembled))]
+#[tactic(auto, unfolding(asm_defs::specs::Assembler::assembled))]
 pub fn assemble(alloc: Global, text: &[u8]) -> Result<Image, AsmError>
     ensures { Gives result (assembled text.now) }
 {
@@ -94,7 +94,7 @@ fn define_label(
 }
 
 /// The second pass: the draft after all lines.
-#[tactic(auto, unfolding(nook_defs::specs::Assembler::draft_from))]
+#[tactic(auto, unfolding(asm_defs::specs::Assembler::draft_from))]
 fn draft_of(alloc: Global, labels: &LabelTable, lines: &[&[u8]]) -> Result<Draft, AsmError>
     ensures { Gives result (draft_from (first_of labels.now) 1 (map (λ line. line.now) lines.now) first_draft) }
 {

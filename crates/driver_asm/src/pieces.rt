@@ -2,15 +2,15 @@
 
 ghost use Rattle.std.specs.Prelude.{◌≡◌, ℕ, List, [], ◌∷◌, ◌++◌, IfOk, OnOk, take_while, filter, map, take, length};
 ghost use Rattle.std.specs.List.{slice_split};
-ghost use Rattle.nook_defs.specs.AsmTokens.{is_separator, is_not_empty, lines_of, tokens_of, without_empty_last};
-ghost use Rattle.nook_defs.specs.Views.Assembling.{is_before_comment, is_line_feed};
+ghost use Rattle.asm_defs.specs.AsmTokens.{is_separator, is_not_empty, lines_of, tokens_of, without_empty_last};
+ghost use Rattle.asm_defs.specs.Views.Assembling.{is_before_comment, is_line_feed};
 
 use crate::tokens::{Token, is_separator};
-use nook_defs::memory::NoMemory;
+use nook_data::memory::NoMemory;
 use std::alloc::{AllocError, Global};
 
 /// The lines of a text: behind the last line feed there is one only where something stands there.
-#[tactic(auto, unfolding(nook_defs::specs::AsmTokens::lines_of))]
+#[tactic(auto, unfolding(asm_defs::specs::AsmTokens::lines_of))]
 pub fn lines_of<'a>(alloc: Global, text: &'a [u8]) -> Result<Vec<&'a [u8]>, NoMemory>
     ensures { IfOk result (λ made. map (λ line. line.now) made.items ≡ lines_of text.now) }
 {
@@ -39,7 +39,7 @@ fn drop_empty_last(pieces: &mut Vec<&[u8]>)
 }
 
 /// The tokens of a line, up to its comment.
-#[tactic(auto, unfolding(nook_defs::specs::AsmTokens::tokens_of))]
+#[tactic(auto, unfolding(asm_defs::specs::AsmTokens::tokens_of))]
 pub fn tokens_of<'a>(alloc: Global, line: &'a [u8]) -> Result<Vec<Token<'a>>, NoMemory>
     ensures { IfOk result (λ made. made.items ≡ tokens_of line.now) }
 {

@@ -2,17 +2,18 @@
 
 ghost use Rattle.std.specs.Prelude.{◌≡◌, ◌≤◌, length, drop, IfOk, IfSome, Result, Some, None, true, false};
 ghost use Rattle.std.specs.Prelude.{if◌then◌else◌, map, option_map};
-ghost use Rattle.nook_defs.specs.AsmLines.{bare_statement, behind_definition, behind_name, class_statement};
-ghost use Rattle.nook_defs.specs.AsmLines.{definition_of, directive_statement, entry_statement, entry_value};
-ghost use Rattle.nook_defs.specs.AsmLines.{has_bad_token, instr_statement, is_definition, line_says, operands_of};
-ghost use Rattle.nook_defs.specs.AsmLines.{right_or_wrong, statement_of, word_statement};
-ghost use Rattle.nook_defs.specs.Views.Assembling.{at_most_wrong, class_by, entry_by, is_bad, named_statement};
-ghost use Rattle.nook_defs.specs.Views.Assembling.{statement_by};
-ghost use Rattle.nook_defs.specs.AsmTokens.{but_last, is_register, kind_of};
-ghost use Rattle.nook_defs.specs.AsmLines.{first_of, place_among};
-ghost use Rattle.nook_defs.specs.Keys.{class_named, entry_keys};
-ghost use Rattle.nook_defs.specs.Mnemonics.{form_of, mnemonic_named};
-ghost use Rattle.nook_defs.specs.declared.assembler.Statement.TheVariants as statement;
+ghost use Rattle.asm_defs.specs.AsmLines.{bare_statement, behind_definition, behind_name, class_statement};
+ghost use Rattle.asm_defs.specs.AsmLines.{definition_of, directive_statement, entry_statement, entry_value};
+ghost use Rattle.asm_defs.specs.AsmLines.{has_bad_token, instr_statement, is_definition, line_says, operands_of};
+ghost use Rattle.asm_defs.specs.AsmLines.{right_or_wrong, statement_of, word_statement};
+ghost use Rattle.asm_defs.specs.Views.Assembling.{at_most_wrong, class_by, entry_by, is_bad, named_statement};
+ghost use Rattle.asm_defs.specs.Views.Assembling.{statement_by};
+ghost use Rattle.asm_defs.specs.AsmTokens.{but_last, is_register, kind_of};
+ghost use Rattle.asm_defs.specs.AsmLines.{first_of, place_among};
+ghost use Rattle.nook_data.specs.ClassNames.{class_named};
+ghost use Rattle.asm_defs.specs.Keys.{entry_keys};
+ghost use Rattle.machine_defs.specs.Mnemonics.{form_of, mnemonic_named};
+ghost use Rattle.asm_defs.specs.declared.assembler.Statement.TheVariants as statement;
 ghost use Rattle.std.specs.Option.{option_map_or};
 ghost use Rattle.driver_asm.specs.Lexing.{has_registers};
 
@@ -21,9 +22,9 @@ use crate::labels::LabelTable;
 use crate::mnemonics::{form_of, mnemonic_named};
 use crate::operands::{only_value, operands_of};
 use crate::tokens::{Token, register_named};
-use nook_defs::assembler::{AsmKind, Mnemonic, Section, Statement, TokenKind};
-use nook_defs::classes::Class;
-use nook_defs::keys::class_named;
+use asm_defs::assembler::{AsmKind, Section, Statement, TokenKind};
+use nook_data::classes::{Class, class_named};
+use nook_data::machine::Mnemonic;
 
 /// An instruction, which stands in the text alone.
 fn instr_statement(
@@ -96,7 +97,7 @@ fn word_statement(labels: &LabelTable, rest: &[Token]) -> Result<Statement, AsmK
 }
 
 /// `.class` and one class.
-#[tactic(auto, unfolding(nook_defs::specs::AsmLines::class_statement))]
+#[tactic(auto, unfolding(asm_defs::specs::AsmLines::class_statement))]
 fn class_statement(rest: &[Token]) -> Result<Statement, AsmKind>
     ensures says { result ≡ class_statement rest.now }
     ensures registers { IfOk result (λ says. has_registers says ≡ true) }
@@ -154,7 +155,7 @@ fn entry_by(
 }
 
 /// `.entry`, a name of the class so far and a value.
-#[tactic(auto, unfolding(nook_defs::specs::AsmLines::entry_statement))]
+#[tactic(auto, unfolding(asm_defs::specs::AsmLines::entry_statement))]
 fn entry_statement(
     labels: &LabelTable,
     class: Option<Class>,
@@ -170,7 +171,7 @@ fn entry_statement(
 }
 
 /// One of the five directives and its operands.
-#[tactic(auto, unfolding(nook_defs::specs::AsmLines::directive_statement))]
+#[tactic(auto, unfolding(asm_defs::specs::AsmLines::directive_statement))]
 fn directive_statement(
     labels: &LabelTable,
     class: Option<Class>,
@@ -215,7 +216,7 @@ fn statement_by(
 }
 
 /// What the tokens behind the definition say.
-#[tactic(auto, unfolding(nook_defs::specs::AsmLines::statement_of))]
+#[tactic(auto, unfolding(asm_defs::specs::AsmLines::statement_of))]
 fn statement_of(
     labels: &LabelTable,
     class: Option<Class>,
@@ -317,7 +318,7 @@ fn at_most_wrong(said: Result<Statement, AsmKind>) -> Result<Statement, AsmKind>
 
 /// What a line says: its statement behind the definition, or the smallest of its faults of the kinds bad token,
 /// unknown name and wrong operands.
-#[tactic(auto, unfolding(nook_defs::specs::AsmLines::line_says))]
+#[tactic(auto, unfolding(asm_defs::specs::AsmLines::line_says))]
 pub fn line_says(
     labels: &LabelTable,
     class: Option<Class>,

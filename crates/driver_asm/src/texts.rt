@@ -1,25 +1,23 @@
 //! The assembler text of an image.
 
 ghost use Rattle.std.specs.Prelude.{◌≡◌, ◌∷◌, ◌++◌, [], codes, decimal, flat_map, map, IfOk, OnOk, Ok, string_bytes};
-ghost use Rattle.nook_defs.specs.AsmTokens.{register_text};
-ghost use Rattle.nook_defs.specs.Disassembler.{disassembled, entry_lines, image_lines, initial_lines, line_body};
-ghost use Rattle.nook_defs.specs.Disassembler.{line_text, operand_tokens, text_tokens, word_tokens};
-ghost use Rattle.nook_defs.specs.Views.Assembling.{class_tokens, instr_tokens, later_token};
-ghost use Rattle.nook_defs.specs.Assembler.{assembled};
-ghost use Rattle.nook_defs.specs.Valid.{IsValidImage};
-ghost use Rattle.nook_defs.specs.Keys.{entry_keys};
-ghost use Rattle.nook_defs.specs.Mnemonics.{fields_of};
+ghost use Rattle.asm_defs.specs.AsmTokens.{register_text};
+ghost use Rattle.asm_defs.specs.Disassembler.{disassembled, entry_lines, image_lines, initial_lines, line_body};
+ghost use Rattle.asm_defs.specs.Disassembler.{line_text, operand_tokens, text_tokens, word_tokens};
+ghost use Rattle.asm_defs.specs.Views.Assembling.{class_tokens, instr_tokens, later_token};
+ghost use Rattle.asm_defs.specs.Assembler.{assembled};
+ghost use Rattle.nook_data.specs.Valid.{IsValidImage};
+ghost use Rattle.asm_defs.specs.Keys.{entry_keys};
+ghost use Rattle.machine_defs.specs.Mnemonics.{fields_of};
 
 use crate::mnemonics::{Fields, fields_of, form_of, mnemonic_text};
+use asm_defs::keys::{Key, entry_keys, key_text};
 use driver_isa::decode;
-use nook_defs::assembler::Form;
-use nook_defs::classes::Class;
-use nook_defs::input::Key;
-use nook_defs::keys::{class_text, entry_keys, key_text};
-use nook_defs::lists::{Word, Words8};
-use nook_defs::machine::Instr;
-use nook_defs::memory::NoMemory;
-use nook_defs::scenario::Image;
+use nook_data::classes::{Class, class_text};
+use nook_data::lists::{Word, Words8};
+use nook_data::machine::{Form, Instr};
+use nook_data::memory::NoMemory;
+use nook_data::scenario::Image;
 use std::alloc::Global;
 use std::fmt::Write;
 
@@ -38,7 +36,7 @@ pub fn disassemble(alloc: Global, image: &Image) -> Result<Words8, NoMemory>
 }
 
 /// The text of an image.
-#[tactic(auto, unfolding(nook_defs::specs::Disassembler::disassembled, nook_defs::specs::Disassembler::image_lines))]
+#[tactic(auto, unfolding(asm_defs::specs::Disassembler::disassembled, asm_defs::specs::Disassembler::image_lines))]
 fn text_of(alloc: Global, image: &Image) -> Result<String, NoMemory>
     ensures { IfOk result (λ text. string_bytes text ≡ disassembled image.now) }
 {

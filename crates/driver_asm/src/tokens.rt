@@ -5,17 +5,17 @@ ghost use Rattle.std.specs.Prelude.{drop, take_while, filter, map, length, slice
 ghost use Rattle.std.specs.Prelude.{if◌then◌else◌};
 ghost use Rattle.std.specs.Char.{is_digit, digit_value};
 ghost use Rattle.std.specs.List.{list_all, slice_split};
-ghost use Rattle.nook_defs.specs.AsmTokens.{is_separator, is_not_empty, is_letter, is_letter_or_digit, is_label_name};
-ghost use Rattle.nook_defs.specs.AsmTokens.{is_numeral, numeral_value, but_last, kind_of, register_named, is_register};
-ghost use Rattle.nook_defs.specs.AsmTokens.{lines_of, tokens_of, without_empty_last};
-ghost use Rattle.nook_defs.specs.Views.Assembling.{is_before_comment, is_line_feed};
-ghost use Rattle.nook_defs.specs.declared.assembler.TokenKind.TheVariants as kind;
+ghost use Rattle.asm_defs.specs.AsmTokens.{is_separator, is_not_empty, is_letter, is_letter_or_digit, is_label_name};
+ghost use Rattle.asm_defs.specs.AsmTokens.{is_numeral, numeral_value, but_last, kind_of, register_named, is_register};
+ghost use Rattle.asm_defs.specs.AsmTokens.{lines_of, tokens_of, without_empty_last};
+ghost use Rattle.asm_defs.specs.Views.Assembling.{is_before_comment, is_line_feed};
+ghost use Rattle.asm_defs.specs.declared.assembler.TokenKind.TheVariants as kind;
 ghost use Rattle.driver_asm.specs.Lexing.{numeral};
-ghost use Rattle.nook_defs.specs.AsmLines.{is_definition};
-ghost use Rattle.nook_defs.specs.Views.Assembling.{is_bad};
+ghost use Rattle.asm_defs.specs.AsmLines.{is_definition};
+ghost use Rattle.asm_defs.specs.Views.Assembling.{is_bad};
 
-use nook_defs::assembler::TokenKind;
-use nook_defs::memory::NoMemory;
+use asm_defs::assembler::TokenKind;
+use nook_data::memory::NoMemory;
 use std::alloc::Global;
 use std::marker::Model;
 
@@ -33,7 +33,7 @@ pub struct Token<'a> {
 
 impl<'a> Model for Token<'a> {
     ghost use Rattle.std.specs.Prelude.{◌≡◌, ℕ, List};
-    ghost use Rattle.nook_defs.specs.AsmTokens.{kind_of};
+    ghost use Rattle.asm_defs.specs.AsmTokens.{kind_of};
 
     ghost Value = { List ℕ };
 
@@ -116,7 +116,7 @@ fn are_letters_or_digits(bytes: &[u8]) -> bool
 }
 
 /// Whether bytes are 1 to 32 letters, digits and `_`, no digit first.
-#[tactic(auto, unfolding(nook_defs::specs::AsmTokens::is_label_name))]
+#[tactic(auto, unfolding(asm_defs::specs::AsmTokens::is_label_name))]
 fn is_label_name(bytes: &[u8]) -> bool
     ensures { result ≡ is_label_name bytes.now }
 {
@@ -168,7 +168,7 @@ fn with_digit(number: u64, base: u32, byte: u8) -> u64
 }
 
 /// The number that a numeral of a base writes.
-#[tactic(auto, unfolding(nook_defs::specs::AsmTokens::is_numeral))]
+#[tactic(auto, unfolding(asm_defs::specs::AsmTokens::is_numeral))]
 fn numeral(bytes: &[u8], base: u32) -> Option<u64>
     requires least { 2 ≤ base }
     requires most { base ≤ 36 }
@@ -217,7 +217,7 @@ fn is_directive(token: &[u8]) -> bool
 }
 
 /// What a token is.
-#[tactic(auto, unfolding(nook_defs::specs::AsmTokens::kind_of))]
+#[tactic(auto, unfolding(asm_defs::specs::AsmTokens::kind_of))]
 fn kind_of(token: &[u8]) -> TokenKind
     ensures { result ≡ kind_of token.now }
 {
@@ -240,7 +240,7 @@ fn kind_of(token: &[u8]) -> TokenKind
 }
 
 /// The register that a name is, of `r0` to `r15`.
-#[tactic(auto, unfolding(nook_defs::proofs::InputOnLiterals::input_on_literals))]
+#[tactic(auto, unfolding(asm_defs::proofs::AsmOnLiterals::asm_on_literals))]
 pub fn register_named(name: &[u8]) -> Option<u8>
     ensures register { result ≡ register_named name.now }
     ensures least { IfSome result (λ register. register ≤ 15) }

@@ -1,16 +1,16 @@
 use Rattle.std.proofs.Common.{◌≡◌, ◌+◌, ◌-◌, ◌<◌, ◌≤◌, ◌==◌, ℕ, suc, true, false, nat_le, List, [], ◌∷◌, Option, Some, None, length, refl, sym, ◌∙◌, arith}
 use Rattle.driver_isa.specs.Runs.{is_due, past_run}
 use Rattle.driver_isa.specs.Turns.{IsTurn}
-use Rattle.nook_defs.specs.Burst.{Burst, Struck, burst, burst_from, count_at, ended, strikes_at}
-use Rattle.nook_defs.specs.Turn.{Machine, turn}
-use Rattle.nook_defs.proofs.BurstTurns.{crossing_ends, goes_on, last_act_ends, trap_ends, turn_cases}
-use Rattle.nook_defs.specs.declared.machine.Act.{Act}
-use Rattle.nook_defs.specs.declared.entries.Entry.{Entry}
-use Rattle.nook_defs.specs.declared.scenario.Fault.{Fault}
-use Rattle.nook_defs.specs.declared.machine.TrapCause.{TrapCause}
-use Rattle.nook_defs.specs.declared.machine.TrapCause.TheVariants as trap
-use Rattle.nook_defs.specs.declared.machine.BurstEnd.{BurstEnd}
-use Rattle.nook_defs.specs.declared.machine.BurstEnd.TheVariants as ends
+use Rattle.machine_defs.specs.Burst.{Burst, Struck, burst, burst_from, count_at, ended, strikes_at}
+use Rattle.machine_defs.specs.Turn.{Machine, turn}
+use Rattle.machine_defs.proofs.BurstTurns.{crossing_ends, goes_on, last_act_ends, trap_ends, turn_cases}
+use Rattle.nook_data.specs.declared.machine.Act.{Act}
+use Rattle.nook_data.specs.declared.entries.Entry.{Entry}
+use Rattle.nook_data.specs.declared.scenario.Fault.{Fault}
+use Rattle.nook_data.specs.declared.machine.TrapCause.{TrapCause}
+use Rattle.nook_data.specs.declared.machine.TrapCause.TheVariants as trap
+use Rattle.nook_data.specs.declared.machine.BurstEnd.{BurstEnd}
+use Rattle.nook_data.specs.declared.machine.BurstEnd.TheVariants as ends
 
 -- a whole burst begins without acts
 pub burst_begins : (entries : List Entry) (faults : List Fault) (m : Machine) (acts : List Act) → acts ≡ []

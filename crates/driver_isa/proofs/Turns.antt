@@ -1,16 +1,16 @@
 use Rattle.std.proofs.Common.{◌≡◌, ◌+◌, ◌%◌, ◌^◌, ℕ, Bool, true, false, List, Option, Some, None, refl, sym, ◌∙◌, subst, append-nil}
 use Rattle.driver_isa.specs.Turns.{IsTurn, machine_of, quiet}
-use Rattle.nook_defs.specs.Views.Ports.{IsTaken}
-use Rattle.nook_defs.specs.Devices.{Taken}
-use Rattle.nook_defs.specs.Turn.{Machine, Turn, advanced, executed, past_output, r, stores}
-use Rattle.nook_defs.specs.declared.machine.Act.{Act}
-use Rattle.nook_defs.specs.declared.devices.DeviceState.{DeviceState}
-use Rattle.nook_defs.specs.declared.entries.Entry.{Entry}
-use Rattle.nook_defs.specs.declared.machine.TrapCause.TheVariants as trap
-use Rattle.nook_defs.specs.declared.machine.BurstEnd.{BurstEnd}
-use Rattle.nook_defs.specs.declared.machine.BurstEnd.TheVariants as ends
-use Rattle.nook_defs.specs.declared.machine.Cpu.{Cpu}
-use Rattle.nook_defs.specs.declared.machine.Instr.TheVariants as instr
+use Rattle.machine_defs.specs.Views.Ports.{IsTaken}
+use Rattle.machine_defs.specs.Devices.{Taken}
+use Rattle.machine_defs.specs.Turn.{Machine, Turn, advanced, executed, past_output, r, stores}
+use Rattle.nook_data.specs.declared.machine.Act.{Act}
+use Rattle.nook_data.specs.declared.devices.DeviceState.{DeviceState}
+use Rattle.nook_data.specs.declared.entries.Entry.{Entry}
+use Rattle.nook_data.specs.declared.machine.TrapCause.TheVariants as trap
+use Rattle.nook_data.specs.declared.machine.BurstEnd.{BurstEnd}
+use Rattle.nook_data.specs.declared.machine.BurstEnd.TheVariants as ends
+use Rattle.nook_data.specs.declared.machine.Cpu.{Cpu}
+use Rattle.nook_data.specs.declared.machine.Instr.TheVariants as instr
 
 -- a turn without an act leaves the acts as they were
 pub quiet_turn : (t : Turn) (left : Machine) (acts : List Act) (told : Option BurstEnd) → t ≡ quiet left told → IsTurn t left acts acts told

@@ -1,6 +1,6 @@
 use Rattle.std.specs.Prelude.{Bool, nat_le, ◌&&◌}
-use Rattle.nook_defs.specs.Mnemonics.{fields_of}
-use Rattle.nook_defs.specs.declared.machine.Instr.{Instr}
+use Rattle.machine_defs.specs.Mnemonics.{fields_of}
+use Rattle.nook_data.specs.declared.machine.Instr.{Instr}
 
 -- the register numbers of an instruction are at most 15
 abbrev pub has_registers : Instr → Bool

@@ -1,11 +1,11 @@
 use Rattle.std.specs.Prelude.{ℕ, ◌-◌, ◌==◌, List, [], ◌∷◌, Bool, false, Option, None, Some}
-use Rattle.nook_defs.specs.Burst.{Burst, burst_from, ended}
-use Rattle.nook_defs.specs.Turn.{Machine}
-use Rattle.nook_defs.specs.declared.machine.Act.{Act}
-use Rattle.nook_defs.specs.declared.entries.Entry.{Entry}
-use Rattle.nook_defs.specs.declared.scenario.Fault.{Fault}
-use Rattle.nook_defs.specs.declared.limits.TheConstants.{MOST_TURNS}
-use Rattle.nook_defs.specs.declared.machine.BurstEnd.{BurstEnd}
+use Rattle.machine_defs.specs.Burst.{Burst, burst_from, ended}
+use Rattle.machine_defs.specs.Turn.{Machine}
+use Rattle.nook_data.specs.declared.machine.Act.{Act}
+use Rattle.nook_data.specs.declared.entries.Entry.{Entry}
+use Rattle.nook_data.specs.declared.scenario.Fault.{Fault}
+use Rattle.nook_data.specs.declared.limits.TheConstants.{MOST_TURNS}
+use Rattle.nook_data.specs.declared.machine.BurstEnd.{BurstEnd}
 
 -- whether the first of the faults strikes at a place
 abbrev pub is_due : ℕ → List Fault → Bool

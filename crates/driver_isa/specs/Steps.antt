@@ -1,9 +1,9 @@
 use Rattle.std.specs.Prelude.{ℕ, List, Bool, true, false, Option, None, Some, if◌then◌else◌}
 use Rattle.driver_isa.specs.declared.turn.Step.{Step}
 use Rattle.driver_isa.specs.declared.turn.Step.TheVariants as step
-use Rattle.nook_defs.specs.Turn.{next_counter}
-use Rattle.nook_defs.specs.declared.machine.BurstEnd.{BurstEnd}
-use Rattle.nook_defs.specs.declared.machine.Cpu.{Cpu}
+use Rattle.machine_defs.specs.Turn.{next_counter}
+use Rattle.nook_data.specs.declared.machine.BurstEnd.{BurstEnd}
+use Rattle.nook_data.specs.declared.machine.Cpu.{Cpu}
 
 -- a processor of its counter and its registers
 abbrev pub cpu_of : ℕ → List ℕ → Cpu

@@ -1,10 +1,10 @@
 use Rattle.std.specs.Prelude.{◌≡◌, ◌++◌, ℕ, List, Option, None}
-use Rattle.nook_defs.specs.Burst.{acts_of}
-use Rattle.nook_defs.specs.Turn.{Machine, Turn}
-use Rattle.nook_defs.specs.declared.machine.Act.{Act}
-use Rattle.nook_defs.specs.declared.devices.DeviceState.{DeviceState}
-use Rattle.nook_defs.specs.declared.machine.BurstEnd.{BurstEnd}
-use Rattle.nook_defs.specs.declared.machine.Cpu.{Cpu}
+use Rattle.machine_defs.specs.Burst.{acts_of}
+use Rattle.machine_defs.specs.Turn.{Machine, Turn}
+use Rattle.nook_data.specs.declared.machine.Act.{Act}
+use Rattle.nook_data.specs.declared.devices.DeviceState.{DeviceState}
+use Rattle.nook_data.specs.declared.machine.BurstEnd.{BurstEnd}
+use Rattle.nook_data.specs.declared.machine.Cpu.{Cpu}
 
 -- the machine of a processor over a bus
 abbrev pub machine_of : Cpu → List ℕ → DeviceState → Machine

@@ -4,16 +4,17 @@ ghost use Rattle.std.specs.Prelude.{◌≡◌, ◌<◌, ◌≤◌, ◌-◌, ℕ,
 ghost use Rattle.driver_isa.specs.Runs.{is_due, past_run};
 ghost use Rattle.driver_isa.specs.Steps.{cpu_of};
 ghost use Rattle.driver_isa.specs.Turns.{machine_of};
-ghost use Rattle.nook_defs.specs.Burst.{burst as burst_of, burst_from, strikes_at, count_at, struck_machine, trap_of};
+ghost use Rattle.machine_defs.specs.Burst.{burst as burst_of, burst_from, strikes_at, count_at, struck_machine};
+ghost use Rattle.machine_defs.specs.Burst.{trap_of};
 
 use crate::bus::Bus;
 use crate::turn::{Step, take_turn};
-use nook_defs::journal::ActLog;
-use nook_defs::limits::{MOST_ACTS, MOST_TURNS};
-use nook_defs::lists::Word;
-use nook_defs::machine::{BurstEnd, Cpu, TrapCause};
-use nook_defs::memory_map::TEXT_WORDS;
-use nook_defs::scenario::{Fault, FaultKind};
+use nook_data::journal::ActLog;
+use nook_data::limits::{MOST_ACTS, MOST_TURNS};
+use nook_data::lists::Word;
+use nook_data::machine::{BurstEnd, Cpu, TrapCause};
+use nook_data::memory_map::TEXT_WORDS;
+use nook_data::scenario::{Fault, FaultKind};
 
 /// How a burst went: the number of its turns, a last one that trapped included, and its end.
 #[derive(Clone, Copy)]
@@ -50,7 +51,7 @@ struct Struck<'a> {
 /// It takes no memory.
 // On its own, its loop has the processor's registers for itself.
 #[inline(never)]
-#[tactic(auto, unfolding(nook_defs::specs::Burst::burst))]
+#[tactic(auto, unfolding(machine_defs::specs::Burst::burst))]
 pub fn run_burst<B: Bus>(
     cpu: &mut Cpu,
     bus: &mut B,

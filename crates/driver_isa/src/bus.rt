@@ -2,16 +2,16 @@
 
 ghost use Rattle.std.specs.Prelude.{◌≡◌, ◌<◌, ℕ, List, IsNone, length, slice_set};
 ghost use Rattle.std.specs.Borrow.{GName};
-ghost use Rattle.nook_defs.specs.Devices.{input_of, output_of};
-ghost use Rattle.nook_defs.specs.Views.Ports.{IsTaken, given_by};
-ghost use Rattle.nook_defs.specs.Pages.{fetch_word, may_write, read_word, written};
-ghost use Rattle.nook_defs.specs.declared.devices.DeviceState.{DeviceState};
-ghost use Rattle.nook_defs.specs.declared.entries.Entry.{Entry};
+ghost use Rattle.machine_defs.specs.Devices.{input_of, output_of};
+ghost use Rattle.machine_defs.specs.Views.Ports.{IsTaken, given_by};
+ghost use Rattle.machine_defs.specs.Pages.{fetch_word, may_write, read_word, written};
+ghost use Rattle.nook_data.specs.declared.devices.DeviceState.{DeviceState};
+ghost use Rattle.nook_data.specs.declared.entries.Entry.{Entry};
 
-use nook_defs::journal::ActLog;
-use nook_defs::limits::MOST_ACTS;
-use nook_defs::lists::Word;
-use nook_defs::memory_map::TEXT_WORDS;
+use nook_data::journal::ActLog;
+use nook_data::limits::MOST_ACTS;
+use nook_data::lists::Word;
+use nook_data::memory_map::TEXT_WORDS;
 
 /// The memory and the device of a driver, as its machine reaches them. No call takes memory.
 pub trait Bus {

@@ -2,10 +2,10 @@
 
 ghost use Rattle.std.specs.Prelude.{◌≡◌, ◌<◌, Some, true, IfSome};
 ghost use Rattle.driver_isa.specs.Fields.{has_registers};
-ghost use Rattle.nook_defs.specs.Machine.{a_field, b_field, decode_of, encode_of, imm_field, word_of};
+ghost use Rattle.machine_defs.specs.Machine.{a_field, b_field, decode_of, encode_of, imm_field, word_of};
 
-use nook_defs::lists::Word;
-use nook_defs::machine::Instr;
+use nook_data::lists::Word;
+use nook_data::machine::Instr;
 
 /// The instruction of a word: `None` exactly where no row of the instruction table fits, or a field that the
 /// row does not name is not zero.

@@ -4,15 +4,16 @@ ghost use Rattle.std.specs.Prelude.{◌≡◌, ◌+◌, ◌*◌, ◌%◌, ◌^�
 ghost use Rattle.driver_isa.specs.Fields.{has_registers};
 ghost use Rattle.driver_isa.specs.Steps.{cpu_of, crossing_of, is_quiet, next_of, target_where};
 ghost use Rattle.driver_isa.specs.Turns.{IsTurn, machine_of, quiet};
-ghost use Rattle.nook_defs.specs.Turn.{next_counter, executed, loads, past_input, past_output, stores, turn as machine_turn};
-ghost use Rattle.nook_defs.specs.Devices.{input_of, output_of};
+ghost use Rattle.machine_defs.specs.Turn.{next_counter, executed, loads, past_input, past_output, stores};
+ghost use Rattle.machine_defs.specs.Turn.{turn as machine_turn};
+ghost use Rattle.machine_defs.specs.Devices.{input_of, output_of};
 
 use crate::bus::Bus;
 use crate::code::decode;
-use nook_defs::journal::ActLog;
-use nook_defs::limits::MOST_ACTS;
-use nook_defs::lists::Word;
-use nook_defs::machine::{BurstEnd, Cpu, Instr, TrapCause};
+use nook_data::journal::ActLog;
+use nook_data::limits::MOST_ACTS;
+use nook_data::lists::Word;
+use nook_data::machine::{BurstEnd, Cpu, Instr, TrapCause};
 
 /// What a turn leads to.
 #[derive(Clone, Copy)]
@@ -55,7 +56,7 @@ pub fn turn<B: Bus>(cpu: &mut Cpu, bus: &mut B, acts: &mut ActLog) -> Option<Bur
 
 /// The turn of the word at a counter. The counter is passed and told by value: so a loop keeps it in a register.
 #[inline(always)]
-#[tactic(auto, unfolding(nook_defs::specs::Turn::turn))]
+#[tactic(auto, unfolding(machine_defs::specs::Turn::turn))]
 pub fn take_turn<B: Bus>(
     counter: Word,
     registers: &mut [Word; 16],

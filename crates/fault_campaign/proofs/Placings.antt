@@ -6,10 +6,11 @@ use Rattle.std.proofs.lemmas.List.{take_more}
 use Rattle.std.proofs.lemmas.Slice.Zip.{AllZip-long, all_zipped_more}
 use Rattle.fault_campaign.specs.Placed.{ArePlaced, IsPlaced, IsTold}
 use Rattle.fault_campaign.specs.declared.placing.Told.{Told}
-use Rattle.nook_defs.specs.Campaigns.{AreRows, IsRowOf, member}
-use Rattle.nook_defs.specs.declared.campaign.Campaign.{Campaign}
-use Rattle.nook_defs.specs.declared.campaign.MemberRow.{MemberRow}
-use Rattle.nook_defs.specs.declared.scenario.Fault.{Fault}
+use Rattle.report_defs.specs.Campaigns.{AreRows, IsRowOf}
+use Rattle.nook_data.specs.Members.{member}
+use Rattle.nook_data.specs.declared.campaign.Campaign.{Campaign}
+use Rattle.nook_data.specs.declared.campaign.MemberRow.{MemberRow}
+use Rattle.nook_data.specs.declared.scenario.Fault.{Fault}
 
 -- no row is there at first
 pub none_placed : (campaign : Campaign) (faults : List Fault) (count : ℕ) → length faults ≡ count → ArePlaced campaign faults (replicate count None)

@@ -2,16 +2,17 @@
 use Rattle.std.proofs.Common.{◌≡◌, ◌∙◌, refl, sym, subst, ap, ℕ, ◌+◌, List, [], ◌∷◌, map}
 use Rattle.std.specs.Prelude.{Result, Ok, Err, IfOk}
 use Rattle.fault_campaign.specs.Sums.{lost_in}
-use Rattle.nook_defs.specs.Campaigns.{IsRowOf, gone_count, lost_count, row_of}
-use Rattle.nook_defs.specs.ReportText.{events_count, failures_count, status_of}
-use Rattle.nook_defs.specs.Views.Room.{Kept}
-use Rattle.nook_defs.specs.Simulation.{answer_table, journals_of}
-use Rattle.nook_defs.specs.declared.steps.Event.{Event}
-use Rattle.nook_defs.specs.declared.campaign.MemberRow.{MemberRow}
-use Rattle.nook_defs.specs.declared.scenario.PartSpec.{PartSpec}
-use Rattle.nook_defs.specs.declared.scenario.Scenario.{Scenario}
-use Rattle.nook_defs.specs.declared.memory.NoMemory.{NoMemory}
-use Rattle.nook_defs.specs.Listening.{Listening}
+use Rattle.report_defs.specs.Campaigns.{IsRowOf, gone_count, lost_count, row_of}
+use Rattle.run_defs.specs.Simulation.{events_count}
+use Rattle.report_defs.specs.ReportText.{failures_count, status_of}
+use Rattle.nook_data.specs.Views.Room.{Kept}
+use Rattle.run_defs.specs.Simulation.{answer_table, journals_of}
+use Rattle.nook_data.specs.declared.steps.Event.{Event}
+use Rattle.nook_data.specs.declared.campaign.MemberRow.{MemberRow}
+use Rattle.nook_data.specs.declared.scenario.PartSpec.{PartSpec}
+use Rattle.nook_data.specs.declared.scenario.Scenario.{Scenario}
+use Rattle.nook_data.specs.declared.memory.NoMemory.{NoMemory}
+use Rattle.nook_io.specs.Listening.{Listening}
 use Rattle.report_text.specs.Whole.{HaveEnds, IsReport, failures_in, summaries}
 use Rattle.report_text.proofs.WholeLemmas.{same_failures}
 use Rattle.report_text.specs.declared.report.Run.{Run}

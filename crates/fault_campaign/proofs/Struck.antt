@@ -3,11 +3,11 @@ use Rattle.std.proofs.Common.{◌≡◌, refl, sym, ap, ◌∙◌, ℕ, List, Op
 use Rattle.std.specs.Prelude.{slice_get, slice_set}
 use Rattle.std.proofs.lemmas.List.{length-set, set-set}
 use Rattle.fault_campaign.specs.Members.{IsBaseButStruck}
-use Rattle.nook_defs.specs.Campaigns.{member, struck_parts, with_fault, with_struck}
-use Rattle.nook_defs.specs.declared.campaign.Campaign.{Campaign}
-use Rattle.nook_defs.specs.declared.scenario.Fault.{Fault}
-use Rattle.nook_defs.specs.declared.scenario.PartSpec.{PartSpec}
-use Rattle.nook_defs.specs.declared.scenario.Scenario.{Scenario}
+use Rattle.nook_data.specs.Members.{member, struck_parts, with_fault, with_struck}
+use Rattle.nook_data.specs.declared.campaign.Campaign.{Campaign}
+use Rattle.nook_data.specs.declared.scenario.Fault.{Fault}
+use Rattle.nook_data.specs.declared.scenario.PartSpec.{PartSpec}
+use Rattle.nook_data.specs.declared.scenario.Scenario.{Scenario}
 
 pub struck_is : (parts : List PartSpec) (place : ℕ) (fault : Fault) (part : PartSpec) → slice_get parts place ≡ Some part
     → struck_parts parts place fault ≡ slice_set parts place (with_fault fault part)

@@ -4,13 +4,14 @@ use Rattle.std.specs.Prelude.{All}
 use Rattle.std.specs.List.{AllByRecursion, AllZip}
 use Rattle.std.proofs.lemmas.List.Elements.{recursion_from_All}
 use Rattle.std.proofs.lemmas.Slice.Zip.{AllZip-long}
-use Rattle.nook_defs.specs.Campaigns.{AreRows, IsRowOf, IsTable, IsValidCampaign, member, row_of}
-use Rattle.nook_defs.specs.Simulation.{answer_table, journals_of}
-use Rattle.nook_defs.specs.Valid.{IsValidFault, IsValidScenario}
-use Rattle.nook_defs.specs.declared.campaign.Campaign.{Campaign}
-use Rattle.nook_defs.specs.declared.scenario.Fault.{Fault}
-use Rattle.nook_defs.specs.declared.campaign.MemberRow.{MemberRow}
-use Rattle.nook_defs.specs.declared.scenario.Scenario.{Scenario}
+use Rattle.report_defs.specs.Campaigns.{AreRows, IsRowOf, IsTable, row_of}
+use Rattle.nook_data.specs.Members.{IsValidCampaign, member}
+use Rattle.run_defs.specs.Simulation.{answer_table, journals_of}
+use Rattle.nook_data.specs.Valid.{IsValidFault, IsValidScenario}
+use Rattle.nook_data.specs.declared.campaign.Campaign.{Campaign}
+use Rattle.nook_data.specs.declared.scenario.Fault.{Fault}
+use Rattle.nook_data.specs.declared.campaign.MemberRow.{MemberRow}
+use Rattle.nook_data.specs.declared.scenario.Scenario.{Scenario}
 use Rattle.reading_laws.proofs.Members.{member_is_valid}
 use Rattle.sim_run.proofs.Ending.{scheduled_ends, scheduled_once}
 

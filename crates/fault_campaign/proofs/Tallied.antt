@@ -3,7 +3,7 @@ use Rattle.std.proofs.Common.{◌≡◌, ◌∙◌, sym, ap, ℕ, ◌+◌, ◌<�
 use Rattle.std.proofs.lemmas.List.{length-take, take_more}
 use Rattle.fault_campaign.specs.Tallies.{tally_of}
 use Rattle.fault_campaign.specs.declared.tally.Tally.{Tally}
-use Rattle.nook_defs.specs.declared.campaign.MemberRow.{MemberRow}
+use Rattle.nook_data.specs.declared.campaign.MemberRow.{MemberRow}
 
 -- rows so far, one more of them, and those that were counted before
 pub one_more : (done rows : List MemberRow) (i : ℕ) (row : MemberRow) → i < length rows

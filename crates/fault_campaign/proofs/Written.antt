@@ -5,11 +5,12 @@ use Rattle.std.proofs.lemmas.List.{take-append-drop}
 use Rattle.fault_campaign.proofs.Tables.{AreSplit, as_many, rows_exist_for, rows_once, rows_split}
 use Rattle.fault_campaign.specs.Tallies.{tally_of}
 use Rattle.fault_campaign.specs.declared.tally.Tally.{Tally}
-use Rattle.nook_defs.specs.Campaigns.{AreRows, IsValidCampaign, last_line, row_line, row_lines}
-use Rattle.nook_defs.specs.Valid.{IsValidFault}
-use Rattle.nook_defs.specs.declared.campaign.Campaign.{Campaign}
-use Rattle.nook_defs.specs.declared.scenario.Fault.{Fault}
-use Rattle.nook_defs.specs.declared.campaign.MemberRow.{MemberRow}
+use Rattle.report_defs.specs.Campaigns.{AreRows, last_line, row_line, row_lines}
+use Rattle.nook_data.specs.Members.{IsValidCampaign}
+use Rattle.nook_data.specs.Valid.{IsValidFault}
+use Rattle.nook_data.specs.declared.campaign.Campaign.{Campaign}
+use Rattle.nook_data.specs.declared.scenario.Fault.{Fault}
+use Rattle.nook_data.specs.declared.campaign.MemberRow.{MemberRow}
 use Rattle.report_text.proofs.WroteLemmas.{progress_halt, progress_start}
 use Rattle.report_text.specs.Writing.{Wrote}
 use Rattle.report_text.specs.declared.write.WriteStop.{WriteStop}

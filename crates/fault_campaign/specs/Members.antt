@@ -1,7 +1,7 @@
 use Rattle.std.specs.Prelude.{◌≡◌, length, slice_set}
-use Rattle.nook_defs.specs.declared.campaign.Campaign.{Campaign}
-use Rattle.nook_defs.specs.declared.scenario.PartSpec.{PartSpec}
-use Rattle.nook_defs.specs.declared.scenario.Scenario.{Scenario}
+use Rattle.nook_data.specs.declared.campaign.Campaign.{Campaign}
+use Rattle.nook_data.specs.declared.scenario.PartSpec.{PartSpec}
+use Rattle.nook_data.specs.declared.scenario.Scenario.{Scenario}
 
 -- whatever is put in place of the struck part, the scenario is the campaign's own with that in its place
 pub record IsBaseButStruck (campaign : Campaign) (scenario : Scenario) : Type 0 where

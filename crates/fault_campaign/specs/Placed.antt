@@ -1,11 +1,12 @@
 use Rattle.std.specs.Prelude.{List, All, IfOk, IfSome, Option, Result, slice_get}
 use Rattle.std.specs.List.{AllZip}
 use Rattle.fault_campaign.specs.declared.placing.Told.{Told}
-use Rattle.nook_defs.specs.Campaigns.{IsRowOf, member}
-use Rattle.nook_defs.specs.declared.campaign.Campaign.{Campaign}
-use Rattle.nook_defs.specs.declared.campaign.MemberRow.{MemberRow}
-use Rattle.nook_defs.specs.declared.memory.NoMemory.{NoMemory}
-use Rattle.nook_defs.specs.declared.scenario.Fault.{Fault}
+use Rattle.report_defs.specs.Campaigns.{IsRowOf}
+use Rattle.nook_data.specs.Members.{member}
+use Rattle.nook_data.specs.declared.campaign.Campaign.{Campaign}
+use Rattle.nook_data.specs.declared.campaign.MemberRow.{MemberRow}
+use Rattle.nook_data.specs.declared.memory.NoMemory.{NoMemory}
+use Rattle.nook_data.specs.declared.scenario.Fault.{Fault}
 
 -- the row is that of the member with the fault at its place
 abbrev pub IsTold : Campaign → List Fault → Told → Type 0

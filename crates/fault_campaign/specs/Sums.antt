@@ -1,5 +1,5 @@
 use Rattle.std.specs.Prelude.{ℕ, ◌+◌, List, [], ◌∷◌}
-use Rattle.nook_defs.specs.Campaigns.{lost_of}
+use Rattle.report_defs.specs.Campaigns.{lost_of}
 use Rattle.report_text.specs.declared.whole_report.PartReport.{PartReport}
 
 -- what some parts lost

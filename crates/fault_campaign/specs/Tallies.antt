@@ -1,8 +1,8 @@
 use Rattle.std.specs.Prelude.{ℕ, List, ◌++◌, codes, length}
 use Rattle.fault_campaign.specs.declared.tally.Tally.{Tally}
-use Rattle.nook_defs.specs.Campaigns.{status_count, tally_line}
-use Rattle.nook_defs.specs.ReportLines.{line_feed, with_number}
-use Rattle.nook_defs.specs.declared.campaign.MemberRow.{MemberRow}
+use Rattle.report_defs.specs.Campaigns.{status_count, tally_line}
+use Rattle.report_defs.specs.ReportLines.{line_feed, with_number}
+use Rattle.nook_data.specs.declared.campaign.MemberRow.{MemberRow}
 
 -- the tally of some rows
 abbrev pub tally_of : List MemberRow → Tally

@@ -1,9 +1,10 @@
 //! Laws of campaigns.
 
 ghost use Rattle.std.specs.Prelude.{◌≡◌, List};
-ghost use Rattle.nook_defs.specs.Campaigns.{IsTable, IsValidCampaign};
-ghost use Rattle.nook_defs.specs.declared.campaign.Campaign.{Campaign};
-ghost use Rattle.nook_defs.specs.declared.campaign.MemberRow.{MemberRow};
+ghost use Rattle.report_defs.specs.Campaigns.{IsTable};
+ghost use Rattle.nook_data.specs.Members.{IsValidCampaign};
+ghost use Rattle.nook_data.specs.declared.campaign.Campaign.{Campaign};
+ghost use Rattle.nook_data.specs.declared.campaign.MemberRow.{MemberRow};
 
 /// Every valid campaign has a table.
 pub fn every_campaign_has_a_table()

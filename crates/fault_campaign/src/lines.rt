@@ -2,12 +2,12 @@
 
 ghost use Rattle.std.specs.Prelude.{◌≡◌, ◌+◌, ◌^◌, ◌<◌, ◌++◌, OnOk, length};
 ghost use Rattle.fault_campaign.specs.Tallies.{counts_text};
-ghost use Rattle.nook_defs.specs.Campaigns.{row_line, row_lines};
+ghost use Rattle.report_defs.specs.Campaigns.{row_line, row_lines};
 ghost use Rattle.report_text.specs.Writing.{Wrote};
 
-use nook_defs::campaign::MemberRow;
-use nook_defs::memory::NoMemory;
-use nook_defs::outside::Sink;
+use nook_data::campaign::MemberRow;
+use nook_data::memory::NoMemory;
+use nook_io::outside::Sink;
 use report_text::{Line, WriteStop, push_number, write_text};
 use std::alloc::Global;
 

@@ -2,12 +2,12 @@
 
 ghost use Rattle.std.specs.Prelude.{◌≡◌, ◌<◌, IfOk, OnOk, OnErr, length};
 ghost use Rattle.fault_campaign.specs.Members.{IsBaseButStruck};
-ghost use Rattle.nook_defs.specs.Campaigns.{member, with_fault};
+ghost use Rattle.nook_data.specs.Members.{member, with_fault};
 
-use nook_defs::campaign::Campaign;
-use nook_defs::lists::TryCopy;
-use nook_defs::memory::NoMemory;
-use nook_defs::scenario::{Fault, PartSpec, Scenario};
+use nook_data::campaign::Campaign;
+use nook_data::lists::TryCopy;
+use nook_data::memory::NoMemory;
+use nook_data::scenario::{Fault, PartSpec, Scenario};
 use std::alloc::Global;
 
 /// Makes the scenario that of the member with a fault, which stands behind those that the struck part has of its own.

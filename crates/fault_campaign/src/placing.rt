@@ -2,12 +2,12 @@
 
 ghost use Rattle.std.specs.Prelude.{◌≡◌, [], All, IfOk, List, length};
 ghost use Rattle.fault_campaign.specs.Placed.{ArePlaced, AreTold, IsTold};
-ghost use Rattle.nook_defs.specs.declared.campaign.Campaign.{Campaign};
-ghost use Rattle.nook_defs.specs.declared.scenario.Fault.{Fault};
+ghost use Rattle.nook_data.specs.declared.campaign.Campaign.{Campaign};
+ghost use Rattle.nook_data.specs.declared.scenario.Fault.{Fault};
 
-use nook_defs::campaign::MemberRow;
-use nook_defs::lists::Items;
-use nook_defs::memory::NoMemory;
+use nook_data::campaign::MemberRow;
+use nook_data::lists::Items;
+use nook_data::memory::NoMemory;
 use std::alloc::Global;
 
 /// A member's row, told with the place of its fault.

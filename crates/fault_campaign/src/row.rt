@@ -2,16 +2,16 @@
 
 ghost use Rattle.std.specs.Prelude.{◌≡◌, ◌+◌, IfOk, map};
 ghost use Rattle.fault_campaign.specs.Sums.{lost_in};
-ghost use Rattle.nook_defs.specs.Campaigns.{gone_count, gone_in, is_gone_answer, row_of};
-ghost use Rattle.nook_defs.specs.ReportText.{events_count};
-ghost use Rattle.nook_defs.specs.declared.scenario.Scenario.{Scenario};
+ghost use Rattle.report_defs.specs.Campaigns.{gone_count, gone_in, is_gone_answer, row_of};
+ghost use Rattle.run_defs.specs.Simulation.{events_count};
+ghost use Rattle.nook_data.specs.declared.scenario.Scenario.{Scenario};
 ghost use Rattle.report_text.specs.Whole.{IsReport, failures_in};
 ghost use Rattle.run_ends.specs.Journals.{AreRuns, events_in};
 
-use nook_defs::calls::{Answer, PartAnswers};
-use nook_defs::campaign::MemberRow;
-use nook_defs::journal::Journal;
-use nook_defs::memory::NoMemory;
+use nook_data::calls::{Answer, PartAnswers};
+use nook_data::campaign::MemberRow;
+use nook_data::journal::Journal;
+use nook_data::memory::NoMemory;
 use report_text::{PartReport, Report};
 
 /// The row of a run's report: its status, and what its parts and threads come to. A sum that has no room in 64 bits is

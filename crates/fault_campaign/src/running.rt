@@ -3,16 +3,17 @@
 ghost use Rattle.std.specs.Prelude.{All, IfOk};
 ghost use Rattle.fault_campaign.specs.Members.{IsBaseButStruck};
 ghost use Rattle.fault_campaign.specs.Placed.{ArePlaced, AreTold, IsPlaced};
-ghost use Rattle.nook_defs.specs.Campaigns.{AreRows, IsRowOf, IsTable, IsValidCampaign, member};
-ghost use Rattle.nook_defs.specs.Valid.{IsValidFault, IsValidScenario};
+ghost use Rattle.report_defs.specs.Campaigns.{AreRows, IsRowOf, IsTable};
+ghost use Rattle.nook_data.specs.Members.{IsValidCampaign, member};
+ghost use Rattle.nook_data.specs.Valid.{IsValidFault, IsValidScenario};
 
 use crate::member::strike;
 use crate::placing::{Share, Told, place_all};
 use crate::row::row_of;
-use nook_defs::campaign::{Campaign, MemberRow, Table};
-use nook_defs::lists::{Items, TryCopy};
-use nook_defs::memory::NoMemory;
-use nook_defs::scenario::{Fault, Scenario};
+use nook_data::campaign::{Campaign, MemberRow, Table};
+use nook_data::lists::{Items, TryCopy};
+use nook_data::memory::NoMemory;
+use nook_data::scenario::{Fault, Scenario};
 use part_core::LeftRooms;
 use rayon::current_num_threads;
 use report_text::report_of;

@@ -2,17 +2,18 @@
 
 ghost use Rattle.std.specs.Prelude.{◌≡◌, ◌+◌, ◌^◌, ◌<◌, ◌++◌, All, List, OnOk, length};
 ghost use Rattle.fault_campaign.specs.Tallies.{tally_of};
-ghost use Rattle.nook_defs.specs.Campaigns.{AreRows, IsTable, IsValidCampaign, last_line, row_lines, table_text};
-ghost use Rattle.nook_defs.specs.Valid.{IsValidFault};
-ghost use Rattle.nook_defs.specs.declared.campaign.MemberRow.{MemberRow};
+ghost use Rattle.report_defs.specs.Campaigns.{AreRows, IsTable, last_line, row_lines, table_text};
+ghost use Rattle.nook_data.specs.Members.{IsValidCampaign};
+ghost use Rattle.nook_data.specs.Valid.{IsValidFault};
+ghost use Rattle.nook_data.specs.declared.campaign.MemberRow.{MemberRow};
 ghost use Rattle.report_text.specs.Writing.{Wrote};
 
 use crate::lines::write_rows;
 use crate::running::run_members;
 use crate::tally::{Tally, write_tally};
-use nook_defs::campaign::Campaign;
-use nook_defs::outside::Sink;
-use nook_defs::scenario::Fault;
+use nook_data::campaign::Campaign;
+use nook_data::scenario::Fault;
+use nook_io::outside::Sink;
 use report_text::WriteStop;
 use std::alloc::Global;
 use std::thread::Threads;

@@ -5,8 +5,8 @@ use Rattle.std.proofs.lemmas.List.Sorted.{IsPartitionedBy-ltb, IsPartitionedBy-l
 use Rattle.std.proofs.lemmas.Bool.{eq-eqb, ne_eqb, ltb-true, ltb-false, leb-true, leb-false}
 use Rattle.std.proofs.lemmas.List.{get_or-take, get_or-drop, take-append-drop, length-take, length-drop}
 use Rattle.std.proofs.lemmas.List.Elements.{filter-append}
-use Rattle.nook_defs.specs.declared.scenario.Fault.{Fault}
-use Rattle.nook_defs.specs.Steps.{is_of_burst, faults_of_burst}
+use Rattle.nook_data.specs.declared.scenario.Fault.{Fault}
+use Rattle.machine_defs.specs.BurstFaults.{is_of_burst, faults_of_burst}
 use Rattle.fault_script.specs.Order.{IsOrdered}
 use Rattle.fault_script.proofs.Places.{as_they_stand}
 

@@ -3,13 +3,13 @@ use Rattle.std.proofs.Common.{◌≡◌, ℕ, suc, ◌≤◌, ◌<◌, ◌==◌,
 use Rattle.std.specs.List.Sorted.{IsNonDecreasingBy}
 use Rattle.std.proofs.lemmas.Bool.{cases_Bool, cases_order, eq-eqb, ne_eqb, leb-true, leb-false, le-leb}
 use Rattle.std.proofs.lemmas.Bool.Decides.{nat_tests}
-use Rattle.nook_defs.specs.declared.scenario.Fault.{Fault}
+use Rattle.nook_data.specs.declared.scenario.Fault.{Fault}
 use Rattle.std.proofs.lemmas.List.Elements.{filter_agree}
 use Rattle.std.proofs.lemmas.List.Kept.{IsNonDecreasingBy-filter}
 use Rattle.std.specs.List.Sorted.{IsStableByKey, ties}
 use Rattle.std.specs.Ordering.{is_lt, nat_cmp}
-use Rattle.nook_defs.specs.declared.scenario.FaultKind.TheVariants as kind
-use Rattle.nook_defs.specs.Steps.{insert_fault, in_order, is_of_burst, faults_of_burst}
+use Rattle.nook_data.specs.declared.scenario.FaultKind.TheVariants as kind
+use Rattle.machine_defs.specs.BurstFaults.{insert_fault, in_order, is_of_burst, faults_of_burst}
 use Rattle.fault_script.specs.Order.{IsOrdered}
 
 -- the fault strikes at the place

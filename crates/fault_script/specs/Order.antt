@@ -1,7 +1,7 @@
 use Rattle.std.specs.Prelude.{ℕ, List, filter}
 use Rattle.std.specs.List.Sorted.{IsNonDecreasingBy}
-use Rattle.nook_defs.specs.declared.scenario.Fault.{Fault}
-use Rattle.nook_defs.specs.Steps.{is_of_burst}
+use Rattle.nook_data.specs.declared.scenario.Fault.{Fault}
+use Rattle.machine_defs.specs.BurstFaults.{is_of_burst}
 
 -- bursts do not fall along the list, and among the faults of one burst places do not
 pub record IsOrdered (faults : List Fault) : Type 0 where

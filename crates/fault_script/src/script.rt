@@ -1,10 +1,10 @@
 //! A list of faults in the order in which they strike.
 
 ghost use Rattle.std.specs.Prelude.{◌≡◌, ℕ, IfOk};
-ghost use Rattle.nook_defs.specs.Steps.{faults_of_burst};
+ghost use Rattle.machine_defs.specs.BurstFaults.{faults_of_burst};
 
-use nook_defs::memory::NoMemory;
-use nook_defs::scenario::{Fault, Faults};
+use nook_data::memory::NoMemory;
+use nook_data::scenario::{Fault, Faults};
 use std::marker::Model;
 
 /// The faults of a part by burst and then by place, those of one place as they were given.
@@ -15,7 +15,7 @@ pub struct FaultScript {
 
 impl Model for FaultScript {
     ghost use Rattle.std.specs.Prelude.{List};
-    ghost use Rattle.nook_defs.specs.declared.scenario.Fault.{Fault};
+    ghost use Rattle.nook_data.specs.declared.scenario.Fault.{Fault};
     ghost use Rattle.fault_script.specs.Order.{IsOrdered};
 
     ghost Value = { List Fault };

@@ -2,25 +2,27 @@
 use Rattle.std.proofs.Common.{◌≡◌, ℕ, ◌+◌, ◌≤◌, ◌||◌, Bool, true, false, List, [], ◌∷◌, ◌++◌, map, length, refl, ap, sym, ◌∙◌, arith, length-append}
 use Rattle.std.specs.Prelude.{⊤, Option, Some, None, Result, Ok, Err, nat_lt, if◌then◌else◌}
 use Rattle.std.proofs.lemmas.Bool.{ltb-true, ltb-false}
-use Rattle.nook_defs.specs.AsmLines.{Labels, definition_of, first_of, line_says}
-use Rattle.nook_defs.specs.AsmTokens.{lines_of, tokens_of}
-use Rattle.nook_defs.specs.Assembler.{Draft, all_given, assembled, at_line, draft_after, draft_from, fault_if, first_draft, first_cursor, image_with, is_out_of_range, is_second_given, is_second_label, known, labels_from, with_statement, with_word}
-use Rattle.nook_defs.specs.Views.Assembling.{with_class}
-use Rattle.nook_defs.specs.Machine.{encode_of}
-use Rattle.nook_defs.specs.Mnemonics.{instr_with}
-use Rattle.nook_defs.specs.Results.{◌>>=◌}
-use Rattle.nook_defs.specs.declared.assembler.AsmFault.{AsmFault}
-use Rattle.nook_defs.specs.declared.assembler.AsmKind.{AsmKind}
-use Rattle.nook_defs.specs.declared.assembler.AsmKind.TheVariants as fault
-use Rattle.nook_defs.specs.declared.assembler.Label.{Label}
-use Rattle.nook_defs.specs.declared.assembler.Section.{Section}
-use Rattle.nook_defs.specs.declared.assembler.Section.TheVariants as section
-use Rattle.nook_defs.specs.declared.assembler.Statement.{Statement}
-use Rattle.nook_defs.specs.declared.assembler.Statement.TheVariants as statement
-use Rattle.nook_defs.specs.declared.assembler.Value.{Value}
-use Rattle.nook_defs.specs.declared.assembler.Value.TheVariants as value
-use Rattle.nook_defs.specs.declared.classes.Class.{Class}
-use Rattle.nook_defs.specs.declared.scenario.Image.{Image}
+use Rattle.asm_defs.specs.AsmLines.{Labels, definition_of, first_of, line_says}
+use Rattle.asm_defs.specs.AsmTokens.{lines_of, tokens_of}
+use Rattle.asm_defs.specs.Assembler.{Draft, all_given, assembled, at_line, draft_after, draft_from, fault_if}
+use Rattle.asm_defs.specs.Assembler.{first_draft, first_cursor, image_with, is_out_of_range, is_second_given}
+use Rattle.asm_defs.specs.Assembler.{is_second_label, known, labels_from, with_statement, with_word}
+use Rattle.asm_defs.specs.Views.Assembling.{with_class}
+use Rattle.machine_defs.specs.Machine.{encode_of}
+use Rattle.machine_defs.specs.Mnemonics.{instr_with}
+use Rattle.asm_defs.specs.Results.{◌>>=◌}
+use Rattle.asm_defs.specs.declared.assembler.AsmFault.{AsmFault}
+use Rattle.asm_defs.specs.declared.assembler.AsmKind.{AsmKind}
+use Rattle.asm_defs.specs.declared.assembler.AsmKind.TheVariants as fault
+use Rattle.asm_defs.specs.declared.assembler.Label.{Label}
+use Rattle.asm_defs.specs.declared.assembler.Section.{Section}
+use Rattle.asm_defs.specs.declared.assembler.Section.TheVariants as section
+use Rattle.asm_defs.specs.declared.assembler.Statement.{Statement}
+use Rattle.asm_defs.specs.declared.assembler.Statement.TheVariants as statement
+use Rattle.asm_defs.specs.declared.assembler.Value.{Value}
+use Rattle.asm_defs.specs.declared.assembler.Value.TheVariants as value
+use Rattle.nook_data.specs.declared.classes.Class.{Class}
+use Rattle.nook_data.specs.declared.scenario.Image.{Image}
 use Rattle.driver_asm.specs.Listed.{behind_draft, if_longer, line_if, listed, makers, words_in}
 use Rattle.driver_asm.specs.declared.listed.Listed.{Listed}
 use Rattle.image_list.specs.ListText.{list_text, rows_from}

@@ -2,13 +2,13 @@
 use Rattle.std.proofs.Common.{◌≡◌, ℕ, ◌+◌, ◌<◌, List, [], ◌∷◌, ◌++◌, map, length, drop, get_or, refl, arith, decimal, append_assoc, ap, sym, ◌∙◌, add-one}
 use Rattle.std.proofs.Math.Seq.{drop-cons}
 use Rattle.std.specs.Prelude.{Option, Some, None, flat_map}
-use Rattle.nook_defs.specs.Disassembler.{line_body, line_text}
-use Rattle.nook_defs.specs.Views.Assembling.{decoded_tokens, later_token}
-use Rattle.nook_defs.specs.ImageText.{hex_text}
-use Rattle.nook_defs.specs.Machine.{decode_of}
-use Rattle.nook_defs.specs.declared.assembler.Section.{Section}
-use Rattle.nook_defs.specs.declared.assembler.Section.TheVariants as section
-use Rattle.nook_defs.specs.declared.machine.Instr.{Instr}
+use Rattle.asm_defs.specs.Disassembler.{line_body, line_text}
+use Rattle.asm_defs.specs.Views.Assembling.{decoded_tokens, later_token}
+use Rattle.asm_defs.specs.ImageText.{hex_text}
+use Rattle.machine_defs.specs.Machine.{decode_of}
+use Rattle.asm_defs.specs.declared.assembler.Section.{Section}
+use Rattle.asm_defs.specs.declared.assembler.Section.TheVariants as section
+use Rattle.nook_data.specs.declared.machine.Instr.{Instr}
 use Rattle.image_list.specs.ListText.{Row, named_entries, row_tokens, rows_from, word_says}
 
 pub no_addresses : (names : List (List ℕ)) (addresses : List ℕ) → length addresses ≡ 0 → named_entries names addresses ≡ []

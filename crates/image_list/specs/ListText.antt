@@ -1,14 +1,14 @@
 use Rattle.std.specs.Prelude.{ℕ, ◌+◌, List, [], ◌∷◌, ◌++◌, map, flat_map, codes, decimal, Result, Ok}
-use Rattle.nook_defs.specs.Disassembler.{line_text, text_tokens, word_tokens}
-use Rattle.nook_defs.specs.ImageText.{hex_text}
-use Rattle.nook_defs.specs.Keys.{entry_keys, key_text}
-use Rattle.nook_defs.specs.Results.{◌>>=◌}
-use Rattle.nook_defs.specs.declared.assembler.AsmFault.{AsmFault}
-use Rattle.nook_defs.specs.declared.assembler.Label.{Label}
-use Rattle.nook_defs.specs.declared.assembler.Section.{Section}
-use Rattle.nook_defs.specs.declared.assembler.Section.TheVariants as section
-use Rattle.nook_defs.specs.declared.scenario.Image.{Image}
-use Rattle.nook_defs.specs.declared.memory_map.TheConstants.{DATA_START}
+use Rattle.asm_defs.specs.Disassembler.{line_text, text_tokens, word_tokens}
+use Rattle.asm_defs.specs.ImageText.{hex_text}
+use Rattle.asm_defs.specs.Keys.{entry_keys, key_text}
+use Rattle.asm_defs.specs.Results.{◌>>=◌}
+use Rattle.asm_defs.specs.declared.assembler.AsmFault.{AsmFault}
+use Rattle.asm_defs.specs.declared.assembler.Label.{Label}
+use Rattle.asm_defs.specs.declared.assembler.Section.{Section}
+use Rattle.asm_defs.specs.declared.assembler.Section.TheVariants as section
+use Rattle.nook_data.specs.declared.scenario.Image.{Image}
+use Rattle.nook_data.specs.declared.memory_map.TheConstants.{DATA_START}
 use Rattle.driver_asm.specs.Listed.{listed}
 use Rattle.driver_asm.specs.declared.listed.Listed.{Listed}
 

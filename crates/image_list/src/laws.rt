@@ -1,8 +1,8 @@
 //! Laws of listings: theorems over the definitions alone. Each is the contract of a public function with an empty body.
 
 ghost use Rattle.std.specs.Prelude.{◌≡◌, ◌+◌, ℕ, List, Ok, Err, map, length};
-ghost use Rattle.nook_defs.specs.Assembler.{assembled};
-ghost use Rattle.nook_defs.specs.declared.assembler.AsmFault.{AsmFault};
+ghost use Rattle.asm_defs.specs.Assembler.{assembled};
+ghost use Rattle.asm_defs.specs.declared.assembler.AsmFault.{AsmFault};
 ghost use Rattle.driver_asm.specs.Listed.{listed};
 ghost use Rattle.driver_asm.specs.declared.listed.Listed.{Listed};
 ghost use Rattle.image_list.specs.ListText.{initial_rows, list_text, text_rows};

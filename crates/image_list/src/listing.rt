@@ -1,22 +1,21 @@
 //! The lines of a listing.
 
 ghost use Rattle.std.specs.Prelude.{◌≡◌, ◌≤◌, ◌++◌, ◌∷◌, [], IfOk, OnOk, decimal, flat_map, map, string_bytes};
-ghost use Rattle.nook_defs.specs.Disassembler.{line_text};
-ghost use Rattle.nook_defs.specs.Keys.{key_text};
-ghost use Rattle.nook_defs.specs.Views.Assembling.{later_token};
+ghost use Rattle.asm_defs.specs.Disassembler.{line_text};
+ghost use Rattle.asm_defs.specs.Keys.{key_text};
+ghost use Rattle.asm_defs.specs.Views.Assembling.{later_token};
 ghost use Rattle.driver_asm.specs.Answers.{Gives};
 ghost use Rattle.image_list.specs.ListText.{entry_tokens, label_tokens, list_lines, list_text, listed_entries};
 ghost use Rattle.image_list.specs.ListText.{named_entries, row_tokens, rows_from, word_says};
 
+use asm_defs::assembler::{Label, Section};
+use asm_defs::keys::{Key, entry_keys, key_text};
 use driver_asm::{AsmError, Listed, assemble_listed, push_digits, push_text_word, push_word};
 use itoa::Buffer;
-use nook_defs::assembler::{Label, Section};
-use nook_defs::input::Key;
-use nook_defs::keys::{entry_keys, key_text};
-use nook_defs::lists::{Word, Words8};
-use nook_defs::memory::NoMemory;
-use nook_defs::memory_map::DATA_START;
-use nook_defs::scenario::Image;
+use nook_data::lists::{Word, Words8};
+use nook_data::memory::NoMemory;
+use nook_data::memory_map::DATA_START;
+use nook_data::scenario::Image;
 use std::alloc::Global;
 use std::fmt::Write;
 

@@ -1,13 +1,13 @@
 -- What is found behind a section's events and behind the last section.
 use Rattle.std.proofs.Common.{◌≡◌, ℕ, Bool, true, false, Option, Some, None, List, [], ◌∷◌, ◌++◌, if◌then◌else◌, drop, length, map, Result, Ok, Err, OnOk, refl, sym, ap, subst, ◌∙◌}
 use Rattle.run_laws.specs.Audit.{Auditing, Done, Section, after_line, answers_in_order, done_of, first_unfit, has_nothing, is_complete, is_ended, is_numbered, last_lines, lines_of, own_listeners, published_in, section_end}
-use Rattle.nook_defs.specs.ReportText.{final_lines, status_line, taps_text, threads_text}
-use Rattle.nook_defs.specs.Runs.{PartRun}
-use Rattle.nook_defs.specs.declared.steps.Event.{Event}
-use Rattle.nook_defs.specs.declared.calls.Answer.{Answer}
-use Rattle.nook_defs.specs.declared.scenario.ThreadSpec.{ThreadSpec}
-use Rattle.nook_defs.specs.declared.scenario.PartSpec.{PartSpec}
-use Rattle.nook_defs.specs.declared.scenario.Scenario.{Scenario}
+use Rattle.report_defs.specs.ReportText.{final_lines, status_line, taps_text, threads_text}
+use Rattle.part_defs.specs.Runs.{PartRun}
+use Rattle.nook_data.specs.declared.steps.Event.{Event}
+use Rattle.nook_data.specs.declared.calls.Answer.{Answer}
+use Rattle.nook_data.specs.declared.scenario.ThreadSpec.{ThreadSpec}
+use Rattle.nook_data.specs.declared.scenario.PartSpec.{PartSpec}
+use Rattle.nook_data.specs.declared.scenario.Scenario.{Scenario}
 use Rattle.request_taps.specs.Bus.{result_of}
 use Rattle.request_taps.proofs.Totals.{all_totals}
 use Rattle.report_text.specs.declared.whole_report.PartEnd.{PartEnd}
@@ -15,7 +15,7 @@ use Rattle.report_text.specs.declared.whole_report.PartReport.{PartReport}
 use Rattle.report_text.specs.Writing.{Wrote}
 use Rattle.report_text.specs.declared.write.WriteStop.{WriteStop}
 use Rattle.journal_audit.specs.Comparisons.{Comparison, held_in, untouched}
-use Rattle.nook_defs.specs.State.{PartState}
+use Rattle.part_defs.specs.State.{PartState}
 use Rattle.report_text.specs.Whole.{ShowsState}
 use Rattle.run_ends.specs.Ends.{end_of, objects_in}
 use Rattle.journal_audit.specs.Found.{at_last, between, found_from, inside}

@@ -2,10 +2,10 @@
 use Rattle.std.proofs.Common.{◌≡◌, ℕ, suc, ◌+◌, ◌<◌, ◌≤◌, ◌==◌, Err, Bool, true, false, not, if◌then◌else◌, Option, Some, None, List, [], ◌∷◌, length, take, drop, bytes_eq, refl, sym, ap, ◌∙◌, subst, arith}
 use Rattle.std.proofs.lemmas.Bool.{eqb-true}
 use Rattle.std.proofs.lemmas.List.{length-drop}
-use Rattle.nook_defs.specs.ReportText.{part_line}
-use Rattle.nook_defs.specs.declared.scenario.PartSpec.{PartSpec}
-use Rattle.nook_defs.specs.declared.scenario.Scenario.{Scenario}
-use Rattle.nook_defs.specs.declared.steps.Step.{Step}
+use Rattle.report_defs.specs.ReportText.{part_line}
+use Rattle.nook_data.specs.declared.scenario.PartSpec.{PartSpec}
+use Rattle.nook_data.specs.declared.scenario.Scenario.{Scenario}
+use Rattle.nook_data.specs.declared.steps.Step.{Step}
 use Rattle.run_laws.specs.Audit.{Auditing, Done, Section, after_event, after_line, after_step, first_unfit, is_ended, is_line_of, is_numbered, is_over, lines_of, opening_section, section_after, step_named}
 use Rattle.journal_audit.proofs.Lines.{Fronted, fronted, unended_line, unfit_here}
 use Rattle.journal_audit.proofs.Taken.{not_true}

@@ -4,9 +4,9 @@ use Rattle.std.proofs.lemmas.List.{drop-set-lt, drop_all, drop_more, take_all, t
 use Rattle.std.proofs.lemmas.List.Elements.{All-get_or, All-set}
 use Rattle.std.specs.List.{list_all}
 use Rattle.run_laws.specs.Audit.{are_through, is_through, thread_on}
-use Rattle.nook_defs.specs.Simulation.{started, threads_after, thread_after}
-use Rattle.nook_defs.specs.declared.steps.Event.{Event}
-use Rattle.nook_defs.specs.declared.scenario.ThreadSpec.{ThreadSpec}
+use Rattle.run_defs.specs.Simulation.{started, threads_after, thread_after}
+use Rattle.nook_data.specs.declared.steps.Event.{Event}
+use Rattle.nook_data.specs.declared.scenario.ThreadSpec.{ThreadSpec}
 use Rattle.part_laws.proofs.Places.{length_map}
 use Rattle.journal_audit.specs.Sections.{AreOn, OnPart, state_in, with_state}
 

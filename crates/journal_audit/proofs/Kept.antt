@@ -5,14 +5,14 @@ use Rattle.std.proofs.Math.ListN.{drop_of_length-le}
 use Rattle.std.proofs.Math.Seq.{drop-cons}
 use Rattle.std.proofs.lemmas.List.{map-append}
 use Rattle.run_laws.specs.Audit.{Done, Section, done_of, each_of_part, journal_in, own_listeners, published_in}
-use Rattle.nook_defs.specs.Contract.{first_break}
-use Rattle.nook_defs.specs.Listening.{Listening}
-use Rattle.nook_defs.specs.ReportText.{has_break, has_given_up}
-use Rattle.nook_defs.specs.Runs.{state_of}
-use Rattle.nook_defs.specs.Simulation.{answers_of_thread}
-use Rattle.nook_defs.specs.Stages.{is_given_up}
-use Rattle.nook_defs.specs.declared.steps.Event.{Event}
-use Rattle.nook_defs.specs.declared.scenario.PartSpec.{PartSpec}
+use Rattle.promise_defs.specs.Contract.{first_break}
+use Rattle.nook_io.specs.Listening.{Listening}
+use Rattle.report_defs.specs.ReportText.{has_break, has_given_up}
+use Rattle.part_defs.specs.Runs.{state_of}
+use Rattle.run_defs.specs.Simulation.{answers_of_thread}
+use Rattle.part_defs.specs.Stages.{is_given_up}
+use Rattle.nook_data.specs.declared.steps.Event.{Event}
+use Rattle.nook_data.specs.declared.scenario.PartSpec.{PartSpec}
 use Rattle.request_taps.specs.Bus.{settled, told, told_all}
 use Rattle.request_taps.specs.declared.tap.Tap.{Tap}
 use Rattle.journal_audit.specs.Tallies.{SumsUp, Tallied, answers_in}

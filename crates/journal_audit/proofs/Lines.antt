@@ -2,7 +2,7 @@
 use Rattle.std.proofs.Common.{◌≡◌, ℕ, suc, ◌+◌, ◌==◌, ◌||◌, ◌&&◌, Bool, true, false, if◌then◌else◌, Some, None, List, [], ◌∷◌, ◌++◌, refl, sym, ap, ◌∙◌, append_assoc, append-nil, add-zero, arith}
 use Rattle.std.proofs.lemmas.Bool.{eq-eqb, eqb-true}
 use Rattle.run_laws.specs.Audit.{Auditing, after_line, behind, first_unfit, has_nothing, is_ended, lines_of}
-use Rattle.nook_defs.specs.declared.scenario.Scenario.{Scenario}
+use Rattle.nook_data.specs.declared.scenario.Scenario.{Scenario}
 use Rattle.journal_audit.specs.Found.{found_from}
 use Rattle.journal_audit.specs.Placed.{Departs, Follows, Place, begins_with, feeds}
 

@@ -1,9 +1,9 @@
 -- The step that a line names by its second word.
 use Rattle.std.proofs.Common.{◌≡◌, ℕ, Bool, true, false, Some, None, Option, List, Result, Ok, Err, IfOk, bytes_eq, codes, refl, sym, ap, ◌∙◌}
 use Rattle.run_laws.specs.Audit.{Section, arrival_of, context_in, if_burst, if_entered, if_invoked, step_named, word_at}
-use Rattle.nook_defs.specs.declared.steps.Step.{Step}
-use Rattle.nook_defs.specs.declared.steps.Step.TheVariants as step
-use Rattle.nook_defs.specs.declared.memory.NoMemory.{NoMemory}
+use Rattle.nook_data.specs.declared.steps.Step.{Step}
+use Rattle.nook_data.specs.declared.steps.Step.TheVariants as step
+use Rattle.nook_data.specs.declared.memory.NoMemory.{NoMemory}
 
 pub same_words : {says : Bool} {a b x y : List ℕ} → says ≡ bytes_eq a b → a ≡ x → b ≡ y → says ≡ bytes_eq x y
 same_words {b = b} {x = x} h e f = h ∙ ap (λ (w : List ℕ). bytes_eq w b) e ∙ ap (λ (w : List ℕ). bytes_eq x w) f

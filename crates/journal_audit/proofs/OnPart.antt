@@ -1,7 +1,7 @@
 -- The operations of a script on one part.
 use Rattle.std.proofs.Common.{◌≡◌, ℕ, true, Some, List, [], ◌∷◌, slice_get, refl, ap, filter, eqb-true}
 use Rattle.run_laws.specs.Audit.{is_on}
-use Rattle.nook_defs.specs.declared.calls.Op.{Op}
+use Rattle.nook_data.specs.declared.calls.Op.{Op}
 use Rattle.part_laws.proofs.Places.{some_same}
 use Rattle.journal_audit.specs.Sections.{is_at}
 

@@ -2,14 +2,14 @@
 use Rattle.std.proofs.Common.{map, subst, Result, Ok, Err, OnOk, ◌≡◌, ℕ, suc, ◌+◌, ◌-◌, ◌<◌, Bool, true, false, Some, None, Option, List, [], ◌∷◌, ◌++◌, add-one, length, slice_get, bytes_eq, refl, sym, ap, ◌∙◌, arith}
 use Rattle.std.proofs.lemmas.List.{length-append}
 use Rattle.run_laws.specs.Audit.{Section, after_event, after_step, is_line_of, section_after, step_named}
-use Rattle.nook_defs.specs.ReportLines.{event_line}
-use Rattle.nook_defs.specs.Runs.{PartRun, event_of, opening_run, run_after}
-use Rattle.nook_defs.specs.Simulation.{ThreadState, threads_after}
-use Rattle.nook_defs.specs.Steps.{enabled}
-use Rattle.nook_defs.specs.declared.steps.Event.{Event}
-use Rattle.nook_defs.specs.declared.scenario.PartSpec.{PartSpec}
-use Rattle.nook_defs.specs.declared.steps.Step.{Step}
-use Rattle.nook_defs.specs.declared.memory.NoMemory.{NoMemory}
+use Rattle.report_defs.specs.ReportLines.{event_line}
+use Rattle.part_defs.specs.Runs.{PartRun, event_of, opening_run, run_after}
+use Rattle.run_defs.specs.Simulation.{ThreadState, threads_after}
+use Rattle.part_defs.specs.Steps.{enabled}
+use Rattle.nook_data.specs.declared.steps.Event.{Event}
+use Rattle.nook_data.specs.declared.scenario.PartSpec.{PartSpec}
+use Rattle.nook_data.specs.declared.steps.Step.{Step}
+use Rattle.nook_data.specs.declared.memory.NoMemory.{NoMemory}
 use Rattle.part_laws.proofs.DeviceStays.{opening_spec, spec_after}
 use Rattle.part_laws.proofs.Places.{get_mid, some_same}
 use Rattle.journal_audit.specs.Sections.{AreOn, IsTaken, OnPart, state_in, newest_in, with_threads}

@@ -1,8 +1,8 @@
 -- What an audit finds from a place on.
 use Rattle.std.specs.Prelude.{◌≡◌, ℕ, true, false, List, [], Option, Some, None}
 use Rattle.run_laws.specs.Audit.{Auditing, Done, Section, first_unfit, lines_of}
-use Rattle.nook_defs.specs.declared.scenario.PartSpec.{PartSpec}
-use Rattle.nook_defs.specs.declared.scenario.Scenario.{Scenario}
+use Rattle.nook_data.specs.declared.scenario.PartSpec.{PartSpec}
+use Rattle.nook_data.specs.declared.scenario.Scenario.{Scenario}
 use Rattle.journal_audit.specs.Placed.{Place}
 use Rattle.journal_audit.specs.Tallies.{SumsUp, Tallied}
 

@@ -2,11 +2,11 @@
 use Rattle.std.specs.Prelude.{◌≡◌, ℕ, ◌-◌, ◌==◌, Bool, true, false, List, [], ◌∷◌, Option, Some, None, All, length}
 use Rattle.std.specs.Prelude.{slice_get}
 use Rattle.run_laws.specs.Audit.{Section}
-use Rattle.nook_defs.specs.Simulation.{ThreadState, Waiting, part_after}
-use Rattle.nook_defs.specs.Steps.{enabled}
-use Rattle.nook_defs.specs.declared.steps.Event.{Event}
-use Rattle.nook_defs.specs.declared.calls.Op.{Op}
-use Rattle.nook_defs.specs.declared.steps.Step.{Step}
+use Rattle.run_defs.specs.Simulation.{ThreadState, Waiting, part_after}
+use Rattle.part_defs.specs.Steps.{enabled}
+use Rattle.nook_data.specs.declared.steps.Event.{Event}
+use Rattle.nook_data.specs.declared.calls.Op.{Op}
+use Rattle.nook_data.specs.declared.steps.Step.{Step}
 
 -- a thread, and the part that it asks
 pub record OnPart : Type 0 where

@@ -1,12 +1,12 @@
 -- What is kept of the sections that are over.
 use Rattle.std.specs.Prelude.{◌≡◌, ℕ, Bool, List, length, map}
 use Rattle.run_laws.specs.Audit.{Done, Section, journal_in, own_listeners, published_in}
-use Rattle.nook_defs.specs.Contract.{first_break}
-use Rattle.nook_defs.specs.Losses.{losses}
-use Rattle.nook_defs.specs.ReportText.{has_break, has_given_up}
-use Rattle.nook_defs.specs.Listening.{Listening}
-use Rattle.nook_defs.specs.declared.calls.Answer.{Answer}
-use Rattle.nook_defs.specs.declared.scenario.PartSpec.{PartSpec}
+use Rattle.promise_defs.specs.Contract.{first_break}
+use Rattle.promise_defs.specs.Losses.{losses}
+use Rattle.report_defs.specs.ReportText.{has_break, has_given_up}
+use Rattle.nook_io.specs.Listening.{Listening}
+use Rattle.nook_data.specs.declared.calls.Answer.{Answer}
+use Rattle.nook_data.specs.declared.scenario.PartSpec.{PartSpec}
 use Rattle.report_text.specs.declared.whole_report.PartReport.{PartReport}
 use Rattle.request_taps.specs.Bus.{settled, told_all}
 use Rattle.request_taps.specs.declared.tap.Tap.{Tap}

@@ -7,10 +7,10 @@ ghost use Rattle.journal_audit.specs.Found.{ArePast, at_last, between, found_fro
 ghost use Rattle.journal_audit.specs.Placed.{IsEnding};
 ghost use Rattle.journal_audit.specs.Stopping.{Checks, Leads};
 ghost use Rattle.journal_audit.specs.Tallies.{SumsUp};
-ghost use Rattle.nook_defs.specs.ReportText.{part_line};
-ghost use Rattle.nook_defs.specs.Valid.{IsValidPart, IsValidScenario};
-ghost use Rattle.nook_defs.specs.declared.scenario.PartSpec.{PartSpec as Spec};
-ghost use Rattle.nook_defs.specs.declared.scenario.Scenario.{Scenario as Given};
+ghost use Rattle.report_defs.specs.ReportText.{part_line};
+ghost use Rattle.nook_data.specs.Valid.{IsValidPart, IsValidScenario};
+ghost use Rattle.nook_data.specs.declared.scenario.PartSpec.{PartSpec as Spec};
+ghost use Rattle.nook_data.specs.declared.scenario.Scenario.{Scenario as Given};
 
 use crate::comparing::Comparing;
 use crate::cursor::Cursor;
@@ -19,8 +19,8 @@ use crate::last::check_last;
 use crate::section::Section;
 use crate::stop::Stop;
 use crate::tally::Tally;
-use nook_defs::memory::NoMemory;
-use nook_defs::scenario::{PartSpec, Scenario};
+use nook_data::memory::NoMemory;
+use nook_data::scenario::{PartSpec, Scenario};
 use report_text::{WriteStop, write_part_line};
 use std::alloc::Global;
 

@@ -3,11 +3,11 @@
 ghost use Rattle.std.specs.Prelude.{◌≡◌, ◌+◌, ◌<◌, ◌≤◌, None, Some, false, true, length, take, drop, slice_index};
 ghost use Rattle.std.specs.Io.{WritesAtMost};
 ghost use Rattle.std.specs.Io.KnownBytes.{WriteAppends};
-ghost use Rattle.nook_defs.specs.Views.Causes.{HasWriteCause};
+ghost use Rattle.nook_io.specs.Views.Causes.{HasWriteCause};
 ghost use Rattle.journal_audit.specs.Comparisons.{held_in, is_other, untouched};
 ghost use Rattle.journal_audit.specs.Placed.{begins_with};
 
-use nook_defs::outside::{Failed, Sink};
+use nook_io::outside::{Failed, Sink};
 use std::marker::Model;
 
 /// A sink that compares what is written with a text. It takes the bytes that are the text's, and the first one that is

@@ -6,9 +6,9 @@ ghost use Rattle.run_laws.specs.Audit.{Done, answers_in_order, in_script_order};
 ghost use Rattle.journal_audit.specs.Found.{at_last, between, found_from};
 ghost use Rattle.journal_audit.specs.Stopping.{Checks};
 ghost use Rattle.journal_audit.specs.Tallies.{SumsUp, answers_in};
-ghost use Rattle.nook_defs.specs.ReportText.{status_line, taps_text, threads_text};
-ghost use Rattle.nook_defs.specs.declared.calls.Answer.{Answer};
-ghost use Rattle.nook_defs.specs.declared.scenario.Scenario.{Scenario};
+ghost use Rattle.report_defs.specs.ReportText.{status_line, taps_text, threads_text};
+ghost use Rattle.nook_data.specs.declared.calls.Answer.{Answer};
+ghost use Rattle.nook_data.specs.declared.scenario.Scenario.{Scenario};
 ghost use Rattle.report_text.specs.Statuses.{status_number};
 ghost use Rattle.report_text.specs.Writing.{Wrote};
 
@@ -16,13 +16,13 @@ use crate::comparing::Comparing;
 use crate::cursor::Cursor;
 use crate::stop::Stop;
 use crate::tally::Tally;
-use nook_defs::calls::{Answer, AnswerTable, Op, PartAnswers};
-use nook_defs::limits::MOST_THREADS;
-use nook_defs::listeners::TapTotals;
-use nook_defs::lists::{Items, TryCopy};
-use nook_defs::memory::NoMemory;
-use nook_defs::outside::Sink;
-use nook_defs::scenario::ThreadSpec;
+use nook_data::calls::{Answer, AnswerTable, Op, PartAnswers};
+use nook_data::limits::MOST_THREADS;
+use nook_data::lists::{Items, TryCopy};
+use nook_data::memory::NoMemory;
+use nook_data::scenario::ThreadSpec;
+use nook_io::listeners::TapTotals;
+use nook_io::outside::Sink;
 use report_text::{ReportStatus, WriteStop, write_status_line, write_taps, write_threads};
 use std::alloc::Global;
 use std::marker::Model;
@@ -115,7 +115,7 @@ struct Given<'a> {
 
 impl<'a> Model for Given<'a> {
     ghost use Rattle.std.specs.Prelude.{ℕ, List, map};
-    ghost use Rattle.nook_defs.specs.declared.calls.Answer.{Answer as Answered};
+    ghost use Rattle.nook_data.specs.declared.calls.Answer.{Answer as Answered};
 
     ghost Value = { List (List (ℕ × Answered)) };
 

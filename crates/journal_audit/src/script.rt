@@ -3,16 +3,16 @@
 ghost use Rattle.std.specs.Prelude.{drop, ◌≡◌, ℕ, true, List, ◌∷◌, [], None, IfOk, MatchOption, OnOk, filter};
 ghost use Rattle.std.specs.Prelude.{if◌then◌else◌};
 ghost use Rattle.run_laws.specs.Audit.{is_on, is_through, thread_on};
-ghost use Rattle.nook_defs.specs.Runs.{answer_among, answer_at};
-ghost use Rattle.nook_defs.specs.Simulation.{started, thread_after};
+ghost use Rattle.nook_data.specs.Answers.{answer_among, answer_at};
+ghost use Rattle.run_defs.specs.Simulation.{started, thread_after};
 ghost use Rattle.journal_audit.specs.Sections.{is_at, with_state};
-ghost use Rattle.nook_defs.specs.declared.calls.Op.{Op};
+ghost use Rattle.nook_data.specs.declared.calls.Op.{Op};
 
-use nook_defs::calls::{Op, PartAnswers};
-use nook_defs::lists::Items;
-use nook_defs::memory::NoMemory;
-use nook_defs::scenario::ThreadSpec;
-use nook_defs::steps::Event;
+use nook_data::calls::{Op, PartAnswers};
+use nook_data::lists::Items;
+use nook_data::memory::NoMemory;
+use nook_data::scenario::ThreadSpec;
+use nook_data::steps::Event;
 use std::alloc::Global;
 use std::marker::Model;
 

@@ -3,21 +3,21 @@
 ghost use Rattle.std.specs.Prelude.{◌≡◌, ◌<◌, ◌≤◌, ℕ, IfOk, OnOk, Some, bytes_eq, codes, length, map};
 ghost use Rattle.run_laws.specs.Audit.{after_event, are_through, arrival_of, context_in, if_burst, if_entered};
 ghost use Rattle.run_laws.specs.Audit.{if_invoked, is_complete, opening_section, step_named, thread_on};
-ghost use Rattle.nook_defs.specs.ReportLines.{event_line};
-ghost use Rattle.nook_defs.specs.Runs.{state_of};
-ghost use Rattle.nook_defs.specs.Simulation.{answers_of_thread, coming_after, threads_after};
-ghost use Rattle.nook_defs.specs.Valid.{IsValidPart};
-ghost use Rattle.nook_defs.specs.declared.steps.Event.{Event};
+ghost use Rattle.report_defs.specs.ReportLines.{event_line};
+ghost use Rattle.part_defs.specs.Runs.{state_of};
+ghost use Rattle.run_defs.specs.Simulation.{answers_of_thread, coming_after, threads_after};
+ghost use Rattle.nook_data.specs.Valid.{IsValidPart};
+ghost use Rattle.nook_data.specs.declared.steps.Event.{Event};
 ghost use Rattle.journal_audit.specs.Sections.{AreOn, IsAfter, IsTaken, newest_in, state_in, with_threads};
 
 use crate::script::Script;
 use crate::words::{context_in, word_at};
-use nook_defs::calls::AnswerTable;
-use nook_defs::limits::MOST_THREADS;
-use nook_defs::lists::{Items, TryCopy, Words};
-use nook_defs::memory::NoMemory;
-use nook_defs::scenario::{PartSpec, ThreadSpec};
-use nook_defs::steps::{Event, Step};
+use nook_data::calls::AnswerTable;
+use nook_data::limits::MOST_THREADS;
+use nook_data::lists::{Items, TryCopy, Words};
+use nook_data::memory::NoMemory;
+use nook_data::scenario::{PartSpec, ThreadSpec};
+use nook_data::steps::{Event, Step};
 use part_core::{Part, StepRefused};
 use report_text::event_line;
 use std::alloc::Global;
@@ -36,7 +36,7 @@ pub struct Section<'a> {
 
 impl<'a> Model for Section<'a> {
     ghost use Rattle.std.specs.Prelude.{◌≡◌, ◌≤◌, length, map};
-    ghost use Rattle.nook_defs.specs.declared.limits.TheConstants.{MOST_THREADS};
+    ghost use Rattle.nook_data.specs.declared.limits.TheConstants.{MOST_THREADS};
     ghost use Rattle.run_laws.specs.Audit.{Section as Sectioned};
     ghost use Rattle.journal_audit.specs.Sections.{AreOn, state_in};
 

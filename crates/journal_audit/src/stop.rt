@@ -1,6 +1,6 @@
 //! Why an audit stops before the end of a report.
 
-use nook_defs::memory::NoMemory;
+use nook_data::memory::NoMemory;
 
 /// Why an audit stops before the end of a report.
 #[derive(Clone, Copy, Debug, PartialEq, Eq)]

@@ -2,20 +2,20 @@
 
 ghost use Rattle.std.specs.Prelude.{◌≡◌, ◌<◌, ◌++◌, ◌∷◌, List, [], IfOk, OnOk, if◌then◌else◌, length, map};
 ghost use Rattle.run_laws.specs.Audit.{Done, done_of, each_of_part, own_listeners};
-ghost use Rattle.nook_defs.specs.Runs.{state_of};
-ghost use Rattle.nook_defs.specs.Stages.{is_given_up};
-ghost use Rattle.nook_defs.specs.declared.scenario.PartSpec.{PartSpec};
+ghost use Rattle.part_defs.specs.Runs.{state_of};
+ghost use Rattle.part_defs.specs.Stages.{is_given_up};
+ghost use Rattle.nook_data.specs.declared.scenario.PartSpec.{PartSpec};
 ghost use Rattle.journal_audit.specs.Tallies.{SumsUp, judged_in};
 ghost use Rattle.report_text.specs.Statuses.{status_number};
 ghost use Rattle.request_taps.specs.Bus.{result_of, seen, settled, told_all};
 
 use crate::section::Section;
-use nook_defs::calls::AnswerTable;
-use nook_defs::listeners::{CountListener, TapTotals};
-use nook_defs::lists::Items;
-use nook_defs::memory::NoMemory;
-use nook_defs::outside::Listener;
-use nook_defs::steps::Event;
+use nook_data::calls::AnswerTable;
+use nook_data::lists::Items;
+use nook_data::memory::NoMemory;
+use nook_data::steps::Event;
+use nook_io::listeners::{CountListener, TapTotals};
+use nook_io::outside::Listener;
 use report_text::{PartReport, ReportStatus};
 use request_taps::Bus;
 use std::alloc::Global;

@@ -4,7 +4,7 @@ ghost use Rattle.std.specs.Prelude.{◌≡◌, ◌<◌, ◌++◌, ◌==◌, ◌�
 ghost use Rattle.std.specs.List.{position};
 ghost use Rattle.run_laws.specs.Audit.{context_in, word_at};
 
-use nook_defs::limits::CONTEXTS;
+use nook_data::limits::CONTEXTS;
 
 /// The word at a place of a line, from 0, between blanks; empty where there is none. The line feed is a part of the
 /// last.

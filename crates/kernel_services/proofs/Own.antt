@@ -2,7 +2,7 @@
 use Rattle.std.proofs.Common.{◌≡◌, ℕ, ◌<◌, Bool, false, List, ◌||◌, length, slice_index_or, arith, refl, sym}
 use Rattle.std.proofs.lemmas.List.FromFn.{fill_by_all}
 use Rattle.domain_pages.specs.Frames.{has_some, with_own}
-use Rattle.nook_defs.specs.Pages.{object_start}
+use Rattle.nook_data.specs.Layout.{object_start}
 
 has_none : (object page : ℕ) → page < 115 → has_some (object_start object) 64 page ≡ false
 has_none object page low = grind arith

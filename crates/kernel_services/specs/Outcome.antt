@@ -1,12 +1,12 @@
 use Rattle.std.specs.Prelude.{ℕ, Bool, Option, Some, None, List, [], ◌∷◌, ◌++◌, length, nat_lt, if◌then◌else◌}
-use Rattle.nook_defs.specs.declared.entries.Entry.{Entry}
-use Rattle.nook_defs.specs.declared.machine.Service.{Service}
-use Rattle.nook_defs.specs.declared.machine.Service.TheVariants as service
-use Rattle.nook_defs.specs.declared.limits.TheConstants.{MOST_QUEUED_FRAMES}
-use Rattle.nook_defs.specs.declared.memory_map.TheConstants.{OBJECT_WORDS}
-use Rattle.nook_defs.specs.Entries.{free_start}
+use Rattle.nook_data.specs.declared.entries.Entry.{Entry}
+use Rattle.nook_data.specs.declared.machine.Service.{Service}
+use Rattle.nook_data.specs.declared.machine.Service.TheVariants as service
+use Rattle.nook_data.specs.declared.limits.TheConstants.{MOST_QUEUED_FRAMES}
+use Rattle.nook_data.specs.declared.memory_map.TheConstants.{OBJECT_WORDS}
+use Rattle.machine_defs.specs.Entries.{free_start}
 use Rattle.domain_pages.specs.Frames.{with_own}
-use Rattle.nook_defs.specs.Services.{Served}
+use Rattle.machine_defs.specs.Services.{Served}
 use Rattle.kernel_services.specs.declared.services.Served.{Served as Told}
 
 -- what a service leaves, with what it tells

@@ -1,14 +1,14 @@
 //! The kernel's queue of received frames.
 
 ghost use Rattle.std.specs.Prelude.{◌≡◌, ◌<◌, [], length, nat_lt, IfOk};
-ghost use Rattle.nook_defs.specs.Devices.{tail_of};
-ghost use Rattle.nook_defs.specs.Views.CallLogs.{front_of};
+ghost use Rattle.nook_data.specs.Frames.{tail_of};
+ghost use Rattle.nook_data.specs.Frames.{front_of};
 ghost use Rattle.kernel_services.specs.Outcome.{with_frame};
 
-use nook_defs::limits::MOST_QUEUED_FRAMES;
-use nook_defs::lists::Words;
-use nook_defs::memory::NoMemory;
-use nook_defs::outside::RxFront;
+use nook_data::limits::MOST_QUEUED_FRAMES;
+use nook_data::lists::Words;
+use nook_data::memory::NoMemory;
+use nook_io::outside::RxFront;
 use std::alloc::Global;
 use std::collections::VecDeque;
 use std::marker::Model;
@@ -22,7 +22,7 @@ pub struct RxQueue {
 impl Model for RxQueue {
     ghost use Rattle.std.specs.Prelude.{◌≤◌, ℕ, List};
     ghost use Rattle.std.specs.VecDeque.{deque_capacity};
-    ghost use Rattle.nook_defs.specs.declared.limits.TheConstants.{MOST_QUEUED_FRAMES};
+    ghost use Rattle.nook_data.specs.declared.limits.TheConstants.{MOST_QUEUED_FRAMES};
 
     ghost Value = { List (List ℕ) };
 

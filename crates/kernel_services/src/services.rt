@@ -1,20 +1,20 @@
 //! The services.
 
 ghost use Rattle.std.specs.Prelude.{◌≡◌, ◌+◌, ◌≤◌, ℕ, true, [], List, slice_range};
-ghost use Rattle.nook_defs.specs.Entries.{borrow_start, free_start};
-ghost use Rattle.nook_defs.specs.Pages.{object_start};
-ghost use Rattle.nook_defs.specs.Services.{served, alloc_served, borrow_served, give_back_served, frame_served};
-ghost use Rattle.nook_defs.specs.declared.entries.Entry.{Entry};
+ghost use Rattle.machine_defs.specs.Entries.{borrow_start, free_start};
+ghost use Rattle.nook_data.specs.Layout.{object_start};
+ghost use Rattle.machine_defs.specs.Services.{served, alloc_served, borrow_served, give_back_served, frame_served};
+ghost use Rattle.nook_data.specs.declared.entries.Entry.{Entry};
 ghost use Rattle.param_wrappers.specs.Crossing.{can_serve};
 ghost use Rattle.kernel_services.specs.Outcome.{outcome, own_copied, own_served};
 
 use crate::queue::RxQueue;
 use domain_pages::PageMap;
-use nook_defs::limits::MOST_FRAME_WORDS;
-use nook_defs::lists::{Items, Word, Words};
-use nook_defs::machine::Service;
-use nook_defs::memory::Room;
-use nook_defs::memory_map::{DATA_WORDS, LAST_OBJECT, MEMORY_WORDS, OBJECT_WORDS, object_start};
+use nook_data::limits::MOST_FRAME_WORDS;
+use nook_data::lists::{Items, Word, Words};
+use nook_data::machine::Service;
+use nook_data::memory::Room;
+use nook_data::memory_map::{DATA_WORDS, LAST_OBJECT, MEMORY_WORDS, OBJECT_WORDS, object_start};
 use object_tracker::Tracker;
 
 /// What a service told: its result, and the words that it moved.
@@ -26,7 +26,7 @@ pub struct Served {
 
 /// Serves a kernel call that passed its check. The words that it moves go into `moved`, the queue's own copy of a
 /// frame into `frame`; both have room for 64 words. It takes no memory.
-#[tactic(auto, unfolding(nook_defs::specs::Services::served))]
+#[tactic(auto, unfolding(machine_defs::specs::Services::served))]
 pub fn serve(
     service: Service,
     pages: &mut PageMap,

@@ -1,18 +1,18 @@
 -- How asking a side ends, by how its desk's call ends.
 use Rattle.std.proofs.Common.{◌≡◌, ◌⊎◌, ℕ, suc, ◌+◌, ◌-◌, ◌<◌, ◌≤◌, true, false, Option, Some, None, Ok, Err, List, [], ◌∷◌, length, slice_get, subst, sym, refl, ap, ◌∙◌, inl, inr, arith}
-use Rattle.nook_defs.specs.declared.calls.Answer.{Answer}
-use Rattle.nook_defs.specs.declared.calls.CallEntry.{CallEntry}
-use Rattle.nook_defs.specs.declared.desks.DeskRefused.{DeskRefused}
-use Rattle.nook_defs.specs.declared.desks.DeskRefused.TheVariants as refused
-use Rattle.nook_defs.specs.declared.steps.Event.{Event}
-use Rattle.nook_defs.specs.declared.steps.Event.TheVariants as event
-use Rattle.nook_defs.specs.declared.calls.Op.{Op}
-use Rattle.nook_defs.specs.declared.scenario.PartSpec.{PartSpec}
-use Rattle.nook_defs.specs.declared.desks.Receipt.{Receipt}
-use Rattle.nook_defs.specs.Log.{call_of_thread}
-use Rattle.nook_defs.specs.Places.{at_number}
-use Rattle.nook_defs.specs.Runs.{IsRun, state_of}
-use Rattle.nook_defs.specs.State.{PartState}
+use Rattle.nook_data.specs.declared.calls.Answer.{Answer}
+use Rattle.nook_data.specs.declared.calls.CallEntry.{CallEntry}
+use Rattle.nook_data.specs.declared.desks.DeskRefused.{DeskRefused}
+use Rattle.nook_data.specs.declared.desks.DeskRefused.TheVariants as refused
+use Rattle.nook_data.specs.declared.steps.Event.{Event}
+use Rattle.nook_data.specs.declared.steps.Event.TheVariants as event
+use Rattle.nook_data.specs.declared.calls.Op.{Op}
+use Rattle.nook_data.specs.declared.scenario.PartSpec.{PartSpec}
+use Rattle.nook_data.specs.declared.desks.Receipt.{Receipt}
+use Rattle.part_defs.specs.Log.{call_of_thread}
+use Rattle.nook_data.specs.Places.{at_number}
+use Rattle.part_defs.specs.Runs.{IsRun, state_of}
+use Rattle.part_defs.specs.State.{PartState}
 use Rattle.shares.specs.Shares.{IsWhole}
 use Rattle.desk_like.specs.Desks.{Accounts, CallEnds, DeskView, HasOpen}
 use Rattle.mirror_block.specs.Disk.{IsShown}

@@ -3,16 +3,16 @@ use Rattle.std.proofs.Common.{◌≡◌, ℕ, ◌||◌, Bool, true, false, Optio
 use Rattle.std.specs.Prelude.{if◌then◌else◌, option_and_then}
 use Rattle.std.proofs.lemmas.Bool.{and_parts}
 use Rattle.std.proofs.lemmas.List.{drop_all}
-use Rattle.nook_defs.specs.declared.calls.Answer.{Answer}
-use Rattle.nook_defs.specs.declared.classes.Class.TheVariants.{Block}
-use Rattle.nook_defs.specs.declared.steps.Event.{Event}
-use Rattle.nook_defs.specs.declared.mirror.MirrorAnswer.{MirrorAnswer}
-use Rattle.nook_defs.specs.declared.calls.Op.{Op}
-use Rattle.nook_defs.specs.declared.calls.Op.TheVariants.{Read, Write, Send, Recv, Open, Play, Close, Get, Set}
-use Rattle.nook_defs.specs.declared.scenario.PartSpec.{PartSpec}
-use Rattle.nook_defs.specs.Classes.{static_check}
-use Rattle.nook_defs.specs.Ideal.{Ideal, IsClassRun, class_run, never_failing, ran}
-use Rattle.nook_defs.specs.Trace.{trace}
+use Rattle.nook_data.specs.declared.calls.Answer.{Answer}
+use Rattle.nook_data.specs.declared.classes.Class.TheVariants.{Block}
+use Rattle.nook_data.specs.declared.steps.Event.{Event}
+use Rattle.nook_data.specs.declared.mirror.MirrorAnswer.{MirrorAnswer}
+use Rattle.nook_data.specs.declared.calls.Op.{Op}
+use Rattle.nook_data.specs.declared.calls.Op.TheVariants.{Read, Write, Send, Recv, Open, Play, Close, Get, Set}
+use Rattle.nook_data.specs.declared.scenario.PartSpec.{PartSpec}
+use Rattle.nook_data.specs.Classes.{static_check}
+use Rattle.promise_defs.specs.Ideal.{Ideal, IsClassRun, class_run, never_failing, ran}
+use Rattle.promise_defs.specs.Trace.{trace}
 use Rattle.desk_like.specs.Desks.{DeskView}
 use Rattle.mirror_block.specs.declared.stop.MirrorStop.{MirrorStop}
 use Rattle.mirror_block.specs.declared.stop.MirrorStop.TheVariants as stop

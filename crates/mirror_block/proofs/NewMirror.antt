@@ -1,14 +1,14 @@
 -- What holds of a mirror of which nothing was asked yet.
 use Rattle.std.proofs.Common.{◌≡◌, ℕ, false, List, [], subst, sym, refl, ap, ◌∙◌}
 use Rattle.std.specs.List.{list_all}
-use Rattle.nook_defs.specs.declared.classes.Class.TheVariants.{Block}
-use Rattle.nook_defs.specs.declared.steps.Event.{Event}
-use Rattle.nook_defs.specs.declared.scenario.PartSpec.{PartSpec}
-use Rattle.nook_defs.specs.Ideal.{Ideal, never_failing, ran}
-use Rattle.nook_defs.specs.Log.{opening_log}
-use Rattle.nook_defs.specs.Runs.{IsRun, IsRunFrom, state_from, state_of}
-use Rattle.nook_defs.specs.Steps.{opening}
-use Rattle.nook_defs.specs.Trace.{trace, trace_from}
+use Rattle.nook_data.specs.declared.classes.Class.TheVariants.{Block}
+use Rattle.nook_data.specs.declared.steps.Event.{Event}
+use Rattle.nook_data.specs.declared.scenario.PartSpec.{PartSpec}
+use Rattle.promise_defs.specs.Ideal.{Ideal, never_failing, ran}
+use Rattle.part_defs.specs.Log.{opening_log}
+use Rattle.part_defs.specs.Runs.{IsRun, IsRunFrom, state_from, state_of}
+use Rattle.part_defs.specs.Steps.{opening}
+use Rattle.promise_defs.specs.Trace.{trace, trace_from}
 use Rattle.desk_like.specs.Desks.{DeskView}
 use Rattle.mirror_block.specs.Disk.{IsIdleBehind, ShowsDevice, ShowsDisk, is_over}
 use Rattle.mirror_block.specs.Mirrors.{IsMirror, new_mirror}

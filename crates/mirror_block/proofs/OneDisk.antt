@@ -1,8 +1,8 @@
 -- Over a list of operations the answers of a mirror are those of one plain disk.
 use Rattle.std.proofs.Common.{◌≡◌, ℕ, ◌||◌, true, List, [], ◌∷◌, subst, sym, refl}
-use Rattle.nook_defs.specs.declared.mirror.MirrorAnswer.{MirrorAnswer}
-use Rattle.nook_defs.specs.declared.calls.Op.{Op}
-use Rattle.nook_defs.specs.declared.scenario.PartSpec.{PartSpec}
+use Rattle.nook_data.specs.declared.mirror.MirrorAnswer.{MirrorAnswer}
+use Rattle.nook_data.specs.declared.calls.Op.{Op}
+use Rattle.nook_data.specs.declared.scenario.PartSpec.{PartSpec}
 use Rattle.mirror_block.specs.Disk.{Serves, ServesAll}
 use Rattle.mirror_block.specs.Mirrors.{AreServed, IsDisk, MirrorView}
 use Rattle.mirror_block.specs.Sides.{answers_gained}

@@ -1,14 +1,14 @@
 -- The rule's outcome, by what both sides said: who stays, and that the answer is one that the disk of a side gives.
 use Rattle.std.proofs.Common.{◌≡◌, ℕ, ◌&&◌, ◌||◌, not, Bool, true, false, Option, Some, None, is_some, List, subst, sym, refl, ap, ◌∙◌, true≢false, inl, inr, ◌⊎◌}
 use Rattle.std.specs.Prelude.{if◌then◌else◌, option_and_then}
-use Rattle.nook_defs.specs.declared.calls.Answer.{Answer}
-use Rattle.nook_defs.specs.declared.calls.Answer.TheVariants as answered
-use Rattle.nook_defs.specs.declared.mirror.MirrorAnswer.TheVariants as mirror
-use Rattle.nook_defs.specs.declared.calls.Op.{Op}
-use Rattle.nook_defs.specs.declared.calls.Op.TheVariants.{Read, Write, Send, Recv, Open, Play, Close, Get, Set}
-use Rattle.nook_defs.specs.Classes.{is_write, static_check}
-use Rattle.nook_defs.specs.declared.classes.Class.TheVariants.{Block}
-use Rattle.nook_defs.specs.declared.mirror.MirrorAnswer.{MirrorAnswer}
+use Rattle.nook_data.specs.declared.calls.Answer.{Answer}
+use Rattle.nook_data.specs.declared.calls.Answer.TheVariants as answered
+use Rattle.nook_data.specs.declared.mirror.MirrorAnswer.TheVariants as mirror
+use Rattle.nook_data.specs.declared.calls.Op.{Op}
+use Rattle.nook_data.specs.declared.calls.Op.TheVariants.{Read, Write, Send, Recv, Open, Play, Close, Get, Set}
+use Rattle.nook_data.specs.Classes.{is_write, static_check}
+use Rattle.nook_data.specs.declared.classes.Class.TheVariants.{Block}
+use Rattle.nook_data.specs.declared.mirror.MirrorAnswer.{MirrorAnswer}
 use Rattle.part_laws.proofs.Places.{some_same}
 use Rattle.mirror_block.specs.Disk.{ServesChecked, ServesSaid}
 use Rattle.mirror_block.specs.Rule.{Outcome, Presence, Said, MirrorStep, after_asking, after_failed_write, after_read, after_write, asks_right, failed_block, failed_read, is_disk_op, is_done, mirror_step, outcome, read_answer, refusal_of, says, stays_after_read, step_checked, step_refused, mirror_step_of, words_read}

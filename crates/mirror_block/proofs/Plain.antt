@@ -6,25 +6,27 @@ use Rattle.std.proofs.lemmas.Bool.{and_parts}
 use Rattle.std.proofs.lemmas.Bool.Decides.{nat_tests}
 use Rattle.std.proofs.lemmas.List.Folds.{list_all-append}
 use Rattle.std.proofs.lemmas.Slice.Eq.{bytes_eq-Decides}
-use Rattle.nook_defs.specs.declared.machine.Act.{Act}
-use Rattle.nook_defs.specs.declared.machine.Act.TheVariants as act
-use Rattle.nook_defs.specs.declared.calls.Answer.{Answer}
-use Rattle.nook_defs.specs.declared.calls.Answer.TheVariants as answered
-use Rattle.nook_defs.specs.declared.classes.Class.{Class}
-use Rattle.nook_defs.specs.declared.classes.Class.TheVariants.{Block, Net, Sound}
-use Rattle.nook_defs.specs.declared.steps.Event.{Event}
-use Rattle.nook_defs.specs.declared.steps.Event.TheVariants as event
-use Rattle.nook_defs.specs.declared.calls.Op.{Op}
-use Rattle.nook_defs.specs.declared.calls.Op.TheVariants.{Read, Write, Send, Recv, Open, Play, Close, Get, Set}
-use Rattle.nook_defs.specs.Blocks.{get_blocks, has_block}
-use Rattle.nook_defs.specs.Classes.{covers, same_class, static_check}
-use Rattle.nook_defs.specs.Ideal.{Ideal, Opened, after_answer, is_due, may_answer, may_call, may_sound, may_wire, never_failing, play_of, ran, shows, when}
-use Rattle.nook_defs.proofs.Cases.{answers, closes}
-use Rattle.nook_defs.proofs.Changes.{opens, stops_waiting}
-use Rattle.nook_defs.specs.Places.{at_number}
-use Rattle.nook_defs.specs.Answers.{one_answer}
-use Rattle.nook_defs.specs.Runs.{answer_among, answer_at}
-use Rattle.nook_defs.specs.Trace.{Track, Visible, called, wire, sample, arrived, answer, shown, shown_acts, shown_answers, shown_option, trace, trace_from, tracks_after}
+use Rattle.nook_data.specs.declared.machine.Act.{Act}
+use Rattle.nook_data.specs.declared.machine.Act.TheVariants as act
+use Rattle.nook_data.specs.declared.calls.Answer.{Answer}
+use Rattle.nook_data.specs.declared.calls.Answer.TheVariants as answered
+use Rattle.nook_data.specs.declared.classes.Class.{Class}
+use Rattle.nook_data.specs.declared.classes.Class.TheVariants.{Block, Net, Sound}
+use Rattle.nook_data.specs.declared.steps.Event.{Event}
+use Rattle.nook_data.specs.declared.steps.Event.TheVariants as event
+use Rattle.nook_data.specs.declared.calls.Op.{Op}
+use Rattle.nook_data.specs.declared.calls.Op.TheVariants.{Read, Write, Send, Recv, Open, Play, Close, Get, Set}
+use Rattle.promise_defs.specs.Blocks.{get_blocks, has_block}
+use Rattle.nook_data.specs.Classes.{covers, same_class, static_check}
+use Rattle.promise_defs.specs.Ideal.{Ideal, Opened, after_answer, is_due, may_answer, may_call, may_sound, may_wire}
+use Rattle.promise_defs.specs.Ideal.{never_failing, play_of, ran, shows, when}
+use Rattle.promise_defs.proofs.PromiseCases.{answers, closes}
+use Rattle.promise_defs.proofs.PromiseChanges.{opens, stops_waiting}
+use Rattle.nook_data.specs.Places.{at_number}
+use Rattle.nook_data.specs.Answers.{one_answer}
+use Rattle.nook_data.specs.Answers.{answer_among, answer_at}
+use Rattle.promise_defs.specs.Trace.{Track, Visible, called, wire, sample, arrived, answer, shown, shown_acts}
+use Rattle.promise_defs.specs.Trace.{shown_answers, shown_option, trace, trace_from, tracks_after}
 use Rattle.part_laws.proofs.Places.{change_at, get_mid, get_push, set_mid, some_same}
 use Rattle.desk_like.specs.Desks.{DeskView, IsOther}
 use Rattle.mirror_block.specs.Disk.{IsIdleBehind, IsShown, ServesSaid, ShowsDevice, is_over}

@@ -1,18 +1,18 @@
 -- One plain disk of which blocks may be bad: what it answers to reads and writes, and what these leave of it.
 use Rattle.std.specs.Prelude.{◌≡◌, ℕ, Bool, true, List, [], ◌∷◌, Option, Some, None, not}
 use Rattle.std.specs.List.{list_all}
-use Rattle.nook_defs.specs.declared.calls.Answer.{Answer}
-use Rattle.nook_defs.specs.declared.calls.Answer.TheVariants as answered
-use Rattle.nook_defs.specs.declared.classes.Class.TheVariants.{Block}
-use Rattle.nook_defs.specs.declared.steps.Event.{Event}
-use Rattle.nook_defs.specs.declared.mirror.MirrorAnswer.{MirrorAnswer}
-use Rattle.nook_defs.specs.declared.mirror.MirrorAnswer.TheVariants as mirror
-use Rattle.nook_defs.specs.declared.calls.Op.{Op}
-use Rattle.nook_defs.specs.declared.calls.Op.TheVariants.{Read, Write}
-use Rattle.nook_defs.specs.Blocks.{get_blocks, put_from}
-use Rattle.nook_defs.specs.Classes.{covers, static_check}
-use Rattle.nook_defs.specs.Ideal.{Ideal, Opened, never_failing, ran}
-use Rattle.nook_defs.specs.Trace.{trace}
+use Rattle.nook_data.specs.declared.calls.Answer.{Answer}
+use Rattle.nook_data.specs.declared.calls.Answer.TheVariants as answered
+use Rattle.nook_data.specs.declared.classes.Class.TheVariants.{Block}
+use Rattle.nook_data.specs.declared.steps.Event.{Event}
+use Rattle.nook_data.specs.declared.mirror.MirrorAnswer.{MirrorAnswer}
+use Rattle.nook_data.specs.declared.mirror.MirrorAnswer.TheVariants as mirror
+use Rattle.nook_data.specs.declared.calls.Op.{Op}
+use Rattle.nook_data.specs.declared.calls.Op.TheVariants.{Read, Write}
+use Rattle.promise_defs.specs.Blocks.{get_blocks, put_from}
+use Rattle.nook_data.specs.Classes.{covers, static_check}
+use Rattle.promise_defs.specs.Ideal.{Ideal, Opened, never_failing, ran}
+use Rattle.promise_defs.specs.Trace.{trace}
 use Rattle.mirror_block.specs.Rule.{refusal_of}
 
 -- ---- the plain disk

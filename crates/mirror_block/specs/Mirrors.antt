@@ -1,14 +1,14 @@
 -- What contracts see of a mirror, what holds of each, and how an operation ends.
 use Rattle.std.specs.Prelude.{◌≡◌, ℕ, ◌||◌, ◌==◌, if◌then◌else◌, Bool, true, false, List, [], Some, None, Result, Ok}
 use Rattle.std.specs.Prelude.{Err, is_some, ◌∷◌}
-use Rattle.nook_defs.specs.declared.classes.Class.TheVariants.{Block}
-use Rattle.nook_defs.specs.declared.mirror.MirrorAnswer.{MirrorAnswer}
-use Rattle.nook_defs.specs.declared.mirror.MirrorAnswer.TheVariants as mirror
-use Rattle.nook_defs.specs.declared.calls.Op.{Op}
-use Rattle.nook_defs.specs.declared.scenario.PartSpec.{PartSpec}
-use Rattle.nook_defs.specs.Classes.{is_write}
-use Rattle.nook_defs.specs.Ideal.{IsClassRun}
-use Rattle.nook_defs.specs.Trace.{trace}
+use Rattle.nook_data.specs.declared.classes.Class.TheVariants.{Block}
+use Rattle.nook_data.specs.declared.mirror.MirrorAnswer.{MirrorAnswer}
+use Rattle.nook_data.specs.declared.mirror.MirrorAnswer.TheVariants as mirror
+use Rattle.nook_data.specs.declared.calls.Op.{Op}
+use Rattle.nook_data.specs.declared.scenario.PartSpec.{PartSpec}
+use Rattle.nook_data.specs.Classes.{is_write}
+use Rattle.promise_defs.specs.Ideal.{IsClassRun}
+use Rattle.promise_defs.specs.Trace.{trace}
 use Rattle.desk_like.specs.Desks.{DeskView}
 use Rattle.mirror_block.specs.declared.stop.MirrorStop.{MirrorStop}
 use Rattle.mirror_block.specs.declared.stop.MirrorStop.TheVariants as stop

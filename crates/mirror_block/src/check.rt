@@ -1,15 +1,15 @@
 //! What is wrong with an operation whatever the sides' state.
 
 ghost use Rattle.std.specs.Prelude.{◌≡◌, length};
-ghost use Rattle.nook_defs.specs.Classes.{static_check};
+ghost use Rattle.nook_data.specs.Classes.{static_check};
 ghost use Rattle.mirror_block.specs.Rule.{blocks_filled, refusal_by};
 
 use class_table::static_check;
-use nook_defs::calls::{Answer, Op};
-use nook_defs::classes::Class;
-use nook_defs::limits::{BLOCK_WORDS, MOST_BLOCKS};
-use nook_defs::lists::Words;
-use nook_defs::mirror::MirrorAnswer;
+use nook_data::calls::{Answer, Op};
+use nook_data::classes::Class;
+use nook_data::limits::{BLOCK_WORDS, MOST_BLOCKS};
+use nook_data::lists::Words;
+use nook_data::mirror::MirrorAnswer;
 
 /// The words of the most blocks that one operation may cover.
 const MOST_WORDS: usize = BLOCK_WORDS * MOST_BLOCKS as usize;

@@ -1,8 +1,8 @@
 //! What follows for a list of operations.
 
 ghost use Rattle.std.specs.Prelude.{◌≡◌, ◌||◌, true, ℕ, List};
-ghost use Rattle.nook_defs.specs.declared.mirror.MirrorAnswer.{MirrorAnswer};
-ghost use Rattle.nook_defs.specs.declared.calls.Op.{Op};
+ghost use Rattle.nook_data.specs.declared.mirror.MirrorAnswer.{MirrorAnswer};
+ghost use Rattle.nook_data.specs.declared.calls.Op.{Op};
 ghost use Rattle.mirror_block.specs.Disk.{ServesAll};
 ghost use Rattle.mirror_block.specs.Mirrors.{AreServed, IsDisk, MirrorView};
 

@@ -1,7 +1,7 @@
 //! The mirror and its operations.
 
 ghost use Rattle.std.specs.Prelude.{◌≡◌, ◌≤◌, false, true};
-ghost use Rattle.nook_defs.specs.Classes.{static_check};
+ghost use Rattle.nook_data.specs.Classes.{static_check};
 ghost use Rattle.mirror_block.specs.Mirrors.{Ends, IsMirror, MirrorView, is_present, new_mirror};
 ghost use Rattle.mirror_block.specs.Rule.{is_disk_op};
 ghost use Rattle.mirror_block.specs.Sides.{IsNewSide};
@@ -11,11 +11,11 @@ use crate::outcome::after_asking;
 use crate::side::{Side, ask_both};
 use crate::stop::MirrorStop;
 use desk_like::DeskLike;
-use nook_defs::calls::Op;
-use nook_defs::classes::Class;
-use nook_defs::lists::{TryCopy, Words};
-use nook_defs::memory::NoMemory;
-use nook_defs::mirror::MirrorAnswer;
+use nook_data::calls::Op;
+use nook_data::classes::Class;
+use nook_data::lists::{TryCopy, Words};
+use nook_data::memory::NoMemory;
+use nook_data::mirror::MirrorAnswer;
 use std::alloc::Global;
 use std::marker::Model;
 use std::sync::Wait;

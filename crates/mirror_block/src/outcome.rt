@@ -5,8 +5,8 @@ ghost use Rattle.mirror_block.specs.Rule.{after_asking, after_failed_write, afte
 ghost use Rattle.mirror_block.specs.Rule.{failed_read, is_done, read_answer, stays_after_read, words_read};
 ghost use Rattle.mirror_block.specs.Outcomes.{Decides};
 
-use nook_defs::calls::{Answer, Op};
-use nook_defs::mirror::MirrorAnswer;
+use nook_data::calls::{Answer, Op};
+use nook_data::mirror::MirrorAnswer;
 
 /// Which sides stay, and what the mirror answers.
 #[derive(Drop)]

@@ -6,8 +6,8 @@ ghost use Rattle.mirror_block.specs.Sides.{AskBothEnds, AskEnds, IsSide};
 
 use crate::stop::MirrorStop;
 use desk_like::DeskLike;
-use nook_defs::calls::{Answer, Op};
-use nook_defs::desks::DeskRefused;
+use nook_data::calls::{Answer, Op};
+use nook_data::desks::DeskRefused;
 use std::alloc::Global;
 use std::sync::Wait;
 

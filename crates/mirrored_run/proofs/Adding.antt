@@ -1,10 +1,10 @@
 -- Events that are added to what a side's seat has seen: the answers and the invocations in them.
 use Rattle.std.proofs.Common.{◌≡◌, ◌⊎◌, inl, inr, ℕ, suc, ◌≤◌, Option, Some, None, List, [], ◌∷◌, ◌++◌, length, refl, sym, ap, ◌∙◌, arith, append-nil, length-append}
 use Rattle.std.specs.List.{AllByRecursion}
-use Rattle.nook_defs.specs.declared.calls.Answer.{Answer}
-use Rattle.nook_defs.specs.declared.steps.Event.{Event}
-use Rattle.nook_defs.specs.declared.steps.Event.TheVariants as event
-use Rattle.nook_defs.specs.declared.calls.Op.{Op}
+use Rattle.nook_data.specs.declared.calls.Answer.{Answer}
+use Rattle.nook_data.specs.declared.steps.Event.{Event}
+use Rattle.nook_data.specs.declared.steps.Event.TheVariants as event
+use Rattle.nook_data.specs.declared.calls.Op.{Op}
 use Rattle.desk_like.specs.Desks.{DeskView, IsOther}
 use Rattle.mirror_block.specs.Sides.{Invocation, IsAskedFor, IsServed, and_more, answers_gained, answers_given, first_answer, invocations, or_later}
 use Rattle.mirror_block.proofs.Gains.{gained_is}

@@ -3,32 +3,33 @@
 use Rattle.std.proofs.Common.{◌≡◌, inl, inr, ℕ, ◌+◌, ◌<◌, ◌≤◌, ◌&&◌, not, is_some, nat_le, nat_lt, eqb, true, false, Option, Some, None, List, [], ◌∷◌, ◌++◌, length, eq-eqb, refl, sym, ap, subst, ◌∙◌, arith, true≢false}
 use Rattle.std.specs.List.{AllByRecursion}
 use Rattle.std.proofs.lemmas.Bool.{and_parts, cond-false, cond-true, leb-false, leb-true}
-use Rattle.nook_defs.specs.declared.calls.Answer.{Answer}
-use Rattle.nook_defs.specs.declared.calls.Answer.TheVariants as answered
-use Rattle.nook_defs.specs.declared.calls.CallEntry.{CallEntry}
-use Rattle.nook_defs.specs.declared.classes.Class.{Class}
-use Rattle.nook_defs.specs.declared.classes.Class.TheVariants as class
-use Rattle.nook_defs.specs.declared.steps.Event.{Event}
-use Rattle.nook_defs.specs.declared.steps.Event.TheVariants as event
-use Rattle.nook_defs.specs.declared.steps.Mode.{Mode}
-use Rattle.nook_defs.specs.declared.steps.Mode.TheVariants as mode
-use Rattle.nook_defs.specs.declared.calls.Op.{Op}
-use Rattle.nook_defs.specs.declared.scenario.PartSpec.{PartSpec}
-use Rattle.nook_defs.specs.declared.steps.Stage.TheVariants as stage
-use Rattle.nook_defs.specs.declared.steps.Step.TheVariants as step
-use Rattle.nook_defs.specs.Calls.{answer_in, after_invoke}
-use Rattle.nook_defs.proofs.Cases.{invoked_by}
-use Rattle.nook_defs.specs.Classes.{same_class, static_check}
-use Rattle.nook_defs.specs.Contract.{first_break, known_first}
-use Rattle.nook_defs.specs.Ideal.{IsClassRun}
-use Rattle.nook_defs.specs.Log.{call_of_thread, gone_answers, opening_log}
-use Rattle.nook_defs.specs.Views.CallLogs.{IsNumbered}
-use Rattle.nook_defs.specs.Answers.{one_answer}
-use Rattle.nook_defs.specs.Runs.{IsRun, IsRunFrom, answer_at, event_of, state_after, state_from, state_of, step_of, answer_among}
-use Rattle.nook_defs.specs.Stages.{collects, stage_due, stage_stepped}
-use Rattle.nook_defs.specs.State.{PartState}
-use Rattle.nook_defs.specs.Steps.{enabled, is_driven, is_inside, is_ready, is_running, opening, stepped}
-use Rattle.nook_defs.specs.Trace.{Track, shown_answers, trace, trace_from}
+use Rattle.nook_data.specs.declared.calls.Answer.{Answer}
+use Rattle.nook_data.specs.declared.calls.Answer.TheVariants as answered
+use Rattle.nook_data.specs.declared.calls.CallEntry.{CallEntry}
+use Rattle.nook_data.specs.declared.classes.Class.{Class}
+use Rattle.nook_data.specs.declared.classes.Class.TheVariants as class
+use Rattle.nook_data.specs.declared.steps.Event.{Event}
+use Rattle.nook_data.specs.declared.steps.Event.TheVariants as event
+use Rattle.nook_data.specs.declared.steps.Mode.{Mode}
+use Rattle.nook_data.specs.declared.steps.Mode.TheVariants as mode
+use Rattle.nook_data.specs.declared.calls.Op.{Op}
+use Rattle.nook_data.specs.declared.scenario.PartSpec.{PartSpec}
+use Rattle.nook_data.specs.declared.steps.Stage.TheVariants as stage
+use Rattle.nook_data.specs.declared.steps.Step.TheVariants as step
+use Rattle.part_defs.specs.Calls.{answer_in, after_invoke}
+use Rattle.part_defs.proofs.PartCases.{invoked_by}
+use Rattle.nook_data.specs.Classes.{same_class, static_check}
+use Rattle.promise_defs.specs.Contract.{first_break, known_first}
+use Rattle.promise_defs.specs.Ideal.{IsClassRun}
+use Rattle.part_defs.specs.Log.{call_of_thread, gone_answers, opening_log}
+use Rattle.part_defs.specs.Views.CallLogs.{IsNumbered}
+use Rattle.nook_data.specs.Answers.{one_answer}
+use Rattle.part_defs.specs.Runs.{IsRun, IsRunFrom, event_of, state_after, state_from, state_of, step_of}
+use Rattle.nook_data.specs.Answers.{answer_at, answer_among}
+use Rattle.part_defs.specs.Stages.{collects, stage_due, stage_stepped}
+use Rattle.part_defs.specs.State.{PartState}
+use Rattle.part_defs.specs.Steps.{enabled, is_driven, is_inside, is_ready, is_running, opening, stepped}
+use Rattle.promise_defs.specs.Trace.{Track, shown_answers, trace, trace_from}
 use Rattle.part_laws.proofs.CallNumbers.{CameFrom, HasEntry, Quiet, small_calls}
 use Rattle.part_laws.proofs.UnansweredCalls.{open_after}
 use Rattle.part_laws.proofs.DeviceStays.{spec_after, run_spec}

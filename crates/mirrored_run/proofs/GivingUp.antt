@@ -2,44 +2,49 @@
 use Rattle.std.proofs.Common.{◌≡◌, ℕ, suc, ◌+◌, ◌==◌, if◌then◌else◌, Bool, true, false, Option, Some, None, Result, Ok, Err, List, [], ◌∷◌, ◌++◌, length, refl, sym, ap, ◌∙◌, true≢false}
 use Rattle.std.specs.List.{AllByRecursion, list_any}
 use Rattle.std.proofs.lemmas.Bool.{or_right}
-use Rattle.nook_defs.specs.declared.classes.Accept.{Accept}
-use Rattle.nook_defs.specs.declared.classes.Accept.TheVariants as accepts
-use Rattle.nook_defs.specs.declared.classes.Admit.{Admit}
-use Rattle.nook_defs.specs.declared.classes.Admit.TheVariants as admits
-use Rattle.nook_defs.specs.declared.calls.Answer.{Answer}
-use Rattle.nook_defs.specs.declared.calls.Answer.TheVariants as answered
-use Rattle.nook_defs.specs.declared.verdicts.Break.{Break}
-use Rattle.nook_defs.specs.declared.calls.CallEntry.{CallEntry}
-use Rattle.nook_defs.specs.declared.steps.End.TheVariants as end
-use Rattle.nook_defs.specs.declared.steps.FailCause.TheVariants as fail
-use Rattle.nook_defs.specs.declared.steps.Event.{Event}
-use Rattle.nook_defs.specs.declared.steps.Event.TheVariants as event
-use Rattle.nook_defs.specs.declared.steps.Mode.{Mode}
-use Rattle.nook_defs.specs.declared.steps.Mode.TheVariants as mode
-use Rattle.nook_defs.specs.declared.calls.Op.{Op}
-use Rattle.nook_defs.specs.declared.steps.Stage.{Stage}
-use Rattle.nook_defs.specs.declared.steps.Stage.TheVariants as stage
-use Rattle.nook_defs.specs.declared.steps.Step.{Step}
-use Rattle.nook_defs.specs.declared.steps.Step.TheVariants as step
-use Rattle.nook_defs.specs.declared.machine.BadParam.{BadParam}
-use Rattle.nook_defs.specs.declared.machine.BurstEnd.{BurstEnd}
-use Rattle.nook_defs.specs.declared.machine.BurstEnd.TheVariants as ends
-use Rattle.nook_defs.specs.declared.machine.Service.{Service}
-use Rattle.nook_defs.specs.Calls.{Stepped, after_admit, after_enter, after_invoke}
-use Rattle.nook_defs.proofs.Cases.{entered_by, invoked_by, reply_by, serve_by, with_burst}
-use Rattle.nook_defs.specs.Classes.{accept, admit, static_check}
-use Rattle.nook_defs.specs.declared.clause.Clause.{Clause}
-use Rattle.nook_defs.specs.Contract.{Known, known_after, break_from, broken}
-use Rattle.nook_defs.proofs.Changes.{break_or}
-use Rattle.nook_defs.specs.Crossing.{Crossed, call_replied, closes_call, after_crossing, failed_crossing, fails, goes_on, is_accepted, is_last, kernel_call, next_mode, next_stage, refused_service, shadow_fault, shadow_replied, stage_in}
-use Rattle.nook_defs.specs.Domain.{domain_burst, first_argument, second_argument, stopped_domain}
-use Rattle.nook_defs.specs.Log.{call_of_thread, gone_answers}
-use Rattle.nook_defs.specs.Runs.{answer_at, state_after, state_from, step_of}
-use Rattle.nook_defs.specs.Services.{checked}
-use Rattle.nook_defs.specs.Stages.{collects, gives_up_part, inits, is_given_up, loads_image, replays_open, replays_set, resets, resumes, stage_stepped, stops}
-use Rattle.nook_defs.specs.State.{PartState}
-use Rattle.nook_defs.specs.Steps.{after_arrival, burst_stepped, faults_of_burst, is_driven, stepped}
-use Rattle.nook_defs.specs.Trace.{Track, Visible, shown, trace_from, tracks_after}
+use Rattle.nook_data.specs.declared.classes.Accept.{Accept}
+use Rattle.nook_data.specs.declared.classes.Accept.TheVariants as accepts
+use Rattle.nook_data.specs.declared.classes.Admit.{Admit}
+use Rattle.nook_data.specs.declared.classes.Admit.TheVariants as admits
+use Rattle.nook_data.specs.declared.calls.Answer.{Answer}
+use Rattle.nook_data.specs.declared.calls.Answer.TheVariants as answered
+use Rattle.nook_data.specs.declared.verdicts.Break.{Break}
+use Rattle.nook_data.specs.declared.calls.CallEntry.{CallEntry}
+use Rattle.nook_data.specs.declared.steps.End.TheVariants as end
+use Rattle.nook_data.specs.declared.steps.FailCause.TheVariants as fail
+use Rattle.nook_data.specs.declared.steps.Event.{Event}
+use Rattle.nook_data.specs.declared.steps.Event.TheVariants as event
+use Rattle.nook_data.specs.declared.steps.Mode.{Mode}
+use Rattle.nook_data.specs.declared.steps.Mode.TheVariants as mode
+use Rattle.nook_data.specs.declared.calls.Op.{Op}
+use Rattle.nook_data.specs.declared.steps.Stage.{Stage}
+use Rattle.nook_data.specs.declared.steps.Stage.TheVariants as stage
+use Rattle.nook_data.specs.declared.steps.Step.{Step}
+use Rattle.nook_data.specs.declared.steps.Step.TheVariants as step
+use Rattle.nook_data.specs.declared.machine.BadParam.{BadParam}
+use Rattle.nook_data.specs.declared.machine.BurstEnd.{BurstEnd}
+use Rattle.nook_data.specs.declared.machine.BurstEnd.TheVariants as ends
+use Rattle.nook_data.specs.declared.machine.Service.{Service}
+use Rattle.part_defs.specs.Calls.{Stepped, after_admit, after_enter, after_invoke}
+use Rattle.part_defs.proofs.PartCases.{entered_by, invoked_by, reply_by, serve_by, with_burst}
+use Rattle.nook_data.specs.Classes.{accept, admit, static_check}
+use Rattle.nook_data.specs.declared.clause.Clause.{Clause}
+use Rattle.promise_defs.specs.Contract.{Known, known_after, break_from, broken}
+use Rattle.promise_defs.proofs.PromiseChanges.{break_or}
+use Rattle.part_defs.specs.Crossing.{Crossed, call_replied, closes_call, after_crossing, failed_crossing, fails}
+use Rattle.part_defs.specs.Crossing.{goes_on, is_accepted, is_last, kernel_call, next_mode, next_stage, refused_service}
+use Rattle.part_defs.specs.Crossing.{shadow_fault, shadow_replied, stage_in}
+use Rattle.part_defs.specs.Domain.{domain_burst, first_argument, second_argument, stopped_domain}
+use Rattle.part_defs.specs.Log.{call_of_thread, gone_answers}
+use Rattle.nook_data.specs.Answers.{answer_at}
+use Rattle.part_defs.specs.Runs.{state_after, state_from, step_of}
+use Rattle.machine_defs.specs.Services.{checked}
+use Rattle.part_defs.specs.Stages.{collects, gives_up_part, inits, is_given_up, loads_image, replays_open, replays_set}
+use Rattle.part_defs.specs.Stages.{resets, resumes, stage_stepped, stops}
+use Rattle.part_defs.specs.State.{PartState}
+use Rattle.part_defs.specs.Steps.{after_arrival, burst_stepped, is_driven, stepped}
+use Rattle.machine_defs.specs.BurstFaults.{faults_of_burst}
+use Rattle.promise_defs.specs.Trace.{Track, Visible, shown, trace_from, tracks_after}
 use Rattle.part_laws.specs.Facts.{is_dead}
 use Rattle.part_laws.proofs.Places.{split}
 use Rattle.part_laws.proofs.Stages.{with_mode}

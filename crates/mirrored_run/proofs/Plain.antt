@@ -3,19 +3,19 @@ use Rattle.std.proofs.Common.{◌≡◌, ◌⊎◌, inl, inr, ℕ, ◌||◌, Boo
 use Rattle.std.specs.List.{list_any}
 use Rattle.std.proofs.lemmas.Bool.{or_left}
 use mathlib.Core.List.{IsPrefix}
-use Rattle.nook_defs.specs.declared.calls.Answer.{Answer}
-use Rattle.nook_defs.specs.declared.classes.Class.{Class}
-use Rattle.nook_defs.specs.declared.classes.Class.TheVariants as class
-use Rattle.nook_defs.specs.declared.steps.Event.{Event}
-use Rattle.nook_defs.specs.declared.mirror.MirrorAnswer.{MirrorAnswer}
-use Rattle.nook_defs.specs.declared.mirror.MirrorAnswer.TheVariants as mirror
-use Rattle.nook_defs.specs.declared.calls.Op.{Op}
-use Rattle.nook_defs.specs.declared.scenario.PartSpec.{PartSpec}
-use Rattle.nook_defs.specs.Blocks.{blank_blocks}
-use Rattle.nook_defs.specs.Classes.{static_check}
-use Rattle.nook_defs.specs.Contract.{first_break, known_first}
-use Rattle.nook_defs.specs.Ideal.{IsClassRun, never_failing, ran}
-use Rattle.nook_defs.specs.Trace.{trace, trace_from}
+use Rattle.nook_data.specs.declared.calls.Answer.{Answer}
+use Rattle.nook_data.specs.declared.classes.Class.{Class}
+use Rattle.nook_data.specs.declared.classes.Class.TheVariants as class
+use Rattle.nook_data.specs.declared.steps.Event.{Event}
+use Rattle.nook_data.specs.declared.mirror.MirrorAnswer.{MirrorAnswer}
+use Rattle.nook_data.specs.declared.mirror.MirrorAnswer.TheVariants as mirror
+use Rattle.nook_data.specs.declared.calls.Op.{Op}
+use Rattle.nook_data.specs.declared.scenario.PartSpec.{PartSpec}
+use Rattle.promise_defs.specs.Blocks.{blank_blocks}
+use Rattle.nook_data.specs.Classes.{static_check}
+use Rattle.promise_defs.specs.Contract.{first_break, known_first}
+use Rattle.promise_defs.specs.Ideal.{IsClassRun, never_failing, ran}
+use Rattle.promise_defs.specs.Trace.{trace, trace_from}
 use Rattle.desk_like.specs.Desks.{DeskView}
 use Rattle.mirror_block.specs.Disk.{ServesAll, ShowsDisk}
 use Rattle.mirror_block.specs.Mirrors.{AreClassRuns, AreServed, IsAnswered, IsDisk, IsMirror, MirrorView}

@@ -3,10 +3,10 @@ use Rattle.std.proofs.Common.{◌≡◌, ℕ, zero, suc, ◌+◌, ◌<◌, ◌�
 use Rattle.std.specs.List.{list_all}
 use Rattle.std.proofs.lemmas.Bool.{and_parts}
 use Rattle.std.proofs.Math.Seq.{take-suc}
-use Rattle.nook_defs.specs.declared.mirror.MirrorAnswer.{MirrorAnswer}
-use Rattle.nook_defs.specs.declared.calls.Op.{Op}
-use Rattle.nook_defs.specs.declared.calls.Op.TheVariants as op
-use Rattle.nook_defs.specs.declared.scenario.PartSpec.{PartSpec}
+use Rattle.nook_data.specs.declared.mirror.MirrorAnswer.{MirrorAnswer}
+use Rattle.nook_data.specs.declared.calls.Op.{Op}
+use Rattle.nook_data.specs.declared.calls.Op.TheVariants as op
+use Rattle.nook_data.specs.declared.scenario.PartSpec.{PartSpec}
 use Rattle.mirror_block.specs.Mirrors.{IsAnswered, IsMirror, MirrorView}
 use Rattle.mirror_block.specs.Rule.{is_disk_op}
 use Rattle.mirrored_run.specs.Mirrors.{is_mirrored_op}

@@ -4,29 +4,29 @@ use Rattle.std.specs.List.{All, list_any}
 use Rattle.std.proofs.lemmas.List.{length-map}
 use Rattle.std.proofs.lemmas.List.Elements.{All-head, All-tail}
 use Rattle.std.proofs.lemmas.Bool.{and_parts}
-use Rattle.nook_defs.specs.declared.calls.Answer.{Answer}
-use Rattle.nook_defs.specs.declared.verdicts.Break.{Break}
-use Rattle.nook_defs.specs.declared.classes.Class.{Class}
-use Rattle.nook_defs.specs.declared.classes.Class.TheVariants as class
-use Rattle.nook_defs.specs.declared.steps.Event.{Event}
-use Rattle.nook_defs.specs.declared.mirror.MirrorAnswer.{MirrorAnswer}
-use Rattle.nook_defs.specs.declared.calls.Op.{Op}
-use Rattle.nook_defs.specs.declared.scenario.PartSpec.{PartSpec}
-use Rattle.nook_defs.specs.declared.scenario.Scenario.{Scenario}
-use Rattle.nook_defs.specs.declared.scenario.ThreadSpec.{ThreadSpec}
-use Rattle.nook_defs.specs.Blocks.{blank_blocks}
-use Rattle.nook_defs.specs.Classes.{same_class}
-use Rattle.nook_defs.specs.Contract.{first_break}
-use Rattle.nook_defs.specs.ReportText.{has_break}
-use Rattle.nook_defs.specs.Runs.{next_any, state_of}
-use Rattle.nook_defs.specs.Valid.{IsValidPart, IsValidScenario, IsValidThread}
+use Rattle.nook_data.specs.declared.calls.Answer.{Answer}
+use Rattle.nook_data.specs.declared.verdicts.Break.{Break}
+use Rattle.nook_data.specs.declared.classes.Class.{Class}
+use Rattle.nook_data.specs.declared.classes.Class.TheVariants as class
+use Rattle.nook_data.specs.declared.steps.Event.{Event}
+use Rattle.nook_data.specs.declared.mirror.MirrorAnswer.{MirrorAnswer}
+use Rattle.nook_data.specs.declared.calls.Op.{Op}
+use Rattle.nook_data.specs.declared.scenario.PartSpec.{PartSpec}
+use Rattle.nook_data.specs.declared.scenario.Scenario.{Scenario}
+use Rattle.nook_data.specs.declared.scenario.ThreadSpec.{ThreadSpec}
+use Rattle.promise_defs.specs.Blocks.{blank_blocks}
+use Rattle.nook_data.specs.Classes.{same_class}
+use Rattle.promise_defs.specs.Contract.{first_break}
+use Rattle.report_defs.specs.ReportText.{has_break}
+use Rattle.part_defs.specs.Runs.{next_any, state_of}
+use Rattle.nook_data.specs.Valid.{IsValidPart, IsValidScenario, IsValidThread}
 use Rattle.desk_like.specs.Desks.{Accounts, DeskView, IsAlone}
 use Rattle.mirror_block.specs.Disk.{ServesAll}
 use Rattle.mirror_block.specs.Mirrors.{MirrorView, new_mirror}
 use Rattle.mirror_block.specs.Rule.{both_present, mirrored}
 use Rattle.mirror_block.specs.Sides.{Invocation, IsNewSide, answers_given, invocations}
 use Rattle.mirror_block.proofs.NewMirror.{new_is_mirror}
-use Rattle.nook_defs.specs.Views.Room.{Kept}
+use Rattle.nook_data.specs.Views.Room.{Kept}
 use Rattle.part_server.specs.Turns.{opening_view}
 use Rattle.report_text.specs.declared.whole_report.PartEnd.{PartEnd}
 use Rattle.report_text.specs.Whole.{HaveEnds}
@@ -35,7 +35,7 @@ use Rattle.mirrored_run.specs.declared.running.Unheard.{Unheard}
 use Rattle.threaded_run.proofs.Working.{new_accounts, new_alone}
 use Rattle.threaded_run.specs.Leaving.{GoesOn, IsLeft}
 use Rattle.mirrored_run.specs.Hearing.{HearAllOrNothing}
-use Rattle.nook_defs.specs.Listening.{Listening}
+use Rattle.nook_io.specs.Listening.{Listening}
 use Rattle.request_taps.specs.Bus.{told_all}
 use Rattle.request_taps.specs.declared.tap.Tap.{Tap}
 use Rattle.mirrored_run.specs.Mirrors.{IsMirrorRun, IsSubsequence, is_lost, is_mirror, is_pair, is_single, ops_of_thread, size_of}

@@ -1,18 +1,18 @@
 -- The run of a mirror: one disk that a scenario's thread reads and writes, kept by the drivers of two parts.
 use Rattle.std.specs.Prelude.{◌≡◌, ℕ, ◌==◌, ◌&&◌, if◌then◌else◌, Bool, true, false, Some, List, [], ◌∷◌, map, zip, ◌⊎◌}
 use Rattle.std.specs.List.{list_all, list_any}
-use Rattle.nook_defs.specs.Blocks.{blank_blocks}
-use Rattle.nook_defs.specs.Classes.{same_class}
-use Rattle.nook_defs.specs.ReportText.{has_break}
-use Rattle.nook_defs.specs.declared.classes.Class.TheVariants as class
-use Rattle.nook_defs.specs.declared.steps.Event.{Event}
-use Rattle.nook_defs.specs.declared.mirror.MirrorAnswer.{MirrorAnswer}
-use Rattle.nook_defs.specs.declared.mirror.MirrorAnswer.TheVariants as mirror
-use Rattle.nook_defs.specs.declared.calls.Op.{Op}
-use Rattle.nook_defs.specs.declared.calls.Op.TheVariants as op
-use Rattle.nook_defs.specs.declared.scenario.PartSpec.{PartSpec}
-use Rattle.nook_defs.specs.declared.scenario.Scenario.{Scenario}
-use Rattle.nook_defs.specs.declared.scenario.ThreadSpec.{ThreadSpec}
+use Rattle.promise_defs.specs.Blocks.{blank_blocks}
+use Rattle.nook_data.specs.Classes.{same_class}
+use Rattle.report_defs.specs.ReportText.{has_break}
+use Rattle.nook_data.specs.declared.classes.Class.TheVariants as class
+use Rattle.nook_data.specs.declared.steps.Event.{Event}
+use Rattle.nook_data.specs.declared.mirror.MirrorAnswer.{MirrorAnswer}
+use Rattle.nook_data.specs.declared.mirror.MirrorAnswer.TheVariants as mirror
+use Rattle.nook_data.specs.declared.calls.Op.{Op}
+use Rattle.nook_data.specs.declared.calls.Op.TheVariants as op
+use Rattle.nook_data.specs.declared.scenario.PartSpec.{PartSpec}
+use Rattle.nook_data.specs.declared.scenario.Scenario.{Scenario}
+use Rattle.nook_data.specs.declared.scenario.ThreadSpec.{ThreadSpec}
 use Rattle.mirror_block.specs.Disk.{ServesAll}
 use Rattle.mirror_block.specs.Rule.{Presence, both_present, mirrored}
 use Rattle.mirror_block.specs.Sides.{Invocation, answers_given, invocations}

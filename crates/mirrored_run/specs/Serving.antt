@@ -3,9 +3,9 @@ use Rattle.std.specs.Prelude.{◌≡◌, ℕ, ◌≤◌, List, [], ◌∷◌, le
 use Rattle.desk_like.specs.Desks.{DeskView}
 use Rattle.mirror_block.specs.Mirrors.{IsAnswered, IsMirror, MirrorView, new_mirror}
 use Rattle.mirror_block.specs.Sides.{invocations}
-use Rattle.nook_defs.specs.declared.mirror.MirrorAnswer.{MirrorAnswer}
-use Rattle.nook_defs.specs.declared.calls.Op.{Op}
-use Rattle.nook_defs.specs.declared.scenario.PartSpec.{PartSpec}
+use Rattle.nook_data.specs.declared.mirror.MirrorAnswer.{MirrorAnswer}
+use Rattle.nook_data.specs.declared.calls.Op.{Op}
+use Rattle.nook_data.specs.declared.scenario.PartSpec.{PartSpec}
 
 -- each side was asked so often at most
 pub record HasAsked {D : Type 0} (most : ℕ) (m : MirrorView D) : Type 0 where

@@ -1,7 +1,7 @@
 -- What the run of a mirror leaves before it is published.
 use Rattle.std.specs.Prelude.{◌≡◌, List, [], ◌∷◌, map}
-use Rattle.nook_defs.specs.declared.steps.Event.{Event}
-use Rattle.nook_defs.specs.declared.scenario.Scenario.{Scenario}
+use Rattle.nook_data.specs.declared.steps.Event.{Event}
+use Rattle.nook_data.specs.declared.scenario.Scenario.{Scenario}
 use Rattle.report_text.specs.Whole.{HaveEnds}
 use Rattle.run_ends.specs.Journals.{AreRuns, events_in}
 use Rattle.mirrored_run.specs.declared.running.Unheard.{Unheard}

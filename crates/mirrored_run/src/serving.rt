@@ -9,11 +9,11 @@ ghost use Rattle.mirrored_run.specs.Serving.{AreServedBy, HasAsked};
 
 use desk_like::DeskLike;
 use mirror_block::{Mirror, MirrorStop};
-use nook_defs::calls::Op;
-use nook_defs::limits::MOST_OPS;
-use nook_defs::memory::NoMemory;
-use nook_defs::mirror::{MirrorAnswer, MirrorAnswers};
-use nook_defs::scenario::ThreadSpec;
+use nook_data::calls::Op;
+use nook_data::limits::MOST_OPS;
+use nook_data::memory::NoMemory;
+use nook_data::mirror::{MirrorAnswer, MirrorAnswers};
+use nook_data::scenario::ThreadSpec;
 use std::alloc::Global;
 use std::sync::Wait;
 

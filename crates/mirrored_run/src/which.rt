@@ -4,9 +4,9 @@ ghost use Rattle.std.specs.Prelude.{◌≡◌};
 ghost use Rattle.std.specs.List.{list_all};
 ghost use Rattle.mirrored_run.specs.Mirrors.{is_mirror, is_mirrored_op, is_pair, is_single};
 
-use nook_defs::calls::Op;
-use nook_defs::classes::Class;
-use nook_defs::scenario::{PartSpec, Scenario, ThreadSpec};
+use nook_data::calls::Op;
+use nook_data::classes::Class;
+use nook_data::scenario::{PartSpec, Scenario, ThreadSpec};
 
 /// Whether a mirror serves the scenario: it has two disks of one size, and at most one thread, which only reads and
 /// writes the first part.

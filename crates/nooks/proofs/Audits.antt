@@ -4,17 +4,17 @@ use Rattle.audit_input.specs.Handed.{Hands, HandsNothing}
 use Rattle.run_laws.specs.Audit.{Section, audited, opening_section, section_after}
 use Rattle.run_laws.specs.Fitting.{AllFit, FitsFrom}
 use Rattle.run_laws.proofs.Reading.{report_read}
-use Rattle.nook_defs.specs.Faults.{fault_line}
-use Rattle.nook_defs.specs.Listening.{Listening}
-use Rattle.nook_defs.specs.Runs.{IsRunFrom}
-use Rattle.nook_defs.specs.ScenarioReading.{scenario_from}
-use Rattle.nook_defs.specs.Valid.{IsValidScenario}
-use Rattle.nook_defs.specs.declared.steps.Event.{Event}
-use Rattle.nook_defs.specs.declared.scenario.PartSpec.{PartSpec}
-use Rattle.nook_defs.specs.declared.scenario.Scenario.{Scenario}
-use Rattle.nook_defs.specs.declared.scenario.ThreadSpec.{ThreadSpec}
-use Rattle.nook_defs.specs.declared.input.InputFault.TheVariants as fault
-use Rattle.nook_defs.specs.declared.input.Refusal.{Refusal}
+use Rattle.input_defs.specs.Faults.{fault_line}
+use Rattle.nook_io.specs.Listening.{Listening}
+use Rattle.part_defs.specs.Runs.{IsRunFrom}
+use Rattle.input_defs.specs.ScenarioReading.{scenario_from}
+use Rattle.nook_data.specs.Valid.{IsValidScenario}
+use Rattle.nook_data.specs.declared.steps.Event.{Event}
+use Rattle.nook_data.specs.declared.scenario.PartSpec.{PartSpec}
+use Rattle.nook_data.specs.declared.scenario.Scenario.{Scenario}
+use Rattle.nook_data.specs.declared.scenario.ThreadSpec.{ThreadSpec}
+use Rattle.input_defs.specs.declared.input.InputFault.TheVariants as fault
+use Rattle.input_defs.specs.declared.input.Refusal.{Refusal}
 use Rattle.run_ends.specs.Journals.{AreRuns}
 use Rattle.nooks.proofs.Safety.{all_safe}
 use Rattle.nooks.proofs.Written.{writes_more}

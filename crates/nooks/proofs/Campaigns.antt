@@ -3,21 +3,22 @@ use Rattle.std.proofs.Common.{◌≡◌, List, [], ◌∷◌}
 use Rattle.std.specs.List.{AllByRecursion, AllZip}
 use Rattle.std.proofs.lemmas.List.Elements.{recursion_from_All}
 use Rattle.fault_campaign.proofs.Tables.{table_exists}
-use Rattle.nook_defs.specs.Campaigns.{IsRowOf, IsTable, IsValidCampaign, member, table_text}
-use Rattle.nook_defs.specs.Simulation.{journals_of}
-use Rattle.nook_defs.specs.Valid.{IsValidFault, IsValidScenario}
-use Rattle.nook_defs.specs.declared.campaign.Campaign.{Campaign}
-use Rattle.nook_defs.specs.declared.scenario.Fault.{Fault}
-use Rattle.nook_defs.specs.declared.campaign.MemberRow.{MemberRow}
-use Rattle.nook_defs.specs.declared.scenario.Scenario.{Scenario}
+use Rattle.report_defs.specs.Campaigns.{IsRowOf, IsTable, table_text}
+use Rattle.nook_data.specs.Members.{IsValidCampaign, member}
+use Rattle.run_defs.specs.Simulation.{journals_of}
+use Rattle.nook_data.specs.Valid.{IsValidFault, IsValidScenario}
+use Rattle.nook_data.specs.declared.campaign.Campaign.{Campaign}
+use Rattle.nook_data.specs.declared.scenario.Fault.{Fault}
+use Rattle.nook_data.specs.declared.campaign.MemberRow.{MemberRow}
+use Rattle.nook_data.specs.declared.scenario.Scenario.{Scenario}
 use Rattle.run_laws.proofs.Reached.{parts_answered}
 use Rattle.reading_laws.proofs.Members.{member_is_valid}
 use Rattle.nooks.proofs.Safety.{all_safe}
 use Rattle.sim_run.proofs.Ending.{runs_scheduled}
 use Rattle.std.proofs.Common.{Ok, inr}
 use Rattle.std.specs.Prelude.{ℕ}
-use Rattle.nook_defs.specs.CampaignReading.{campaign_from}
-use Rattle.nook_defs.specs.Listening.{Listening}
+use Rattle.input_defs.specs.CampaignReading.{campaign_from}
+use Rattle.nook_io.specs.Listening.{Listening}
 use Rattle.nooks.proofs.Written.{writes_more}
 use Rattle.nooks.specs.Answers.{AnswersInput, AreMembers, IsMember, Says}
 use Rattle.nooks.specs.Endings.{Writes}

@@ -2,14 +2,14 @@
 use Rattle.std.proofs.Common.{◌≡◌, ℕ, ◌==◌, Bool, true, false, if◌then◌else◌, List, [], ◌∷◌, inl, inr, map, Ok, refl, ap, ◌∙◌, subst}
 use Rattle.std.specs.List.{list_any}
 use Rattle.mirrored_run.specs.Mirrors.{IsMirrorRun, is_lost, is_mirror, mirror_status}
-use Rattle.nook_defs.specs.Listening.{Listening}
-use Rattle.nook_defs.specs.ReportText.{has_break, has_given_up, status_of}
-use Rattle.nook_defs.specs.ScenarioReading.{scenario_from}
-use Rattle.nook_defs.specs.Valid.{IsValidScenario}
-use Rattle.nook_defs.specs.declared.steps.Event.{Event}
-use Rattle.nook_defs.specs.declared.mirror.MirrorAnswer.{MirrorAnswer}
-use Rattle.nook_defs.specs.declared.scenario.Scenario.{Scenario}
-use Rattle.nook_defs.specs.Listening.{tap_result}
+use Rattle.nook_io.specs.Listening.{Listening}
+use Rattle.report_defs.specs.ReportText.{has_break, has_given_up, status_of}
+use Rattle.input_defs.specs.ScenarioReading.{scenario_from}
+use Rattle.nook_data.specs.Valid.{IsValidScenario}
+use Rattle.nook_data.specs.declared.steps.Event.{Event}
+use Rattle.nook_data.specs.declared.mirror.MirrorAnswer.{MirrorAnswer}
+use Rattle.nook_data.specs.declared.scenario.Scenario.{Scenario}
+use Rattle.nook_io.specs.Listening.{tap_result}
 use Rattle.part_laws.specs.Headline.{AreSafe}
 use Rattle.report_text.specs.Mirrored.{mirror_report_text}
 use Rattle.report_text.specs.Whole.{IsReport}

@@ -1,15 +1,17 @@
 -- The writing of reports and of summaries ends as the status tells.
 use Rattle.std.proofs.Common.{◌≡◌, ℕ, ◌^◌, ◌<◌, ◌≤◌, Bool, true, false, if◌then◌else◌, List, [], ◌∷◌, length, map, Result, Ok, Err, IfOk, refl, sym, ap, ◌∙◌, subst, arith, true≢false}
-use Rattle.nook_defs.specs.declared.steps.Event.{Event}
-use Rattle.nook_defs.specs.declared.scenario.PartSpec.{PartSpec}
-use Rattle.nook_defs.specs.declared.scenario.Scenario.{Scenario}
-use Rattle.nook_defs.specs.declared.memory.NoMemory.{NoMemory}
-use Rattle.nook_defs.specs.Listening.{Listening}
-use Rattle.nook_defs.specs.Generated.{generated}
-use Rattle.nook_defs.specs.ReportText.{events_count, failures_count, gen_line, has_break, has_given_up, report_text, status_of, summary_line}
-use Rattle.nook_defs.specs.Views.Room.{Kept}
-use Rattle.nook_defs.specs.Simulation.{begins, journals_of}
-use Rattle.nook_defs.specs.Valid.{IsValidScenario}
+use Rattle.nook_data.specs.declared.steps.Event.{Event}
+use Rattle.nook_data.specs.declared.scenario.PartSpec.{PartSpec}
+use Rattle.nook_data.specs.declared.scenario.Scenario.{Scenario}
+use Rattle.nook_data.specs.declared.memory.NoMemory.{NoMemory}
+use Rattle.nook_io.specs.Listening.{Listening}
+use Rattle.run_defs.specs.Generated.{generated}
+use Rattle.run_defs.specs.Simulation.{events_count}
+use Rattle.report_defs.specs.ReportText.{failures_count, gen_line, has_break, has_given_up, report_text, status_of}
+use Rattle.report_defs.specs.ReportText.{summary_line}
+use Rattle.nook_data.specs.Views.Room.{Kept}
+use Rattle.run_defs.specs.Simulation.{begins, journals_of}
+use Rattle.nook_data.specs.Valid.{IsValidScenario}
 use Rattle.report_text.specs.Statuses.{status_number}
 use Rattle.report_text.specs.Whole.{IsReport, failures_in, lists_of, summaries}
 use Rattle.report_text.proofs.WholeLemmas.{same_failures}
@@ -28,7 +30,7 @@ use Rattle.nooks.specs.declared.program.Status.TheVariants as ended
 use Rattle.command_forms.specs.declared.words.Form.{Form}
 use Rattle.command_forms.specs.declared.words.Form.TheVariants as form
 use Rattle.threaded_run.specs.Threaded.{AreAnswered, IsThreaded, in_parts}
-use Rattle.nook_defs.specs.declared.calls.Answer.{Answer}
+use Rattle.nook_data.specs.declared.calls.Answer.{Answer}
 use Rattle.run_laws.proofs.Reached.{parts_answered}
 use Rattle.nooks.specs.Answers.{IsByThreads, IsReportStatus, IsReported, IsRunOf, IsScheduled, IsSummary, IsWhole}
 use Rattle.nooks.specs.Endings.{IsBegun, IsWritten, Writes}

@@ -1,8 +1,8 @@
 -- What a trace leaves.
 use Rattle.std.proofs.Common.{◌≡◌, ℕ, List, [], Bool, true, false, is_some, Option, Result, Ok, Err, Some, None, inl, inr, refl, sym, true≢false}
-use Rattle.nook_defs.specs.Listening.{Listening}
-use Rattle.nook_defs.specs.ScenarioReading.{scenario_from}
-use Rattle.nook_defs.specs.declared.scenario.Scenario.{Scenario}
+use Rattle.nook_io.specs.Listening.{Listening}
+use Rattle.input_defs.specs.ScenarioReading.{scenario_from}
+use Rattle.nook_data.specs.declared.scenario.Scenario.{Scenario}
 use Rattle.burst_trace.specs.Text.{IsTraceText}
 use Rattle.burst_trace.specs.Writing.{Traces, text_in}
 use Rattle.report_text.proofs.WroteLemmas.{prefix_longer}

@@ -1,12 +1,12 @@
 -- What the writing of an answer leaves, from the texts up to the call.
 use Rattle.std.proofs.Common.{◌≡◌, ℕ, true, List, [], ◌∷◌, map, ap, Result, Ok, IfOk, ◌⊎◌, inl, inr, Option, Some, None, refl, sym, ◌∙◌, subst, true≢false}
 use Rattle.std.specs.Io.KnownBytes.{Keeps}
-use Rattle.nook_defs.specs.Faults.{fault_line}
-use Rattle.nook_defs.specs.Listening.{Listening}
-use Rattle.nook_defs.specs.declared.input.InputFault.TheVariants as fault
-use Rattle.nook_defs.specs.ScenarioReading.{scenario_from}
-use Rattle.nook_defs.specs.declared.scenario.Scenario.{Scenario}
-use Rattle.nook_defs.specs.declared.input.Refusal.{Refusal}
+use Rattle.input_defs.specs.Faults.{fault_line}
+use Rattle.nook_io.specs.Listening.{Listening}
+use Rattle.input_defs.specs.declared.input.InputFault.TheVariants as fault
+use Rattle.input_defs.specs.ScenarioReading.{scenario_from}
+use Rattle.nook_data.specs.declared.scenario.Scenario.{Scenario}
+use Rattle.input_defs.specs.declared.input.Refusal.{Refusal}
 use Rattle.request_taps.specs.Bus.{settled}
 use Rattle.scenario_read.specs.Gives.{Fails}
 use Rattle.scenario_read.specs.declared.stop.ScenarioFault.{ScenarioFault}

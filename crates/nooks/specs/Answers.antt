@@ -3,28 +3,29 @@
 use Rattle.std.specs.Prelude.{◌≡◌, ℕ, ◌<◌, ◌≤◌, List, [], ◌∷◌, ◌⊎◌, length, map, Bool, true, false, Option, Some, None}
 use Rattle.std.specs.Prelude.{Result, Ok, Err}
 use Rattle.std.specs.List.{AllZip}
-use Rattle.nook_defs.specs.CampaignReading.{campaign_from}
-use Rattle.nook_defs.specs.Campaigns.{member, row_of, table_text}
-use Rattle.nook_defs.specs.Disassembler.{disassembled}
-use Rattle.nook_defs.specs.Faults.{fault_line}
-use Rattle.nook_defs.specs.Generated.{generated}
-use Rattle.nook_defs.specs.ImageReading.{image_from, image_from_asm}
-use Rattle.nook_defs.specs.ImageText.{image_text}
-use Rattle.nook_defs.specs.Listening.{Listening}
-use Rattle.nook_defs.specs.ReportText.{report_text, status_of, summary_line}
-use Rattle.nook_defs.specs.ScenarioReading.{scenario_from}
-use Rattle.nook_defs.specs.Simulation.{IsScheduledRun, Simulation, answer_table, begins, journals_of}
-use Rattle.nook_defs.specs.Listening.{tap_result}
-use Rattle.nook_defs.specs.declared.assembler.AsmFault.{AsmFault}
-use Rattle.nook_defs.specs.declared.calls.Answer.{Answer}
-use Rattle.nook_defs.specs.declared.campaign.Campaign.{Campaign}
-use Rattle.nook_defs.specs.declared.steps.Event.{Event}
-use Rattle.nook_defs.specs.declared.scenario.Image.{Image}
-use Rattle.nook_defs.specs.declared.campaign.MemberRow.{MemberRow}
-use Rattle.nook_defs.specs.declared.mirror.MirrorAnswer.{MirrorAnswer}
-use Rattle.nook_defs.specs.declared.scenario.Scenario.{Scenario}
-use Rattle.nook_defs.specs.declared.input.InputFault.TheVariants as fault
-use Rattle.nook_defs.specs.declared.input.Refusal.{Refusal}
+use Rattle.input_defs.specs.CampaignReading.{campaign_from}
+use Rattle.nook_data.specs.Members.{member}
+use Rattle.report_defs.specs.Campaigns.{row_of, table_text}
+use Rattle.asm_defs.specs.Disassembler.{disassembled}
+use Rattle.input_defs.specs.Faults.{fault_line}
+use Rattle.run_defs.specs.Generated.{generated}
+use Rattle.input_defs.specs.ImageReading.{image_from, image_from_asm}
+use Rattle.asm_defs.specs.ImageText.{image_text}
+use Rattle.nook_io.specs.Listening.{Listening}
+use Rattle.report_defs.specs.ReportText.{report_text, status_of, summary_line}
+use Rattle.input_defs.specs.ScenarioReading.{scenario_from}
+use Rattle.run_defs.specs.Simulation.{IsScheduledRun, Simulation, answer_table, begins, journals_of}
+use Rattle.nook_io.specs.Listening.{tap_result}
+use Rattle.asm_defs.specs.declared.assembler.AsmFault.{AsmFault}
+use Rattle.nook_data.specs.declared.calls.Answer.{Answer}
+use Rattle.nook_data.specs.declared.campaign.Campaign.{Campaign}
+use Rattle.nook_data.specs.declared.steps.Event.{Event}
+use Rattle.nook_data.specs.declared.scenario.Image.{Image}
+use Rattle.nook_data.specs.declared.campaign.MemberRow.{MemberRow}
+use Rattle.nook_data.specs.declared.mirror.MirrorAnswer.{MirrorAnswer}
+use Rattle.nook_data.specs.declared.scenario.Scenario.{Scenario}
+use Rattle.input_defs.specs.declared.input.InputFault.TheVariants as fault
+use Rattle.input_defs.specs.declared.input.Refusal.{Refusal}
 use Rattle.mirrored_run.specs.Mirrors.{IsMirrorRun, is_mirror, mirror_status}
 use Rattle.report_text.specs.Mirrored.{mirror_report_text}
 use Rattle.sim_run.specs.Published.{published}

@@ -1,7 +1,7 @@
 -- How a call of the program ends: what each status says of its source and its sink.
 use Rattle.std.specs.Prelude.{◌≡◌, ℕ, ⊤, ◌⊎◌, true, List, Option, Some, None}
-use Rattle.nook_defs.specs.Listening.{Listening}
-use Rattle.nook_defs.specs.Faults.{fault_line}
+use Rattle.nook_io.specs.Listening.{Listening}
+use Rattle.input_defs.specs.Faults.{fault_line}
 use Rattle.scenario_read.specs.declared.stop.ScenarioFault.{ScenarioFault}
 use Rattle.scenario_read.specs.declared.stop.ScenarioFault.TheVariants as stop
 use Rattle.nooks.specs.Answers.{Answers, Says}

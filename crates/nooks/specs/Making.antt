@@ -1,11 +1,11 @@
 -- A report in the making: what the program's own functions hand on to one another.
 use Rattle.std.specs.Prelude.{◌≡◌, ℕ, List, [], ◌∷◌, map}
-use Rattle.nook_defs.specs.Listening.{Listening}
-use Rattle.nook_defs.specs.declared.steps.Event.{Event}
-use Rattle.nook_defs.specs.declared.mirror.MirrorAnswer.{MirrorAnswer}
-use Rattle.nook_defs.specs.declared.scenario.Scenario.{Scenario}
+use Rattle.nook_io.specs.Listening.{Listening}
+use Rattle.nook_data.specs.declared.steps.Event.{Event}
+use Rattle.nook_data.specs.declared.mirror.MirrorAnswer.{MirrorAnswer}
+use Rattle.nook_data.specs.declared.scenario.Scenario.{Scenario}
 use Rattle.mirrored_run.specs.Mirrors.{IsMirrorRun, mirror_status}
-use Rattle.nook_defs.specs.Listening.{tap_result}
+use Rattle.nook_io.specs.Listening.{tap_result}
 use Rattle.part_laws.specs.Headline.{AreSafe}
 use Rattle.report_text.specs.Whole.{IsReport}
 use Rattle.report_text.specs.declared.report.Run.{Run}

@@ -1,7 +1,7 @@
 -- The texts that are the same in every run.
 use Rattle.std.specs.Prelude.{ℕ, List, [], ◌∷◌, ◌++◌, Option, Some, None, codes, decimal}
-use Rattle.nook_defs.specs.declared.input.InputFault.{InputFault}
-use Rattle.nook_defs.specs.declared.input.Refusal.{Refusal}
+use Rattle.input_defs.specs.declared.input.InputFault.{InputFault}
+use Rattle.input_defs.specs.declared.input.Refusal.{Refusal}
 
 -- a line of text
 abbrev pub line : List ℕ → List ℕ

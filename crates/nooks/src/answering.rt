@@ -1,14 +1,15 @@
 //! The forms of words that read an input: what its bytes are answered with, or the line of their first fault.
 
 ghost use Rattle.std.specs.Prelude.{◌≡◌, ℕ, ◌≤◌, List, Some, Ok, Err, map, IfOk, IsTrue};
-ghost use Rattle.nook_defs.specs.Campaigns.{IsTable, IsValidCampaign, table_text};
-ghost use Rattle.nook_defs.specs.Disassembler.{disassembled};
-ghost use Rattle.nook_defs.specs.Faults.{fault_line as line_of};
-ghost use Rattle.nook_defs.specs.ImageReading.{image_from_asm};
-ghost use Rattle.nook_defs.specs.ImageText.{image_text};
-ghost use Rattle.nook_defs.specs.Listening.{Listening};
-ghost use Rattle.nook_defs.specs.declared.campaign.MemberRow.{MemberRow};
-ghost use Rattle.nook_defs.specs.Valid.{IsValidScenario};
+ghost use Rattle.report_defs.specs.Campaigns.{IsTable, table_text};
+ghost use Rattle.nook_data.specs.Members.{IsValidCampaign};
+ghost use Rattle.asm_defs.specs.Disassembler.{disassembled};
+ghost use Rattle.input_defs.specs.Faults.{fault_line as line_of};
+ghost use Rattle.input_defs.specs.ImageReading.{image_from_asm};
+ghost use Rattle.asm_defs.specs.ImageText.{image_text};
+ghost use Rattle.nook_io.specs.Listening.{Listening};
+ghost use Rattle.nook_data.specs.declared.campaign.MemberRow.{MemberRow};
+ghost use Rattle.nook_data.specs.Valid.{IsValidScenario};
 ghost use Rattle.nooks.specs.Answers.{AnswersInput, IsReported, Says};
 ghost use Rattle.nooks.specs.Endings.{Ends, StopWrites, Writes};
 ghost use Rattle.command_forms.specs.Forms.{is_reading, limit_of};
@@ -24,16 +25,16 @@ use crate::mirroring::serve_bytes;
 use crate::program::{AUDIT_LIMIT, LIMIT, Status, finish};
 use crate::simulated::{run_threads_and_report, simulate_and_report};
 use crate::tracing::trace_bytes;
+use asm_defs::assembler::AsmFault;
 use command_forms::Form;
 use driver_asm::{AsmError, assemble, disassemble, write_image};
 use fault_campaign::write_campaign;
-use nook_defs::assembler::AsmFault;
-use nook_defs::campaign::Campaign;
-use nook_defs::input::{InputFault, Path, Refusal};
-use nook_defs::memory::NoMemory;
-use nook_defs::outside::{Gate, Listener, Sink, Source};
-use nook_defs::scenario::{Image, Scenario};
-use nook_defs::whole::{ReadStop, read_all};
+use input_defs::input::{InputFault, Path, Refusal};
+use nook_data::campaign::Campaign;
+use nook_data::memory::NoMemory;
+use nook_data::scenario::{Image, Scenario};
+use nook_io::outside::{Gate, Listener, Sink, Source};
+use nook_io::whole::{ReadStop, read_all};
 use report_text::WriteStop;
 use request_taps::Bus;
 use scenario_read::{ScenarioFault, fault_line, read_campaign, read_image, read_scenario};
@@ -280,7 +281,7 @@ pub fn refuse_for<K: Sink>(alloc: Global, sink: &mut K, stop: &ScenarioFault) ->
 }
 
 /// The image of an assembler text.
-#[tactic(auto, unfolding(nook_defs::specs::ImageReading::image_from_asm))]
+#[tactic(auto, unfolding(input_defs::specs::ImageReading::image_from_asm))]
 fn read_asm(alloc: Global, bytes: &[u8]) -> Result<Image, ScenarioFault>
     ensures { Gives result (image_from_asm bytes.now) }
 {

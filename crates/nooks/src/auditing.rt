@@ -2,8 +2,8 @@
 
 ghost use Rattle.std.specs.Prelude.{◌≡◌, ◌≤◌, ℕ, List, Some, IfOk};
 ghost use Rattle.audit_input.specs.Handed.{Hands};
-ghost use Rattle.nook_defs.specs.Listening.{Listening};
-ghost use Rattle.nook_defs.specs.Valid.{IsValidScenario};
+ghost use Rattle.nook_io.specs.Listening.{Listening};
+ghost use Rattle.nook_data.specs.Valid.{IsValidScenario};
 ghost use Rattle.nooks.specs.Answers.{AnswersInput, IsVerdict, Says};
 ghost use Rattle.nooks.specs.Endings.{Writes};
 ghost use Rattle.nooks.specs.Streams.{Whole, change};
@@ -14,11 +14,11 @@ use crate::program::{LIMIT, Status, finish};
 use crate::texts::{AUDIT_YES, BAD_HEADER};
 use audit_input::split_input;
 use command_forms::Form;
+use input_defs::input::InputFault;
 use journal_audit::audit;
-use nook_defs::input::InputFault;
-use nook_defs::memory::NoMemory;
-use nook_defs::outside::Sink;
-use nook_defs::scenario::Scenario;
+use nook_data::memory::NoMemory;
+use nook_data::scenario::Scenario;
+use nook_io::outside::Sink;
 use report_text::Line;
 use scenario_read::read_scenario;
 use std::alloc::Global;

@@ -1,16 +1,16 @@
 //! The form of a generated scenario: it is written as it would be read.
 
 ghost use Rattle.std.specs.Prelude.{◌≡◌, ◌≤◌, IfOk};
-ghost use Rattle.nook_defs.specs.Generated.{generated};
+ghost use Rattle.run_defs.specs.Generated.{generated};
 ghost use Rattle.nooks.specs.Answers.{Says};
 ghost use Rattle.nooks.specs.Endings.{Writes};
 ghost use Rattle.nooks.specs.Streams.{change};
 ghost use Rattle.scenario_write.specs.ScenarioText.{scenario_line};
 
 use crate::program::{Status, finish};
-use nook_defs::lists::Words8;
-use nook_defs::memory::NoMemory;
-use nook_defs::outside::Sink;
+use nook_data::lists::Words8;
+use nook_data::memory::NoMemory;
+use nook_io::outside::Sink;
 use scenario_gen::generate;
 use scenario_write::write_scenario_line;
 use std::alloc::Global;

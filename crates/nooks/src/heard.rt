@@ -2,9 +2,9 @@
 
 ghost use Rattle.std.specs.Prelude.{◌≡◌, map, IfOk};
 
-use nook_defs::memory::NoMemory;
-use nook_defs::outside::Listener;
-use nook_defs::steps::Event;
+use nook_data::memory::NoMemory;
+use nook_data::steps::Event;
+use nook_io::outside::Listener;
 use std::alloc::Global;
 
 /// A value in a type of this crate.

@@ -1,7 +1,7 @@
 //! The form of a listing: which line of an assembler text made which word.
 
 ghost use Rattle.std.specs.Prelude.{◌≤◌, List};
-ghost use Rattle.nook_defs.specs.Listening.{Listening};
+ghost use Rattle.nook_io.specs.Listening.{Listening};
 ghost use Rattle.nooks.specs.Answers.{AnswersInput, listing_from};
 ghost use Rattle.nooks.specs.Endings.{Writes};
 ghost use Rattle.nooks.specs.Streams.{Whole, change};
@@ -9,13 +9,13 @@ ghost use Rattle.scenario_read.specs.Gives.{Gives};
 
 use crate::answering::{at_root, refuse_for};
 use crate::program::{Status, finish};
+use asm_defs::assembler::AsmFault;
 use command_forms::Form;
 use driver_asm::AsmError;
 use image_list::write_list;
-use nook_defs::assembler::AsmFault;
-use nook_defs::input::InputFault;
-use nook_defs::lists::Words8;
-use nook_defs::outside::Sink;
+use input_defs::input::InputFault;
+use nook_data::lists::Words8;
+use nook_io::outside::Sink;
 use scenario_read::ScenarioFault;
 use std::alloc::Global;
 

@@ -1,7 +1,7 @@
 //! The whole program as one call over a source and a sink.
 
 ghost use Rattle.std.specs.Prelude.{◌≡◌, ℕ, ◌≤◌, ◌⊎◌, List, None, Some, IsTrue, map, string_bytes};
-ghost use Rattle.nook_defs.specs.Views.Causes.{Rose};
+ghost use Rattle.nook_io.specs.Views.Causes.{Rose};
 ghost use Rattle.nooks.specs.Answers.{Says};
 ghost use Rattle.nooks.specs.Endings.{AnswersBytes, AnswersWords, Ends, IsAnswered, IsBegun, IsCut, IsWritten, Writes};
 ghost use Rattle.nooks.specs.Endings.{code_of};
@@ -14,10 +14,10 @@ use crate::heard::Heard;
 use crate::simulated::run_generated;
 use crate::texts::{HELP, USAGE, VERSION};
 use command_forms::{Form, form_of};
-use nook_defs::lists::Words8;
-use nook_defs::outside::{Gate, Listener, Sink, Source};
-use nook_defs::streams_in_memory::{PlainSink, PlainSource};
-use nook_defs::whole::write_all;
+use nook_data::lists::Words8;
+use nook_io::outside::{Gate, Listener, Sink, Source};
+use nook_io::streams_in_memory::{PlainSink, PlainSource};
+use nook_io::whole::write_all;
 use std::alloc::Global;
 use std::sync::Wait;
 use std::thread::Threads;

@@ -1,10 +1,11 @@
 //! Whole runs: a scenario is simulated, judged, and told of.
 
 ghost use Rattle.std.specs.Prelude.{◌≡◌, ◌^◌, ◌<◌, ◌≤◌, List, [], IfOk, length, map};
-ghost use Rattle.nook_defs.specs.Generated.{generated};
-ghost use Rattle.nook_defs.specs.Listening.{Listening};
-ghost use Rattle.nook_defs.specs.ReportText.{events_count, gen_line, summary_line};
-ghost use Rattle.nook_defs.specs.Valid.{IsValidScenario};
+ghost use Rattle.run_defs.specs.Generated.{generated};
+ghost use Rattle.nook_io.specs.Listening.{Listening};
+ghost use Rattle.run_defs.specs.Simulation.{events_count};
+ghost use Rattle.report_defs.specs.ReportText.{gen_line, summary_line};
+ghost use Rattle.nook_data.specs.Valid.{IsValidScenario};
 ghost use Rattle.nooks.specs.Answers.{IsReported, IsSummary};
 ghost use Rattle.nooks.specs.Endings.{Writes};
 ghost use Rattle.nooks.specs.Making.{IsMade, TellsStatus};
@@ -16,12 +17,12 @@ ghost use Rattle.run_ends.specs.Journals.{events_in};
 
 use crate::program::Status;
 use command_forms::Form;
-use nook_defs::journal::Journal;
-use nook_defs::limits::MOST_PARTS;
-use nook_defs::listeners::CountListener;
-use nook_defs::memory::NoMemory;
-use nook_defs::outside::{Gate, Listener, Sink};
-use nook_defs::scenario::Scenario;
+use nook_data::journal::Journal;
+use nook_data::limits::MOST_PARTS;
+use nook_data::memory::NoMemory;
+use nook_data::scenario::Scenario;
+use nook_io::listeners::CountListener;
+use nook_io::outside::{Gate, Listener, Sink};
 use report_text::{
     PartReport, Report, ReportStatus, Summary, WriteStop, report_of, write_report, write_summary,
 };

@@ -1,9 +1,9 @@
 //! The form of a trace: what one burst of a scenario's run did, turn by turn.
 
 ghost use Rattle.std.specs.Prelude.{◌≡◌, ◌≤◌, ℕ, List, Ok};
-ghost use Rattle.nook_defs.specs.Listening.{Listening};
-ghost use Rattle.nook_defs.specs.ScenarioReading.{scenario_from};
-ghost use Rattle.nook_defs.specs.Valid.{IsValidScenario};
+ghost use Rattle.nook_io.specs.Listening.{Listening};
+ghost use Rattle.input_defs.specs.ScenarioReading.{scenario_from};
+ghost use Rattle.nook_data.specs.Valid.{IsValidScenario};
 ghost use Rattle.nooks.specs.Answers.{AnswersInput};
 ghost use Rattle.nooks.specs.Endings.{Writes};
 ghost use Rattle.nooks.specs.Streams.{Whole, change};
@@ -13,8 +13,8 @@ use crate::program::{Status, finish};
 use crate::texts::NO_SUCH_BURST;
 use burst_trace::write_trace;
 use command_forms::Form;
-use nook_defs::outside::Sink;
-use nook_defs::scenario::Scenario;
+use nook_data::scenario::Scenario;
+use nook_io::outside::Sink;
 use report_text::WriteStop;
 use scenario_read::read_scenario;
 use std::alloc::Global;

@@ -1,9 +1,9 @@
 //! Runs of the program over sources and sinks in memory.
 
-use nook_defs::listeners::FreeGate;
-use nook_defs::lists::{Words, Words8};
-use nook_defs::outside::Listener;
-use nook_defs::streams_in_memory::{ListSink, ListSource};
+use nook_data::lists::{Words, Words8};
+use nook_io::listeners::FreeGate;
+use nook_io::outside::Listener;
+use nook_io::streams_in_memory::{ListSink, ListSource};
 use nooks::{Status, run};
 use std::alloc::Global;
 use std::sync::Wait;

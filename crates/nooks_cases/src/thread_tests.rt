@@ -2,8 +2,8 @@
 
 use crate::inputs::TWO_THREADS;
 use crate::running::words_of;
-use nook_defs::lists::Words8;
-use nook_defs::outside::Gate;
+use nook_data::lists::Words8;
+use nook_io::outside::Gate;
 use nooks::{Status, run_plain};
 use std::sync::atomic::{AtomicU64, Ordering};
 use std::test::Fail;

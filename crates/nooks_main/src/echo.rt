@@ -3,9 +3,9 @@
 ghost use Rattle.std.specs.Prelude.{◌≡◌, ◌<◌, ◌≤◌, length};
 ghost use Rattle.std.specs.Io.{WritesAtMost};
 ghost use Rattle.std.specs.Io.KnownBytes.{WriteAppends};
-ghost use Rattle.nook_defs.specs.Views.Causes.{HasWriteCause};
+ghost use Rattle.nook_io.specs.Views.Causes.{HasWriteCause};
 
-use nook_defs::outside::{Failed, Sink};
+use nook_io::outside::{Failed, Sink};
 
 /// More bytes than the line of a fault has.
 const MOST: usize = 512;

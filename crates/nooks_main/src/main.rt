@@ -6,9 +6,9 @@ mod messages;
 
 use echo::Echo;
 use messages::{EXPLAIN, FORMS, STANDARD_INPUT, message_of};
-use nook_defs::listeners::{CountListener, FreeGate};
-use nook_defs::outside::{Listener, Sink};
-use nook_defs::standard_streams::{InSource, OutSink};
+use nook_io::listeners::{CountListener, FreeGate};
+use nook_io::outside::{Listener, Sink};
+use nook_io::standard_streams::{InSource, OutSink};
 use nooks::{OWN_LISTENERS, Status, run};
 use std::alloc::{AllocError, Global};
 use std::env::Env;

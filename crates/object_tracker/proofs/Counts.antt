@@ -2,8 +2,8 @@
 use Rattle.std.proofs.Common.{◌≡◌, ℕ, suc, ◌+◌, ◌≤◌, Bool, true, false, cond, if◌then◌else◌, List, [], ◌∷◌, length, filter, count_by, arith, refl, sym, ap, ◌∙◌}
 use Rattle.std.specs.List.{list_any}
 use Rattle.std.proofs.lemmas.List.Sums.{sum_by-cons}
-use Rattle.nook_defs.specs.declared.entries.Entry.{Entry}
-use Rattle.nook_defs.specs.Entries.{comes_before, with_entry, with_live, registered}
+use Rattle.nook_data.specs.declared.entries.Entry.{Entry}
+use Rattle.machine_defs.specs.Entries.{comes_before, with_entry, with_live, registered}
 
 pub one_more : (p : Entry → Bool) (e : Entry) (es : List Entry) → count_by p (e ∷ es) ≡ cond {A = ℕ} (p e) 1 0 + count_by p es
 one_more p e es = sum_by-cons (λ x. cond {A = ℕ} (p x) 1 0) e es

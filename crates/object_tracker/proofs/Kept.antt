@@ -2,9 +2,10 @@
 use Rattle.std.proofs.Common.{◌≡◌, inl, inr, ℕ, zero, suc, ◌+◌, ◌-◌, ◌<◌, ◌≤◌, if◌then◌else◌, Bool, true, false, cond, not, nat_lt, nat_le, ◌==◌, ◌||◌, Some, List, [], ◌∷◌, length, filter, count_by, arith, refl, subst, ◌∙◌}
 use Rattle.std.specs.List.{list_any}
 use Rattle.std.proofs.lemmas.Bool.{cases_eq}
-use Rattle.nook_defs.specs.declared.entries.Entry.{Entry}
-use Rattle.nook_defs.specs.declared.entries.Entry.TheVariants as entry
-use Rattle.nook_defs.specs.Entries.{is_heap_use, is_borrow_of, is_buffer_of, is_registration, with_entry, with_live, registered, free_start, borrow_start}
+use Rattle.nook_data.specs.declared.entries.Entry.{Entry}
+use Rattle.nook_data.specs.declared.entries.Entry.TheVariants as entry
+use Rattle.machine_defs.specs.Entries.{is_heap_use, is_borrow_of, is_buffer_of, is_registration, with_entry, with_live}
+use Rattle.machine_defs.specs.Entries.{registered, free_start, borrow_start}
 use Rattle.object_tracker.specs.declared.wanted.Wanted.{Wanted}
 use Rattle.object_tracker.specs.declared.wanted.Wanted.TheVariants as wanted
 use Rattle.object_tracker.specs.Tracked.{is_stray, fits, IsKept, IsTracked}

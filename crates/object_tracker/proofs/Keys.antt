@@ -3,7 +3,7 @@ use Rattle.std.proofs.Common.{◌≡◌, ◌≢◌, ℕ, zero, suc, ◌+◌, ◌
 use Rattle.std.proofs.lemmas.List.{get_or-map}
 use Rattle.std.proofs.lemmas.List.Edits.{length-insert, length-remove}
 use Rattle.slab.specs.Slab.{Slab, get, Updates, slab_len}
-use Rattle.nook_defs.specs.declared.entries.Entry.{Entry}
+use Rattle.nook_data.specs.declared.entries.Entry.{Entry}
 use Rattle.object_tracker.specs.Ordered.{found, entry_at, AreOther, AreKeys, IsOrdered}
 
 -- the other keys find what they found

@@ -1,8 +1,8 @@
 -- One step of the loops over the entries and over the starts of a run.
 use Rattle.std.proofs.Common.{◌≡◌, ℕ, zero, suc, ◌+◌, ◌<◌, Bool, true, false, Some, None, List, [], ◌∷◌, ◌++◌, length, get_or, take, drop, filter, insert, remove, arith, refl, sym, ap, ◌∙◌}
 use Rattle.std.proofs.lemmas.Option.{same_Some}
-use Rattle.nook_defs.specs.declared.entries.Entry.{Entry}
-use Rattle.nook_defs.specs.Entries.{with_live, registered, is_free_run, lowest_run}
+use Rattle.nook_data.specs.declared.entries.Entry.{Entry}
+use Rattle.machine_defs.specs.Entries.{with_live, registered, is_free_run, lowest_run}
 
 -- an entry that ends is taken away
 pub end_one : (p : Entry → Bool) (es : List Entry) (place : ℕ) (d : Entry) → place < length es → p (get_or es place d) ≡ false → take place (remove es place) ++ filter p (drop place (remove es place)) ≡ take place es ++ filter p (drop place es)

@@ -1,11 +1,11 @@
 use Rattle.std.specs.Prelude.{◌≡◌, ℕ, ◌-◌, ◌≤◌, Bool, false, not, nat_le, nat_lt, ◌||◌, List, count_by}
-use Rattle.nook_defs.specs.declared.entries.Entry.{Entry}
-use Rattle.nook_defs.specs.declared.entries.Entry.TheVariants as entry
-use Rattle.nook_defs.specs.declared.limits.TheConstants.{CONTEXTS, MOST_HEAP_ENTRIES}
-use Rattle.nook_defs.specs.declared.memory_map.TheConstants.{DATA_END, LAST_OBJECT, OBJECT_WORDS}
+use Rattle.nook_data.specs.declared.entries.Entry.{Entry}
+use Rattle.nook_data.specs.declared.entries.Entry.TheVariants as entry
+use Rattle.nook_data.specs.declared.limits.TheConstants.{CONTEXTS, MOST_HEAP_ENTRIES}
+use Rattle.nook_data.specs.declared.memory_map.TheConstants.{DATA_END, LAST_OBJECT, OBJECT_WORDS}
 use Rattle.object_tracker.specs.declared.wanted.Wanted.{Wanted}
 use Rattle.object_tracker.specs.declared.wanted.Wanted.TheVariants as wanted
-use Rattle.nook_defs.specs.Entries.{is_heap_at, is_borrow_of, is_heap_use, is_buffer_of, is_registration, is_live}
+use Rattle.machine_defs.specs.Entries.{is_heap_at, is_borrow_of, is_heap_use, is_buffer_of, is_registration, is_live}
 
 -- a copy of an object past the last, or past the heap's end; a buffer of a context past the last
 abbrev pub is_stray : Entry → Bool

@@ -1,13 +1,13 @@
 //! The heap: the lowest free run of words.
 
 ghost use Rattle.std.specs.Prelude.{◌≡◌, ◌+◌, ◌-◌, ◌<◌, ◌≤◌, length, count_by};
-ghost use Rattle.nook_defs.specs.Entries.{is_heap_use, covers_some, overlap, is_free_run, lowest_run, free_start};
+ghost use Rattle.machine_defs.specs.Entries.{is_heap_use, covers_some, overlap, is_free_run, lowest_run, free_start};
 
 use crate::ordered::Ordered;
-use nook_defs::entries::Entry;
-use nook_defs::limits::MOST_HEAP_ENTRIES;
-use nook_defs::lists::Word;
-use nook_defs::memory_map::{DATA_END, DATA_WORDS, OBJECT_WORDS};
+use nook_data::entries::Entry;
+use nook_data::limits::MOST_HEAP_ENTRIES;
+use nook_data::lists::Word;
+use nook_data::memory_map::{DATA_END, DATA_WORDS, OBJECT_WORDS};
 
 /// The lowest start of `n` free heap words: `None` where no run of free words is long enough, or 64 heap and borrow
 /// entries stand.

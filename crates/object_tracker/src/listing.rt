@@ -3,15 +3,15 @@
 ghost use Rattle.std.specs.Prelude.{◌≡◌, ◌+◌, ◌-◌, ◌^◌, ◌↔◌, ◌<◌, ◌≤◌, [], ◌∷◌, ◌++◌, length, take, drop, filter};
 ghost use Rattle.std.specs.Prelude.{insert, not, Contains, IsTrue, IfOk};
 ghost use Rattle.std.specs.List.{list_any};
-ghost use Rattle.nook_defs.specs.Entries.{rank, key_of, comes_before, with_entry, with_live, registered, released};
-ghost use Rattle.nook_defs.specs.Entries.{borrow_start};
+ghost use Rattle.machine_defs.specs.Entries.{rank, key_of, comes_before, with_entry, with_live, registered, released};
+ghost use Rattle.machine_defs.specs.Entries.{borrow_start};
 ghost use Rattle.object_tracker.specs.Tracked.{fits};
 
 use crate::ordered::Ordered;
 use crate::wanted::{Wanted, fits, is_registration};
-use nook_defs::entries::{Entry, Released};
-use nook_defs::lists::{Items, Word};
-use nook_defs::memory::NoMemory;
+use nook_data::entries::{Entry, Released};
+use nook_data::lists::{Items, Word};
+use nook_data::memory::NoMemory;
 use std::alloc::Global;
 
 /// Where the entry's kind stands in Collect's order.

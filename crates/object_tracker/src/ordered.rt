@@ -2,8 +2,8 @@
 
 ghost use Rattle.std.specs.Prelude.{◌≡◌, ◌<◌, ◌≤◌, [], length, slice_index_or, insert, remove, IfOk};
 
-use nook_defs::entries::Entry;
-use nook_defs::memory::NoMemory;
+use nook_data::entries::Entry;
+use nook_data::memory::NoMemory;
 use slab::Slab;
 use std::alloc::Global;
 use std::marker::Model;
@@ -20,7 +20,7 @@ pub struct Ordered {
 
 impl Model for Ordered {
     ghost use Rattle.std.specs.Prelude.{List, map, vec_capacity};
-    ghost use Rattle.nook_defs.specs.declared.entries.Entry.{Entry};
+    ghost use Rattle.nook_data.specs.declared.entries.Entry.{Entry};
 
     ghost Value = { List Entry };
 

@@ -3,19 +3,20 @@
 ghost use Rattle.std.specs.Prelude.{◌≡◌, ◌+◌, ◌↔◌, ◌<◌, ◌≤◌, true, false, not, Contains, IsTrue, IfNone, IfSome, IfOk};
 ghost use Rattle.std.specs.Prelude.{OnErr, OnOk};
 ghost use Rattle.std.specs.List.{list_any};
-ghost use Rattle.nook_defs.specs.Entries.{opening_entries, with_entry, without_heap, without_borrow, without_buffer};
-ghost use Rattle.nook_defs.specs.Entries.{is_heap_at, is_borrow_of, is_buffer_of, is_registered, registered, collected};
-ghost use Rattle.nook_defs.specs.Entries.{released, borrow_start, free_start};
+ghost use Rattle.machine_defs.specs.Entries.{opening_entries, with_entry, without_heap, without_borrow, without_buffer};
+ghost use Rattle.machine_defs.specs.Entries.{is_heap_at, is_borrow_of, is_buffer_of, is_registered, registered};
+ghost use Rattle.machine_defs.specs.Entries.{collected};
+ghost use Rattle.machine_defs.specs.Entries.{released, borrow_start, free_start};
 
 use crate::heap::free_start;
 use crate::listing::{add, borrow_start, end_all, has, held, holds, set_live};
 use crate::ordered::Ordered;
 use crate::wanted::Wanted;
-use nook_defs::entries::{Entry, Released};
-use nook_defs::limits::CONTEXTS;
-use nook_defs::lists::{TryCopy, Word};
-use nook_defs::memory::NoMemory;
-use nook_defs::memory_map::{DATA_END, DATA_WORDS, LAST_OBJECT, OBJECT_WORDS};
+use nook_data::entries::{Entry, Released};
+use nook_data::limits::CONTEXTS;
+use nook_data::lists::{TryCopy, Word};
+use nook_data::memory::NoMemory;
+use nook_data::memory_map::{DATA_END, DATA_WORDS, LAST_OBJECT, OBJECT_WORDS};
 use std::alloc::Global;
 use std::marker::Model;
 
@@ -29,7 +30,7 @@ pub struct Tracker {
 }
 
 impl Model for Tracker {
-    ghost use Rattle.nook_defs.specs.Views.Tracker.{Tracker};
+    ghost use Rattle.machine_defs.specs.Views.Tracker.{Tracker};
     ghost use Rattle.object_tracker.specs.Tracked.{IsTracked};
 
     ghost Value = { Tracker };

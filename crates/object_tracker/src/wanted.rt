@@ -1,10 +1,10 @@
 //! Which entries are looked for.
 
 ghost use Rattle.std.specs.Prelude.{◌≡◌, true, false};
-ghost use Rattle.nook_defs.specs.Entries.{is_registration, is_live};
+ghost use Rattle.machine_defs.specs.Entries.{is_registration, is_live};
 ghost use Rattle.object_tracker.specs.Tracked.{fits};
 
-use nook_defs::entries::Entry;
+use nook_data::entries::Entry;
 
 /// Which entries are looked for, or end.
 #[derive(Clone, Copy)]

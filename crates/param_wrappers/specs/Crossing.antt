@@ -1,11 +1,11 @@
 use Rattle.std.specs.Prelude.{ℕ, ◌+◌, ◌&&◌, nat_le, if◌then◌else◌, Bool, true, Option, Some, None, List, slice_set}
-use Rattle.nook_defs.specs.declared.machine.Service.{Service}
-use Rattle.nook_defs.specs.declared.machine.Service.TheVariants as service
-use Rattle.nook_defs.specs.declared.limits.TheConstants.{MOST_FRAME_WORDS}
-use Rattle.nook_defs.specs.declared.memory_map.TheConstants.{BUFFER_WORDS, DATA_WORDS, LAST_OBJECT, MEMORY_WORDS}
-use Rattle.nook_defs.specs.Domain.{Arguments, Lent}
+use Rattle.nook_data.specs.declared.machine.Service.{Service}
+use Rattle.nook_data.specs.declared.machine.Service.TheVariants as service
+use Rattle.nook_data.specs.declared.limits.TheConstants.{MOST_FRAME_WORDS}
+use Rattle.nook_data.specs.declared.memory_map.TheConstants.{BUFFER_WORDS, DATA_WORDS, LAST_OBJECT, MEMORY_WORDS}
+use Rattle.part_defs.specs.Domain.{Arguments, Lent}
 use Rattle.domain_pages.specs.Frames.{with_own}
-use Rattle.nook_defs.specs.Pages.{buffer_start}
+use Rattle.nook_data.specs.Layout.{buffer_start}
 use Rattle.param_wrappers.specs.declared.copy.Args.{Args}
 
 -- the values of registers r1 to r3

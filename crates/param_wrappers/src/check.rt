@@ -1,13 +1,13 @@
 //! The check of a kernel call's arguments.
 
 ghost use Rattle.std.specs.Prelude.{◌≡◌, ◌+◌, ◌<◌, ◌≤◌, true, IfOk, IsTrue, nat_le};
-ghost use Rattle.nook_defs.specs.Services.{needs, is_frame_length, tested_length, checked_frame, checked};
+ghost use Rattle.machine_defs.specs.Services.{needs, is_frame_length, tested_length, checked_frame, checked};
 ghost use Rattle.param_wrappers.specs.Crossing.{can_serve};
 
-use nook_defs::classes::{Class, class_code};
-use nook_defs::limits::MOST_FRAME_WORDS;
-use nook_defs::machine::{BadParam, Service};
-use nook_defs::memory_map::{BUFFERS_END, DATA_START, DATA_WORDS, LAST_OBJECT};
+use nook_data::classes::{Class, class_code};
+use nook_data::limits::MOST_FRAME_WORDS;
+use nook_data::machine::{BadParam, Service};
+use nook_data::memory_map::{BUFFERS_END, DATA_START, DATA_WORDS, LAST_OBJECT};
 use object_tracker::Tracker;
 
 /// The service of a kernel call by its number and its two arguments, for a driver of a class. The error names the

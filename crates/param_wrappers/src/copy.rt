@@ -3,17 +3,17 @@
 ghost use Rattle.std.specs.Prelude.{◌≡◌, ◌+◌, ◌<◌, ◌≤◌, true, false, if◌then◌else◌, length, slice_range, slice_set};
 ghost use Rattle.std.specs.Prelude.{IfSome};
 ghost use Rattle.std.specs.List.{list_any};
-ghost use Rattle.nook_defs.specs.Domain.{arguments_of, buffer_of, lent, lent_memory, lent_entries};
-ghost use Rattle.nook_defs.specs.Entries.{is_buffer_of, without_buffer};
-ghost use Rattle.nook_defs.specs.Pages.{buffer_start};
+ghost use Rattle.part_defs.specs.Domain.{arguments_of, buffer_of, lent, lent_memory, lent_entries};
+ghost use Rattle.machine_defs.specs.Entries.{is_buffer_of, without_buffer};
+ghost use Rattle.nook_data.specs.Layout.{buffer_start};
 ghost use Rattle.param_wrappers.specs.Crossing.{arguments, lent_own, with_loan};
 
 use domain_pages::PageMap;
-use nook_defs::calls::Op;
-use nook_defs::limits::{BLOCK_WORDS, CONTEXTS};
-use nook_defs::lists::{Word, Words};
-use nook_defs::memory::Room;
-use nook_defs::memory_map::{BUFFER_WORDS, buffer_start};
+use nook_data::calls::Op;
+use nook_data::limits::{BLOCK_WORDS, CONTEXTS};
+use nook_data::lists::{Word, Words};
+use nook_data::memory::Room;
+use nook_data::memory_map::{BUFFER_WORDS, buffer_start};
 use object_tracker::Tracker;
 
 /// The values of registers r1 to r3 at an entry.

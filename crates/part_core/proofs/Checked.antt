@@ -3,12 +3,12 @@ use Rattle.std.proofs.Common.{◌≡◌, ℕ, ◌+◌, ◌/◌, ◌≤◌, ◌<�
 use Rattle.std.proofs.lemmas.Bool.{and_parts, leb-true}
 use Rattle.claim_index.specs.Claims.{HasBlocks, claimed_by}
 use Rattle.part_laws.proofs.PartFacts.{checked_op_of_table}
-use Rattle.nook_defs.specs.declared.calls.Answer.{Answer}
-use Rattle.nook_defs.specs.declared.classes.Class.{Class}
-use Rattle.nook_defs.specs.declared.calls.Op.{Op}
-use Rattle.nook_defs.specs.declared.calls.Op.TheVariants as op
-use Rattle.nook_defs.specs.Classes.{check_op, is_block_length, static_check}
-use Rattle.nook_defs.specs.State.{PartState}
+use Rattle.nook_data.specs.declared.calls.Answer.{Answer}
+use Rattle.nook_data.specs.declared.classes.Class.{Class}
+use Rattle.nook_data.specs.declared.calls.Op.{Op}
+use Rattle.nook_data.specs.declared.calls.Op.TheVariants as op
+use Rattle.nook_data.specs.Classes.{check_op, is_block_length, static_check}
+use Rattle.part_defs.specs.State.{PartState}
 use Rattle.part_core.specs.Answering.{answer_at_once, answer_by}
 use Rattle.part_laws.proofs.BurstKeeps.{split}
 

@@ -5,17 +5,20 @@ use Rattle.std.specs.Option.{IfSome, is_some, option_map}
 use Rattle.std.proofs.lemmas.Bool.{cases_Bool, cases_lt, eq-eqb, ne_eqb}
 use Rattle.claim_index.specs.declared.claim.Claim.{Claim}
 use Rattle.claim_index.specs.Claims.{AreBelow, blocker_of, claim_of, claimed_by, claims_of, without_call}
-use Rattle.nook_defs.specs.declared.calls.Answer.{Answer}
-use Rattle.nook_defs.specs.declared.calls.Answer.TheVariants as answer
-use Rattle.nook_defs.specs.declared.calls.CallEntry.{CallEntry}
-use Rattle.nook_defs.specs.declared.classes.Class.{Class}
-use Rattle.nook_defs.specs.declared.calls.Op.{Op}
-use Rattle.nook_defs.specs.declared.calls.Op.TheVariants as op
-use Rattle.nook_defs.specs.declared.steps.Stage.TheVariants as stage
-use Rattle.nook_defs.specs.Log.{after_acknowledging, after_answering, blocks_call, after_entering, gone_answers, held_by_shadow, is_blocked, is_call, is_held, no_call_open, with_answered_call, open_call, opening_log, queue_after, shadow_answer, stop_answers, with_answer, with_call}
-use Rattle.nook_defs.specs.Views.CallLogs.{IsNumbered, acknowledged_call, blocked_by}
-use Rattle.nook_defs.proofs.Cases.{change_entry, entered_call, new_entry, stop_calls}
-use Rattle.nook_defs.specs.State.{CallLog}
+use Rattle.nook_data.specs.declared.calls.Answer.{Answer}
+use Rattle.nook_data.specs.declared.calls.Answer.TheVariants as answer
+use Rattle.nook_data.specs.declared.calls.CallEntry.{CallEntry}
+use Rattle.nook_data.specs.declared.classes.Class.{Class}
+use Rattle.nook_data.specs.declared.calls.Op.{Op}
+use Rattle.nook_data.specs.declared.calls.Op.TheVariants as op
+use Rattle.nook_data.specs.declared.steps.Stage.TheVariants as stage
+use Rattle.part_defs.specs.Log.{after_acknowledging, after_answering, blocks_call, after_entering, gone_answers}
+use Rattle.part_defs.specs.Log.{held_by_shadow, is_blocked, is_call, is_held, no_call_open, with_answered_call}
+use Rattle.part_defs.specs.Log.{open_call, opening_log, queue_after, shadow_answer, stop_answers, with_answer}
+use Rattle.part_defs.specs.Log.{with_call}
+use Rattle.part_defs.specs.Views.CallLogs.{IsNumbered, acknowledged_call, blocked_by}
+use Rattle.part_defs.proofs.PartCases.{change_entry, entered_call, new_entry, stop_calls}
+use Rattle.part_defs.specs.State.{CallLog}
 use Rattle.shadow_log.proofs.Numbers.{numbered_filter, numbered_map, numbered_more, numbered_push}
 use Rattle.shadow_log.proofs.Changes.{numbered_stop}
 use Rattle.part_core.specs.Answering.{call_number}

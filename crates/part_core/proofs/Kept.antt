@@ -1,17 +1,18 @@
 -- What the laws of runs say of a part, at first and after each step.
 use Rattle.std.proofs.Common.{◌≡◌, ◌+◌, ◌≤◌, ◌<◌, true, List, [], ◌∷◌, ◌++◌, refl, sym, ap, ◌∙◌, ℕ, arith, Option, Some, None, IfNone, IfSome, is_some}
 use Rattle.part_laws.proofs.StepLoans.{run_loans}
-use Rattle.nook_defs.specs.declared.classes.Class.{Class}
-use Rattle.nook_defs.specs.declared.classes.Class.TheVariants as class
-use Rattle.nook_defs.specs.declared.steps.Event.{Event}
-use Rattle.nook_defs.specs.declared.scenario.Fault.{Fault}
-use Rattle.nook_defs.specs.declared.scenario.PartSpec.{PartSpec}
-use Rattle.nook_defs.specs.declared.steps.Step.{Step}
-use Rattle.nook_defs.specs.Runs.{PartRun, IsRun, IsRunFrom, event_of, next_any, opening_run, run_after, state_after, state_from, state_of}
-use Rattle.nook_defs.specs.Views.CallLogs.{answered_at}
-use Rattle.nook_defs.specs.State.{PartState}
-use Rattle.nook_defs.specs.Steps.{enabled, opening, stepped}
-use Rattle.nook_defs.specs.Valid.{FitsClass, IsValidPart}
+use Rattle.nook_data.specs.declared.classes.Class.{Class}
+use Rattle.nook_data.specs.declared.classes.Class.TheVariants as class
+use Rattle.nook_data.specs.declared.steps.Event.{Event}
+use Rattle.nook_data.specs.declared.scenario.Fault.{Fault}
+use Rattle.nook_data.specs.declared.scenario.PartSpec.{PartSpec}
+use Rattle.nook_data.specs.declared.steps.Step.{Step}
+use Rattle.part_defs.specs.Runs.{PartRun, IsRun, IsRunFrom, event_of, next_any, opening_run, run_after, state_after}
+use Rattle.part_defs.specs.Runs.{state_from, state_of}
+use Rattle.part_defs.specs.Views.CallLogs.{answered_at}
+use Rattle.part_defs.specs.State.{PartState}
+use Rattle.part_defs.specs.Steps.{enabled, opening, stepped}
+use Rattle.nook_data.specs.Valid.{FitsClass, IsValidPart}
 use Rattle.part_laws.proofs.DeviceStays.{opening_spec, run_spec, spec_after}
 use Rattle.part_laws.proofs.Answered.{run_answered}
 use Rattle.part_laws.proofs.RunBound.{run_tied}

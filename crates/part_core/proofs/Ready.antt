@@ -5,22 +5,22 @@ use Rattle.std.proofs.lemmas.Bool.{and_parts}
 use Rattle.part_laws.proofs.PartFacts.{burst_context_low, burst_context_goes_on, GoesOnWith, checked_read_count, checked_set_key, open_call_attempts, open_call_checked, open_call_fits_buffer, open_call_of_class, open_call_on_disk, open_call_thread, open_call_thread_low}
 use Rattle.part_laws.proofs.StepLoans.{enter_free, due_free}
 use Rattle.part_laws.specs.Loans.{is_unsettled}
-use Rattle.nook_defs.specs.declared.calls.CallEntry.{CallEntry}
-use Rattle.nook_defs.specs.declared.classes.Class.{Class}
-use Rattle.nook_defs.specs.declared.calls.Op.{Op}
-use Rattle.nook_defs.specs.declared.calls.Op.TheVariants as op
-use Rattle.nook_defs.specs.declared.steps.Stage.{Stage}
-use Rattle.nook_defs.specs.declared.steps.Stage.TheVariants as stage
-use Rattle.nook_defs.specs.declared.steps.Step.TheVariants as step
-use Rattle.nook_defs.specs.declared.machine.Context.{Context}
-use Rattle.nook_defs.specs.Classes.{static_check}
-use Rattle.nook_defs.specs.Domain.{attempt_bursts, context_of}
-use Rattle.nook_defs.proofs.Cases.{bursts_of}
-use Rattle.nook_defs.specs.Entries.{is_buffer_of}
-use Rattle.nook_defs.specs.Log.{call_of_thread}
-use Rattle.nook_defs.specs.Stages.{stage_due}
-use Rattle.nook_defs.specs.State.{PartState}
-use Rattle.nook_defs.specs.Steps.{enabled, is_ready, is_running}
+use Rattle.nook_data.specs.declared.calls.CallEntry.{CallEntry}
+use Rattle.nook_data.specs.declared.classes.Class.{Class}
+use Rattle.nook_data.specs.declared.calls.Op.{Op}
+use Rattle.nook_data.specs.declared.calls.Op.TheVariants as op
+use Rattle.nook_data.specs.declared.steps.Stage.{Stage}
+use Rattle.nook_data.specs.declared.steps.Stage.TheVariants as stage
+use Rattle.nook_data.specs.declared.steps.Step.TheVariants as step
+use Rattle.nook_data.specs.declared.machine.Context.{Context}
+use Rattle.nook_data.specs.Classes.{static_check}
+use Rattle.part_defs.specs.Domain.{attempt_bursts, context_of}
+use Rattle.part_defs.proofs.PartCases.{bursts_of}
+use Rattle.machine_defs.specs.Entries.{is_buffer_of}
+use Rattle.part_defs.specs.Log.{call_of_thread}
+use Rattle.part_defs.specs.Stages.{stage_due}
+use Rattle.part_defs.specs.State.{PartState}
+use Rattle.part_defs.specs.Steps.{enabled, is_ready, is_running}
 use Rattle.part_core.specs.Crossings.{IsAnswerable, IsCrossable, IsWithin}
 use Rattle.part_core.specs.Entering.{IsEnterable, IsEnterableCall}
 use Rattle.part_core.specs.Kept.{IsSound}

@@ -1,17 +1,17 @@
 -- A reply that the class takes answers the call.
 use Rattle.std.proofs.Common.{◌≡◌, ℕ, ◌+◌, ◌-◌, ◌==◌, ◌&&◌, nat_le, nat_lt, Bool, true, false, Option, Some, None, List, IfSome, refl, sym, ap, ◌∙◌, arith}
-use Rattle.nook_defs.specs.declared.classes.Accept.{Accept}
-use Rattle.nook_defs.specs.declared.classes.Accept.TheVariants as accepts
-use Rattle.nook_defs.specs.declared.calls.Answer.{Answer}
-use Rattle.nook_defs.specs.declared.calls.Answer.TheVariants as answer
-use Rattle.nook_defs.specs.declared.calls.CallEntry.{CallEntry}
-use Rattle.nook_defs.specs.declared.steps.End.TheVariants as end
-use Rattle.nook_defs.specs.declared.calls.Op.{Op}
-use Rattle.nook_defs.specs.declared.calls.Op.TheVariants as op
-use Rattle.nook_defs.specs.Classes.{accept}
-use Rattle.nook_defs.specs.Crossing.{Crossed, call_replied, closes_call, reply_answer}
-use Rattle.nook_defs.specs.Log.{call_of_thread, queue_after}
-use Rattle.nook_defs.specs.State.{PartState}
+use Rattle.nook_data.specs.declared.classes.Accept.{Accept}
+use Rattle.nook_data.specs.declared.classes.Accept.TheVariants as accepts
+use Rattle.nook_data.specs.declared.calls.Answer.{Answer}
+use Rattle.nook_data.specs.declared.calls.Answer.TheVariants as answer
+use Rattle.nook_data.specs.declared.calls.CallEntry.{CallEntry}
+use Rattle.nook_data.specs.declared.steps.End.TheVariants as end
+use Rattle.nook_data.specs.declared.calls.Op.{Op}
+use Rattle.nook_data.specs.declared.calls.Op.TheVariants as op
+use Rattle.nook_data.specs.Classes.{accept}
+use Rattle.part_defs.specs.Crossing.{Crossed, call_replied, closes_call, reply_answer}
+use Rattle.part_defs.specs.Log.{call_of_thread, queue_after}
+use Rattle.part_defs.specs.State.{PartState}
 use Rattle.part_core.specs.Crossings.{crossed_to}
 use Rattle.part_core.specs.declared.crossing.Outcome.{Outcome}
 use Rattle.part_laws.proofs.BurstKeeps.{split}

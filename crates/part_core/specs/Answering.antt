@@ -1,10 +1,10 @@
 use Rattle.std.specs.Prelude.{ℕ, Option, Some, None, List}
-use Rattle.nook_defs.specs.declared.calls.Answer.{Answer}
-use Rattle.nook_defs.specs.declared.calls.CallEntry.{CallEntry}
-use Rattle.nook_defs.specs.declared.calls.Op.{Op}
-use Rattle.nook_defs.specs.Calls.{answer_in, queue_in}
-use Rattle.nook_defs.specs.Classes.{static_check}
-use Rattle.nook_defs.specs.State.{PartState}
+use Rattle.nook_data.specs.declared.calls.Answer.{Answer}
+use Rattle.nook_data.specs.declared.calls.CallEntry.{CallEntry}
+use Rattle.nook_data.specs.declared.calls.Op.{Op}
+use Rattle.part_defs.specs.Calls.{answer_in, queue_in}
+use Rattle.nook_data.specs.Classes.{static_check}
+use Rattle.part_defs.specs.State.{PartState}
 
 -- What an invocation is answered at once, and the queue that this leaves.
 

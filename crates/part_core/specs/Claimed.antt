@@ -1,9 +1,9 @@
 use Rattle.std.specs.Prelude.{ℕ, ◌≡◌, List, [], ◌∷◌}
 use Rattle.claim_index.specs.declared.claim.Claim.{Claim}
 use Rattle.claim_index.specs.Claims.{claims_of, without_call}
-use Rattle.nook_defs.specs.declared.calls.Answer.{Answer}
-use Rattle.nook_defs.specs.Views.CallLogs.{IsNumbered}
-use Rattle.nook_defs.specs.State.{CallLog}
+use Rattle.nook_data.specs.declared.calls.Answer.{Answer}
+use Rattle.part_defs.specs.Views.CallLogs.{IsNumbered}
+use Rattle.part_defs.specs.State.{CallLog}
 
 -- the claims are those of the open calls, whose numbers rise
 pub record AreClaimed (claims : List Claim) (log : CallLog) : Type 0 where

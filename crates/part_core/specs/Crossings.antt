@@ -1,13 +1,13 @@
 use Rattle.std.specs.Prelude.{◌≡◌, ℕ, ◌+◌, ◌^◌, ◌<◌, ◌≤◌, true, IfSome}
-use Rattle.nook_defs.specs.declared.calls.CallEntry.{CallEntry}
-use Rattle.nook_defs.specs.declared.classes.Class.{Class}
-use Rattle.nook_defs.specs.declared.calls.Op.{Op}
-use Rattle.nook_defs.specs.declared.calls.Op.TheVariants as op
-use Rattle.nook_defs.specs.declared.limits.TheConstants.{CONTEXTS}
-use Rattle.nook_defs.specs.Classes.{blocks_of_op, first_of_op, is_of_class}
-use Rattle.nook_defs.specs.Crossing.{Crossed}
-use Rattle.nook_defs.specs.Log.{call_of_thread}
-use Rattle.nook_defs.specs.State.{PartState}
+use Rattle.nook_data.specs.declared.calls.CallEntry.{CallEntry}
+use Rattle.nook_data.specs.declared.classes.Class.{Class}
+use Rattle.nook_data.specs.declared.calls.Op.{Op}
+use Rattle.nook_data.specs.declared.calls.Op.TheVariants as op
+use Rattle.nook_data.specs.declared.limits.TheConstants.{CONTEXTS}
+use Rattle.nook_data.specs.Classes.{blocks_of_op, first_of_op, is_of_class}
+use Rattle.part_defs.specs.Crossing.{Crossed}
+use Rattle.part_defs.specs.Log.{call_of_thread}
+use Rattle.part_defs.specs.State.{PartState}
 use Rattle.part_core.specs.declared.crossing.Outcome.{Outcome}
 
 -- How a method's result stands to the definition of its crossing.

@@ -1,13 +1,13 @@
 use Rattle.std.specs.Prelude.{◌≡◌, ◌≤◌, ◌<◌, ◌^◌, ℕ, true, false, IfSome, IsSome, length}
 use Rattle.std.specs.List.{list_any}
-use Rattle.nook_defs.specs.declared.calls.CallEntry.{CallEntry}
-use Rattle.nook_defs.specs.declared.limits.TheConstants.{CONTEXTS}
-use Rattle.nook_defs.specs.declared.memory_map.TheConstants.{BUFFER_WORDS}
-use Rattle.nook_defs.specs.Classes.{is_of_class}
-use Rattle.nook_defs.specs.Domain.{buffer_of}
-use Rattle.nook_defs.specs.Entries.{is_buffer_of}
-use Rattle.nook_defs.specs.Log.{call_of_thread}
-use Rattle.nook_defs.specs.State.{PartState}
+use Rattle.nook_data.specs.declared.calls.CallEntry.{CallEntry}
+use Rattle.nook_data.specs.declared.limits.TheConstants.{CONTEXTS}
+use Rattle.nook_data.specs.declared.memory_map.TheConstants.{BUFFER_WORDS}
+use Rattle.nook_data.specs.Classes.{is_of_class}
+use Rattle.part_defs.specs.Domain.{buffer_of}
+use Rattle.machine_defs.specs.Entries.{is_buffer_of}
+use Rattle.part_defs.specs.Log.{call_of_thread}
+use Rattle.part_defs.specs.State.{PartState}
 
 -- a call of one of 16 threads whose operation is its class's and fits a buffer, with attempts left to be counted, and
 -- whose buffer is not lent

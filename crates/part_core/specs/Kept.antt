@@ -1,10 +1,10 @@
 use Rattle.std.specs.Prelude.{◌≡◌, ◌≤◌, ◌<◌, ◌^◌, ℕ, List}
 use Rattle.part_laws.specs.Loans.{HasLoans}
-use Rattle.nook_defs.specs.declared.scenario.Fault.{Fault}
-use Rattle.nook_defs.specs.Runs.{PartRun, IsRun, state_of}
-use Rattle.nook_defs.specs.State.{PartState}
-use Rattle.nook_defs.specs.Steps.{faults_of_burst}
-use Rattle.nook_defs.specs.Valid.{IsValidPart}
+use Rattle.nook_data.specs.declared.scenario.Fault.{Fault}
+use Rattle.part_defs.specs.Runs.{PartRun, IsRun, state_of}
+use Rattle.part_defs.specs.State.{PartState}
+use Rattle.machine_defs.specs.BurstFaults.{faults_of_burst}
+use Rattle.nook_data.specs.Valid.{IsValidPart}
 use Rattle.part_laws.specs.Fit.{IsFit}
 use Rattle.part_laws.specs.Tied.{IsTied}
 

@@ -1,11 +1,11 @@
 use Rattle.std.specs.Prelude.{◌≡◌, ◌≤◌, true, false, length}
 use Rattle.std.specs.List.{list_any}
-use Rattle.nook_defs.specs.declared.steps.Stage.{Stage}
-use Rattle.nook_defs.specs.Classes.{defaults_of}
-use Rattle.nook_defs.specs.Entries.{is_buffer_of}
-use Rattle.nook_defs.specs.State.{PartState}
-use Rattle.nook_defs.specs.declared.limits.TheConstants.{SHADOW}
-use Rattle.nook_defs.specs.declared.memory_map.TheConstants.{DATA_WORDS, TEXT_WORDS}
+use Rattle.nook_data.specs.declared.steps.Stage.{Stage}
+use Rattle.nook_data.specs.Classes.{defaults_of}
+use Rattle.machine_defs.specs.Entries.{is_buffer_of}
+use Rattle.part_defs.specs.State.{PartState}
+use Rattle.nook_data.specs.declared.limits.TheConstants.{SHADOW}
+use Rattle.nook_data.specs.declared.memory_map.TheConstants.{DATA_WORDS, TEXT_WORDS}
 use Rattle.part_laws.specs.Tied.{is_driving_stage}
 
 -- what a stage may rest on: the log has the class's defaults, the image fits, and the shadow's buffer is not lent where

@@ -1,11 +1,11 @@
 use Rattle.std.specs.Prelude.{◌≡◌, ◌+◌, true, false, Result, Ok, Err, List, length}
-use Rattle.nook_defs.specs.declared.steps.Event.{Event}
-use Rattle.nook_defs.specs.declared.steps.Step.{Step}
-use Rattle.nook_defs.specs.declared.memory.NoMemory.{NoMemory}
-use Rattle.nook_defs.specs.Calls.{Stepped}
-use Rattle.nook_defs.specs.Runs.{PartRun, run_after}
-use Rattle.nook_defs.specs.State.{PartState}
-use Rattle.nook_defs.specs.Steps.{enabled}
+use Rattle.nook_data.specs.declared.steps.Event.{Event}
+use Rattle.nook_data.specs.declared.steps.Step.{Step}
+use Rattle.nook_data.specs.declared.memory.NoMemory.{NoMemory}
+use Rattle.part_defs.specs.Calls.{Stepped}
+use Rattle.part_defs.specs.Runs.{PartRun, run_after}
+use Rattle.part_defs.specs.State.{PartState}
+use Rattle.part_defs.specs.Steps.{enabled}
 use Rattle.part_core.specs.declared.part.StepDone.{StepDone}
 use Rattle.part_core.specs.declared.part.StepRefused.{StepRefused}
 use Rattle.part_core.specs.declared.part.StepRefused.TheVariants as refused

@@ -1,8 +1,9 @@
 //! The step Burst: a context runs to its crossing, and what the crossing asks is done.
 
 ghost use Rattle.std.specs.Prelude.{◌≡◌, ◌+◌, ◌^◌, ◌<◌};
-ghost use Rattle.nook_defs.specs.Domain.{attempt_bursts};
-ghost use Rattle.nook_defs.specs.Steps.{burst_stepped, faults_of_burst, served_number};
+ghost use Rattle.part_defs.specs.Domain.{attempt_bursts};
+ghost use Rattle.part_defs.specs.Steps.{burst_stepped, served_number};
+ghost use Rattle.machine_defs.specs.BurstFaults.{faults_of_burst};
 ghost use Rattle.part_core.specs.Crossings.{IsCrossable};
 ghost use Rattle.part_core.specs.Turning.{IsStepOf};
 
@@ -10,16 +11,16 @@ use crate::crossing::Outcome;
 use crate::rooms::Rooms;
 use crate::state::State;
 use domain_call::BurstDone;
-use nook_defs::limits::{MOST_BURSTS, SHADOW};
-use nook_defs::machine::Acts;
-use nook_defs::memory::NoMemory;
-use nook_defs::scenario::Fault;
-use nook_defs::steps::Event;
+use nook_data::limits::{MOST_BURSTS, SHADOW};
+use nook_data::machine::Acts;
+use nook_data::memory::NoMemory;
+use nook_data::scenario::Fault;
+use nook_data::steps::Event;
 use std::mem;
 
 impl State {
     /// One burst of a context, with the faults of its number. It takes its memory first.
-    #[tactic(auto, unfolding(nook_defs::specs::Steps::burst_stepped))]
+    #[tactic(auto, unfolding(part_defs::specs::Steps::burst_stepped))]
     pub fn burst(&mut self, context: u8, faults: &[Fault]) -> Result<Event, NoMemory>
         requires crossable { IsCrossable context self.old }
         requires attempt { attempt_bursts context self.old.domain < MOST_BURSTS }

@@ -1,15 +1,15 @@
 //! What the crossing at the end of a burst asks is done in the same step.
 
 ghost use Rattle.std.specs.Prelude.{◌≡◌, ◌<◌, ◌^◌, None, true};
-ghost use Rattle.nook_defs.specs.Crossing.{after_crossing, failed_crossing, is_last};
+ghost use Rattle.part_defs.specs.Crossing.{after_crossing, failed_crossing, is_last};
 ghost use Rattle.part_core.specs.Crossings.{crossed_to, IsCrossable};
 
 use crate::rooms::Rooms;
 use crate::state::State;
-use nook_defs::calls::Answer;
-use nook_defs::limits::{CONTEXTS, MOST_BURSTS};
-use nook_defs::machine::BurstEnd;
-use nook_defs::steps::{End, FailCause, Mode, Stage};
+use nook_data::calls::Answer;
+use nook_data::limits::{CONTEXTS, MOST_BURSTS};
+use nook_data::machine::BurstEnd;
+use nook_data::steps::{End, FailCause, Mode, Stage};
 
 /// What became of a crossing, as the burst's event shows it.
 #[derive(Drop)]
@@ -21,7 +21,7 @@ pub struct Outcome {
 
 impl State {
     /// A trap; a 32nd burst that is no reply; a kernel call; a pause; or a reply. It takes no memory.
-    #[tactic(auto, unfolding(nook_defs::specs::Crossing::after_crossing))]
+    #[tactic(auto, unfolding(part_defs::specs::Crossing::after_crossing))]
     pub fn cross(&mut self, context: u8, end: BurstEnd, rooms: &mut Rooms) -> Outcome
         requires crossable { IsCrossable context self.old }
         requires rooms { rooms.old ≡ true }
@@ -35,7 +35,7 @@ impl State {
         }
     }
 
-    #[tactic(auto, unfolding(nook_defs::specs::Crossing::after_crossing))]
+    #[tactic(auto, unfolding(part_defs::specs::Crossing::after_crossing))]
     fn pause(&mut self, context: u8) -> Outcome
         requires crossable { IsCrossable context self.old }
         ensures { after_crossing context BurstEnd.Pause self.old ≡ crossed_to self.new result }
@@ -56,7 +56,7 @@ impl State {
     }
 
     /// The driver failed: it is counted, also in object 0, the shadow's call ends, and the part recovers from Stop on.
-    #[tactic(auto, unfolding(nook_defs::specs::Crossing::fails))]
+    #[tactic(auto, unfolding(part_defs::specs::Crossing::fails))]
     pub fn fail(&mut self, end: End, cause: FailCause) -> Outcome
         requires { self.old.failures < 2 ^ 31 }
         ensures { failed_crossing self.old end cause ≡ crossed_to self.new result }

@@ -1,21 +1,22 @@
 //! Which steps may be taken.
 
 ghost use Rattle.std.specs.Prelude.{◌≡◌, Some, IfSome, IsSome};
-ghost use Rattle.nook_defs.specs.Log.{call_of_thread, is_blocked, open_call};
-ghost use Rattle.nook_defs.specs.Views.CallLogs.{blocked_by};
+ghost use Rattle.part_defs.specs.Log.{call_of_thread, is_blocked, open_call};
+ghost use Rattle.part_defs.specs.Views.CallLogs.{blocked_by};
 ghost use Rattle.part_core.specs.Answering.{call_number};
-ghost use Rattle.nook_defs.specs.Steps.{can_arrive, can_burst, can_enter, can_invoke, can_stage, enabled, is_driven, is_inside, is_ready};
+ghost use Rattle.part_defs.specs.Steps.{can_arrive, can_burst, can_enter, can_invoke, can_stage, enabled, is_driven};
+ghost use Rattle.part_defs.specs.Steps.{is_inside, is_ready};
 
 use crate::state::State;
-use nook_defs::calls::CallEntry;
-use nook_defs::classes::Class;
-use nook_defs::limits::{MOST_CALLS, MOST_FRAME_WORDS, SHADOW};
-use nook_defs::lists::Words;
-use nook_defs::steps::{Mode, Step};
+use nook_data::calls::CallEntry;
+use nook_data::classes::Class;
+use nook_data::limits::{MOST_CALLS, MOST_FRAME_WORDS, SHADOW};
+use nook_data::lists::Words;
+use nook_data::steps::{Mode, Step};
 
 impl State {
     /// Whether the step may be taken now.
-    #[tactic(auto, unfolding(nook_defs::specs::Steps::enabled))]
+    #[tactic(auto, unfolding(part_defs::specs::Steps::enabled))]
     pub fn enabled(&self, step: &Step) -> bool
         ensures { result ≡ enabled self.now step.now }
     {

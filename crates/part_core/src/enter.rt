@@ -1,23 +1,23 @@
 //! The step Enter: a Held call is answered by its class, or goes Inside.
 
 ghost use Rattle.std.specs.Prelude.{◌≡◌, true};
-ghost use Rattle.nook_defs.specs.Calls.{after_enter};
-ghost use Rattle.nook_defs.specs.Classes.{admit, is_of_class};
-ghost use Rattle.nook_defs.specs.Devices.{head_of, tail_of};
+ghost use Rattle.part_defs.specs.Calls.{after_enter};
+ghost use Rattle.nook_data.specs.Classes.{admit, is_of_class};
+ghost use Rattle.nook_data.specs.Frames.{head_of, tail_of};
 ghost use Rattle.part_core.specs.Entering.{IsEnterable};
 ghost use Rattle.part_core.specs.Turning.{stepped_to};
 
 use crate::state::State;
-use nook_defs::calls::{Answer, Op};
-use nook_defs::classes::{Admit, Class, ClassState};
-use nook_defs::lists::Words;
-use nook_defs::outside::RxFront;
-use nook_defs::steps::Event;
+use nook_data::calls::{Answer, Op};
+use nook_data::classes::{Admit, Class, ClassState};
+use nook_data::lists::Words;
+use nook_data::steps::Event;
+use nook_io::outside::RxFront;
 
 impl State {
     /// A thread's Held call is answered by its class, or goes Inside with its parameters copied from the log. It takes
     /// no memory.
-    #[tactic(auto, unfolding(nook_defs::specs::Calls::after_enter))]
+    #[tactic(auto, unfolding(part_defs::specs::Calls::after_enter))]
     pub fn enter(&mut self, thread: u8) -> Event
         requires { IsEnterable thread self.old }
         ensures { after_enter thread self.old ≡ stepped_to self.new result }

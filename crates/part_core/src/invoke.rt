@@ -1,24 +1,24 @@
 //! The step Invoke: a thread asks for an operation, which is answered at once or stays open.
 
 ghost use Rattle.std.specs.Prelude.{◌≡◌, true, IfNone};
-ghost use Rattle.nook_defs.specs.Calls.{answer_in, after_invoke, queue_in};
-ghost use Rattle.nook_defs.specs.Log.{queue_after, shadow_answer};
-ghost use Rattle.nook_defs.specs.Steps.{enabled};
+ghost use Rattle.part_defs.specs.Calls.{answer_in, after_invoke, queue_in};
+ghost use Rattle.part_defs.specs.Log.{queue_after, shadow_answer};
+ghost use Rattle.part_defs.specs.Steps.{enabled};
 ghost use Rattle.part_core.specs.Answering.{answer_at_once, queue_at_once};
 ghost use Rattle.part_core.specs.Turning.{IsStepOf};
 
 use crate::state::State;
 use class_table::static_check;
-use nook_defs::calls::{Answer, Op};
-use nook_defs::lists::TryCopy;
-use nook_defs::memory::NoMemory;
-use nook_defs::steps::{Event, Mode, Stage, Step};
+use nook_data::calls::{Answer, Op};
+use nook_data::lists::TryCopy;
+use nook_data::memory::NoMemory;
+use nook_data::steps::{Event, Mode, Stage, Step};
 use shadow_proxy::{Proxy, front_for, proxy};
 
 impl State {
     /// The static check answers the operation, or the mode answers or holds it. A call that is held keeps a copy of
     /// the operation in the log.
-    #[tactic(auto, unfolding(nook_defs::specs::Calls::after_invoke, nook_defs::specs::Steps::enabled))]
+    #[tactic(auto, unfolding(part_defs::specs::Calls::after_invoke, part_defs::specs::Steps::enabled))]
     pub fn invoke(&mut self, thread: u8, op: Op) -> Result<Event, NoMemory>
         requires { enabled self.old (Step.Invoke thread op) ≡ true }
         ensures { IsStepOf (after_invoke thread op self.old) self.old result self.new }

@@ -1,24 +1,24 @@
 //! A kernel call at the end of a burst.
 
 ghost use Rattle.std.specs.Prelude.{◌≡◌, ◌<◌, true, IfOk};
-ghost use Rattle.nook_defs.specs.Crossing.{after_crossing, heap_start, kernel_call, refused_service, served_call};
-ghost use Rattle.nook_defs.specs.Domain.{first_argument, second_argument};
-ghost use Rattle.nook_defs.specs.Services.{checked, served};
-ghost use Rattle.nook_defs.specs.declared.machine.BurstEnd.{BurstEnd};
+ghost use Rattle.part_defs.specs.Crossing.{after_crossing, heap_start, kernel_call, refused_service, served_call};
+ghost use Rattle.part_defs.specs.Domain.{first_argument, second_argument};
+ghost use Rattle.machine_defs.specs.Services.{checked, served};
+ghost use Rattle.nook_data.specs.declared.machine.BurstEnd.{BurstEnd};
 ghost use Rattle.param_wrappers.specs.Crossing.{can_serve};
 ghost use Rattle.part_core.specs.Crossings.{crossed_to, IsCrossable};
 
 use crate::crossing::{Outcome, goes_on};
 use crate::rooms::Rooms;
 use crate::state::State;
-use nook_defs::limits::CONTEXTS;
-use nook_defs::lists::Words;
-use nook_defs::machine::{BadParam, Service};
-use nook_defs::steps::{End, FailCause};
+use nook_data::limits::CONTEXTS;
+use nook_data::lists::Words;
+use nook_data::machine::{BadParam, Service};
+use nook_data::steps::{End, FailCause};
 
 impl State {
     /// A kernel call in the last burst of an attempt is a failure; any other is served where its check passes.
-    #[tactic(auto, unfolding(nook_defs::specs::Crossing::after_crossing))]
+    #[tactic(auto, unfolding(part_defs::specs::Crossing::after_crossing))]
     pub fn call_kernel(&mut self, context: u8, service: u32, rooms: &mut Rooms) -> Outcome
         requires crossable { IsCrossable context self.old }
         requires rooms { rooms.old ≡ true }

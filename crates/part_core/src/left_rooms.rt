@@ -1,6 +1,6 @@
 //! Memory for acts that parts leave, for the parts of later runs.
 
-use nook_defs::journal::SpareRooms;
+use nook_data::journal::SpareRooms;
 use std::alloc::Global;
 
 /// The memory for acts that parts left: whoever makes one run after another takes it once for all of them.

@@ -1,15 +1,15 @@
 //! What comes next in a part.
 
 ghost use Rattle.std.specs.Prelude.{◌≡◌};
-ghost use Rattle.nook_defs.specs.Runs.{next_any, next_for, next_of_calls, next_recovery};
+ghost use Rattle.part_defs.specs.Runs.{next_any, next_for, next_of_calls, next_recovery};
 
 use crate::state::State;
-use nook_defs::limits::SHADOW;
-use nook_defs::steps::Step;
+use nook_data::limits::SHADOW;
+use nook_data::steps::Step;
 
 impl State {
     /// The Enter or the Burst of a thread's open call, where it may be taken. A thread without an open call has none.
-    #[tactic(auto, unfolding(nook_defs::specs::Runs::next_for, nook_defs::specs::Steps::enabled))]
+    #[tactic(auto, unfolding(part_defs::specs::Runs::next_for, part_defs::specs::Steps::enabled))]
     pub fn next_for(&self, thread: u8) -> Option<Step>
         ensures { result ≡ next_for self.now thread }
     {
@@ -25,7 +25,7 @@ impl State {
     }
 
     /// The stage, or the burst of the shadow's context, where it may be taken.
-    #[tactic(auto, unfolding(nook_defs::specs::Runs::next_recovery, nook_defs::specs::Steps::enabled))]
+    #[tactic(auto, unfolding(part_defs::specs::Runs::next_recovery, part_defs::specs::Steps::enabled))]
     pub fn next_recovery(&self) -> Option<Step>
         ensures { result ≡ next_recovery self.now }
     {
@@ -39,7 +39,7 @@ impl State {
     }
 
     /// The recovery's next step, else that of the open call with the smallest number that has one.
-    #[tactic(auto, unfolding(nook_defs::specs::Runs::next_any))]
+    #[tactic(auto, unfolding(part_defs::specs::Runs::next_any))]
     pub fn next_any(&self) -> Option<Step>
         ensures { result ≡ next_any self.now }
     {

@@ -2,16 +2,18 @@
 
 ghost use Rattle.std.specs.Prelude.{◌≡◌, ◌+◌, ◌<◌, ◌≤◌, Some, option_map, IfSome, IfOk, OnOk, OnErr};
 ghost use Rattle.claim_index.specs.Claims.{HasBlocks, blocker_of, claimed_by};
-ghost use Rattle.nook_defs.specs.Log.{after_answering, call_of_thread, after_entering, gone_answers, held_by_shadow, no_call_open, with_answered_call, open_call, opening_log, stop_answers, stop_queue, with_call};
-ghost use Rattle.nook_defs.specs.Views.CallLogs.{acknowledged_call};
+ghost use Rattle.part_defs.specs.Log.{after_answering, call_of_thread, after_entering, gone_answers, held_by_shadow};
+ghost use Rattle.part_defs.specs.Log.{no_call_open, with_answered_call, open_call, opening_log, stop_answers};
+ghost use Rattle.part_defs.specs.Log.{stop_queue, with_call};
+ghost use Rattle.part_defs.specs.Views.CallLogs.{acknowledged_call};
 ghost use Rattle.part_core.specs.Claimed.{without_answered};
 
 use claim_index::{Claim, ClaimIndex};
-use nook_defs::calls::{Answer, CallAnswers, CallEntry, Op};
-use nook_defs::classes::Class;
-use nook_defs::lists::Word;
-use nook_defs::memory::NoMemory;
-use nook_defs::outside::RxFront;
+use nook_data::calls::{Answer, CallAnswers, CallEntry, Op};
+use nook_data::classes::Class;
+use nook_data::lists::Word;
+use nook_data::memory::NoMemory;
+use nook_io::outside::RxFront;
 use shadow_log::ShadowLog;
 use std::alloc::Global;
 use std::marker::Model;
@@ -25,7 +27,7 @@ pub struct OpenCalls {
 }
 
 impl Model for OpenCalls {
-    ghost use Rattle.nook_defs.specs.State.{CallLog};
+    ghost use Rattle.part_defs.specs.State.{CallLog};
     ghost use Rattle.part_core.specs.Claimed.{AreClaimed};
 
     ghost Value = { CallLog };

@@ -1,13 +1,13 @@
 //! A part with its journal: one atomic step adds one event.
 
 ghost use Rattle.std.specs.Prelude.{◌≡◌, ◌<◌, ◌≤◌, ◌^◌, is_some, true, [], IsSome, IfNone, IfSome, IfOk};
-ghost use Rattle.nook_defs.specs.Devices.{medium_of};
-ghost use Rattle.nook_defs.specs.Pages.{object_words};
-ghost use Rattle.nook_defs.specs.Log.{call_of_thread, open_call};
-ghost use Rattle.nook_defs.specs.Views.CallLogs.{answered_at, blocked_by};
-ghost use Rattle.nook_defs.specs.Runs.{IsRun, next_any, next_for, next_recovery, opening_run, state_of};
-ghost use Rattle.nook_defs.specs.Steps.{can_arrive, can_invoke, enabled};
-ghost use Rattle.nook_defs.specs.Valid.{IsValidPart};
+ghost use Rattle.machine_defs.specs.Devices.{medium_of};
+ghost use Rattle.machine_defs.specs.Pages.{object_words};
+ghost use Rattle.part_defs.specs.Log.{call_of_thread, open_call};
+ghost use Rattle.part_defs.specs.Views.CallLogs.{answered_at, blocked_by};
+ghost use Rattle.part_defs.specs.Runs.{IsRun, next_any, next_for, next_recovery, opening_run, state_of};
+ghost use Rattle.part_defs.specs.Steps.{can_arrive, can_invoke, enabled};
+ghost use Rattle.nook_data.specs.Valid.{IsValidPart};
 ghost use Rattle.part_core.specs.Answering.{call_number};
 ghost use Rattle.part_core.specs.Turning.{IsStepped};
 ghost use Rattle.part_laws.specs.Answered.{is_answered};
@@ -16,13 +16,13 @@ ghost use Rattle.part_laws.specs.Recovery.{HasFacts, IsKeptRun};
 use crate::state::State;
 use domain_call::Domain;
 use fault_script::FaultScript;
-use nook_defs::journal::{Journal, SpareRooms};
-use nook_defs::limits::BLOCK_WORDS;
-use nook_defs::lists::{TryCopy, Word, Words};
-use nook_defs::memory::{NoMemory, Room};
-use nook_defs::memory_map::{LAST_OBJECT, OBJECT_WORDS, object_start};
-use nook_defs::scenario::PartSpec;
-use nook_defs::steps::{Event, Mode, Step};
+use nook_data::journal::{Journal, SpareRooms};
+use nook_data::limits::BLOCK_WORDS;
+use nook_data::lists::{TryCopy, Word, Words};
+use nook_data::memory::{NoMemory, Room};
+use nook_data::memory_map::{LAST_OBJECT, OBJECT_WORDS, object_start};
+use nook_data::scenario::PartSpec;
+use nook_data::steps::{Event, Mode, Step};
 use std::alloc::Global;
 use std::marker::Model;
 
@@ -50,7 +50,7 @@ pub struct Part {
 }
 
 impl Model for Part {
-    ghost use Rattle.nook_defs.specs.Runs.{PartRun};
+    ghost use Rattle.part_defs.specs.Runs.{PartRun};
     ghost use Rattle.part_core.specs.Kept.{AreSameFaults, IsKept};
 
     ghost Value = { PartRun };

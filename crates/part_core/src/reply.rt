@@ -1,11 +1,12 @@
 //! A driver's reply at the end of a burst.
 
 ghost use Rattle.std.specs.Prelude.{◌≡◌, ◌+◌, ◌^◌, ◌<◌, ◌≤◌, None, Some, true, IfSome};
-ghost use Rattle.nook_defs.specs.Classes.{accept, blocks_of_op, first_of_op, is_of_class};
-ghost use Rattle.nook_defs.specs.Crossing.{call_replied, closes_call, is_accepted, next_stage, noted_set, after_reply, reply_answer, shadow_fault, shadow_replied, stage_in};
-ghost use Rattle.nook_defs.specs.Log.{call_of_thread, frame_or_empty, queue_after};
+ghost use Rattle.nook_data.specs.Classes.{accept, blocks_of_op, first_of_op, is_of_class};
+ghost use Rattle.part_defs.specs.Crossing.{call_replied, closes_call, is_accepted, next_stage, noted_set, after_reply};
+ghost use Rattle.part_defs.specs.Crossing.{reply_answer, shadow_fault, shadow_replied, stage_in};
+ghost use Rattle.part_defs.specs.Log.{call_of_thread, frame_or_empty, queue_after};
 ghost use Rattle.part_core.specs.Crossings.{crossed_to, IsCrossable, IsWithin};
-ghost use Rattle.nook_defs.specs.State.{PartState};
+ghost use Rattle.part_defs.specs.State.{PartState};
 ghost use Rattle.shadow_proxy.specs.Table.{queue_of};
 
 use crate::crossing::{Outcome, goes_on};
@@ -13,12 +14,12 @@ use crate::rooms::Rooms;
 use crate::state::State;
 use domain_call::Domain;
 use kernel_services::RxQueue;
-use nook_defs::calls::{Answer, CallEntry, Op};
-use nook_defs::classes::{Accept, Class};
-use nook_defs::limits::{BLOCK_WORDS, CONTEXTS, SHADOW};
-use nook_defs::lists::Words;
-use nook_defs::outside::RxFront;
-use nook_defs::steps::{End, FailCause, Mode, Stage};
+use nook_data::calls::{Answer, CallEntry, Op};
+use nook_data::classes::{Accept, Class};
+use nook_data::limits::{BLOCK_WORDS, CONTEXTS, SHADOW};
+use nook_data::lists::Words;
+use nook_data::steps::{End, FailCause, Mode, Stage};
+use nook_io::outside::RxFront;
 
 impl State {
     /// A reply to the shadow, or to an application's call.
@@ -69,7 +70,7 @@ impl State {
     }
 
     /// The shadow's context is free, and the stage behind Init or a replay is due.
-    #[tactic(auto, unfolding(nook_defs::specs::Crossing::next_stage))]
+    #[tactic(auto, unfolding(part_defs::specs::Crossing::next_stage))]
     fn next_stage(&mut self)
         ensures { self.new ≡ next_stage self.old }
     {
@@ -124,7 +125,7 @@ impl State {
     }
 
     /// The call is answered: its loan ends, and the record and the holder follow. The queue stays.
-    #[tactic(auto, unfolding(nook_defs::specs::Crossing::closes_call, nook_defs::specs::Views::CallLogs::acknowledged_call))]
+    #[tactic(auto, unfolding(part_defs::specs::Crossing::closes_call, part_defs::specs::Views::CallLogs::acknowledged_call))]
     fn close(&mut self, context: u8)
         requires crossable { IsCrossable context self.old }
         ensures { IfSome (call_of_thread context self.old.log.pending) (λ c.

@@ -2,9 +2,9 @@
 
 ghost use Rattle.std.specs.Prelude.{◌≡◌, ◌≤◌, true, OnOk};
 
-use nook_defs::limits::{MOST_ANSWER_WORDS, MOST_FRAME_WORDS};
-use nook_defs::lists::Word;
-use nook_defs::memory::{NoMemory, Room};
+use nook_data::limits::{MOST_ANSWER_WORDS, MOST_FRAME_WORDS};
+use nook_data::lists::Word;
+use nook_data::memory::{NoMemory, Room};
 use std::alloc::Global;
 use std::marker::Model;
 
@@ -19,7 +19,7 @@ pub struct Rooms {
 
 impl Model for Rooms {
     ghost use Rattle.std.specs.Prelude.{◌≤◌, Bool, IfSome, is_some, ◌&&◌};
-    ghost use Rattle.nook_defs.specs.declared.limits.TheConstants.{MOST_ANSWER_WORDS, MOST_FRAME_WORDS};
+    ghost use Rattle.nook_data.specs.declared.limits.TheConstants.{MOST_ANSWER_WORDS, MOST_FRAME_WORDS};
 
     ghost Value = { Bool };
 

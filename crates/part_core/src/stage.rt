@@ -2,20 +2,21 @@
 
 ghost use Rattle.std.specs.Prelude.{◌≡◌, ◌≤◌, false, [], length, IfSome};
 ghost use Rattle.std.specs.List.{list_any};
-ghost use Rattle.nook_defs.specs.Classes.{defaults_of};
-ghost use Rattle.nook_defs.specs.Entries.{is_buffer_of};
-ghost use Rattle.nook_defs.specs.Stages.{collects, inits, loads_image, mode_after, replays_open, replays_set, resets, resumes, stage_done, stage_due, stage_stepped, with_stage};
+ghost use Rattle.nook_data.specs.Classes.{defaults_of};
+ghost use Rattle.machine_defs.specs.Entries.{is_buffer_of};
+ghost use Rattle.part_defs.specs.Stages.{collects, inits, loads_image, mode_after, replays_open, replays_set, resets};
+ghost use Rattle.part_defs.specs.Stages.{resumes, stage_done, stage_due, stage_stepped, with_stage};
 ghost use Rattle.part_core.specs.Turning.{IsStepOf, stepped_to};
 ghost use Rattle.part_core.specs.Staging.{IsReady};
 
 use crate::state::State;
 use class_table::{init_place, open_place, set_place};
-use nook_defs::calls::Op;
-use nook_defs::limits::SHADOW;
-use nook_defs::lists::Items;
-use nook_defs::memory::NoMemory;
-use nook_defs::memory_map::{DATA_WORDS, TEXT_WORDS};
-use nook_defs::steps::{Event, Mode, Stage};
+use nook_data::calls::Op;
+use nook_data::limits::SHADOW;
+use nook_data::lists::Items;
+use nook_data::memory::NoMemory;
+use nook_data::memory_map::{DATA_WORDS, TEXT_WORDS};
+use nook_data::steps::{Event, Mode, Stage};
 use recovery_manager::following;
 
 impl State {
@@ -31,7 +32,7 @@ impl State {
     }
 
     /// The stage that is due is done.
-    #[tactic(auto, unfolding(nook_defs::specs::Stages::stage_stepped))]
+    #[tactic(auto, unfolding(part_defs::specs::Stages::stage_stepped))]
     pub fn stage(&mut self) -> Result<Event, NoMemory>
         requires { IfSome (stage_due self.old.mode) (λ stage. IsReady stage self.old) }
         ensures { IsStepOf (stage_stepped self.old) self.old result self.new }
@@ -60,7 +61,7 @@ impl State {
 
     /// Every context ends. Within the limit each open call is answered by the shadow or held; past it each is answered
     /// Gone, and the part is dead.
-    #[tactic(auto, unfolding(nook_defs::specs::Stages::stops, nook_defs::specs::Stages::gives_up_part))]
+    #[tactic(auto, unfolding(part_defs::specs::Stages::stops, part_defs::specs::Stages::gives_up_part))]
     fn stop(&mut self) -> Result<Event, NoMemory>
         ensures { IsStepOf (stage_done Stage.Stop self.old) self.old result self.new }
     {
@@ -82,7 +83,7 @@ impl State {
     }
 
     /// All that the driver held is released, and its loans end.
-    #[tactic(auto, unfolding(nook_defs::specs::Stages::collects))]
+    #[tactic(auto, unfolding(part_defs::specs::Stages::collects))]
     fn collect(&mut self) -> Result<Event, NoMemory>
         ensures { IsStepOf (collects self.old) self.old result self.new }
     {
@@ -96,7 +97,7 @@ impl State {
     }
 
     /// The device is as it was at first, but for a disk's blocks.
-    #[tactic(auto, unfolding(nook_defs::specs::Stages::resets))]
+    #[tactic(auto, unfolding(part_defs::specs::Stages::resets))]
     fn reset(&mut self) -> Event
         requires { self.old.log.defaults ≡ defaults_of self.old.spec.class }
         ensures { resets self.old ≡ stepped_to self.new result }
@@ -106,7 +107,7 @@ impl State {
         self.staged(Stage::Reset)
     }
 
-    #[tactic(auto, unfolding(nook_defs::specs::Stages::loads_image))]
+    #[tactic(auto, unfolding(part_defs::specs::Stages::loads_image))]
     fn load(&mut self) -> Result<Event, NoMemory>
         requires text { length self.old.spec.image.text ≤ TEXT_WORDS }
         requires initial { length self.old.spec.image.initial ≤ DATA_WORDS }
@@ -118,7 +119,7 @@ impl State {
     }
 
     /// The shadow's context enters init.
-    #[tactic(auto, unfolding(nook_defs::specs::Stages::inits))]
+    #[tactic(auto, unfolding(part_defs::specs::Stages::inits))]
     fn init(&mut self) -> Event
         ensures { inits self.old ≡ stepped_to self.new result }
     {
@@ -127,7 +128,7 @@ impl State {
     }
 
     /// The shadow's context enters set, with a word of the record.
-    #[tactic(auto, unfolding(nook_defs::specs::Stages::replays_set))]
+    #[tactic(auto, unfolding(part_defs::specs::Stages::replays_set))]
     fn replay_set(&mut self, key: u32, value: u32) -> Event
         requires { list_any (is_buffer_of SHADOW) self.old.domain.entries ≡ false }
         ensures { replays_set key value self.old ≡ stepped_to self.new result }
@@ -138,7 +139,7 @@ impl State {
     }
 
     /// The shadow's context enters open.
-    #[tactic(auto, unfolding(nook_defs::specs::Stages::replays_open))]
+    #[tactic(auto, unfolding(part_defs::specs::Stages::replays_open))]
     fn replay_open(&mut self) -> Event
         ensures { replays_open self.old ≡ stepped_to self.new result }
     {
@@ -146,7 +147,7 @@ impl State {
         self.staged(Stage::ReplayOpen)
     }
 
-    #[tactic(auto, unfolding(nook_defs::specs::Stages::resumes))]
+    #[tactic(auto, unfolding(part_defs::specs::Stages::resumes))]
     fn resume(&mut self) -> Event
         ensures { resumes self.old ≡ stepped_to self.new result }
     {

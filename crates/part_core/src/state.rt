@@ -1,8 +1,8 @@
 //! What a part is beside its journal.
 
 ghost use Rattle.std.specs.Prelude.{◌≡◌, true, IfOk};
-ghost use Rattle.nook_defs.specs.Steps.{enabled, opening, stepped};
-ghost use Rattle.nook_defs.specs.Valid.{IsValidPart};
+ghost use Rattle.part_defs.specs.Steps.{enabled, opening, stepped};
+ghost use Rattle.nook_data.specs.Valid.{IsValidPart};
 ghost use Rattle.part_core.specs.Kept.{AreSameFaults, IsSound};
 ghost use Rattle.part_core.specs.Turning.{IsStepOf};
 
@@ -12,10 +12,10 @@ use class_table::defaults_of;
 use domain_call::Domain;
 use fault_script::FaultScript;
 use kernel_services::RxQueue;
-use nook_defs::journal::SpareRooms;
-use nook_defs::memory::NoMemory;
-use nook_defs::scenario::PartSpec;
-use nook_defs::steps::{Event, Mode, Stage, Step};
+use nook_data::journal::SpareRooms;
+use nook_data::memory::NoMemory;
+use nook_data::scenario::PartSpec;
+use nook_data::steps::{Event, Mode, Stage, Step};
 use std::alloc::Global;
 use std::marker::Model;
 
@@ -36,8 +36,8 @@ pub struct State {
 
 impl Model for State {
     ghost use Rattle.std.specs.Prelude.{◌≡◌, ◌+◌, length};
-    ghost use Rattle.nook_defs.specs.State.{PartState};
-    ghost use Rattle.nook_defs.specs.declared.memory_map.TheConstants.{DATA_START};
+    ghost use Rattle.part_defs.specs.State.{PartState};
+    ghost use Rattle.nook_data.specs.declared.memory_map.TheConstants.{DATA_START};
 
     ghost Value = { PartState };
 
@@ -76,7 +76,7 @@ impl Drop for State {
 
 impl State {
     /// A part at the start of its boot, with the memory for acts that another part left.
-    #[tactic(auto, unfolding(nook_defs::specs::Steps::opening))]
+    #[tactic(auto, unfolding(part_defs::specs::Steps::opening))]
     pub fn new(alloc: Global, spec: PartSpec, spare: SpareRooms) -> Result<State, NoMemory>
         requires { IsValidPart spec }
         ensures { IfOk result (λ state. state ≡ opening spec) }
@@ -108,7 +108,7 @@ impl State {
 
     /// The step is taken. It may be taken, and what holds of every part holds. Where memory is wanting, nothing is
     /// changed.
-    #[tactic(auto, unfolding(nook_defs::specs::Steps::stepped))]
+    #[tactic(auto, unfolding(part_defs::specs::Steps::stepped))]
     pub fn step(&mut self, step: Step, script: &FaultScript) -> Result<Event, NoMemory>
         requires enabled { enabled self.old step ≡ true }
         requires sound { IsSound self.old }

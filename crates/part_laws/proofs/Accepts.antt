@@ -1,22 +1,23 @@
 use Rattle.std.proofs.Common.{◌≡◌, ◌<◌, ◌⊎◌, ℕ, suc, ◌+◌, ◌&&◌, ◌||◌, not, eqb, Bool, true, false, Option, Some, None, is_some, List, [], ◌∷◌, ◌++◌, length, set, slice_set, slice_index, sym, refl, ap, subst, ◌∙◌, inl, inr, arith, bytes_eq, nat_lt, nat_le, length-set}
 use Rattle.std.proofs.lemmas.Bool.{eqb-true, and_parts, and_from, or_cases, or_right, cases_eq, lt-ltb, le-leb, leb-true, cases_Bool}
 use Rattle.std.proofs.lemmas.List.{get_or-set_same}
-use Rattle.nook_defs.specs.declared.calls.Answer.{Answer}
-use Rattle.nook_defs.specs.declared.calls.Answer.TheVariants as answered
-use Rattle.nook_defs.specs.declared.classes.Class.{Class}
-use Rattle.nook_defs.specs.declared.classes.Class.TheVariants.{Net, Sound}
-use Rattle.nook_defs.specs.declared.steps.Mode.TheVariants as mode
-use Rattle.nook_defs.specs.declared.calls.Op.{Op}
-use Rattle.nook_defs.specs.declared.calls.Op.TheVariants.{Read, Write, Send, Recv, Open, Play, Close, Get, Set}
-use Rattle.nook_defs.specs.Blocks.{get_blocks, has_block, holds_from, put_from, words_for}
-use Rattle.nook_defs.specs.Classes.{conflicts, covers, is_holder, is_of_stream, is_recv, is_set, is_write, static_check}
+use Rattle.nook_data.specs.declared.calls.Answer.{Answer}
+use Rattle.nook_data.specs.declared.calls.Answer.TheVariants as answered
+use Rattle.nook_data.specs.declared.classes.Class.{Class}
+use Rattle.nook_data.specs.declared.classes.Class.TheVariants.{Net, Sound}
+use Rattle.nook_data.specs.declared.steps.Mode.TheVariants as mode
+use Rattle.nook_data.specs.declared.calls.Op.{Op}
+use Rattle.nook_data.specs.declared.calls.Op.TheVariants.{Read, Write, Send, Recv, Open, Play, Close, Get, Set}
+use Rattle.promise_defs.specs.Blocks.{get_blocks, has_block, holds_from, put_from, words_for}
+use Rattle.nook_data.specs.Classes.{conflicts, covers, is_holder, is_of_stream, is_recv, is_set, is_write, static_check}
 use Rattle.part_laws.specs.Watch.{Watch, owes}
 use Rattle.part_laws.specs.Allowed.{allows, is_served_found, has_failed}
-use Rattle.nook_defs.specs.Log.{queue_after, frame_or_empty}
-use Rattle.nook_defs.proofs.Cases.{closes, config_after, holder_after}
-use Rattle.nook_defs.specs.Devices.{is_empty, tail_of}
-use Rattle.nook_defs.specs.Places.{at_number}
-use Rattle.nook_defs.specs.Trace.{kept_blocks}
+use Rattle.part_defs.specs.Log.{queue_after, frame_or_empty}
+use Rattle.promise_defs.proofs.PromiseCases.{closes}
+use Rattle.part_defs.proofs.PartCases.{config_after, holder_after}
+use Rattle.nook_data.specs.Frames.{is_empty, tail_of}
+use Rattle.nook_data.specs.Places.{at_number}
+use Rattle.promise_defs.specs.Trace.{kept_blocks}
 use Rattle.part_laws.specs.Facts.{At, CallFacts, DiskFacts, HolderFits, IsSetting, KeyIn, Sub, Facts}
 use Rattle.part_laws.specs.Moves.{close_core, with_core}
 use Rattle.part_laws.specs.Views.{View, Past, Core, Call, core_of, cores, as_watched, as_track, watch_of, ideal_of}

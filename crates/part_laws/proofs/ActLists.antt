@@ -1,10 +1,10 @@
 use Rattle.std.proofs.Common.{fold, ◌≡◌, ℕ, None, List, [], ◌∷◌, ◌++◌, refl, ap, subst, ◌∙◌}
-use Rattle.nook_defs.specs.declared.machine.Act.{Act}
-use Rattle.nook_defs.specs.declared.machine.Act.TheVariants as act
-use Rattle.nook_defs.specs.declared.calls.CallEntry.{CallEntry}
+use Rattle.nook_data.specs.declared.machine.Act.{Act}
+use Rattle.nook_data.specs.declared.machine.Act.TheVariants as act
+use Rattle.nook_data.specs.declared.calls.CallEntry.{CallEntry}
 use Rattle.part_laws.specs.Watch.{sees_act, sees_acts}
-use Rattle.nook_defs.specs.Ideal.{ran}
-use Rattle.nook_defs.specs.Trace.{Visible, shown_acts, tracks_after_act}
+use Rattle.promise_defs.specs.Ideal.{ran}
+use Rattle.promise_defs.specs.Trace.{Visible, shown_acts, tracks_after_act}
 use Rattle.part_laws.specs.Counts.{Counts, count_act, count_acts}
 use Rattle.part_laws.specs.Balance.{Balanced}
 use Rattle.part_laws.specs.ActsOn.{act_on, acts_on, Fits, ActsFit}

@@ -1,17 +1,18 @@
 use Rattle.std.proofs.Common.{◌≡◌, ◌<◌, ◌⊎◌, ℕ, ◌+◌, ◌&&◌, ◌||◌, eqb, Bool, true, false, None, List, [], ◌∷◌, ◌++◌, map, length, slice_set, slice_index, slice_index_or, sym, refl, ap, subst, ◌∙◌, inl, inr, arith, nat_lt, nat_le, ◌≤◌, length-set}
 use Rattle.std.proofs.lemmas.Bool.{eqb-true, eq-eqb, and_parts, and_from, or_cases, or_left, or_right, cases_eq, lt-ltb, ltb-true, leb-true, cases_lt, cond-true, cond-false}
 use Rattle.std.proofs.lemmas.List.{get_or-set_same, get_or-set_other, set_past}
-use Rattle.nook_defs.specs.declared.classes.Class.{Class}
-use Rattle.nook_defs.specs.declared.classes.Class.TheVariants.{Block, Net, Sound}
-use Rattle.nook_defs.specs.declared.steps.Mode.{Mode}
-use Rattle.nook_defs.specs.declared.steps.Mode.TheVariants as mode
-use Rattle.nook_defs.specs.declared.calls.Op.{Op}
-use Rattle.nook_defs.specs.declared.calls.Op.TheVariants.{Read, Write, Send, Recv, Open, Play, Close, Get, Set}
-use Rattle.nook_defs.specs.declared.steps.Stage.TheVariants as stage
-use Rattle.nook_defs.specs.Blocks.{has_block, words_for}
-use Rattle.nook_defs.specs.Classes.{conflicts, covers, share_block, first_of_op, blocks_of_op, is_set, is_write, is_recv, static_check}
-use Rattle.nook_defs.specs.Contract.{is_replay_of}
-use Rattle.nook_defs.specs.Devices.{is_empty}
+use Rattle.nook_data.specs.declared.classes.Class.{Class}
+use Rattle.nook_data.specs.declared.classes.Class.TheVariants.{Block, Net, Sound}
+use Rattle.nook_data.specs.declared.steps.Mode.{Mode}
+use Rattle.nook_data.specs.declared.steps.Mode.TheVariants as mode
+use Rattle.nook_data.specs.declared.calls.Op.{Op}
+use Rattle.nook_data.specs.declared.calls.Op.TheVariants.{Read, Write, Send, Recv, Open, Play, Close, Get, Set}
+use Rattle.nook_data.specs.declared.steps.Stage.TheVariants as stage
+use Rattle.promise_defs.specs.Blocks.{has_block, words_for}
+use Rattle.nook_data.specs.Classes.{conflicts, covers, share_block, first_of_op, blocks_of_op, is_set, is_write}
+use Rattle.nook_data.specs.Classes.{is_recv, static_check}
+use Rattle.promise_defs.specs.Contract.{is_replay_of}
+use Rattle.nook_data.specs.Frames.{is_empty}
 use Rattle.part_laws.specs.ActsOn.{Dev}
 use Rattle.part_laws.specs.Facts.{At, CallFacts, CallsFacts, IsStored, DiskFacts, KeyAt, KeyIn, Sub, may_be_inside, is_driving, Facts}
 use Rattle.part_laws.specs.Moves.{store_core}

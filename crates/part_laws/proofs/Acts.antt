@@ -1,23 +1,23 @@
 use Rattle.std.proofs.Common.{◌≡◌, ◌⊎◌, ℕ, zero, suc, ◌&&◌, ◌||◌, not, eqb, Bool, true, false, Option, Some, None, List, [], ◌∷◌, ◌++◌, map, length, drop, slice_set, slice_index, sym, refl, ap, subst, ◌∙◌, inl, inr, arith, nat_lt, append_assoc, length-append, length-set, option_and_then, bytes_eq}
 use Rattle.std.proofs.lemmas.Bool.{eqb-true, eq-eqb, and_parts, and_from, or_cases, lt-ltb}
-use Rattle.nook_defs.specs.declared.machine.Act.{Act}
-use Rattle.nook_defs.specs.declared.machine.Act.TheVariants as act
-use Rattle.nook_defs.specs.declared.calls.CallEntry.{CallEntry}
-use Rattle.nook_defs.specs.declared.classes.Class.TheVariants.{Net, Sound}
-use Rattle.nook_defs.specs.declared.steps.Mode.{Mode}
-use Rattle.nook_defs.specs.declared.steps.Mode.TheVariants as mode
-use Rattle.nook_defs.specs.declared.calls.Op.{Op}
-use Rattle.nook_defs.specs.declared.calls.Op.TheVariants.{Read, Write, Send, Recv, Open, Play, Close, Get, Set}
-use Rattle.nook_defs.specs.Blocks.{words_for}
-use Rattle.nook_defs.specs.Classes.{is_set, is_recv, is_holder, is_next, is_play, is_write, covers, same_class, sends}
+use Rattle.nook_data.specs.declared.machine.Act.{Act}
+use Rattle.nook_data.specs.declared.machine.Act.TheVariants as act
+use Rattle.nook_data.specs.declared.calls.CallEntry.{CallEntry}
+use Rattle.nook_data.specs.declared.classes.Class.TheVariants.{Net, Sound}
+use Rattle.nook_data.specs.declared.steps.Mode.{Mode}
+use Rattle.nook_data.specs.declared.steps.Mode.TheVariants as mode
+use Rattle.nook_data.specs.declared.calls.Op.{Op}
+use Rattle.nook_data.specs.declared.calls.Op.TheVariants.{Read, Write, Send, Recv, Open, Play, Close, Get, Set}
+use Rattle.promise_defs.specs.Blocks.{words_for}
+use Rattle.nook_data.specs.Classes.{is_set, is_recv, is_holder, is_next, is_play, is_write, covers, same_class, sends}
 use Rattle.part_laws.specs.Watch.{Watched, sees_act, wanted, is_covered, is_agreed, is_own_frame, is_first_frame, is_next_of, is_playing, may_register, is_setting, sent_once, played_one, failed_at}
-use Rattle.nook_defs.specs.Ideal.{Ideal, Opened, ran, shows, when, may_wire, play_of, may_sound}
-use Rattle.nook_defs.proofs.Cases.{plays_for}
-use Rattle.nook_defs.proofs.Changes.{wired_once, played_once, store_track}
-use Rattle.nook_defs.specs.Places.{at_number, change_number, number_where}
-use Rattle.nook_defs.specs.Trace.{Visible, wire, sample, tracks_after_act}
-use Rattle.nook_defs.specs.Contract.{is_replay_of}
-use Rattle.nook_defs.specs.Devices.{is_empty}
+use Rattle.promise_defs.specs.Ideal.{Ideal, Opened, ran, shows, when, may_wire, play_of, may_sound}
+use Rattle.promise_defs.proofs.PromiseCases.{plays_for}
+use Rattle.promise_defs.proofs.PromiseChanges.{wired_once, played_once, store_track}
+use Rattle.nook_data.specs.Places.{at_number, change_number, number_where}
+use Rattle.promise_defs.specs.Trace.{Visible, wire, sample, tracks_after_act}
+use Rattle.promise_defs.specs.Contract.{is_replay_of}
+use Rattle.nook_data.specs.Frames.{is_empty}
 use Rattle.part_laws.specs.Counts.{Counts, count_act}
 use Rattle.part_laws.specs.Balance.{held_at, Balanced}
 use Rattle.part_laws.specs.ActsOn.{act_on, Fits}

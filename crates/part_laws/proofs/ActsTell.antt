@@ -1,22 +1,25 @@
 use Rattle.std.proofs.Common.{◌≡◌, ℕ, ◌+◌, ◌-◌, ◌%◌, ◌^◌, ◌<◌, ◌≤◌, ◌==◌, ◌&&◌, ◌||◌, nat_le, nat_lt, not, true, false, Option, Some, None, List, [], ◌∷◌, ◌++◌, drop, length, refl, sym, ap, ◌∙◌, append-nil, arith, subst, true≢false, eqb-true}
 use Rattle.std.proofs.lemmas.Bool.{and_parts, ltb-true, leb-true, not-true}
-use Rattle.nook_defs.specs.declared.machine.Act.{Act}
-use Rattle.nook_defs.specs.declared.machine.Act.TheVariants as act
-use Rattle.nook_defs.specs.declared.devices.DeviceKind.{DeviceKind}
-use Rattle.nook_defs.specs.declared.devices.DeviceKind.TheVariants as kind
-use Rattle.nook_defs.specs.declared.devices.DeviceState.{DeviceState}
-use Rattle.nook_defs.specs.declared.devices.Disk.{Disk}
-use Rattle.nook_defs.specs.declared.devices.Link.{Link}
-use Rattle.nook_defs.specs.declared.entries.Entry.{Entry}
-use Rattle.nook_defs.specs.declared.scenario.Fault.{Fault}
-use Rattle.nook_defs.specs.declared.machine.Instr.{Instr}
-use Rattle.nook_defs.specs.declared.machine.Instr.TheVariants as instr
-use Rattle.nook_defs.specs.Burst.{burst, acts_of}
-use Rattle.nook_defs.specs.Devices.{Given, Taken, input_of, output_of, kind_output, disk_input, disk_output, link_input, link_output, link_command, speaker_output, is_register_port, is_command, is_failing, command_act, commanded, with_disk, with_link, head_of, tail_of, is_empty}
-use Rattle.nook_defs.proofs.Cases.{kind_input, past_decode, past_fetch, past_read}
-use Rattle.nook_defs.specs.Machine.{decode_of}
-use Rattle.nook_defs.specs.Pages.{may_write, read_word, fetch_word}
-use Rattle.nook_defs.specs.Turn.{Machine, Turn, turn, executed, past_input, past_output, stores, r}
+use Rattle.nook_data.specs.declared.machine.Act.{Act}
+use Rattle.nook_data.specs.declared.machine.Act.TheVariants as act
+use Rattle.nook_data.specs.declared.devices.DeviceKind.{DeviceKind}
+use Rattle.nook_data.specs.declared.devices.DeviceKind.TheVariants as kind
+use Rattle.nook_data.specs.declared.devices.DeviceState.{DeviceState}
+use Rattle.nook_data.specs.declared.devices.Disk.{Disk}
+use Rattle.nook_data.specs.declared.devices.Link.{Link}
+use Rattle.nook_data.specs.declared.entries.Entry.{Entry}
+use Rattle.nook_data.specs.declared.scenario.Fault.{Fault}
+use Rattle.nook_data.specs.declared.machine.Instr.{Instr}
+use Rattle.nook_data.specs.declared.machine.Instr.TheVariants as instr
+use Rattle.machine_defs.specs.Burst.{burst, acts_of}
+use Rattle.machine_defs.specs.Devices.{Given, Taken, input_of, output_of, kind_output, disk_input, disk_output}
+use Rattle.machine_defs.specs.Devices.{link_input, link_output, link_command, speaker_output, is_register_port}
+use Rattle.machine_defs.specs.Devices.{is_command, is_failing, command_act, commanded, with_disk, with_link}
+use Rattle.nook_data.specs.Frames.{head_of, tail_of, is_empty}
+use Rattle.machine_defs.proofs.MachineCases.{kind_input, past_decode, past_fetch, past_read}
+use Rattle.machine_defs.specs.Machine.{decode_of}
+use Rattle.machine_defs.specs.Pages.{may_write, read_word, fetch_word}
+use Rattle.machine_defs.specs.Turn.{Machine, Turn, turn, executed, past_input, past_output, stores, r}
 use Rattle.part_laws.proofs.BurstKeeps.{split, every_fault, burst_keeps}
 use Rattle.part_laws.specs.ActsOn.{Dev, dev_of, act_on, acts_on, Fits, ActsFit, Tells}
 

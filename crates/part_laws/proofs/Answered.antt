@@ -2,36 +2,43 @@
 use Rattle.std.proofs.Common.{◌≡◌, ◌⊎◌, inl, inr, ℕ, ◌+◌, ◌<◌, ◌≤◌, ◌==◌, ◌&&◌, ◌||◌, nat_le, not, is_some, if◌then◌else◌, Bool, true, false, Option, Some, None, Result, Ok, Err, List, [], ◌∷◌, ◌++◌, map, filter, refl, sym, ap, ◌∙◌, subst, add-zero, arith, true≢false}
 use Rattle.std.proofs.lemmas.Bool.{eqb-true, eq-eqb, ne_eqb, le-leb}
 use Rattle.std.proofs.lemmas.Bool.Decides.{nat_tests}
-use Rattle.nook_defs.specs.declared.classes.Accept.{Accept}
-use Rattle.nook_defs.specs.declared.classes.Accept.TheVariants as accepts
-use Rattle.nook_defs.specs.declared.classes.Admit.{Admit}
-use Rattle.nook_defs.specs.declared.classes.Admit.TheVariants as admits
-use Rattle.nook_defs.specs.declared.calls.Answer.{Answer}
-use Rattle.nook_defs.specs.declared.calls.CallEntry.{CallEntry}
-use Rattle.nook_defs.specs.declared.steps.Event.{Event}
-use Rattle.nook_defs.specs.declared.calls.Op.{Op}
-use Rattle.nook_defs.specs.declared.calls.Op.TheVariants as op
-use Rattle.nook_defs.specs.declared.scenario.PartSpec.{PartSpec}
-use Rattle.nook_defs.specs.declared.steps.Stage.{Stage}
-use Rattle.nook_defs.specs.declared.steps.Stage.TheVariants as stage
-use Rattle.nook_defs.specs.declared.steps.Step.{Step}
-use Rattle.nook_defs.specs.declared.steps.Step.TheVariants as step
-use Rattle.nook_defs.specs.declared.machine.BadParam.{BadParam}
-use Rattle.nook_defs.specs.declared.machine.BurstEnd.{BurstEnd}
-use Rattle.nook_defs.specs.declared.machine.BurstEnd.TheVariants as ends
-use Rattle.nook_defs.specs.declared.machine.Service.{Service}
-use Rattle.nook_defs.specs.Calls.{Stepped, after_invoke, invoked_with, answer_in, queue_in, after_enter, after_admit}
-use Rattle.nook_defs.specs.Classes.{static_check, admit, accept}
-use Rattle.nook_defs.specs.Crossing.{Crossed, fails, is_last, is_accepted, next_stage, shadow_replied, closes_call, call_replied, after_crossing}
-use Rattle.nook_defs.specs.Domain.{domain_burst}
-use Rattle.nook_defs.specs.Log.{is_call, call_of_thread, open_call, opening_log, with_call, with_answered_call, after_entering, after_answering, after_acknowledging, held_call, is_held, shadow_answer, queue_after, with_answer, stop_answers, gone_answers}
-use Rattle.nook_defs.proofs.Cases.{change_entry, entered_by, entered_call, invoked_by, new_entry, reply_by, serve_by, stage_by, with_burst}
-use Rattle.nook_defs.specs.Answers.{one_answer}
-use Rattle.nook_defs.specs.Runs.{IsRun, IsRunFrom, answer_at, answer_among, state_after, state_from, state_of, step_of}
-use Rattle.nook_defs.specs.Views.CallLogs.{answered_at, answered_from}
-use Rattle.nook_defs.specs.Stages.{stage_due, is_given_up, stops, gives_up_part, collects, resets, loads_image, inits, replays_set, replays_open, resumes, stage_done, stage_stepped}
-use Rattle.nook_defs.specs.State.{PartState}
-use Rattle.nook_defs.specs.Steps.{stepped, opening, burst_stepped, served_number, faults_of_burst, after_arrival}
+use Rattle.nook_data.specs.declared.classes.Accept.{Accept}
+use Rattle.nook_data.specs.declared.classes.Accept.TheVariants as accepts
+use Rattle.nook_data.specs.declared.classes.Admit.{Admit}
+use Rattle.nook_data.specs.declared.classes.Admit.TheVariants as admits
+use Rattle.nook_data.specs.declared.calls.Answer.{Answer}
+use Rattle.nook_data.specs.declared.calls.CallEntry.{CallEntry}
+use Rattle.nook_data.specs.declared.steps.Event.{Event}
+use Rattle.nook_data.specs.declared.calls.Op.{Op}
+use Rattle.nook_data.specs.declared.calls.Op.TheVariants as op
+use Rattle.nook_data.specs.declared.scenario.PartSpec.{PartSpec}
+use Rattle.nook_data.specs.declared.steps.Stage.{Stage}
+use Rattle.nook_data.specs.declared.steps.Stage.TheVariants as stage
+use Rattle.nook_data.specs.declared.steps.Step.{Step}
+use Rattle.nook_data.specs.declared.steps.Step.TheVariants as step
+use Rattle.nook_data.specs.declared.machine.BadParam.{BadParam}
+use Rattle.nook_data.specs.declared.machine.BurstEnd.{BurstEnd}
+use Rattle.nook_data.specs.declared.machine.BurstEnd.TheVariants as ends
+use Rattle.nook_data.specs.declared.machine.Service.{Service}
+use Rattle.part_defs.specs.Calls.{Stepped, after_invoke, invoked_with, answer_in, queue_in, after_enter, after_admit}
+use Rattle.nook_data.specs.Classes.{static_check, admit, accept}
+use Rattle.part_defs.specs.Crossing.{Crossed, fails, is_last, is_accepted, next_stage, shadow_replied, closes_call}
+use Rattle.part_defs.specs.Crossing.{call_replied, after_crossing}
+use Rattle.part_defs.specs.Domain.{domain_burst}
+use Rattle.part_defs.specs.Log.{is_call, call_of_thread, open_call, opening_log, with_call, with_answered_call}
+use Rattle.part_defs.specs.Log.{after_entering, after_answering, after_acknowledging, held_call, is_held, shadow_answer}
+use Rattle.part_defs.specs.Log.{queue_after, with_answer, stop_answers, gone_answers}
+use Rattle.part_defs.proofs.PartCases.{change_entry, entered_by, entered_call, invoked_by, new_entry, reply_by}
+use Rattle.part_defs.proofs.PartCases.{serve_by, stage_by, with_burst}
+use Rattle.nook_data.specs.Answers.{one_answer}
+use Rattle.part_defs.specs.Runs.{IsRun, IsRunFrom, state_after, state_from, state_of, step_of}
+use Rattle.nook_data.specs.Answers.{answer_at, answer_among}
+use Rattle.part_defs.specs.Views.CallLogs.{answered_at, answered_from}
+use Rattle.part_defs.specs.Stages.{stage_due, is_given_up, stops, gives_up_part, collects, resets, loads_image, inits}
+use Rattle.part_defs.specs.Stages.{replays_set, replays_open, resumes, stage_done, stage_stepped}
+use Rattle.part_defs.specs.State.{PartState}
+use Rattle.part_defs.specs.Steps.{stepped, opening, burst_stepped, served_number, after_arrival}
+use Rattle.machine_defs.specs.BurstFaults.{faults_of_burst}
 use Rattle.part_laws.proofs.BurstKeeps.{split}
 use Rattle.part_laws.proofs.Counts.{crossed_counted}
 use Rattle.part_laws.proofs.RunBound.{opening_tied}

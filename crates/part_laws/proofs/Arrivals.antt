@@ -1,14 +1,14 @@
 use Rattle.std.proofs.Common.{◌≡◌, ℕ, ◌+◌, ◌&&◌, cond, true, option_and_then, List, [], ◌∷◌, ◌++◌, length, sym, refl, ap, subst, ◌∙◌, nat_lt, nat_le, append_assoc, length-append, arith}
 use Rattle.std.proofs.lemmas.Bool.{and_parts, cond-true, cond-false}
-use Rattle.nook_defs.specs.declared.classes.Class.TheVariants as class
-use Rattle.nook_defs.specs.declared.devices.DeviceKind.{DeviceKind}
-use Rattle.nook_defs.specs.declared.devices.DeviceKind.TheVariants as kind
-use Rattle.nook_defs.specs.Classes.{same_class}
-use Rattle.nook_defs.specs.Devices.{has_room, with_arrival}
-use Rattle.nook_defs.specs.Ideal.{ran}
-use Rattle.nook_defs.specs.State.{PartState}
-use Rattle.nook_defs.specs.Steps.{can_arrive, after_arrival}
-use Rattle.nook_defs.specs.Losses.{one_if}
+use Rattle.nook_data.specs.declared.classes.Class.TheVariants as class
+use Rattle.nook_data.specs.declared.devices.DeviceKind.{DeviceKind}
+use Rattle.nook_data.specs.declared.devices.DeviceKind.TheVariants as kind
+use Rattle.nook_data.specs.Classes.{same_class}
+use Rattle.machine_defs.specs.Devices.{has_room, with_arrival}
+use Rattle.promise_defs.specs.Ideal.{ran}
+use Rattle.part_defs.specs.State.{PartState}
+use Rattle.part_defs.specs.Steps.{can_arrive, after_arrival}
+use Rattle.promise_defs.specs.Losses.{one_if}
 use Rattle.part_laws.specs.Counts.{count_event}
 use Rattle.part_laws.specs.Balance.{held_at, Balanced}
 use Rattle.part_laws.specs.ActsOn.{dev_of, is_link}

@@ -1,12 +1,12 @@
 use Rattle.std.proofs.Common.{◌≡◌, ◌⊎◌, ℕ, suc, ◌+◌, ◌-◌, not, cond, eqb, Bool, true, false, Option, Some, None, List, [], ◌∷◌, ◌++◌, length, sym, refl, ap, ◌∙◌, inl, inr, arith, nat_lt, length-append}
 use Rattle.std.proofs.lemmas.Bool.{cond-true, cond-false, eq-eqb}
-use Rattle.nook_defs.specs.declared.calls.Answer.{Answer}
-use Rattle.nook_defs.specs.declared.steps.Mode.{Mode}
-use Rattle.nook_defs.specs.declared.steps.Mode.TheVariants as mode
-use Rattle.nook_defs.specs.declared.steps.Stage.{Stage}
-use Rattle.nook_defs.specs.declared.steps.Stage.TheVariants as stage
-use Rattle.nook_defs.specs.Licence.{is_balanced}
-use Rattle.nook_defs.specs.Losses.{one_if}
+use Rattle.nook_data.specs.declared.calls.Answer.{Answer}
+use Rattle.nook_data.specs.declared.steps.Mode.{Mode}
+use Rattle.nook_data.specs.declared.steps.Mode.TheVariants as mode
+use Rattle.nook_data.specs.declared.steps.Stage.{Stage}
+use Rattle.nook_data.specs.declared.steps.Stage.TheVariants as stage
+use Rattle.promise_defs.specs.Licence.{is_balanced}
+use Rattle.promise_defs.specs.Losses.{one_if}
 use Rattle.part_laws.specs.Counts.{Counts, count_answer, count_handed, count_stage, in_ring, in_driver, is_frame, told}
 use Rattle.part_laws.specs.Balance.{tally, held_at, Balance}
 use Rattle.part_laws.specs.Facts.{is_driving}

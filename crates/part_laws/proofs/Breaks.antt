@@ -1,24 +1,27 @@
 -- Over orderly events what breaks first is what a monitor finds first.
 use Rattle.std.proofs.Common.{◌≡◌, ◌⊎◌, inl, inr, ℕ, suc, ◌+◌, not, Bool, true, false, Option, Some, None, List, [], ◌∷◌, ◌++◌, map, length, filter, sym, refl, ap, ◌∙◌, subst, arith, is_none}
 use Rattle.std.specs.Prelude.{◌==◌, ◌&&◌, is_some, if◌then◌else◌}
-use Rattle.nook_defs.specs.declared.machine.Act.{Act}
-use Rattle.nook_defs.specs.declared.calls.Answer.{Answer}
-use Rattle.nook_defs.specs.declared.verdicts.Break.{Break}
-use Rattle.nook_defs.specs.declared.classes.Class.{Class}
-use Rattle.nook_defs.specs.declared.steps.End.{End}
-use Rattle.nook_defs.specs.declared.steps.End.TheVariants as end
-use Rattle.nook_defs.specs.declared.steps.Event.{Event}
-use Rattle.nook_defs.specs.declared.steps.Event.TheVariants as event
-use Rattle.nook_defs.specs.declared.steps.FailCause.{FailCause}
-use Rattle.nook_defs.specs.declared.steps.Stage.{Stage}
-use Rattle.nook_defs.specs.declared.steps.Stage.TheVariants as stage
+use Rattle.nook_data.specs.declared.machine.Act.{Act}
+use Rattle.nook_data.specs.declared.calls.Answer.{Answer}
+use Rattle.nook_data.specs.declared.verdicts.Break.{Break}
+use Rattle.nook_data.specs.declared.classes.Class.{Class}
+use Rattle.nook_data.specs.declared.steps.End.{End}
+use Rattle.nook_data.specs.declared.steps.End.TheVariants as end
+use Rattle.nook_data.specs.declared.steps.Event.{Event}
+use Rattle.nook_data.specs.declared.steps.Event.TheVariants as event
+use Rattle.nook_data.specs.declared.steps.FailCause.{FailCause}
+use Rattle.nook_data.specs.declared.steps.Stage.{Stage}
+use Rattle.nook_data.specs.declared.steps.Stage.TheVariants as stage
 use Rattle.part_laws.specs.Watch.{Watch, Watched, break_at, enters, first_watch, handed_one, leaves, sees, sees_acts, sees_crossing, sees_stage, watched, break_from as watched_from, watched_break as watched_first}
-use Rattle.nook_defs.specs.Places.{change_number}
+use Rattle.nook_data.specs.Places.{change_number}
 use Rattle.part_laws.proofs.Places.{split}
-use Rattle.nook_defs.specs.Answers.{answers_of, one_answer}
-use Rattle.nook_defs.specs.declared.clause.Clause.{Clause}
-use Rattle.nook_defs.specs.Contract.{Known, OpenCall, known_after, after_failure, all_clauses, break_from, broken, change_call, crossing_deeds, deeds_of, during, first_break, is_answered_in, is_broken_by, known_first, acts}
-use Rattle.nook_defs.proofs.Changes.{after_deeds, break_or, enter_call, handed_frame}
+use Rattle.nook_data.specs.Answers.{answers_of, one_answer}
+use Rattle.nook_data.specs.declared.clause.Clause.{Clause}
+use Rattle.promise_defs.specs.Contract.{Known, OpenCall, known_after, after_failure, break_from, broken, change_call}
+use Rattle.promise_defs.specs.Contract.{crossing_deeds, deeds_of, during, first_break, is_answered_in, is_broken_by}
+use Rattle.promise_defs.specs.Contract.{known_first, acts}
+use Rattle.nook_data.specs.Clauses.{all_clauses}
+use Rattle.promise_defs.proofs.PromiseChanges.{after_deeds, break_or, enter_call, handed_frame}
 use Rattle.part_laws.specs.Orderly.{IsCrossing, IsFitting, IsOfCall, IsOrderlyFrom, flags_after, flags_during, kept_from}
 use Rattle.part_laws.proofs.Deeds.{acts_broken, acts_known, acts_shut, crossing_broken, own_change, own_shut}
 use Rattle.part_laws.proofs.Known.{known_of, smallest_by}

@@ -1,22 +1,23 @@
 use Rattle.std.proofs.Common.{◌≡◌, ◌⊎◌, inl, inr, ℕ, ◌+◌, ◌%◌, ◌^◌, nat_lt, ◌==◌, sym, true, false, Option, Some, None, List, [], ◌∷◌, length, slice_index, slice_set, refl, ◌∙◌, ap, length-set, get_or-set_other, subst, ◌≢◌}
 use Rattle.std.specs.List.{list_any, AllByRecursion}
 use Rattle.std.proofs.lemmas.Bool.{or_parts, both_ways, eq-eqb}
-use Rattle.nook_defs.specs.declared.entries.Entry.{Entry}
-use Rattle.nook_defs.specs.declared.scenario.Fault.{Fault}
-use Rattle.nook_defs.specs.declared.scenario.FaultKind.{FaultKind}
-use Rattle.nook_defs.specs.declared.scenario.FaultKind.TheVariants as fault
-use Rattle.nook_defs.specs.declared.machine.Context.{Context}
-use Rattle.nook_defs.specs.declared.machine.Instr.{Instr}
-use Rattle.nook_defs.specs.declared.machine.Instr.TheVariants as instr
-use Rattle.nook_defs.specs.Burst.{burst, struck_memory}
-use Rattle.nook_defs.specs.Devices.{Given, Taken, input_of, output_of}
-use Rattle.nook_defs.specs.Domain.{machine_of, domain_burst, context_of}
-use Rattle.nook_defs.specs.Isolation.{ChangesOnlyAllowed, writes_code}
-use Rattle.nook_defs.proofs.Cases.{burst_by, is_code_at, past_decode, past_fetch, past_read}
-use Rattle.nook_defs.specs.Machine.{decode_of}
-use Rattle.nook_defs.specs.Pages.{may_write, read_word, fetch_word}
-use Rattle.nook_defs.specs.State.{DomainState}
-use Rattle.nook_defs.specs.Turn.{Machine, turn, executed, past_input, past_output, stores, r}
+use Rattle.nook_data.specs.declared.entries.Entry.{Entry}
+use Rattle.nook_data.specs.declared.scenario.Fault.{Fault}
+use Rattle.nook_data.specs.declared.scenario.FaultKind.{FaultKind}
+use Rattle.nook_data.specs.declared.scenario.FaultKind.TheVariants as fault
+use Rattle.nook_data.specs.declared.machine.Context.{Context}
+use Rattle.nook_data.specs.declared.machine.Instr.{Instr}
+use Rattle.nook_data.specs.declared.machine.Instr.TheVariants as instr
+use Rattle.machine_defs.specs.Burst.{burst, struck_memory}
+use Rattle.machine_defs.specs.Devices.{Given, Taken, input_of, output_of}
+use Rattle.part_defs.specs.Domain.{machine_of, domain_burst, context_of}
+use Rattle.promise_defs.specs.Isolation.{ChangesOnlyAllowed, writes_code}
+use Rattle.part_defs.proofs.PartCases.{burst_by}
+use Rattle.machine_defs.proofs.MachineCases.{is_code_at, past_decode, past_fetch, past_read}
+use Rattle.machine_defs.specs.Machine.{decode_of}
+use Rattle.machine_defs.specs.Pages.{may_write, read_word, fetch_word}
+use Rattle.part_defs.specs.State.{DomainState}
+use Rattle.machine_defs.specs.Turn.{Machine, turn, executed, past_input, past_output, stores, r}
 use Rattle.part_laws.proofs.BurstKeeps.{split, every_fault, burst_keeps}
 use Rattle.part_laws.specs.BurstLaws.{IsIsolatedBurst}
 

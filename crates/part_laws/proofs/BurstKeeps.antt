@@ -1,13 +1,13 @@
 use Rattle.std.proofs.Common.{◌≡◌, ℕ, zero, suc, ◌-◌, ◌==◌, Bool, true, false, Option, Some, None, List, [], ◌∷◌, ◌++◌, refl}
 use Rattle.std.specs.List.{AllByRecursion}
-use Rattle.nook_defs.specs.declared.machine.Act.{Act}
-use Rattle.nook_defs.specs.declared.entries.Entry.{Entry}
-use Rattle.nook_defs.specs.declared.scenario.Fault.{Fault}
-use Rattle.nook_defs.specs.declared.machine.TrapCause.{TrapCause}
-use Rattle.nook_defs.specs.Burst.{Burst, Struck, struck_machine, strikes_at, acts_of, burst_from, burst, trap_of}
-use Rattle.nook_defs.proofs.Cases.{past_trap}
-use Rattle.nook_defs.specs.Turn.{Machine, Turn, turn}
-use Rattle.nook_defs.proofs.BurstTurns.{turn_cases}
+use Rattle.nook_data.specs.declared.machine.Act.{Act}
+use Rattle.nook_data.specs.declared.entries.Entry.{Entry}
+use Rattle.nook_data.specs.declared.scenario.Fault.{Fault}
+use Rattle.nook_data.specs.declared.machine.TrapCause.{TrapCause}
+use Rattle.machine_defs.specs.Burst.{Burst, Struck, struck_machine, strikes_at, acts_of, burst_from, burst, trap_of}
+use Rattle.machine_defs.proofs.MachineCases.{past_trap}
+use Rattle.machine_defs.specs.Turn.{Machine, Turn, turn}
+use Rattle.machine_defs.proofs.BurstTurns.{turn_cases}
 
 -- a goal by the two answers of a test, each with its equation
 pub split {ℓ} : {G : Type ℓ} → (b : Bool) → (b ≡ true → G) → (b ≡ false → G) → G

@@ -1,26 +1,27 @@
 use Rattle.std.proofs.Common.{◌≡◌, ℕ, suc, ◌+◌, ◌&&◌, eqb, Bool, true, false, Option, Some, None, is_some, List, ◌++◌, length, sym, refl, ap, ap₂, subst, ◌∙◌, inl, inr, arith, append_assoc, length-set}
 use Rattle.std.specs.List.{find}
 use Rattle.std.proofs.lemmas.Bool.{and_parts, eqb-true, cond-true, cond-false}
-use Rattle.nook_defs.specs.declared.calls.Answer.{Answer}
-use Rattle.nook_defs.specs.declared.calls.Answer.TheVariants as answered
-use Rattle.nook_defs.specs.declared.calls.CallEntry.{CallEntry}
-use Rattle.nook_defs.specs.declared.steps.End.{End}
-use Rattle.nook_defs.specs.declared.steps.End.TheVariants as ends
-use Rattle.nook_defs.specs.declared.steps.FailCause.{FailCause}
-use Rattle.nook_defs.specs.declared.scenario.Fault.{Fault}
-use Rattle.nook_defs.specs.declared.calls.Op.{Op}
-use Rattle.nook_defs.specs.declared.calls.Op.TheVariants.{Read, Write, Send, Recv, Play, Get, Set}
-use Rattle.nook_defs.specs.declared.machine.Context.{Context}
+use Rattle.nook_data.specs.declared.calls.Answer.{Answer}
+use Rattle.nook_data.specs.declared.calls.Answer.TheVariants as answered
+use Rattle.nook_data.specs.declared.calls.CallEntry.{CallEntry}
+use Rattle.nook_data.specs.declared.steps.End.{End}
+use Rattle.nook_data.specs.declared.steps.End.TheVariants as ends
+use Rattle.nook_data.specs.declared.steps.FailCause.{FailCause}
+use Rattle.nook_data.specs.declared.scenario.Fault.{Fault}
+use Rattle.nook_data.specs.declared.calls.Op.{Op}
+use Rattle.nook_data.specs.declared.calls.Op.TheVariants.{Read, Write, Send, Recv, Play, Get, Set}
+use Rattle.nook_data.specs.declared.machine.Context.{Context}
 use Rattle.part_laws.specs.Watch.{Watch, Watched, sees, sees_acts, sees_crossing, owes, owes_found}
-use Rattle.nook_defs.specs.Crossing.{Crossed, after_crossing}
-use Rattle.nook_defs.specs.Domain.{DomainBurst, context_of, domain_burst, machine_of}
-use Rattle.nook_defs.specs.Ideal.{ran}
-use Rattle.nook_defs.specs.Log.{call_of_thread}
-use Rattle.nook_defs.proofs.Cases.{burst_by, burst_step, is_of_thread, number_of_call, with_burst}
-use Rattle.nook_defs.specs.Places.{at_number}
-use Rattle.nook_defs.specs.State.{DomainState, PartState}
-use Rattle.nook_defs.specs.Steps.{can_burst, is_driven, is_inside, is_running, served_number, faults_of_burst, burst_stepped}
-use Rattle.nook_defs.specs.Trace.{shown_acts, shown_option}
+use Rattle.part_defs.specs.Crossing.{Crossed, after_crossing}
+use Rattle.part_defs.specs.Domain.{DomainBurst, context_of, domain_burst, machine_of}
+use Rattle.promise_defs.specs.Ideal.{ran}
+use Rattle.part_defs.specs.Log.{call_of_thread}
+use Rattle.part_defs.proofs.PartCases.{burst_by, burst_step, is_of_thread, number_of_call, with_burst}
+use Rattle.nook_data.specs.Places.{at_number}
+use Rattle.part_defs.specs.State.{DomainState, PartState}
+use Rattle.part_defs.specs.Steps.{can_burst, is_driven, is_inside, is_running, served_number, burst_stepped}
+use Rattle.machine_defs.specs.BurstFaults.{faults_of_burst}
+use Rattle.promise_defs.specs.Trace.{shown_acts, shown_option}
 use Rattle.part_laws.specs.Counts.{count_acts}
 use Rattle.part_laws.specs.Balance.{held_at, Balanced}
 use Rattle.part_laws.specs.ActsOn.{dev_of, acts_on, Tells}

@@ -3,17 +3,17 @@ use Rattle.std.proofs.Common.{◌≡◌, ◌⊎◌, ℕ, ◌+◌, ◌<◌, ◌�
 use Rattle.std.specs.Prelude.{if◌then◌else◌, ◌==◌}
 use Rattle.std.specs.List.{AllByRecursion}
 use Rattle.std.proofs.lemmas.Bool.Decides.{nat_tests}
-use Rattle.nook_defs.specs.declared.calls.Answer.{Answer}
-use Rattle.nook_defs.specs.declared.calls.CallEntry.{CallEntry}
-use Rattle.nook_defs.specs.declared.steps.Event.{Event}
-use Rattle.nook_defs.specs.declared.steps.Event.TheVariants as event
-use Rattle.nook_defs.specs.declared.calls.Op.{Op}
-use Rattle.nook_defs.specs.Log.{is_call, with_answered_call, with_call}
-use Rattle.nook_defs.specs.Views.CallLogs.{IsNumbered}
-use Rattle.nook_defs.proofs.Cases.{new_entry}
-use Rattle.nook_defs.specs.Answers.{one_answer}
-use Rattle.nook_defs.specs.Runs.{answer_at, answer_among}
-use Rattle.nook_defs.specs.State.{CallLog}
+use Rattle.nook_data.specs.declared.calls.Answer.{Answer}
+use Rattle.nook_data.specs.declared.calls.CallEntry.{CallEntry}
+use Rattle.nook_data.specs.declared.steps.Event.{Event}
+use Rattle.nook_data.specs.declared.steps.Event.TheVariants as event
+use Rattle.nook_data.specs.declared.calls.Op.{Op}
+use Rattle.part_defs.specs.Log.{is_call, with_answered_call, with_call}
+use Rattle.part_defs.specs.Views.CallLogs.{IsNumbered}
+use Rattle.part_defs.proofs.PartCases.{new_entry}
+use Rattle.nook_data.specs.Answers.{one_answer}
+use Rattle.nook_data.specs.Answers.{answer_at, answer_among}
+use Rattle.part_defs.specs.State.{CallLog}
 
 -- ---- what an event does to a call
 

@@ -1,21 +1,22 @@
 -- A device stays of its class, whatever its driver does at its ports in a burst.
 use Rattle.std.proofs.Common.{◌≡◌, ℕ, ◌+◌, ◌%◌, ◌^◌, ◌==◌, ◌&&◌, Bool, true, false, Option, Some, None, List, if◌then◌else◌, nat_le, nat_lt, not, refl, ◌∙◌}
-use Rattle.nook_defs.specs.declared.classes.Class.{Class}
-use Rattle.nook_defs.specs.declared.devices.DeviceKind.{DeviceKind}
-use Rattle.nook_defs.specs.declared.devices.DeviceKind.TheVariants as kind
-use Rattle.nook_defs.specs.declared.devices.DeviceState.{DeviceState}
-use Rattle.nook_defs.specs.declared.entries.Entry.{Entry}
-use Rattle.nook_defs.specs.declared.scenario.Fault.{Fault}
-use Rattle.nook_defs.specs.declared.machine.Instr.{Instr}
-use Rattle.nook_defs.specs.declared.machine.Instr.TheVariants as instr
-use Rattle.nook_defs.specs.Burst.{burst}
-use Rattle.nook_defs.specs.Devices.{Given, Taken, input_of, is_command, is_empty, is_register_port, kind_output, output_of}
-use Rattle.nook_defs.proofs.Cases.{kind_input, past_decode, past_fetch, past_read}
-use Rattle.nook_defs.specs.Machine.{decode_of}
-use Rattle.nook_defs.specs.Pages.{may_write, read_word, fetch_word}
-use Rattle.nook_defs.specs.Views.Ports.{class_of, class_of_kind, device_after, device_given, device_of}
-use Rattle.nook_defs.specs.Turn.{Machine, Turn, turn, executed, past_input, past_output, stores, r}
-use Rattle.nook_defs.proofs.DeviceClasses.{input_keeps_class, output_keeps_class}
+use Rattle.nook_data.specs.declared.classes.Class.{Class}
+use Rattle.nook_data.specs.declared.devices.DeviceKind.{DeviceKind}
+use Rattle.nook_data.specs.declared.devices.DeviceKind.TheVariants as kind
+use Rattle.nook_data.specs.declared.devices.DeviceState.{DeviceState}
+use Rattle.nook_data.specs.declared.entries.Entry.{Entry}
+use Rattle.nook_data.specs.declared.scenario.Fault.{Fault}
+use Rattle.nook_data.specs.declared.machine.Instr.{Instr}
+use Rattle.nook_data.specs.declared.machine.Instr.TheVariants as instr
+use Rattle.machine_defs.specs.Burst.{burst}
+use Rattle.machine_defs.specs.Devices.{Given, Taken, input_of, is_command, is_register_port, kind_output, output_of}
+use Rattle.nook_data.specs.Frames.{is_empty}
+use Rattle.machine_defs.proofs.MachineCases.{kind_input, past_decode, past_fetch, past_read}
+use Rattle.machine_defs.specs.Machine.{decode_of}
+use Rattle.machine_defs.specs.Pages.{may_write, read_word, fetch_word}
+use Rattle.machine_defs.specs.Views.Ports.{class_of, class_of_kind, device_after, device_given, device_of}
+use Rattle.machine_defs.specs.Turn.{Machine, Turn, turn, executed, past_input, past_output, stores, r}
+use Rattle.machine_defs.proofs.DeviceClasses.{input_keeps_class, output_keeps_class}
 use Rattle.part_laws.proofs.BurstKeeps.{split, every_fault, burst_keeps}
 
 -- a turn

@@ -1,16 +1,16 @@
 use Rattle.std.proofs.Common.{◌≡◌, ◌⊎◌, ℕ, suc, ◌&&◌, not, true, false, Option, Some, None, is_some, unwrap_or, option_and_then, List, ◌∷◌, ◌++◌, map, filter, length, set, slice_index, sym, ap, subst, ◌∙◌, inl, inr, arith, length-set}
 use Rattle.std.proofs.lemmas.Bool.{and_from}
-use Rattle.nook_defs.specs.declared.calls.Answer.{Answer}
-use Rattle.nook_defs.specs.declared.calls.Answer.TheVariants as answered
-use Rattle.nook_defs.specs.declared.steps.Mode.TheVariants as mode
-use Rattle.nook_defs.specs.declared.calls.Op.{Op}
-use Rattle.nook_defs.specs.declared.calls.Op.TheVariants.{Recv}
-use Rattle.nook_defs.specs.Classes.{is_recv, static_check}
-use Rattle.nook_defs.specs.Ideal.{Ideal, Opened, ran, after_answer, after_frame, is_due, may_answer}
-use Rattle.nook_defs.proofs.Cases.{answers, closes}
-use Rattle.nook_defs.specs.Log.{is_call}
-use Rattle.nook_defs.specs.Trace.{Visible, answer}
-use Rattle.nook_defs.specs.Devices.{is_empty}
+use Rattle.nook_data.specs.declared.calls.Answer.{Answer}
+use Rattle.nook_data.specs.declared.calls.Answer.TheVariants as answered
+use Rattle.nook_data.specs.declared.steps.Mode.TheVariants as mode
+use Rattle.nook_data.specs.declared.calls.Op.{Op}
+use Rattle.nook_data.specs.declared.calls.Op.TheVariants.{Recv}
+use Rattle.nook_data.specs.Classes.{is_recv, static_check}
+use Rattle.promise_defs.specs.Ideal.{Ideal, Opened, ran, after_answer, after_frame, is_due, may_answer}
+use Rattle.promise_defs.proofs.PromiseCases.{answers, closes}
+use Rattle.part_defs.specs.Log.{is_call}
+use Rattle.promise_defs.specs.Trace.{Visible, answer}
+use Rattle.nook_data.specs.Frames.{is_empty}
 use Rattle.part_laws.specs.Facts.{At, CallsFacts, DiskFacts, HolderFits, IsSetting, KeyIn, ReplayFits, BootFits, Sub, Facts}
 use Rattle.part_laws.specs.Views.{View, Past, Core, Call, core_of, cores, open_from, stage_of}
 use Rattle.part_laws.proofs.Acts.{ran_step, when_true}

@@ -1,9 +1,9 @@
 use Rattle.std.proofs.Common.{◌≡◌, ◌⊎◌, ℕ, false, Option, Some, None, is_some, List, length, get_or, slice_get, slice_set, sym, refl, ap, ◌∙◌, inl, inr, arith}
 use Rattle.std.proofs.lemmas.Bool.{cases_eq}
 use Rattle.std.proofs.lemmas.Option.{slice_get-get_or}
-use Rattle.nook_defs.specs.declared.machine.Context.{Context}
-use Rattle.nook_defs.specs.Domain.{context_of}
-use Rattle.nook_defs.proofs.Cases.{no_context, with_result}
+use Rattle.nook_data.specs.declared.machine.Context.{Context}
+use Rattle.part_defs.specs.Domain.{context_of}
+use Rattle.part_defs.proofs.PartCases.{no_context, with_result}
 use Rattle.part_laws.specs.Facts.{At}
 use Rattle.part_laws.proofs.Places.{get_set_same, get_set_other}
 

@@ -4,26 +4,29 @@ use Rattle.std.specs.Prelude.{◌==◌, if◌then◌else◌, fold, flat_map}
 use Rattle.std.specs.List.{list_any}
 use Rattle.std.proofs.lemmas.Bool.{eqb-true, eq-eqb, ne_eqb}
 use Rattle.std.proofs.lemmas.List.Sums.{sum_by-append, sum_by-cons}
-use Rattle.nook_defs.specs.declared.machine.Act.{Act}
-use Rattle.nook_defs.specs.declared.machine.Act.TheVariants as act
-use Rattle.nook_defs.specs.declared.calls.Answer.{Answer}
-use Rattle.nook_defs.specs.declared.calls.Answer.TheVariants as answer
-use Rattle.nook_defs.specs.declared.steps.End.{End}
-use Rattle.nook_defs.specs.declared.steps.End.TheVariants as end
-use Rattle.nook_defs.specs.declared.steps.Event.{Event}
-use Rattle.nook_defs.specs.declared.steps.Event.TheVariants as event
-use Rattle.nook_defs.specs.declared.verdicts.Losses.{Losses as Told}
-use Rattle.nook_defs.specs.declared.calls.Op.{Op}
-use Rattle.nook_defs.specs.declared.calls.Op.TheVariants as op
-use Rattle.nook_defs.specs.declared.steps.Stage.{Stage}
-use Rattle.nook_defs.specs.declared.steps.Stage.TheVariants as stage
+use Rattle.nook_data.specs.declared.machine.Act.{Act}
+use Rattle.nook_data.specs.declared.machine.Act.TheVariants as act
+use Rattle.nook_data.specs.declared.calls.Answer.{Answer}
+use Rattle.nook_data.specs.declared.calls.Answer.TheVariants as answer
+use Rattle.nook_data.specs.declared.steps.End.{End}
+use Rattle.nook_data.specs.declared.steps.End.TheVariants as end
+use Rattle.nook_data.specs.declared.steps.Event.{Event}
+use Rattle.nook_data.specs.declared.steps.Event.TheVariants as event
+use Rattle.nook_data.specs.declared.verdicts.Losses.{Losses as Told}
+use Rattle.nook_data.specs.declared.calls.Op.{Op}
+use Rattle.nook_data.specs.declared.calls.Op.TheVariants as op
+use Rattle.nook_data.specs.declared.steps.Stage.{Stage}
+use Rattle.nook_data.specs.declared.steps.Stage.TheVariants as stage
 use Rattle.part_laws.specs.Counts.{Counted, Counts, count_act, count_acts, count_answer, count_answered, count_answers, count_event, count_handed, count_option, count_stage, counted, no_counts, samples_of, sends_of, told, is_done as was_done, is_busy as was_busy, is_frame, lost_samples as samples_lost, lost_sends as sends_lost, counted_losses}
-use Rattle.nook_defs.specs.Losses.{handed_result as result_in, one_if as as_one}
-use Rattle.nook_defs.specs.Places.{at_number, change_number}
+use Rattle.promise_defs.specs.Losses.{handed_result as result_in, one_if as as_one}
+use Rattle.nook_data.specs.Places.{at_number, change_number}
 use Rattle.part_laws.proofs.Places.{split}
-use Rattle.nook_defs.specs.Answers.{answers_of, one_answer}
-use Rattle.nook_defs.specs.Losses.{FramePlaces, Tally, all_answers, handed_result, in_driver, in_ring, is_arrival, is_busy, is_done, is_lost_arrival, is_popped, is_received, is_refused, is_taken, lost_by, lost_from, losses, no_places, one_if, places_after, tallies_after, tallies_during}
-use Rattle.nook_defs.proofs.Changes.{unplayed, unsent, with_acts}
+use Rattle.nook_data.specs.Answers.{answers_of, one_answer}
+use Rattle.promise_defs.specs.Losses.{FramePlaces, Tally, all_answers, handed_result, in_driver, in_ring, is_arrival}
+use Rattle.promise_defs.specs.Losses.{is_busy, is_done, is_lost_arrival, is_popped, is_received, is_refused, is_taken}
+use Rattle.promise_defs.specs.Losses.{lost_by, lost_from, losses, no_places, one_if, places_after, tallies_after}
+use Rattle.promise_defs.specs.Losses.{tallies_during}
+use Rattle.promise_defs.proofs.PromiseChanges.{unplayed, unsent, with_acts}
 use Rattle.part_laws.specs.Orderly.{AreOwn, IsFitting, IsOrderlyFrom, flags_after, flags_during, is_open, is_told, kept_from}
 use Rattle.part_laws.proofs.Picked.{at_one, change_at, change_one, find_at}
 use Rattle.part_laws.proofs.Tallies.{AreTold, acts_calls, counted_acts, handed_calls, tallied, tallied_answers, tallied_change, tallied_kept, tallied_push, tally_of, told_answers, told_change, told_push}

@@ -1,52 +1,57 @@
 use Rattle.std.proofs.Common.{◌≡◌, ℕ, ◌+◌, ◌<◌, ◌≤◌, ◌==◌, ◌&&◌, nat_lt, not, is_some, is_none, Bool, true, false, Option, Some, None, List, [], ◌∷◌, length, refl, sym, ap, ◌∙◌, subst, arith, true≢false, eqb-true}
 use Rattle.std.specs.List.{AllByRecursion}
 use Rattle.std.proofs.lemmas.Bool.{and_parts, not-true}
-use Rattle.nook_defs.specs.declared.classes.Admit.{Admit}
-use Rattle.nook_defs.specs.declared.classes.Admit.TheVariants as admits
-use Rattle.nook_defs.specs.declared.calls.Answer.{Answer}
-use Rattle.nook_defs.specs.declared.calls.CallEntry.{CallEntry}
-use Rattle.nook_defs.specs.declared.steps.Event.{Event}
-use Rattle.nook_defs.specs.declared.steps.Event.TheVariants as event
-use Rattle.nook_defs.specs.declared.steps.Mode.{Mode}
-use Rattle.nook_defs.specs.declared.steps.Mode.TheVariants as mode
-use Rattle.nook_defs.specs.declared.calls.Op.{Op}
-use Rattle.nook_defs.specs.declared.steps.Stage.{Stage}
-use Rattle.nook_defs.specs.declared.steps.Stage.TheVariants as stage
-use Rattle.nook_defs.specs.declared.steps.Step.{Step}
-use Rattle.nook_defs.specs.declared.steps.Step.TheVariants as step
-use Rattle.nook_defs.specs.declared.machine.Context.{Context}
-use Rattle.nook_defs.specs.Burst.{burst}
-use Rattle.nook_defs.specs.Calls.{Stepped, after_invoke, invoked_with, answer_in, queue_in, after_enter, after_admit}
-use Rattle.nook_defs.proofs.Cases.{burst_step, bursts_of, entered_by, invoked_by, reply_by, serve_by, stage_by, with_burst}
-use Rattle.nook_defs.specs.Classes.{static_check, admit}
-use Rattle.nook_defs.specs.declared.classes.Accept.{Accept}
-use Rattle.nook_defs.specs.declared.classes.Accept.TheVariants as accepts
-use Rattle.nook_defs.specs.declared.steps.End.{End}
-use Rattle.nook_defs.specs.declared.steps.FailCause.{FailCause}
-use Rattle.nook_defs.specs.declared.scenario.PartSpec.{PartSpec}
-use Rattle.nook_defs.specs.declared.machine.BadParam.{BadParam}
-use Rattle.nook_defs.specs.declared.machine.BurstEnd.{BurstEnd}
-use Rattle.nook_defs.specs.declared.machine.BurstEnd.TheVariants as ends
-use Rattle.nook_defs.specs.declared.machine.Service.{Service}
-use Rattle.nook_defs.specs.Classes.{accept}
-use Rattle.nook_defs.specs.Crossing.{Crossed, fails, failed_crossing, is_last, next_stage, is_accepted, shadow_replied, closes_call, call_replied, after_crossing}
-use Rattle.nook_defs.specs.Domain.{first_argument, second_argument, attempt_bursts}
-use Rattle.nook_defs.specs.Log.{after_acknowledging, opening_log}
-use Rattle.nook_defs.specs.Runs.{step_of, event_of, state_after, state_from, IsRunFrom, IsRun}
-use Rattle.nook_defs.specs.Services.{checked}
-use Rattle.nook_defs.specs.Steps.{opening}
+use Rattle.nook_data.specs.declared.classes.Admit.{Admit}
+use Rattle.nook_data.specs.declared.classes.Admit.TheVariants as admits
+use Rattle.nook_data.specs.declared.calls.Answer.{Answer}
+use Rattle.nook_data.specs.declared.calls.CallEntry.{CallEntry}
+use Rattle.nook_data.specs.declared.steps.Event.{Event}
+use Rattle.nook_data.specs.declared.steps.Event.TheVariants as event
+use Rattle.nook_data.specs.declared.steps.Mode.{Mode}
+use Rattle.nook_data.specs.declared.steps.Mode.TheVariants as mode
+use Rattle.nook_data.specs.declared.calls.Op.{Op}
+use Rattle.nook_data.specs.declared.steps.Stage.{Stage}
+use Rattle.nook_data.specs.declared.steps.Stage.TheVariants as stage
+use Rattle.nook_data.specs.declared.steps.Step.{Step}
+use Rattle.nook_data.specs.declared.steps.Step.TheVariants as step
+use Rattle.nook_data.specs.declared.machine.Context.{Context}
+use Rattle.machine_defs.specs.Burst.{burst}
+use Rattle.part_defs.specs.Calls.{Stepped, after_invoke, invoked_with, answer_in, queue_in, after_enter, after_admit}
+use Rattle.part_defs.proofs.PartCases.{burst_step, bursts_of, entered_by, invoked_by, reply_by, serve_by, stage_by}
+use Rattle.part_defs.proofs.PartCases.{with_burst}
+use Rattle.nook_data.specs.Classes.{static_check, admit}
+use Rattle.nook_data.specs.declared.classes.Accept.{Accept}
+use Rattle.nook_data.specs.declared.classes.Accept.TheVariants as accepts
+use Rattle.nook_data.specs.declared.steps.End.{End}
+use Rattle.nook_data.specs.declared.steps.FailCause.{FailCause}
+use Rattle.nook_data.specs.declared.scenario.PartSpec.{PartSpec}
+use Rattle.nook_data.specs.declared.machine.BadParam.{BadParam}
+use Rattle.nook_data.specs.declared.machine.BurstEnd.{BurstEnd}
+use Rattle.nook_data.specs.declared.machine.BurstEnd.TheVariants as ends
+use Rattle.nook_data.specs.declared.machine.Service.{Service}
+use Rattle.nook_data.specs.Classes.{accept}
+use Rattle.part_defs.specs.Crossing.{Crossed, fails, failed_crossing, is_last, next_stage, is_accepted, shadow_replied}
+use Rattle.part_defs.specs.Crossing.{closes_call, call_replied, after_crossing}
+use Rattle.part_defs.specs.Domain.{first_argument, second_argument, attempt_bursts}
+use Rattle.part_defs.specs.Log.{after_acknowledging, opening_log}
+use Rattle.part_defs.specs.Runs.{step_of, event_of, state_after, state_from, IsRunFrom, IsRun}
+use Rattle.machine_defs.specs.Services.{checked}
+use Rattle.part_defs.specs.Steps.{opening}
 use Rattle.std.proofs.Common.{add-zero, cond, Result, Ok, Err, nat_le}
-use Rattle.nook_defs.specs.declared.classes.Class.TheVariants as class
-use Rattle.nook_defs.specs.declared.steps.End.TheVariants as end
-use Rattle.nook_defs.specs.declared.steps.FailCause.TheVariants as fail
-use Rattle.nook_defs.specs.Classes.{same_class}
-use Rattle.nook_defs.specs.Crossing.{shadow_fault, stage_in}
+use Rattle.nook_data.specs.declared.classes.Class.TheVariants as class
+use Rattle.nook_data.specs.declared.steps.End.TheVariants as end
+use Rattle.nook_data.specs.declared.steps.FailCause.TheVariants as fail
+use Rattle.nook_data.specs.Classes.{same_class}
+use Rattle.part_defs.specs.Crossing.{shadow_fault, stage_in}
 use Rattle.std.proofs.lemmas.Bool.{ltb-true}
-use Rattle.nook_defs.specs.Domain.{context_of, DomainBurst, domain_burst}
-use Rattle.nook_defs.specs.Log.{with_call, with_answered_call, after_entering, after_answering, call_of_thread, is_blocked}
-use Rattle.nook_defs.specs.Stages.{stage_due, is_given_up, stops, gives_up_part, collects, resets, loads_image, inits, replays_set, replays_open, resumes, stage_done, stage_stepped}
-use Rattle.nook_defs.specs.State.{PartState}
-use Rattle.nook_defs.specs.Steps.{enabled, is_running, is_ready, is_inside, faults_of_burst, burst_stepped, after_arrival, stepped}
+use Rattle.part_defs.specs.Domain.{context_of, DomainBurst, domain_burst}
+use Rattle.part_defs.specs.Log.{with_call, with_answered_call, after_entering, after_answering, call_of_thread}
+use Rattle.part_defs.specs.Log.{is_blocked}
+use Rattle.part_defs.specs.Stages.{stage_due, is_given_up, stops, gives_up_part, collects, resets, loads_image, inits}
+use Rattle.part_defs.specs.Stages.{replays_set, replays_open, resumes, stage_done, stage_stepped}
+use Rattle.part_defs.specs.State.{PartState}
+use Rattle.part_defs.specs.Steps.{enabled, is_running, is_ready, is_inside, burst_stepped, after_arrival, stepped}
+use Rattle.machine_defs.specs.BurstFaults.{faults_of_burst}
 use Rattle.part_laws.proofs.BurstKeeps.{split}
 use Rattle.part_laws.proofs.CrossingFit.{found_fits}
 use Rattle.part_laws.proofs.RunBound.{opening_tied, run_tied, count_more}

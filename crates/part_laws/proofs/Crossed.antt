@@ -1,31 +1,34 @@
 use Rattle.std.proofs.Common.{◌≡◌, ◌⊎◌, ℕ, suc, ◌+◌, ◌-◌, ◌&&◌, cond, eqb, Bool, true, false, Option, Some, None, is_some, Result, Ok, Err, List, length, slice_set, slice_index, sym, refl, ap, subst, ◌∙◌, inl, inr, arith, nat_le, nat_lt, length-set}
 use Rattle.std.proofs.lemmas.Bool.{cond-true, cond-false, and_parts, and_from, ltb-true, le-leb, lt-ltb}
-use Rattle.nook_defs.specs.declared.classes.Accept.{Accept}
-use Rattle.nook_defs.specs.declared.classes.Accept.TheVariants as accepts
-use Rattle.nook_defs.specs.declared.calls.Answer.{Answer}
-use Rattle.nook_defs.specs.declared.calls.Answer.TheVariants as answered
-use Rattle.nook_defs.specs.declared.steps.End.{End}
-use Rattle.nook_defs.specs.declared.steps.End.TheVariants as ends
-use Rattle.nook_defs.specs.declared.steps.FailCause.{FailCause}
-use Rattle.nook_defs.specs.declared.steps.FailCause.TheVariants as fail
-use Rattle.nook_defs.specs.declared.steps.Mode.TheVariants as mode
-use Rattle.nook_defs.specs.declared.calls.Op.{Op}
-use Rattle.nook_defs.specs.declared.calls.Op.TheVariants.{Read, Write, Send, Recv, Open, Play, Close, Get, Set}
-use Rattle.nook_defs.specs.declared.steps.Stage.TheVariants as stage
-use Rattle.nook_defs.specs.declared.machine.BadParam.{BadParam}
-use Rattle.nook_defs.specs.declared.machine.BurstEnd.{BurstEnd}
-use Rattle.nook_defs.specs.declared.machine.BurstEnd.TheVariants as bursts
-use Rattle.nook_defs.specs.declared.machine.Service.{Service}
-use Rattle.nook_defs.specs.Classes.{accept, first_of_op, is_io_status, blocks_of_op, covers}
+use Rattle.nook_data.specs.declared.classes.Accept.{Accept}
+use Rattle.nook_data.specs.declared.classes.Accept.TheVariants as accepts
+use Rattle.nook_data.specs.declared.calls.Answer.{Answer}
+use Rattle.nook_data.specs.declared.calls.Answer.TheVariants as answered
+use Rattle.nook_data.specs.declared.steps.End.{End}
+use Rattle.nook_data.specs.declared.steps.End.TheVariants as ends
+use Rattle.nook_data.specs.declared.steps.FailCause.{FailCause}
+use Rattle.nook_data.specs.declared.steps.FailCause.TheVariants as fail
+use Rattle.nook_data.specs.declared.steps.Mode.TheVariants as mode
+use Rattle.nook_data.specs.declared.calls.Op.{Op}
+use Rattle.nook_data.specs.declared.calls.Op.TheVariants.{Read, Write, Send, Recv, Open, Play, Close, Get, Set}
+use Rattle.nook_data.specs.declared.steps.Stage.TheVariants as stage
+use Rattle.nook_data.specs.declared.machine.BadParam.{BadParam}
+use Rattle.nook_data.specs.declared.machine.BurstEnd.{BurstEnd}
+use Rattle.nook_data.specs.declared.machine.BurstEnd.TheVariants as bursts
+use Rattle.nook_data.specs.declared.machine.Service.{Service}
+use Rattle.nook_data.specs.Classes.{accept, first_of_op, is_io_status, blocks_of_op, covers}
 use Rattle.part_laws.specs.Watch.{sees_crossing, owes, owes_found}
-use Rattle.nook_defs.specs.Crossing.{Crossed, fails, failed_crossing, goes_on, is_last, refused_service, heap_start, served_call, kernel_call, next_mode, is_accepted, shadow_fault, stage_in, next_stage, shadow_replied, reply_answer, noted_set, closes_call, accepted_crossing, call_replied, after_reply, after_crossing}
-use Rattle.nook_defs.specs.Domain.{context_of, result_set, left_domain, noted, first_argument, second_argument}
-use Rattle.nook_defs.specs.Log.{call_of_thread, after_answering as answered_log, after_acknowledging, queue_after}
-use Rattle.nook_defs.proofs.Cases.{config_after, holder_after, no_context, reply_by, serve_by, with_result}
-use Rattle.nook_defs.specs.Services.{Served, checked, served}
-use Rattle.nook_defs.specs.State.{DomainState, PartState}
-use Rattle.nook_defs.specs.Losses.{handed_result}
-use Rattle.nook_defs.specs.Contract.{is_replayed}
+use Rattle.part_defs.specs.Crossing.{Crossed, fails, failed_crossing, goes_on, is_last, refused_service, heap_start}
+use Rattle.part_defs.specs.Crossing.{served_call, kernel_call, next_mode, is_accepted, shadow_fault, stage_in}
+use Rattle.part_defs.specs.Crossing.{next_stage, shadow_replied, reply_answer, noted_set, closes_call}
+use Rattle.part_defs.specs.Crossing.{accepted_crossing, call_replied, after_reply, after_crossing}
+use Rattle.part_defs.specs.Domain.{context_of, result_set, left_domain, noted, first_argument, second_argument}
+use Rattle.part_defs.specs.Log.{call_of_thread, after_answering as answered_log, after_acknowledging, queue_after}
+use Rattle.part_defs.proofs.PartCases.{config_after, holder_after, no_context, reply_by, serve_by, with_result}
+use Rattle.machine_defs.specs.Services.{Served, checked, served}
+use Rattle.part_defs.specs.State.{DomainState, PartState}
+use Rattle.promise_defs.specs.Losses.{handed_result}
+use Rattle.promise_defs.specs.Contract.{is_replayed}
 use Rattle.part_laws.specs.Balance.{held_at}
 use Rattle.part_laws.specs.ActsOn.{dev_of}
 use Rattle.part_laws.specs.Facts.{KeyIn, Facts}

@@ -2,27 +2,30 @@ use Rattle.std.proofs.Common.{◌≡◌, ◌⊎◌, inl, inr, ℕ, ◌+◌, ◌-
 use Rattle.std.specs.List.{list_any, find, AllByRecursion}
 use Rattle.std.proofs.lemmas.Bool.{and_parts, ltb-true}
 use Rattle.std.proofs.lemmas.List.{length-set}
-use Rattle.nook_defs.specs.declared.classes.Accept.{Accept}
-use Rattle.nook_defs.specs.declared.classes.Accept.TheVariants as accepts
-use Rattle.nook_defs.specs.declared.calls.CallEntry.{CallEntry}
-use Rattle.nook_defs.specs.declared.steps.End.{End}
-use Rattle.nook_defs.specs.declared.steps.FailCause.{FailCause}
-use Rattle.nook_defs.specs.declared.steps.Mode.{Mode}
-use Rattle.nook_defs.specs.declared.calls.Op.{Op}
-use Rattle.nook_defs.specs.declared.calls.Op.TheVariants as op
-use Rattle.nook_defs.specs.declared.machine.BadParam.{BadParam}
-use Rattle.nook_defs.specs.declared.machine.BurstEnd.{BurstEnd}
-use Rattle.nook_defs.specs.declared.machine.BurstEnd.TheVariants as ends
-use Rattle.nook_defs.specs.declared.machine.Service.{Service}
-use Rattle.nook_defs.specs.Classes.{accept, is_set, is_io_status}
-use Rattle.nook_defs.specs.Crossing.{Crossed, fails, failed_crossing, goes_on, is_last, heap_start, next_stage, next_mode, is_accepted, shadow_replied, reply_answer, closes_call, call_replied, after_reply, after_crossing, without_shadow}
-use Rattle.nook_defs.specs.Domain.{first_argument, second_argument, left_domain, result_set}
-use Rattle.nook_defs.specs.Entries.{is_borrow_of}
-use Rattle.nook_defs.specs.Isolation.{object_of}
-use Rattle.nook_defs.proofs.Cases.{IsGiveBack, is_done_answer, is_set_call, no_context, reply_by, serve_by}
-use Rattle.nook_defs.specs.Log.{call_of_thread, after_acknowledging, after_answering}
-use Rattle.nook_defs.specs.Services.{Served, checked, served}
-use Rattle.nook_defs.specs.State.{DomainState, CallLog, PartState}
+use Rattle.nook_data.specs.declared.classes.Accept.{Accept}
+use Rattle.nook_data.specs.declared.classes.Accept.TheVariants as accepts
+use Rattle.nook_data.specs.declared.calls.CallEntry.{CallEntry}
+use Rattle.nook_data.specs.declared.steps.End.{End}
+use Rattle.nook_data.specs.declared.steps.FailCause.{FailCause}
+use Rattle.nook_data.specs.declared.steps.Mode.{Mode}
+use Rattle.nook_data.specs.declared.calls.Op.{Op}
+use Rattle.nook_data.specs.declared.calls.Op.TheVariants as op
+use Rattle.nook_data.specs.declared.machine.BadParam.{BadParam}
+use Rattle.nook_data.specs.declared.machine.BurstEnd.{BurstEnd}
+use Rattle.nook_data.specs.declared.machine.BurstEnd.TheVariants as ends
+use Rattle.nook_data.specs.declared.machine.Service.{Service}
+use Rattle.nook_data.specs.Classes.{accept, is_set, is_io_status}
+use Rattle.part_defs.specs.Crossing.{Crossed, fails, failed_crossing, goes_on, is_last, heap_start, next_stage}
+use Rattle.part_defs.specs.Crossing.{next_mode, is_accepted, shadow_replied, reply_answer, closes_call, call_replied}
+use Rattle.part_defs.specs.Crossing.{after_reply, after_crossing, without_shadow}
+use Rattle.part_defs.specs.Domain.{first_argument, second_argument, left_domain, result_set}
+use Rattle.machine_defs.specs.Entries.{is_borrow_of}
+use Rattle.promise_defs.specs.Isolation.{object_of}
+use Rattle.part_defs.proofs.PartCases.{IsGiveBack, no_context, reply_by, serve_by}
+use Rattle.promise_defs.proofs.PromiseCases.{is_done_answer, is_set_call}
+use Rattle.part_defs.specs.Log.{call_of_thread, after_acknowledging, after_answering}
+use Rattle.machine_defs.specs.Services.{Served, checked, served}
+use Rattle.part_defs.specs.State.{DomainState, CallLog, PartState}
 use Rattle.part_laws.proofs.BurstKeeps.{split}
 use Rattle.part_laws.proofs.DomainFit.{DomainKept, left_kept, result_kept, noted_fit, noted_set_fit, noted_elsewhere, noted_there, noted_set_elsewhere, noted_set_told, noted_set_kernel, config_length}
 use Rattle.part_laws.proofs.EntriesFit.{filter_fits}

@@ -1,27 +1,27 @@
 use Rattle.std.proofs.Common.{◌≡◌, ◌<◌, ◌≤◌, ◌⊎◌, ℕ, zero, suc, ◌+◌, ◌-◌, cond, eqb, Bool, true, false, Option, Some, None, List, [], ◌∷◌, ◌++◌, map, length, set, slice_index, sym, refl, ap, subst, ◌∙◌, inl, inr, arith, nat_lt, append_assoc, if◌then◌else◌}
 use Rattle.std.proofs.lemmas.Bool.{eqb-true, cond-true, cond-false, ltb-false, cases_lt, cases_eq}
 use Rattle.std.proofs.lemmas.List.{get_or_past}
-use Rattle.nook_defs.specs.declared.calls.Answer.{Answer}
-use Rattle.nook_defs.specs.declared.steps.End.{End}
-use Rattle.nook_defs.specs.declared.steps.End.TheVariants as ends
-use Rattle.nook_defs.specs.declared.steps.FailCause.{FailCause}
-use Rattle.nook_defs.specs.declared.steps.Mode.{Mode}
-use Rattle.nook_defs.specs.declared.steps.Mode.TheVariants as mode
-use Rattle.nook_defs.specs.declared.steps.Stage.{Stage}
-use Rattle.nook_defs.specs.declared.steps.Stage.TheVariants as stage
+use Rattle.nook_data.specs.declared.calls.Answer.{Answer}
+use Rattle.nook_data.specs.declared.steps.End.{End}
+use Rattle.nook_data.specs.declared.steps.End.TheVariants as ends
+use Rattle.nook_data.specs.declared.steps.FailCause.{FailCause}
+use Rattle.nook_data.specs.declared.steps.Mode.{Mode}
+use Rattle.nook_data.specs.declared.steps.Mode.TheVariants as mode
+use Rattle.nook_data.specs.declared.steps.Stage.{Stage}
+use Rattle.nook_data.specs.declared.steps.Stage.TheVariants as stage
 use Rattle.part_laws.specs.Watch.{sees_crossing, sees_service, sees_reply, wanted, hands_up, handed_one, leaves, owes_found}
-use Rattle.nook_defs.specs.Crossing.{next_mode}
-use Rattle.nook_defs.specs.Ideal.{ran}
-use Rattle.nook_defs.proofs.Changes.{stops_waiting}
+use Rattle.part_defs.specs.Crossing.{next_mode}
+use Rattle.promise_defs.specs.Ideal.{ran}
+use Rattle.promise_defs.proofs.PromiseChanges.{stops_waiting}
 use Rattle.part_laws.specs.Allowed.{allows_option}
-use Rattle.nook_defs.specs.Log.{next_replay, replay_after, queue_after}
-use Rattle.nook_defs.proofs.Cases.{config_after, holder_after, replay_stream}
-use Rattle.nook_defs.specs.Places.{at_number, change_number}
-use Rattle.nook_defs.specs.State.{PartState}
-use Rattle.nook_defs.specs.Trace.{Visible, shown_option, kept_blocks, answer}
-use Rattle.nook_defs.specs.Losses.{handed_result}
-use Rattle.nook_defs.specs.Contract.{is_front, is_replayed}
-use Rattle.nook_defs.specs.Devices.{is_empty}
+use Rattle.part_defs.specs.Log.{next_replay, replay_after, queue_after}
+use Rattle.part_defs.proofs.PartCases.{config_after, holder_after, replay_stream}
+use Rattle.nook_data.specs.Places.{at_number, change_number}
+use Rattle.part_defs.specs.State.{PartState}
+use Rattle.promise_defs.specs.Trace.{Visible, shown_option, kept_blocks, answer}
+use Rattle.promise_defs.specs.Losses.{handed_result}
+use Rattle.promise_defs.specs.Contract.{is_front, is_replayed}
+use Rattle.nook_data.specs.Frames.{is_empty}
 use Rattle.part_laws.specs.Counts.{Counts, count_option, count_handed}
 use Rattle.part_laws.specs.Balance.{tally, held_at, Balance, Balanced}
 use Rattle.part_laws.specs.Facts.{At, CallsFacts, DiskFacts, KeyAt, KeyIn, ReplayFits, BootFits, Sub, may_be_inside, is_driving, Facts}

@@ -3,25 +3,31 @@ use Rattle.std.proofs.Common.{◌≡◌, ◌⊎◌, inl, inr, ℕ, zero, suc, �
 use Rattle.std.specs.Prelude.{◌==◌, if◌then◌else◌, bytes_eq, slice_index, fold}
 use Rattle.std.specs.List.{list_any}
 use Rattle.std.proofs.lemmas.Bool.Decides.{nat_tests}
-use Rattle.nook_defs.specs.declared.machine.Act.{Act}
-use Rattle.nook_defs.specs.declared.machine.Act.TheVariants as act
-use Rattle.nook_defs.specs.declared.calls.Answer.{Answer}
-use Rattle.nook_defs.specs.declared.calls.Answer.TheVariants as answer
-use Rattle.nook_defs.specs.declared.steps.End.{End}
-use Rattle.nook_defs.specs.declared.steps.End.TheVariants as end
-use Rattle.nook_defs.specs.declared.steps.FailCause.{FailCause}
-use Rattle.nook_defs.specs.declared.calls.Op.{Op}
-use Rattle.nook_defs.specs.declared.calls.Op.TheVariants as op
-use Rattle.nook_defs.specs.Blocks.{has_block, holds_from, words_for}
-use Rattle.nook_defs.specs.Classes.{covers, is_write, sends as sends_own, is_play, sends}
+use Rattle.nook_data.specs.declared.machine.Act.{Act}
+use Rattle.nook_data.specs.declared.machine.Act.TheVariants as act
+use Rattle.nook_data.specs.declared.calls.Answer.{Answer}
+use Rattle.nook_data.specs.declared.calls.Answer.TheVariants as answer
+use Rattle.nook_data.specs.declared.steps.End.{End}
+use Rattle.nook_data.specs.declared.steps.End.TheVariants as end
+use Rattle.nook_data.specs.declared.steps.FailCause.{FailCause}
+use Rattle.nook_data.specs.declared.calls.Op.{Op}
+use Rattle.nook_data.specs.declared.calls.Op.TheVariants as op
+use Rattle.promise_defs.specs.Blocks.{has_block, holds_from, words_for}
+use Rattle.nook_data.specs.Classes.{covers, is_write, sends as sends_own, is_play, sends}
 use Rattle.part_laws.specs.Watch.{Watch, Watched, failed_at as failed_one, handed_one, hands_up as is_handed, is_agreed, is_covered, is_first_frame, is_own_frame, is_playing as plays, is_next_of as is_next_in, is_setting as are_setting, leaves, may_register, owes, owes_found, played_one, sees_act, sees_acts, sees_crossing, sees_reply, sees_service, sent_once, stores_at, wanted}
-use Rattle.nook_defs.specs.Contract.{is_front as is_prefix, is_replayed as was_replayed, is_replay_of as is_replaying, sets as sets_own}
-use Rattle.nook_defs.specs.Devices.{is_empty, is_empty as was_empty}
-use Rattle.nook_defs.specs.Places.{at_number, change_number, number_where}
+use Rattle.promise_defs.specs.Contract.{is_front as is_prefix, is_replayed as was_replayed}
+use Rattle.promise_defs.specs.Contract.{is_replay_of as is_replaying, sets as sets_own}
+use Rattle.nook_data.specs.Frames.{is_empty, is_empty as was_empty}
+use Rattle.nook_data.specs.Places.{at_number, change_number, number_where}
 use Rattle.part_laws.proofs.Places.{split}
-use Rattle.nook_defs.specs.declared.clause.Clause.{Clause}
-use Rattle.nook_defs.specs.Contract.{Deed, Known, OpenCall, acts, after_deed, after_failure, all_clauses, breaks, call_of, change_call, change_first, crossing_deeds, deeds_of, hands_up, is_broken_by, is_front, is_next_of, is_playing, is_replay_of, is_replayed, is_send_of, is_setting, play_inside, played_more, replays, replies, sets, may_store, stores_other}
-use Rattle.nook_defs.proofs.Changes.{after_deeds, failed_at, handed_frame, sent_more}
+use Rattle.nook_data.specs.declared.clause.Clause.{Clause}
+use Rattle.promise_defs.specs.Contract.{Deed, Known, OpenCall, acts, after_deed, after_failure, breaks, call_of}
+use Rattle.promise_defs.specs.Contract.{change_call, change_first, crossing_deeds, deeds_of, hands_up, is_broken_by}
+use Rattle.promise_defs.specs.Contract.{is_front, is_next_of, is_playing, is_replay_of, is_replayed, is_send_of}
+use Rattle.promise_defs.specs.Contract.{is_setting, play_inside, played_more, replays, replies, sets, may_store}
+use Rattle.promise_defs.specs.Contract.{stores_other}
+use Rattle.nook_data.specs.Clauses.{all_clauses}
+use Rattle.promise_defs.proofs.PromiseChanges.{after_deeds, failed_at, handed_frame, sent_more}
 use Rattle.part_laws.specs.Orderly.{IsCrossing, IsOfCall, is_open}
 use Rattle.part_laws.proofs.Picked.{AreShut, any_picked, at_one, at_where, change_at, change_one, change_where, changed_where, find_at, find_picked, first_picked, found_below, opened_call, picked, picked_below, picked_call, picked_change, shut_change, shut_where}
 use Rattle.part_laws.proofs.Known.{known_of, smallest_by, smallest_of}

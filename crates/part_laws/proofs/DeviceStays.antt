@@ -1,44 +1,51 @@
 -- The device of a part is of its spec's class, at every step and after every run; the spec never changes.
 use Rattle.std.proofs.Common.{◌≡◌, ℕ, ◌+◌, ◌==◌, Option, Some, None, Result, Ok, Err, List, [], ◌∷◌, length, refl, sym, ap, ◌∙◌}
-use Rattle.nook_defs.specs.declared.classes.Accept.{Accept}
-use Rattle.nook_defs.specs.declared.classes.Accept.TheVariants as accepts
-use Rattle.nook_defs.specs.declared.classes.Admit.{Admit}
-use Rattle.nook_defs.specs.declared.classes.Admit.TheVariants as admits
-use Rattle.nook_defs.specs.declared.calls.Answer.{Answer}
-use Rattle.nook_defs.specs.declared.scenario.BadBlock.{BadBlock}
-use Rattle.nook_defs.specs.declared.calls.CallEntry.{CallEntry}
-use Rattle.nook_defs.specs.declared.classes.Class.{Class}
-use Rattle.nook_defs.specs.declared.classes.Class.TheVariants as class
-use Rattle.nook_defs.specs.declared.devices.DeviceKind.{DeviceKind}
-use Rattle.nook_defs.specs.declared.devices.DeviceKind.TheVariants as kind
-use Rattle.nook_defs.specs.declared.devices.DeviceState.{DeviceState}
-use Rattle.nook_defs.specs.declared.steps.Event.{Event}
-use Rattle.nook_defs.specs.declared.scenario.Fault.{Fault}
-use Rattle.nook_defs.specs.declared.calls.Op.{Op}
-use Rattle.nook_defs.specs.declared.calls.Op.TheVariants as op
-use Rattle.nook_defs.specs.declared.scenario.PartSpec.{PartSpec}
-use Rattle.nook_defs.specs.declared.steps.Stage.{Stage}
-use Rattle.nook_defs.specs.declared.steps.Stage.TheVariants as stage
-use Rattle.nook_defs.specs.declared.steps.Step.{Step}
-use Rattle.nook_defs.specs.declared.steps.Step.TheVariants as step
-use Rattle.nook_defs.specs.declared.machine.BadParam.{BadParam}
-use Rattle.nook_defs.specs.declared.machine.BurstEnd.{BurstEnd}
-use Rattle.nook_defs.specs.declared.machine.BurstEnd.TheVariants as ends
-use Rattle.nook_defs.specs.declared.machine.Context.{Context}
-use Rattle.nook_defs.specs.declared.machine.Service.{Service}
-use Rattle.nook_defs.specs.Calls.{Stepped, after_invoke, after_enter, after_admit}
-use Rattle.nook_defs.proofs.Cases.{burst_by, burst_step, entered_by, invoked_by, kind_with_arrival, reply_by, serve_by, stage_by, with_burst}
-use Rattle.nook_defs.specs.Classes.{static_check, admit, accept}
-use Rattle.nook_defs.specs.Crossing.{fails, is_last, next_stage, is_accepted, shadow_replied, noted_set, closes_call, call_replied, after_crossing}
-use Rattle.nook_defs.specs.Devices.{reset_device, reset_kind, opening_device, opening_kind, with_arrival}
-use Rattle.nook_defs.specs.Domain.{opening_domain, entered_domain, plainly_entered, context_of, machine_of, DomainBurst, domain_burst, first_argument, second_argument, result_set, left_domain, stopped_domain, collected_domain, loaded_domain, noted}
-use Rattle.nook_defs.specs.Log.{call_of_thread}
-use Rattle.nook_defs.specs.Views.Ports.{class_of, class_of_kind}
-use Rattle.nook_defs.specs.Runs.{step_of, state_after, state_from, IsRun, state_of}
-use Rattle.nook_defs.specs.Services.{checked}
-use Rattle.nook_defs.specs.Stages.{stage_due, is_given_up, stops, gives_up_part, collects, resets, loads_image, inits, replays_set, replays_open, resumes, stage_done, stage_stepped}
-use Rattle.nook_defs.specs.State.{DomainState, PartState}
-use Rattle.nook_defs.specs.Steps.{opening, faults_of_burst, burst_stepped, after_arrival, stepped}
+use Rattle.nook_data.specs.declared.classes.Accept.{Accept}
+use Rattle.nook_data.specs.declared.classes.Accept.TheVariants as accepts
+use Rattle.nook_data.specs.declared.classes.Admit.{Admit}
+use Rattle.nook_data.specs.declared.classes.Admit.TheVariants as admits
+use Rattle.nook_data.specs.declared.calls.Answer.{Answer}
+use Rattle.nook_data.specs.declared.scenario.BadBlock.{BadBlock}
+use Rattle.nook_data.specs.declared.calls.CallEntry.{CallEntry}
+use Rattle.nook_data.specs.declared.classes.Class.{Class}
+use Rattle.nook_data.specs.declared.classes.Class.TheVariants as class
+use Rattle.nook_data.specs.declared.devices.DeviceKind.{DeviceKind}
+use Rattle.nook_data.specs.declared.devices.DeviceKind.TheVariants as kind
+use Rattle.nook_data.specs.declared.devices.DeviceState.{DeviceState}
+use Rattle.nook_data.specs.declared.steps.Event.{Event}
+use Rattle.nook_data.specs.declared.scenario.Fault.{Fault}
+use Rattle.nook_data.specs.declared.calls.Op.{Op}
+use Rattle.nook_data.specs.declared.calls.Op.TheVariants as op
+use Rattle.nook_data.specs.declared.scenario.PartSpec.{PartSpec}
+use Rattle.nook_data.specs.declared.steps.Stage.{Stage}
+use Rattle.nook_data.specs.declared.steps.Stage.TheVariants as stage
+use Rattle.nook_data.specs.declared.steps.Step.{Step}
+use Rattle.nook_data.specs.declared.steps.Step.TheVariants as step
+use Rattle.nook_data.specs.declared.machine.BadParam.{BadParam}
+use Rattle.nook_data.specs.declared.machine.BurstEnd.{BurstEnd}
+use Rattle.nook_data.specs.declared.machine.BurstEnd.TheVariants as ends
+use Rattle.nook_data.specs.declared.machine.Context.{Context}
+use Rattle.nook_data.specs.declared.machine.Service.{Service}
+use Rattle.part_defs.specs.Calls.{Stepped, after_invoke, after_enter, after_admit}
+use Rattle.part_defs.proofs.PartCases.{burst_by, burst_step, entered_by, invoked_by, reply_by, serve_by, stage_by}
+use Rattle.part_defs.proofs.PartCases.{with_burst}
+use Rattle.machine_defs.proofs.MachineCases.{kind_with_arrival}
+use Rattle.nook_data.specs.Classes.{static_check, admit, accept}
+use Rattle.part_defs.specs.Crossing.{fails, is_last, next_stage, is_accepted, shadow_replied, noted_set, closes_call}
+use Rattle.part_defs.specs.Crossing.{call_replied, after_crossing}
+use Rattle.machine_defs.specs.Devices.{reset_device, reset_kind, opening_device, opening_kind, with_arrival}
+use Rattle.part_defs.specs.Domain.{opening_domain, entered_domain, plainly_entered, context_of, machine_of, DomainBurst}
+use Rattle.part_defs.specs.Domain.{domain_burst, first_argument, second_argument, result_set, left_domain}
+use Rattle.part_defs.specs.Domain.{stopped_domain, collected_domain, loaded_domain, noted}
+use Rattle.part_defs.specs.Log.{call_of_thread}
+use Rattle.machine_defs.specs.Views.Ports.{class_of, class_of_kind}
+use Rattle.part_defs.specs.Runs.{step_of, state_after, state_from, IsRun, state_of}
+use Rattle.machine_defs.specs.Services.{checked}
+use Rattle.part_defs.specs.Stages.{stage_due, is_given_up, stops, gives_up_part, collects, resets, loads_image, inits}
+use Rattle.part_defs.specs.Stages.{replays_set, replays_open, resumes, stage_done, stage_stepped}
+use Rattle.part_defs.specs.State.{DomainState, PartState}
+use Rattle.part_defs.specs.Steps.{opening, burst_stepped, after_arrival, stepped}
+use Rattle.machine_defs.specs.BurstFaults.{faults_of_burst}
 use Rattle.part_laws.proofs.BurstKeeps.{split}
 use Rattle.part_laws.proofs.Counts.{step_counted}
 use Rattle.part_laws.proofs.Classes.{burst_keeps_class}

@@ -2,11 +2,11 @@ use Rattle.std.proofs.Common.{◌≡◌, ◌<◌, ◌≤◌, ◌⊎◌, ℕ, zer
 use Rattle.std.proofs.lemmas.Bool.{and_parts, cases_eq, cases_lt}
 use Rattle.std.proofs.lemmas.List.{get_or_past}
 use Rattle.std.proofs.lemmas.Option.{unwrap_or-slice_get}
-use Rattle.nook_defs.specs.declared.classes.Class.{Class}
-use Rattle.nook_defs.specs.declared.calls.Op.{Op}
-use Rattle.nook_defs.specs.Blocks.{get_blocks, has_block, holds_from, put_from, words_for}
-use Rattle.nook_defs.proofs.Cases.{put_block}
-use Rattle.nook_defs.specs.Classes.{covers, is_write}
+use Rattle.nook_data.specs.declared.classes.Class.{Class}
+use Rattle.nook_data.specs.declared.calls.Op.{Op}
+use Rattle.promise_defs.specs.Blocks.{get_blocks, has_block, holds_from, put_from, words_for}
+use Rattle.promise_defs.proofs.PromiseCases.{put_block}
+use Rattle.nook_data.specs.Classes.{covers, is_write}
 use Rattle.part_laws.specs.Facts.{At, CallsFacts, IsStored, DiskFacts}
 use Rattle.part_laws.specs.Views.{Core}
 use Rattle.part_laws.proofs.Acting.{write_alone}

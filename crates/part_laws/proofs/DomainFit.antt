@@ -1,22 +1,25 @@
 use Rattle.std.proofs.Common.{◌≡◌, ℕ, ◌+◌, ◌<◌, ◌≤◌, false, Option, Some, None, List, ◌∷◌, ◌++◌, length, replicate, slice_set, refl, ap, ◌∙◌, arith}
 use Rattle.std.specs.List.{AllByRecursion}
 use Rattle.std.proofs.lemmas.List.{length-set}
-use Rattle.nook_defs.specs.declared.classes.Class.{Class}
-use Rattle.nook_defs.specs.declared.classes.Class.TheVariants as class
-use Rattle.nook_defs.specs.declared.entries.Entry.{Entry}
-use Rattle.nook_defs.specs.declared.entries.Entry.TheVariants as entry
-use Rattle.nook_defs.specs.declared.scenario.Fault.{Fault}
-use Rattle.nook_defs.specs.declared.calls.Op.{Op}
-use Rattle.nook_defs.specs.declared.calls.Op.TheVariants as op
-use Rattle.nook_defs.specs.declared.scenario.PartSpec.{PartSpec}
-use Rattle.nook_defs.specs.declared.machine.Context.{Context}
-use Rattle.nook_defs.specs.Classes.{static_check, defaults_of, is_set}
-use Rattle.nook_defs.specs.Crossing.{noted_set}
-use Rattle.nook_defs.specs.Domain.{Lent, buffer_of, lent_memory, lent_entries, entered_domain, plainly_entered, context_of, DomainBurst, machine_of, domain_burst, result_set, left_domain, stopped_domain, collected_domain, loaded_domain, noted, opening_domain}
-use Rattle.nook_defs.specs.Entries.{is_registration}
-use Rattle.nook_defs.proofs.Cases.{burst_by, config_after, no_context}
-use Rattle.nook_defs.specs.Pages.{object_words, object_start, opening_memory}
-use Rattle.nook_defs.specs.State.{DomainState}
+use Rattle.nook_data.specs.declared.classes.Class.{Class}
+use Rattle.nook_data.specs.declared.classes.Class.TheVariants as class
+use Rattle.nook_data.specs.declared.entries.Entry.{Entry}
+use Rattle.nook_data.specs.declared.entries.Entry.TheVariants as entry
+use Rattle.nook_data.specs.declared.scenario.Fault.{Fault}
+use Rattle.nook_data.specs.declared.calls.Op.{Op}
+use Rattle.nook_data.specs.declared.calls.Op.TheVariants as op
+use Rattle.nook_data.specs.declared.scenario.PartSpec.{PartSpec}
+use Rattle.nook_data.specs.declared.machine.Context.{Context}
+use Rattle.nook_data.specs.Classes.{static_check, defaults_of, is_set}
+use Rattle.part_defs.specs.Crossing.{noted_set}
+use Rattle.part_defs.specs.Domain.{Lent, buffer_of, lent_memory, lent_entries, entered_domain, plainly_entered}
+use Rattle.part_defs.specs.Domain.{context_of, DomainBurst, machine_of, domain_burst, result_set, left_domain}
+use Rattle.part_defs.specs.Domain.{stopped_domain, collected_domain, loaded_domain, noted, opening_domain}
+use Rattle.machine_defs.specs.Entries.{is_registration}
+use Rattle.part_defs.proofs.PartCases.{burst_by, config_after, no_context}
+use Rattle.machine_defs.specs.Pages.{object_words, opening_memory}
+use Rattle.nook_data.specs.Layout.{object_start}
+use Rattle.part_defs.specs.State.{DomainState}
 use Rattle.part_laws.proofs.EntriesFit.{with_entry_fits, filter_fits, registered_fits, with_entry_ordered, registered_ordered, without_buffer_ordered, collected_ordered}
 use Rattle.part_laws.proofs.Objects.{SameObjects, nothing_changed, FitsBuffer, lent_keeps, set_key, load_keeps, burst_keeps_objects, kernel_word, kernel_word_elsewhere, set_told}
 use Rattle.part_laws.specs.Fit.{IsFitSpec, IsFitEntry, IsOrdered, IsFitDomain}

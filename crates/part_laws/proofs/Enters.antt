@@ -1,29 +1,31 @@
 use Rattle.std.proofs.Common.{◌≡◌, ◌<◌, ◌⊎◌, ℕ, suc, ◌+◌, not, eqb, Bool, true, false, Option, Some, None, List, [], ◌∷◌, ◌++◌, map, length, set, slice_index, sym, refl, ap, ap₂, subst, ◌∙◌, inl, inr, arith, length-set}
 use Rattle.std.specs.List.{find, list_any}
 use Rattle.std.proofs.lemmas.Bool.{and_parts, eq-eqb, lt-ltb, cases_order, not-true, cond-true, cond-false}
-use Rattle.nook_defs.specs.declared.classes.Admit.TheVariants as admits
-use Rattle.nook_defs.specs.declared.calls.Answer.{Answer}
-use Rattle.nook_defs.specs.declared.calls.Answer.TheVariants as answered
-use Rattle.nook_defs.specs.declared.calls.CallEntry.{CallEntry}
-use Rattle.nook_defs.specs.declared.classes.Class.TheVariants.{Net}
-use Rattle.nook_defs.specs.declared.steps.Mode.{Mode}
-use Rattle.nook_defs.specs.declared.steps.Mode.TheVariants as mode
-use Rattle.nook_defs.specs.declared.calls.Op.{Op}
-use Rattle.nook_defs.specs.declared.calls.Op.TheVariants.{Read, Write, Send, Recv, Open, Play, Close, Get, Set}
-use Rattle.nook_defs.specs.Calls.{after_admit, after_enter}
-use Rattle.nook_defs.specs.Classes.{conflicts, is_holder, is_recv, is_write, admit, admit_holder, entry_place}
+use Rattle.nook_data.specs.declared.classes.Admit.TheVariants as admits
+use Rattle.nook_data.specs.declared.calls.Answer.{Answer}
+use Rattle.nook_data.specs.declared.calls.Answer.TheVariants as answered
+use Rattle.nook_data.specs.declared.calls.CallEntry.{CallEntry}
+use Rattle.nook_data.specs.declared.classes.Class.TheVariants.{Net}
+use Rattle.nook_data.specs.declared.steps.Mode.{Mode}
+use Rattle.nook_data.specs.declared.steps.Mode.TheVariants as mode
+use Rattle.nook_data.specs.declared.calls.Op.{Op}
+use Rattle.nook_data.specs.declared.calls.Op.TheVariants.{Read, Write, Send, Recv, Open, Play, Close, Get, Set}
+use Rattle.part_defs.specs.Calls.{after_admit, after_enter}
+use Rattle.nook_data.specs.Classes.{conflicts, is_holder, is_recv, is_write, admit, admit_holder, entry_place}
 use Rattle.part_laws.specs.Watch.{Watch, enters}
-use Rattle.nook_defs.specs.Devices.{head_of, is_empty, tail_of}
-use Rattle.nook_defs.specs.Domain.{entered_domain, entry_context, arguments_of}
-use Rattle.nook_defs.specs.Ideal.{ran}
-use Rattle.nook_defs.proofs.Changes.{stops_waiting, enter_track}
+use Rattle.nook_data.specs.Frames.{head_of, is_empty, tail_of}
+use Rattle.part_defs.specs.Domain.{entered_domain, entry_context, arguments_of}
+use Rattle.promise_defs.specs.Ideal.{ran}
+use Rattle.promise_defs.proofs.PromiseChanges.{stops_waiting, enter_track}
 use Rattle.part_laws.specs.Allowed.{allows}
-use Rattle.nook_defs.specs.Log.{call_of_thread, after_entering, after_answering as answered_log, is_blocked, blocks_call}
-use Rattle.nook_defs.proofs.Cases.{admit_open, change_entry, closes, entered_by, entered_call, is_of_thread}
-use Rattle.nook_defs.specs.Places.{at_number, change_number}
-use Rattle.nook_defs.specs.State.{PartState}
-use Rattle.nook_defs.specs.Steps.{can_enter, is_ready, is_running}
-use Rattle.nook_defs.specs.Trace.{Visible, answer, kept_blocks}
+use Rattle.part_defs.specs.Log.{call_of_thread, after_entering, after_answering as answered_log, is_blocked}
+use Rattle.part_defs.specs.Log.{blocks_call}
+use Rattle.part_defs.proofs.PartCases.{admit_open, change_entry, entered_by, entered_call, is_of_thread}
+use Rattle.promise_defs.proofs.PromiseCases.{closes}
+use Rattle.nook_data.specs.Places.{at_number, change_number}
+use Rattle.part_defs.specs.State.{PartState}
+use Rattle.part_defs.specs.Steps.{can_enter, is_ready, is_running}
+use Rattle.promise_defs.specs.Trace.{Visible, answer, kept_blocks}
 use Rattle.part_laws.specs.Balance.{held_at, Balanced}
 use Rattle.part_laws.specs.Facts.{At, CallsFacts, DiskFacts, HolderFits, IsSetting, KeyIn, Sub, may_be_inside, Facts}
 use Rattle.part_laws.specs.Moves.{enter_core, enter_call}

@@ -1,10 +1,13 @@
 use Rattle.std.proofs.Common.{◌≡◌, ◌⊎◌, inl, inr, ℕ, zero, suc, ◌+◌, ◌-◌, ◌<◌, ◌≤◌, ◌==◌, ◌&&◌, nat_lt, not, Bool, true, false, Some, None, List, [], ◌∷◌, ◌++◌, refl, sym, ap, ◌∙◌, arith, true≢false, count_by, filter}
 use Rattle.std.specs.List.{list_any, AllByRecursion}
 use Rattle.std.proofs.lemmas.Bool.{and_parts, or_parts, or_cases, and_left, and_right, or_from, or_right, or_left, ltb-true, le-ltb, ltb-false, eqb-true, both_ways, and_cases, eq-eqb, ne_eqb, cases_order}
-use Rattle.nook_defs.specs.declared.entries.Entry.{Entry}
-use Rattle.nook_defs.specs.declared.entries.Entry.TheVariants as entry
-use Rattle.nook_defs.specs.Entries.{rank, key_of, comes_before, with_entry, is_registration, is_borrow_of, is_heap_at, is_buffer_of, is_heap_use, lowest_run, free_start, is_free_run, borrow_start, with_live, registered, collected, released, without_heap, without_borrow, without_buffer}
-use Rattle.nook_defs.proofs.Cases.{start_of_borrow}
+use Rattle.nook_data.specs.declared.entries.Entry.{Entry}
+use Rattle.nook_data.specs.declared.entries.Entry.TheVariants as entry
+use Rattle.machine_defs.specs.Entries.{rank, key_of, comes_before, with_entry, is_registration, is_borrow_of}
+use Rattle.machine_defs.specs.Entries.{is_heap_at, is_buffer_of, is_heap_use, lowest_run, free_start, is_free_run}
+use Rattle.machine_defs.specs.Entries.{borrow_start, with_live, registered, collected, released, without_heap}
+use Rattle.machine_defs.specs.Entries.{without_borrow, without_buffer}
+use Rattle.machine_defs.proofs.MachineCases.{start_of_borrow}
 use Rattle.part_laws.proofs.BurstKeeps.{split}
 use Rattle.part_laws.specs.Fit.{IsFitEntry, IsOrdered}
 

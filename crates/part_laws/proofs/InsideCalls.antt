@@ -1,10 +1,10 @@
 use Rattle.std.proofs.Common.{◌≡◌, ℕ, ◌<◌, ◌==◌, not, Bool, true, false, Option, Some, None, List, [], ◌∷◌, ◌++◌, map, filter, refl, sym, ap, ◌∙◌, arith, true≢false, eqb-true}
 use Rattle.std.specs.List.{find}
 use Rattle.std.proofs.lemmas.Bool.{eqb-false, eq-eqb, ne_eqb}
-use Rattle.nook_defs.specs.declared.calls.CallEntry.{CallEntry}
-use Rattle.nook_defs.specs.Log.{is_call, call_of_thread}
-use Rattle.nook_defs.proofs.Cases.{change_entry, entered_call, is_of_thread}
-use Rattle.nook_defs.specs.Steps.{is_inside}
+use Rattle.nook_data.specs.declared.calls.CallEntry.{CallEntry}
+use Rattle.part_defs.specs.Log.{is_call, call_of_thread}
+use Rattle.part_defs.proofs.PartCases.{change_entry, entered_call, is_of_thread}
+use Rattle.part_defs.specs.Steps.{is_inside}
 use Rattle.part_laws.proofs.BurstKeeps.{split}
 use Rattle.part_laws.proofs.TiedCalls.{found_above, without_call}
 use Rattle.part_laws.specs.Tied.{IsRising}

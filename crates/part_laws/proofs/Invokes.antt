@@ -1,28 +1,30 @@
 use Rattle.std.proofs.Common.{◌≡◌, ◌<◌, ◌⊎◌, ℕ, suc, ◌+◌, ◌&&◌, cond, eqb, not, Bool, true, false, Option, Some, None, is_none, List, [], ◌∷◌, ◌++◌, map, length, slice_index, sym, refl, ap, ap₂, subst, ◌∙◌, inl, inr, arith, nat_lt, nat_le, append-nil, length-append}
 use Rattle.std.specs.List.{find, list_any}
 use Rattle.std.proofs.lemmas.Bool.{and_parts, and_from, eq-eqb, ltb-true}
-use Rattle.nook_defs.specs.declared.calls.Answer.{Answer}
-use Rattle.nook_defs.specs.declared.calls.Answer.TheVariants as answered
-use Rattle.nook_defs.specs.declared.calls.CallEntry.{CallEntry}
-use Rattle.nook_defs.specs.declared.classes.Class.{Class}
-use Rattle.nook_defs.specs.declared.steps.Mode.{Mode}
-use Rattle.nook_defs.specs.declared.steps.Mode.TheVariants as mode
-use Rattle.nook_defs.specs.declared.calls.Op.{Op}
-use Rattle.nook_defs.specs.declared.calls.Op.TheVariants.{Read, Write, Send, Recv, Open, Play, Close, Get, Set}
-use Rattle.nook_defs.specs.declared.steps.Stage.{Stage}
-use Rattle.nook_defs.specs.Calls.{answer_in, queue_in, invoked_with, after_invoke}
-use Rattle.nook_defs.specs.Classes.{is_of_class, is_recv, check_op, check_range, is_block_length, maximum_of, static_check}
+use Rattle.nook_data.specs.declared.calls.Answer.{Answer}
+use Rattle.nook_data.specs.declared.calls.Answer.TheVariants as answered
+use Rattle.nook_data.specs.declared.calls.CallEntry.{CallEntry}
+use Rattle.nook_data.specs.declared.classes.Class.{Class}
+use Rattle.nook_data.specs.declared.steps.Mode.{Mode}
+use Rattle.nook_data.specs.declared.steps.Mode.TheVariants as mode
+use Rattle.nook_data.specs.declared.calls.Op.{Op}
+use Rattle.nook_data.specs.declared.calls.Op.TheVariants.{Read, Write, Send, Recv, Open, Play, Close, Get, Set}
+use Rattle.nook_data.specs.declared.steps.Stage.{Stage}
+use Rattle.part_defs.specs.Calls.{answer_in, queue_in, invoked_with, after_invoke}
+use Rattle.nook_data.specs.Classes.{is_of_class, is_recv, check_op, check_range, is_block_length, maximum_of}
+use Rattle.nook_data.specs.Classes.{static_check}
 use Rattle.part_laws.specs.Watch.{Watch}
-use Rattle.nook_defs.specs.Ideal.{Ideal, Opened, ran, after_answer, is_due, may_call, same_refusal}
-use Rattle.nook_defs.proofs.Changes.{waits_for, opens, stops_waiting, first_track}
+use Rattle.promise_defs.specs.Ideal.{Ideal, Opened, ran, after_answer, is_due, may_call, same_refusal}
+use Rattle.promise_defs.proofs.PromiseChanges.{waits_for, opens, stops_waiting, first_track}
 use Rattle.part_laws.specs.Allowed.{allows}
-use Rattle.nook_defs.specs.Log.{call_of_thread, with_call, with_answered_call, shadow_answer, queue_after}
-use Rattle.nook_defs.proofs.Cases.{closes, invoked_by, is_of_thread, new_entry}
-use Rattle.nook_defs.specs.Places.{at_number, change_number}
-use Rattle.nook_defs.specs.State.{PartState}
-use Rattle.nook_defs.specs.Steps.{can_invoke}
-use Rattle.nook_defs.specs.Trace.{Visible, Track, called, answer, kept_blocks}
-use Rattle.nook_defs.specs.Devices.{is_empty}
+use Rattle.part_defs.specs.Log.{call_of_thread, with_call, with_answered_call, shadow_answer, queue_after}
+use Rattle.promise_defs.proofs.PromiseCases.{closes}
+use Rattle.part_defs.proofs.PartCases.{invoked_by, is_of_thread, new_entry}
+use Rattle.nook_data.specs.Places.{at_number, change_number}
+use Rattle.part_defs.specs.State.{PartState}
+use Rattle.part_defs.specs.Steps.{can_invoke}
+use Rattle.promise_defs.specs.Trace.{Visible, Track, called, answer, kept_blocks}
+use Rattle.nook_data.specs.Frames.{is_empty}
 use Rattle.part_laws.specs.Counts.{counted}
 use Rattle.part_laws.specs.Balance.{held_at}
 use Rattle.part_laws.specs.Facts.{At, CallsFacts, DiskFacts, HolderFits, IsSetting, KeyIn, Sub, may_be_inside, is_dead, Facts}

@@ -1,11 +1,11 @@
 use Rattle.std.proofs.Common.{◌≡◌, ◌&&◌, Bool, true, false, None, List, [], sym, refl, ap, ap₂, ◌∙◌}
-use Rattle.nook_defs.specs.declared.steps.Event.{Event}
-use Rattle.nook_defs.specs.declared.scenario.PartSpec.{PartSpec}
-use Rattle.nook_defs.specs.Contract.{first_break}
-use Rattle.nook_defs.specs.Licence.{IsLicensed, is_balanced, is_licensed}
-use Rattle.nook_defs.specs.Losses.{losses}
-use Rattle.nook_defs.specs.Runs.{IsRun}
-use Rattle.nook_defs.specs.Steps.{opening}
+use Rattle.nook_data.specs.declared.steps.Event.{Event}
+use Rattle.nook_data.specs.declared.scenario.PartSpec.{PartSpec}
+use Rattle.promise_defs.specs.Contract.{first_break}
+use Rattle.promise_defs.specs.Licence.{IsLicensed, is_balanced, is_licensed}
+use Rattle.promise_defs.specs.Losses.{losses}
+use Rattle.part_defs.specs.Runs.{IsRun}
+use Rattle.part_defs.specs.Steps.{opening}
 use Rattle.part_laws.specs.Allowed.{IsAllowed, licensed as allowed}
 use Rattle.part_laws.specs.Counts.{counted_losses}
 use Rattle.part_laws.specs.Watch.{first_watch, watched_break}

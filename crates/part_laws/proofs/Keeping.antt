@@ -1,9 +1,9 @@
 use Rattle.std.proofs.Common.{◌≡◌, ◌<◌, ◌⊎◌, ℕ, zero, suc, Bool, true, false, Option, None, List, [], ◌∷◌, ◌++◌, length, set, slice_index_or, sym, refl, ap, subst, ◌∙◌, inl, inr, arith}
 use Rattle.std.proofs.lemmas.Bool.{cases_eq, cases_order}
-use Rattle.nook_defs.specs.declared.classes.Class.{Class}
-use Rattle.nook_defs.specs.declared.calls.Op.{Op}
-use Rattle.nook_defs.specs.Blocks.{has_block, words_for}
-use Rattle.nook_defs.specs.Classes.{conflicts, covers, is_write, static_check}
+use Rattle.nook_data.specs.declared.classes.Class.{Class}
+use Rattle.nook_data.specs.declared.calls.Op.{Op}
+use Rattle.promise_defs.specs.Blocks.{has_block, words_for}
+use Rattle.nook_data.specs.Classes.{conflicts, covers, is_write, static_check}
 use Rattle.part_laws.specs.Facts.{At, CallFacts, CallsFacts, IsStored, DiskFacts, HolderFits, is_once}
 use Rattle.part_laws.specs.Moves.{new_core, enter_core}
 use Rattle.part_laws.specs.Views.{Core}

@@ -1,8 +1,9 @@
 -- What is known where a monitor watches.
 use Rattle.std.proofs.Common.{◌≡◌, ℕ, Bool, Option, List}
 use Rattle.part_laws.specs.Watch.{Watch}
-use Rattle.nook_defs.specs.declared.clause.Clause.{Clause}
-use Rattle.nook_defs.specs.Contract.{Deed, Known, all_clauses, breaks, call_of, is_broken_by}
+use Rattle.nook_data.specs.declared.clause.Clause.{Clause}
+use Rattle.promise_defs.specs.Contract.{Deed, Known, breaks, call_of, is_broken_by}
+use Rattle.nook_data.specs.Clauses.{all_clauses}
 use Rattle.part_laws.proofs.Picked.{picked}
 use Rattle.part_laws.proofs.Smallest.{smallest_or}
 

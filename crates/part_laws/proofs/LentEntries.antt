@@ -3,12 +3,13 @@ use Rattle.std.specs.List.{list_any}
 use Rattle.std.proofs.lemmas.Bool.{or_cases, or_left, or_right}
 use Rattle.std.proofs.lemmas.Map.Views.{any-filter_same}
 use Rattle.part_laws.specs.Loans.{IsWithoutLoans}
-use Rattle.nook_defs.specs.declared.entries.Entry.{Entry}
-use Rattle.nook_defs.specs.declared.entries.Entry.TheVariants as entry
-use Rattle.nook_defs.specs.declared.machine.Service.{Service}
-use Rattle.nook_defs.specs.declared.machine.Service.TheVariants as service
-use Rattle.nook_defs.specs.Entries.{comes_before, with_entry, is_buffer_of, is_registration, with_live, registered, collected, free_start, borrow_start, without_buffer}
-use Rattle.nook_defs.specs.Services.{served, alloc_served, borrow_served, give_back_served}
+use Rattle.nook_data.specs.declared.entries.Entry.{Entry}
+use Rattle.nook_data.specs.declared.entries.Entry.TheVariants as entry
+use Rattle.nook_data.specs.declared.machine.Service.{Service}
+use Rattle.nook_data.specs.declared.machine.Service.TheVariants as service
+use Rattle.machine_defs.specs.Entries.{comes_before, with_entry, is_buffer_of, is_registration, with_live, registered}
+use Rattle.machine_defs.specs.Entries.{collected, free_start, borrow_start, without_buffer}
+use Rattle.machine_defs.specs.Services.{served, alloc_served, borrow_served, give_back_served}
 use Rattle.part_laws.proofs.BurstKeeps.{split}
 
 -- What a change of the entry list leaves lent.

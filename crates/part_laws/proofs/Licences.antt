@@ -3,31 +3,32 @@ use Rattle.std.proofs.Common.{◌≡◌, ◌⊎◌, inl, inr, ℕ, suc, ◌+◌,
 use Rattle.std.specs.Prelude.{◌==◌, ◌&&◌, ◌||◌, nat_lt, is_none}
 use Rattle.std.specs.List.{list_any}
 use Rattle.std.proofs.lemmas.Bool.{eq-eqb, ne_eqb}
-use Rattle.nook_defs.specs.declared.machine.Act.{Act}
-use Rattle.nook_defs.specs.declared.calls.Answer.{Answer}
-use Rattle.nook_defs.specs.declared.calls.Answer.TheVariants as answer
-use Rattle.nook_defs.specs.declared.steps.End.{End}
-use Rattle.nook_defs.specs.declared.steps.End.TheVariants as end
-use Rattle.nook_defs.specs.declared.steps.Event.{Event}
-use Rattle.nook_defs.specs.declared.steps.Event.TheVariants as event
-use Rattle.nook_defs.specs.declared.steps.FailCause.{FailCause}
-use Rattle.nook_defs.specs.declared.calls.Op.{Op}
-use Rattle.nook_defs.specs.declared.calls.Op.TheVariants as op
-use Rattle.nook_defs.specs.declared.steps.Stage.{Stage}
-use Rattle.nook_defs.specs.declared.steps.Stage.TheVariants as stage
+use Rattle.nook_data.specs.declared.machine.Act.{Act}
+use Rattle.nook_data.specs.declared.calls.Answer.{Answer}
+use Rattle.nook_data.specs.declared.calls.Answer.TheVariants as answer
+use Rattle.nook_data.specs.declared.steps.End.{End}
+use Rattle.nook_data.specs.declared.steps.End.TheVariants as end
+use Rattle.nook_data.specs.declared.steps.Event.{Event}
+use Rattle.nook_data.specs.declared.steps.Event.TheVariants as event
+use Rattle.nook_data.specs.declared.steps.FailCause.{FailCause}
+use Rattle.nook_data.specs.declared.calls.Op.{Op}
+use Rattle.nook_data.specs.declared.calls.Op.TheVariants as op
+use Rattle.nook_data.specs.declared.steps.Stage.{Stage}
+use Rattle.nook_data.specs.declared.steps.Stage.TheVariants as stage
 use Rattle.part_laws.specs.Watch.{Watch, Watched, enters, leaves, sees, sees_acts, sees_crossing, watched}
-use Rattle.nook_defs.specs.Devices.{is_empty, is_empty as was_empty}
+use Rattle.nook_data.specs.Frames.{is_empty, is_empty as was_empty}
 use Rattle.part_laws.specs.Allowed.{allows as allowed, allows_each, allows_event, allows_option, has_failed as had_failed, is_served as was_served, is_served_found, licenses as allows_at, licensed_from as allowed_from}
-use Rattle.nook_defs.specs.Licence.{is_stage, shadow_stage}
-use Rattle.nook_defs.specs.Places.{at_number, change_number}
-use Rattle.nook_defs.specs.Runs.{state_after, step_of}
-use Rattle.nook_defs.specs.State.{PartState}
+use Rattle.promise_defs.specs.Licence.{is_stage, shadow_stage}
+use Rattle.nook_data.specs.Places.{at_number, change_number}
+use Rattle.part_defs.specs.Runs.{state_after, step_of}
+use Rattle.part_defs.specs.State.{PartState}
 use Rattle.part_laws.proofs.Places.{split}
-use Rattle.nook_defs.specs.Answers.{answers_of, one_answer}
-use Rattle.nook_defs.specs.Contract.{Known, OpenCall, known_after, after_failure, call_of, change_call, crossing_deeds, deeds_of, during}
-use Rattle.nook_defs.proofs.Changes.{after_deeds, enter_call}
-use Rattle.nook_defs.specs.Licence.{allows, is_served_call, licenses, is_licensed_from, refuses}
-use Rattle.nook_defs.proofs.Cases.{has_failed, is_served}
+use Rattle.nook_data.specs.Answers.{answers_of, one_answer}
+use Rattle.promise_defs.specs.Contract.{Known, OpenCall, known_after, after_failure, call_of, change_call}
+use Rattle.promise_defs.specs.Contract.{crossing_deeds, deeds_of, during}
+use Rattle.promise_defs.proofs.PromiseChanges.{after_deeds, enter_call}
+use Rattle.promise_defs.specs.Licence.{allows, is_served_call, licenses, is_licensed_from, refuses}
+use Rattle.promise_defs.proofs.PromiseCases.{has_failed, is_served}
 use Rattle.part_laws.specs.Orderly.{AreOwn, IsFitting, IsOfCall, IsOrderlyFrom, flags_after, is_open}
 use Rattle.part_laws.proofs.Breaks.{SeesAlike, event_alike}
 use Rattle.part_laws.proofs.Deeds.{acts_known, own_call, own_change}

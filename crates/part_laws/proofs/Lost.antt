@@ -4,22 +4,25 @@ use Rattle.std.specs.Prelude.{◌==◌, if◌then◌else◌, fold}
 use Rattle.std.specs.List.{list_any}
 use Rattle.std.proofs.lemmas.Bool.{eqb-true, eq-eqb, ne_eqb}
 use Rattle.std.proofs.lemmas.List.Sums.{sum_by-cons}
-use Rattle.nook_defs.specs.declared.machine.Act.{Act}
-use Rattle.nook_defs.specs.declared.calls.Answer.{Answer}
-use Rattle.nook_defs.specs.declared.steps.Event.{Event}
-use Rattle.nook_defs.specs.declared.steps.Event.TheVariants as event
-use Rattle.nook_defs.specs.declared.verdicts.Losses.{Losses as Told}
-use Rattle.nook_defs.specs.declared.calls.Op.{Op}
-use Rattle.nook_defs.specs.declared.calls.Op.TheVariants as op
-use Rattle.nook_defs.specs.declared.steps.Stage.{Stage}
-use Rattle.nook_defs.specs.declared.steps.Stage.TheVariants as stage
+use Rattle.nook_data.specs.declared.machine.Act.{Act}
+use Rattle.nook_data.specs.declared.calls.Answer.{Answer}
+use Rattle.nook_data.specs.declared.steps.Event.{Event}
+use Rattle.nook_data.specs.declared.steps.Event.TheVariants as event
+use Rattle.nook_data.specs.declared.verdicts.Losses.{Losses as Told}
+use Rattle.nook_data.specs.declared.calls.Op.{Op}
+use Rattle.nook_data.specs.declared.calls.Op.TheVariants as op
+use Rattle.nook_data.specs.declared.steps.Stage.{Stage}
+use Rattle.nook_data.specs.declared.steps.Stage.TheVariants as stage
 use Rattle.part_laws.specs.Counts.{Counted, Counts, count_acts, count_answer, count_answered, count_answers, count_event, count_handed, count_stage, counted, no_counts, samples_of, sends_of, told, is_done as was_done, lost_samples as samples_lost, lost_sends as sends_lost, counted_losses}
-use Rattle.nook_defs.specs.Losses.{handed_result as result_in}
-use Rattle.nook_defs.specs.Places.{at_number, change_number}
+use Rattle.promise_defs.specs.Losses.{handed_result as result_in}
+use Rattle.nook_data.specs.Places.{at_number, change_number}
 use Rattle.part_laws.proofs.Places.{split}
-use Rattle.nook_defs.specs.Answers.{answers_of, one_answer}
-use Rattle.nook_defs.specs.Losses.{FramePlaces, Tally, all_answers, in_driver, in_ring, is_arrival, is_busy, is_done, is_lost_arrival, is_received, is_refused, is_taken, lost_by, lost_from, lost_samples, lost_sends, losses, no_places, places_after, tallies_after, tallies_during}
-use Rattle.nook_defs.proofs.Changes.{unplayed, unsent, with_acts}
+use Rattle.nook_data.specs.Answers.{answers_of, one_answer}
+use Rattle.promise_defs.specs.Losses.{FramePlaces, Tally, all_answers, in_driver, in_ring, is_arrival, is_busy, is_done}
+use Rattle.promise_defs.specs.Losses.{is_lost_arrival, is_received, is_refused, is_taken, lost_by, lost_from}
+use Rattle.promise_defs.specs.Losses.{lost_samples, lost_sends, losses, no_places, places_after, tallies_after}
+use Rattle.promise_defs.specs.Losses.{tallies_during}
+use Rattle.promise_defs.proofs.PromiseChanges.{unplayed, unsent, with_acts}
 use Rattle.part_laws.specs.Orderly.{AreOwn, IsFitting, IsOrderlyFrom, flags_after, flags_during, is_open, is_told, kept_from}
 use Rattle.part_laws.proofs.Counting.{Adds, all_counted, arrived_adds, before_adds, before_answers, busy_adds, event_counted, grows, lost_adds, places_go, places_of, received_adds, refused_adds, same_done, taken_adds}
 use Rattle.part_laws.proofs.Picked.{at_one, change_at, change_one, find_at}

@@ -3,12 +3,13 @@ use Rattle.std.proofs.Common.{◌≡◌, ◌⊎◌, inl, inr, ℕ, suc, ◌+◌,
 use Rattle.std.specs.Prelude.{◌==◌, if◌then◌else◌}
 use Rattle.std.proofs.lemmas.Bool.{eqb-true, eq-eqb, ne_eqb}
 use Rattle.std.proofs.lemmas.Bool.Decides.{nat_tests}
-use Rattle.nook_defs.specs.declared.calls.Answer.{Answer}
-use Rattle.nook_defs.specs.declared.calls.Answer.TheVariants as answer
-use Rattle.nook_defs.specs.declared.calls.CallEntry.{CallEntry}
-use Rattle.nook_defs.specs.declared.steps.Stage.TheVariants as stage
-use Rattle.nook_defs.specs.Log.{call_of_thread, gone_answers, held_call, is_call, is_held, queue_after, shadow_answer, stop_answers, with_answer}
-use Rattle.nook_defs.proofs.Cases.{change_entry, entered_call, is_of_thread, stop_calls}
+use Rattle.nook_data.specs.declared.calls.Answer.{Answer}
+use Rattle.nook_data.specs.declared.calls.Answer.TheVariants as answer
+use Rattle.nook_data.specs.declared.calls.CallEntry.{CallEntry}
+use Rattle.nook_data.specs.declared.steps.Stage.TheVariants as stage
+use Rattle.part_defs.specs.Log.{call_of_thread, gone_answers, held_call, is_call, is_held, queue_after, shadow_answer}
+use Rattle.part_defs.specs.Log.{stop_answers, with_answer}
+use Rattle.part_defs.proofs.PartCases.{change_entry, entered_call, is_of_thread, stop_calls}
 use Rattle.part_laws.proofs.Answered.{shadow_says}
 use Rattle.part_laws.proofs.Places.{some_same, split}
 use Rattle.part_laws.specs.Orderly.{AreOwn, is_open, is_told, kept_from}

@@ -2,25 +2,26 @@ use Rattle.std.proofs.Common.{◌≡◌, ◌≢◌, inl, inr, ℕ, ◌+◌, ◌-
 use Rattle.std.specs.List.{list_any}
 use Rattle.std.proofs.lemmas.Bool.{and_parts, and_left, and_right, or_from, le-ltb, ltb-true, leb-true, cases_order}
 use Rattle.std.proofs.lemmas.List.{get_or-append_right, drop-set-add, set-append_left, set_at, length-set}
-use Rattle.nook_defs.specs.declared.classes.Class.{Class}
-use Rattle.nook_defs.specs.declared.entries.Entry.{Entry}
-use Rattle.nook_defs.specs.declared.scenario.Fault.{Fault}
-use Rattle.nook_defs.specs.declared.scenario.FaultKind.{FaultKind}
-use Rattle.nook_defs.specs.declared.scenario.FaultKind.TheVariants as fault
-use Rattle.nook_defs.specs.declared.scenario.Image.{Image}
-use Rattle.nook_defs.specs.declared.calls.Op.{Op}
-use Rattle.nook_defs.specs.declared.calls.Op.TheVariants as op
-use Rattle.nook_defs.specs.Burst.{burst}
-use Rattle.nook_defs.specs.Classes.{static_check, check_op, check_length, is_block_length, is_of_class}
-use Rattle.nook_defs.specs.Domain.{Lent, buffer_of, lent_memory}
-use Rattle.nook_defs.specs.Isolation.{writes_code}
-use Rattle.nook_defs.proofs.Cases.{is_code_at}
-use Rattle.nook_defs.specs.Pages.{may_write, is_lent, object_words, object_start, buffer_start, with_words, padded_words, loaded_memory}
-use Rattle.nook_defs.specs.Turn.{Machine}
+use Rattle.nook_data.specs.declared.classes.Class.{Class}
+use Rattle.nook_data.specs.declared.entries.Entry.{Entry}
+use Rattle.nook_data.specs.declared.scenario.Fault.{Fault}
+use Rattle.nook_data.specs.declared.scenario.FaultKind.{FaultKind}
+use Rattle.nook_data.specs.declared.scenario.FaultKind.TheVariants as fault
+use Rattle.nook_data.specs.declared.scenario.Image.{Image}
+use Rattle.nook_data.specs.declared.calls.Op.{Op}
+use Rattle.nook_data.specs.declared.calls.Op.TheVariants as op
+use Rattle.machine_defs.specs.Burst.{burst}
+use Rattle.nook_data.specs.Classes.{static_check, check_op, check_length, is_block_length, is_of_class}
+use Rattle.part_defs.specs.Domain.{Lent, buffer_of, lent_memory}
+use Rattle.promise_defs.specs.Isolation.{writes_code}
+use Rattle.machine_defs.proofs.MachineCases.{is_code_at}
+use Rattle.machine_defs.specs.Pages.{may_write, is_lent, object_words, with_words, padded_words, loaded_memory}
+use Rattle.nook_data.specs.Layout.{object_start, buffer_start}
+use Rattle.machine_defs.specs.Turn.{Machine}
 use Rattle.part_laws.proofs.BurstKeeps.{split}
 use Rattle.part_laws.proofs.BurstIsolation.{changes_only_allowed, burst_keeps_length}
 use Rattle.part_laws.proofs.Words.{same_range, length-with_words, with_words_below, with_words_above, with_words_there, take-set}
-use Rattle.nook_defs.proofs.Padded.{length-padded_words}
+use Rattle.machine_defs.proofs.Padded.{length-padded_words}
 
 -- Which changes of memory keep the kernel's objects.
 

@@ -1,11 +1,11 @@
 use Rattle.std.proofs.Common.{◌≡◌, ℕ, true, Option, Some, None, List, refl}
 use Rattle.std.proofs.lemmas.Bool.{cond-true, cond-false}
-use Rattle.nook_defs.specs.declared.calls.Answer.TheVariants as answered
-use Rattle.nook_defs.specs.declared.classes.Class.{Class}
-use Rattle.nook_defs.specs.declared.classes.Class.TheVariants.{Block, Net, Sound}
-use Rattle.nook_defs.specs.declared.calls.Op.{Op}
-use Rattle.nook_defs.specs.declared.calls.Op.TheVariants.{Read, Write, Send, Recv, Open, Play, Close, Get, Set}
-use Rattle.nook_defs.specs.Classes.{check_op, is_of_class, is_of_stream, is_play, same_class, sends, static_check}
+use Rattle.nook_data.specs.declared.calls.Answer.TheVariants as answered
+use Rattle.nook_data.specs.declared.classes.Class.{Class}
+use Rattle.nook_data.specs.declared.classes.Class.TheVariants.{Block, Net, Sound}
+use Rattle.nook_data.specs.declared.calls.Op.{Op}
+use Rattle.nook_data.specs.declared.calls.Op.TheVariants.{Read, Write, Send, Recv, Open, Play, Close, Get, Set}
+use Rattle.nook_data.specs.Classes.{check_op, is_of_class, is_of_stream, is_play, same_class, sends, static_check}
 use Rattle.part_laws.proofs.Places.{split}
 
 -- An open call passed the static check, so it is of the part's class: a frame is sent only by a link, and a sample

@@ -1,12 +1,12 @@
 use Rattle.std.proofs.Common.{◌≡◌, ◌<◌, ℕ, zero, suc, ◌+◌, ◌&&◌, ◌||◌, not, eqb, Bool, true, false, Some, None, List, [], ◌∷◌, ◌++◌, map, length, set, filter, find, sym, refl, ap, ap₂, ◌∙◌, arith, nat_lt}
 use Rattle.std.specs.List.{list_any}
 use Rattle.std.proofs.lemmas.Bool.{eqb-true, ne_eqb, eq-eqb, cond-true, cond-false, or_parts}
-use Rattle.nook_defs.specs.declared.calls.CallEntry.{CallEntry}
-use Rattle.nook_defs.specs.declared.classes.Class.{Class}
-use Rattle.nook_defs.specs.Classes.{conflicts}
-use Rattle.nook_defs.proofs.Changes.{waits_for}
-use Rattle.nook_defs.specs.Log.{is_call, blocks_call, held_call, is_held}
-use Rattle.nook_defs.proofs.Cases.{change_entry, is_of_thread, stop_calls}
+use Rattle.nook_data.specs.declared.calls.CallEntry.{CallEntry}
+use Rattle.nook_data.specs.declared.classes.Class.{Class}
+use Rattle.nook_data.specs.Classes.{conflicts}
+use Rattle.promise_defs.proofs.PromiseChanges.{waits_for}
+use Rattle.part_defs.specs.Log.{is_call, blocks_call, held_call, is_held}
+use Rattle.part_defs.proofs.PartCases.{change_entry, is_of_thread, stop_calls}
 use Rattle.part_laws.specs.Facts.{At}
 use Rattle.part_laws.specs.Moves.{stop_core}
 use Rattle.part_laws.specs.Views.{Core, Call, core_of, entry_of, keep_waiting, open_from, as_opened}

@@ -1,36 +1,42 @@
 -- Every run is orderly, by what each step of a part does to its open calls.
 use Rattle.std.proofs.Common.{◌≡◌, ◌⊎◌, inl, inr, ℕ, ◌+◌, ◌&&◌, not, Bool, true, false, Option, Some, None, Result, Ok, Err, List, [], ◌∷◌, ◌++◌, length, filter, sym, refl, ap, ◌∙◌, subst, arith}
 use Rattle.std.specs.Prelude.{◌==◌}
-use Rattle.nook_defs.specs.declared.classes.Accept.{Accept}
-use Rattle.nook_defs.specs.declared.classes.Accept.TheVariants as accepts
-use Rattle.nook_defs.specs.declared.classes.Admit.{Admit}
-use Rattle.nook_defs.specs.declared.classes.Admit.TheVariants as admits
-use Rattle.nook_defs.specs.declared.calls.Answer.{Answer}
-use Rattle.nook_defs.specs.declared.calls.CallEntry.{CallEntry}
-use Rattle.nook_defs.specs.declared.steps.Event.{Event}
-use Rattle.nook_defs.specs.declared.steps.Event.TheVariants as event
-use Rattle.nook_defs.specs.declared.calls.Op.{Op}
-use Rattle.nook_defs.specs.declared.scenario.PartSpec.{PartSpec}
-use Rattle.nook_defs.specs.declared.steps.Stage.{Stage}
-use Rattle.nook_defs.specs.declared.steps.Stage.TheVariants as stage
-use Rattle.nook_defs.specs.declared.steps.Step.{Step}
-use Rattle.nook_defs.specs.declared.steps.Step.TheVariants as step
-use Rattle.nook_defs.specs.declared.machine.BadParam.{BadParam}
-use Rattle.nook_defs.specs.declared.machine.BurstEnd.{BurstEnd}
-use Rattle.nook_defs.specs.declared.machine.BurstEnd.TheVariants as ends
-use Rattle.nook_defs.specs.declared.machine.Service.{Service}
-use Rattle.nook_defs.specs.Calls.{after_admit, answer_in, after_enter, after_invoke, invoked_with, queue_in}
-use Rattle.nook_defs.specs.Classes.{accept, static_check}
-use Rattle.nook_defs.specs.Crossing.{Crossed, call_replied, closes_call, after_crossing, fails, is_accepted, is_last, next_stage, shadow_replied}
-use Rattle.nook_defs.specs.Domain.{DomainBurst, domain_burst}
-use Rattle.nook_defs.specs.Log.{after_acknowledging, after_answering, call_of_thread, after_entering, gone_answers, is_call, with_answered_call, opening_log, stop_answers, with_call}
-use Rattle.nook_defs.proofs.Cases.{burst_event, entered_by, invoked_by, new_entry, number_of_call, reply_by, serve_by, stage_by, with_burst}
-use Rattle.nook_defs.specs.Runs.{IsRun, IsRunFrom, event_of, state_after, step_of}
-use Rattle.nook_defs.specs.Stages.{collects, gives_up_part, inits, is_given_up, loads_image, replays_open, replays_set, resets, resumes, stage_done, stage_due, stage_stepped, stops}
-use Rattle.nook_defs.specs.State.{CallLog, PartState}
-use Rattle.nook_defs.specs.Steps.{after_arrival, burst_stepped, can_burst, enabled, faults_of_burst, is_inside, is_ready, is_running, opening, served_number, stepped}
+use Rattle.nook_data.specs.declared.classes.Accept.{Accept}
+use Rattle.nook_data.specs.declared.classes.Accept.TheVariants as accepts
+use Rattle.nook_data.specs.declared.classes.Admit.{Admit}
+use Rattle.nook_data.specs.declared.classes.Admit.TheVariants as admits
+use Rattle.nook_data.specs.declared.calls.Answer.{Answer}
+use Rattle.nook_data.specs.declared.calls.CallEntry.{CallEntry}
+use Rattle.nook_data.specs.declared.steps.Event.{Event}
+use Rattle.nook_data.specs.declared.steps.Event.TheVariants as event
+use Rattle.nook_data.specs.declared.calls.Op.{Op}
+use Rattle.nook_data.specs.declared.scenario.PartSpec.{PartSpec}
+use Rattle.nook_data.specs.declared.steps.Stage.{Stage}
+use Rattle.nook_data.specs.declared.steps.Stage.TheVariants as stage
+use Rattle.nook_data.specs.declared.steps.Step.{Step}
+use Rattle.nook_data.specs.declared.steps.Step.TheVariants as step
+use Rattle.nook_data.specs.declared.machine.BadParam.{BadParam}
+use Rattle.nook_data.specs.declared.machine.BurstEnd.{BurstEnd}
+use Rattle.nook_data.specs.declared.machine.BurstEnd.TheVariants as ends
+use Rattle.nook_data.specs.declared.machine.Service.{Service}
+use Rattle.part_defs.specs.Calls.{after_admit, answer_in, after_enter, after_invoke, invoked_with, queue_in}
+use Rattle.nook_data.specs.Classes.{accept, static_check}
+use Rattle.part_defs.specs.Crossing.{Crossed, call_replied, closes_call, after_crossing, fails, is_accepted, is_last}
+use Rattle.part_defs.specs.Crossing.{next_stage, shadow_replied}
+use Rattle.part_defs.specs.Domain.{DomainBurst, domain_burst}
+use Rattle.part_defs.specs.Log.{after_acknowledging, after_answering, call_of_thread, after_entering, gone_answers}
+use Rattle.part_defs.specs.Log.{is_call, with_answered_call, opening_log, stop_answers, with_call}
+use Rattle.part_defs.proofs.PartCases.{burst_event, entered_by, invoked_by, new_entry, number_of_call, reply_by}
+use Rattle.part_defs.proofs.PartCases.{serve_by, stage_by, with_burst}
+use Rattle.part_defs.specs.Runs.{IsRun, IsRunFrom, event_of, state_after, step_of}
+use Rattle.part_defs.specs.Stages.{collects, gives_up_part, inits, is_given_up, loads_image, replays_open, replays_set}
+use Rattle.part_defs.specs.Stages.{resets, resumes, stage_done, stage_due, stage_stepped, stops}
+use Rattle.part_defs.specs.State.{CallLog, PartState}
+use Rattle.part_defs.specs.Steps.{after_arrival, burst_stepped, can_burst, enabled, is_inside, is_ready, is_running}
+use Rattle.part_defs.specs.Steps.{opening, served_number, stepped}
+use Rattle.machine_defs.specs.BurstFaults.{faults_of_burst}
 use Rattle.part_laws.proofs.Places.{split}
-use Rattle.nook_defs.specs.Answers.{one_answer}
+use Rattle.nook_data.specs.Answers.{one_answer}
 use Rattle.part_laws.specs.Orderly.{AreOwn, IsCrossing, IsFitting, IsOfCall, IsOrderlyFrom, flags_after, is_open, is_told, kept_from}
 use Rattle.part_laws.proofs.Numbers.{AreOpen, Has, RisesFrom, found_has, gone_keeps, gone_own, has_open, length_kept, length_push, numbers_answered, numbers_entered, numbers_of, numbers_push, opened, opened_kept, opened_push, opened_rises, opened_shut, stop_keeps, stop_own}
 use Rattle.part_laws.proofs.Picked.{kept_new, kept_none}

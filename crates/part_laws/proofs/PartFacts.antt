@@ -2,23 +2,24 @@
 use Rattle.std.proofs.Common.{◌≡◌, ℕ, ◌+◌, ◌-◌, ◌/◌, ◌^◌, ◌<◌, ◌≤◌, ◌==◌, ◌&&◌, nat_le, IfSome, is_some, Bool, true, false, Option, Some, None, List, [], ◌∷◌, length, refl, sym, ap, arith, subst, true≢false, eqb-true}
 use Rattle.std.specs.List.{find, AllByRecursion}
 use Rattle.std.proofs.lemmas.Bool.{and_parts, leb-true, eq-eqb, ne_eqb}
-use Rattle.nook_defs.specs.declared.calls.CallEntry.{CallEntry}
-use Rattle.nook_defs.specs.declared.classes.Class.{Class}
-use Rattle.nook_defs.specs.declared.steps.Mode.{Mode}
-use Rattle.nook_defs.specs.declared.steps.Mode.TheVariants as mode
-use Rattle.nook_defs.specs.declared.calls.Op.{Op}
-use Rattle.nook_defs.specs.declared.calls.Op.TheVariants as op
-use Rattle.nook_defs.specs.declared.steps.Stage.{Stage}
-use Rattle.nook_defs.specs.declared.steps.Stage.TheVariants as stage
-use Rattle.nook_defs.specs.declared.steps.Step.TheVariants as step
-use Rattle.nook_defs.specs.declared.machine.Context.{Context}
-use Rattle.nook_defs.specs.Classes.{static_check, check_op, check_range, is_of_class, is_block_length, first_of_op, blocks_of_op}
-use Rattle.nook_defs.specs.Domain.{Lent, buffer_of, context_of}
-use Rattle.nook_defs.specs.Log.{is_call, call_of_thread, open_call}
-use Rattle.nook_defs.proofs.Cases.{bursts_of, is_of_thread}
-use Rattle.nook_defs.specs.Stages.{stage_due}
-use Rattle.nook_defs.specs.State.{PartState}
-use Rattle.nook_defs.specs.Steps.{enabled, is_running, is_inside}
+use Rattle.nook_data.specs.declared.calls.CallEntry.{CallEntry}
+use Rattle.nook_data.specs.declared.classes.Class.{Class}
+use Rattle.nook_data.specs.declared.steps.Mode.{Mode}
+use Rattle.nook_data.specs.declared.steps.Mode.TheVariants as mode
+use Rattle.nook_data.specs.declared.calls.Op.{Op}
+use Rattle.nook_data.specs.declared.calls.Op.TheVariants as op
+use Rattle.nook_data.specs.declared.steps.Stage.{Stage}
+use Rattle.nook_data.specs.declared.steps.Stage.TheVariants as stage
+use Rattle.nook_data.specs.declared.steps.Step.TheVariants as step
+use Rattle.nook_data.specs.declared.machine.Context.{Context}
+use Rattle.nook_data.specs.Classes.{static_check, check_op, check_range, is_of_class, is_block_length, first_of_op}
+use Rattle.nook_data.specs.Classes.{blocks_of_op}
+use Rattle.part_defs.specs.Domain.{Lent, buffer_of, context_of}
+use Rattle.part_defs.specs.Log.{is_call, call_of_thread, open_call}
+use Rattle.part_defs.proofs.PartCases.{bursts_of, is_of_thread}
+use Rattle.part_defs.specs.Stages.{stage_due}
+use Rattle.part_defs.specs.State.{PartState}
+use Rattle.part_defs.specs.Steps.{enabled, is_running, is_inside}
 use Rattle.part_laws.proofs.BurstKeeps.{split}
 use Rattle.part_laws.proofs.Counts.{burst_low}
 use Rattle.part_laws.proofs.CrossingFit.{found_fits}

@@ -3,12 +3,12 @@ use Rattle.std.proofs.Common.{◌≡◌, ℕ, zero, suc, ◌+◌, ◌<◌, ◌||
 use Rattle.std.specs.Prelude.{◌==◌, if◌then◌else◌}
 use Rattle.std.specs.List.{list_any}
 use Rattle.std.proofs.lemmas.Bool.{eqb-true, eq-eqb, ne_eqb}
-use Rattle.nook_defs.specs.declared.calls.Answer.{Answer}
-use Rattle.nook_defs.specs.declared.calls.Op.{Op}
+use Rattle.nook_data.specs.declared.calls.Answer.{Answer}
+use Rattle.nook_data.specs.declared.calls.Op.{Op}
 use Rattle.part_laws.specs.Watch.{Watched, leaves, watched}
-use Rattle.nook_defs.specs.Places.{at_number, change_number, number_where, one_later}
+use Rattle.nook_data.specs.Places.{at_number, change_number, number_where, one_later}
 use Rattle.part_laws.proofs.Places.{change_found, split}
-use Rattle.nook_defs.specs.Contract.{OpenCall, call_of, change_call, change_first, is_answered_in, leave_call}
+use Rattle.promise_defs.specs.Contract.{OpenCall, call_of, change_call, change_first, is_answered_in, leave_call}
 use Rattle.part_laws.specs.Orderly.{is_open, is_told, kept_from}
 
 -- ---- lists of every call, searched by numbers

@@ -1,5 +1,5 @@
 use Rattle.std.proofs.Common.{◌≡◌, ◌⊎◌, ℕ, zero, suc, Bool, true, false, Option, Some, None, List, [], ◌∷◌, ◌++◌, map, length, set, slice_get, sym, refl, ap, ◌∙◌, inl, inr, arith}
-use Rattle.nook_defs.specs.Places.{change_number}
+use Rattle.nook_data.specs.Places.{change_number}
 use Rattle.part_laws.specs.Facts.{At}
 
 -- Lists in which each item keeps its place.

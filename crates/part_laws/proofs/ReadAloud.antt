@@ -1,10 +1,10 @@
 use Rattle.std.proofs.Common.{◌≡◌, Bool, true, false, None, List, sym, refl, ap, ◌∙◌}
-use Rattle.nook_defs.specs.declared.steps.Event.{Event}
-use Rattle.nook_defs.specs.declared.scenario.PartSpec.{PartSpec}
-use Rattle.nook_defs.specs.Ideal.{Ideal, IsClassRun}
-use Rattle.nook_defs.specs.Licence.{IsLicensed}
-use Rattle.nook_defs.specs.Runs.{state_of}
-use Rattle.nook_defs.specs.Trace.{trace}
+use Rattle.nook_data.specs.declared.steps.Event.{Event}
+use Rattle.nook_data.specs.declared.scenario.PartSpec.{PartSpec}
+use Rattle.promise_defs.specs.Ideal.{Ideal, IsClassRun}
+use Rattle.promise_defs.specs.Licence.{IsLicensed}
+use Rattle.part_defs.specs.Runs.{state_of}
+use Rattle.promise_defs.specs.Trace.{trace}
 use Rattle.part_laws.specs.Recovery.{Agrees, HasFacts, IsKeptRun, ShowsDevice}
 use Rattle.part_laws.proofs.Judged.{same_break, same_licence}
 use Rattle.part_laws.proofs.Recovered.{IsWatchedRun, agrees, has_facts, losses_licensed, sees_one_run}

@@ -1,37 +1,37 @@
 use Rattle.std.proofs.Common.{◌≡◌, ◌⊎◌, ℕ, zero, suc, ◌&&◌, not, eqb, Bool, true, false, Option, Some, None, is_some, List, [], ◌∷◌, ◌++◌, length, fold, slice_index, slice_index_or, ext_get_or, sym, refl, ap, subst, ◌∙◌, inl, inr, true≢false}
 use Rattle.std.specs.List.{list_any}
 use Rattle.std.proofs.lemmas.Bool.{cond-true, cond-false, and_parts, and_from, not-true, or_left, or_right}
-use Rattle.nook_defs.specs.declared.calls.Answer.{Answer}
-use Rattle.nook_defs.specs.declared.scenario.BadBlock.{BadBlock}
-use Rattle.nook_defs.specs.declared.verdicts.Break.{Break}
-use Rattle.nook_defs.specs.declared.calls.CallEntry.{CallEntry}
-use Rattle.nook_defs.specs.declared.classes.Class.{Class}
-use Rattle.nook_defs.specs.declared.classes.Class.TheVariants as class
-use Rattle.nook_defs.specs.declared.steps.Event.{Event}
-use Rattle.nook_defs.specs.declared.steps.Mode.{Mode}
-use Rattle.nook_defs.specs.declared.steps.Mode.TheVariants as mode
-use Rattle.nook_defs.specs.declared.calls.Op.{Op}
-use Rattle.nook_defs.specs.declared.scenario.PartSpec.{PartSpec}
-use Rattle.nook_defs.specs.declared.steps.Stage.TheVariants as stage
-use Rattle.nook_defs.specs.declared.steps.Step.{Step}
-use Rattle.nook_defs.specs.declared.steps.Step.TheVariants as step
-use Rattle.nook_defs.specs.Blocks.{blank_blocks}
-use Rattle.nook_defs.specs.Calls.{after_invoke}
-use Rattle.nook_defs.proofs.Cases.{invoked_by}
-use Rattle.nook_defs.specs.Classes.{defaults_of, is_set, same_class, static_check}
+use Rattle.nook_data.specs.declared.calls.Answer.{Answer}
+use Rattle.nook_data.specs.declared.scenario.BadBlock.{BadBlock}
+use Rattle.nook_data.specs.declared.verdicts.Break.{Break}
+use Rattle.nook_data.specs.declared.calls.CallEntry.{CallEntry}
+use Rattle.nook_data.specs.declared.classes.Class.{Class}
+use Rattle.nook_data.specs.declared.classes.Class.TheVariants as class
+use Rattle.nook_data.specs.declared.steps.Event.{Event}
+use Rattle.nook_data.specs.declared.steps.Mode.{Mode}
+use Rattle.nook_data.specs.declared.steps.Mode.TheVariants as mode
+use Rattle.nook_data.specs.declared.calls.Op.{Op}
+use Rattle.nook_data.specs.declared.scenario.PartSpec.{PartSpec}
+use Rattle.nook_data.specs.declared.steps.Stage.TheVariants as stage
+use Rattle.nook_data.specs.declared.steps.Step.{Step}
+use Rattle.nook_data.specs.declared.steps.Step.TheVariants as step
+use Rattle.promise_defs.specs.Blocks.{blank_blocks}
+use Rattle.part_defs.specs.Calls.{after_invoke}
+use Rattle.part_defs.proofs.PartCases.{invoked_by}
+use Rattle.nook_data.specs.Classes.{defaults_of, is_set, same_class, static_check}
 use Rattle.part_laws.specs.Watch.{sees, break_at, break_from, first_watch, watched_break}
-use Rattle.nook_defs.specs.Devices.{opening_device}
-use Rattle.nook_defs.specs.Domain.{opening_domain, collected_domain}
-use Rattle.nook_defs.specs.Ideal.{Ideal, IsClassRun, class_run, ran}
+use Rattle.machine_defs.specs.Devices.{opening_device}
+use Rattle.part_defs.specs.Domain.{opening_domain, collected_domain}
+use Rattle.promise_defs.specs.Ideal.{Ideal, IsClassRun, class_run, ran}
 use Rattle.part_laws.specs.Allowed.{IsAllowed, licenses, licensed, licensed_from}
 use Rattle.part_laws.specs.Counts.{Counts, count_event, no_counts, counted_losses}
-use Rattle.nook_defs.specs.Log.{opening_log, call_of_thread}
-use Rattle.nook_defs.specs.Runs.{IsRun, IsRunFrom, state_after, state_from, state_of, step_of}
-use Rattle.nook_defs.specs.Stages.{collects, stage_stepped, stage_due}
-use Rattle.nook_defs.specs.State.{PartState}
-use Rattle.nook_defs.specs.Steps.{opening, enabled, stepped, is_driven, is_running, is_ready, is_inside, after_arrival}
-use Rattle.nook_defs.specs.Trace.{shown, trace, trace_from, tracks_after}
-use Rattle.nook_defs.specs.Licence.{is_balanced}
+use Rattle.part_defs.specs.Log.{opening_log, call_of_thread}
+use Rattle.part_defs.specs.Runs.{IsRun, IsRunFrom, state_after, state_from, state_of, step_of}
+use Rattle.part_defs.specs.Stages.{collects, stage_stepped, stage_due}
+use Rattle.part_defs.specs.State.{PartState}
+use Rattle.part_defs.specs.Steps.{opening, enabled, stepped, is_driven, is_running, is_ready, is_inside, after_arrival}
+use Rattle.promise_defs.specs.Trace.{shown, trace, trace_from, tracks_after}
+use Rattle.promise_defs.specs.Licence.{is_balanced}
 use Rattle.part_laws.specs.Balance.{Balanced}
 use Rattle.part_laws.specs.ActsOn.{dev_of}
 use Rattle.part_laws.specs.Facts.{At, IsStored, IsSetting, KeyIn, Facts, is_dead, is_driving}

@@ -2,14 +2,15 @@
 use Rattle.std.proofs.Common.{◌≡◌, ℕ, ◌||◌, ◌&&◌, not, Bool, true, false, Option, Some, None, List, [], ◌∷◌, length, refl, ap, ◌∙◌, arith, nat_lt}
 use Rattle.std.specs.Prelude.{◌==◌, bytes_eq, slice_index}
 use Rattle.std.proofs.lemmas.Bool.Decides.{nat_tests}
-use Rattle.nook_defs.specs.declared.calls.Answer.{Answer}
-use Rattle.nook_defs.specs.declared.calls.Answer.TheVariants as answer
-use Rattle.nook_defs.specs.declared.calls.Op.{Op}
-use Rattle.nook_defs.specs.declared.calls.Op.TheVariants as op
-use Rattle.nook_defs.specs.Blocks.{get_blocks, has_block, holds_from}
+use Rattle.nook_data.specs.declared.calls.Answer.{Answer}
+use Rattle.nook_data.specs.declared.calls.Answer.TheVariants as answer
+use Rattle.nook_data.specs.declared.calls.Op.{Op}
+use Rattle.nook_data.specs.declared.calls.Op.TheVariants as op
+use Rattle.promise_defs.specs.Blocks.{get_blocks, has_block, holds_from}
 use Rattle.part_laws.specs.Watch.{Watch, Watched, owes, wanted}
-use Rattle.nook_defs.specs.Devices.{is_empty, is_empty as was_empty}
-use Rattle.nook_defs.specs.Contract.{all_clauses, breaks, replies}
+use Rattle.nook_data.specs.Frames.{is_empty, is_empty as was_empty}
+use Rattle.nook_data.specs.Clauses.{all_clauses}
+use Rattle.promise_defs.specs.Contract.{breaks, replies}
 use Rattle.part_laws.proofs.Known.{known_of}
 use Rattle.part_laws.proofs.Picked.{opened_call}
 use Rattle.part_laws.proofs.Smallest.{smallest_or}

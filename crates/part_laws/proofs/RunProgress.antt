@@ -1,22 +1,22 @@
 use Rattle.std.proofs.Common.{◌≡◌, ◌⊎◌, inl, inr, ℕ, ◌<◌, ◌≤◌, ◌==◌, nat_lt, not, is_some, true, false, Option, Some, None, List, [], ◌∷◌, refl, ap, ◌∙◌, subst, arith, true≢false}
 use Rattle.std.specs.List.{list_any, AllByRecursion}
 use Rattle.std.proofs.lemmas.Bool.{and_left, and_right, and_cases, and_from, or_from, eq-eqb, ne_eqb, le-ltb, both_ways}
-use Rattle.nook_defs.specs.declared.calls.CallEntry.{CallEntry}
-use Rattle.nook_defs.specs.declared.classes.Class.{Class}
-use Rattle.nook_defs.specs.declared.steps.Event.{Event}
-use Rattle.nook_defs.specs.declared.steps.Mode.{Mode}
-use Rattle.nook_defs.specs.declared.steps.Mode.TheVariants as mode
-use Rattle.nook_defs.specs.declared.scenario.PartSpec.{PartSpec}
-use Rattle.nook_defs.specs.declared.steps.Step.{Step}
-use Rattle.nook_defs.specs.declared.steps.Step.TheVariants as step
-use Rattle.nook_defs.specs.Classes.{conflicts}
-use Rattle.nook_defs.specs.Log.{call_of_thread, is_blocked, blocks_call}
+use Rattle.nook_data.specs.declared.calls.CallEntry.{CallEntry}
+use Rattle.nook_data.specs.declared.classes.Class.{Class}
+use Rattle.nook_data.specs.declared.steps.Event.{Event}
+use Rattle.nook_data.specs.declared.steps.Mode.{Mode}
+use Rattle.nook_data.specs.declared.steps.Mode.TheVariants as mode
+use Rattle.nook_data.specs.declared.scenario.PartSpec.{PartSpec}
+use Rattle.nook_data.specs.declared.steps.Step.{Step}
+use Rattle.nook_data.specs.declared.steps.Step.TheVariants as step
+use Rattle.nook_data.specs.Classes.{conflicts}
+use Rattle.part_defs.specs.Log.{call_of_thread, is_blocked, blocks_call}
 use Rattle.std.specs.Option.{option_or}
-use Rattle.nook_defs.specs.Runs.{if_enabled, next_for, next_recovery, next_of_calls, next_any, state_from, IsRun}
-use Rattle.nook_defs.specs.Stages.{stage_due}
-use Rattle.nook_defs.specs.State.{PartState}
-use Rattle.nook_defs.specs.Steps.{opening, enabled, is_running, is_driven, is_ready, is_inside}
-use Rattle.nook_defs.proofs.NextSteps.{next_for_case, next_for_none}
+use Rattle.part_defs.specs.Runs.{if_enabled, next_for, next_recovery, next_of_calls, next_any, state_from, IsRun}
+use Rattle.part_defs.specs.Stages.{stage_due}
+use Rattle.part_defs.specs.State.{PartState}
+use Rattle.part_defs.specs.Steps.{opening, enabled, is_running, is_driven, is_ready, is_inside}
+use Rattle.part_defs.proofs.NextSteps.{next_for_case, next_for_none}
 use Rattle.part_laws.proofs.BurstKeeps.{split}
 use Rattle.part_laws.proofs.RunBound.{run_tied}
 use Rattle.part_laws.proofs.StepsFit.{run_fit}
@@ -24,7 +24,7 @@ use Rattle.part_laws.proofs.TiedSteps.{threads_of_fit}
 use Rattle.part_laws.specs.Fit.{IsFitSpec, IsFit}
 use Rattle.part_laws.specs.Progress.{IsStill, HasProgress}
 use Rattle.part_laws.specs.Tied.{IsRising, IsTiedCall, IsTied}
-use Rattle.nook_defs.proofs.Options.{none_is_some, same_inside}
+use Rattle.nook_data.proofs.Options.{none_is_some, same_inside}
 
 -- Progress: where a call is open some step may be taken.
 

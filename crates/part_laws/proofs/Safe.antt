@@ -1,8 +1,8 @@
 use Rattle.std.proofs.Common.{List}
-use Rattle.nook_defs.specs.declared.steps.Event.{Event}
-use Rattle.nook_defs.specs.declared.scenario.PartSpec.{PartSpec}
-use Rattle.nook_defs.specs.Runs.{IsRun}
-use Rattle.nook_defs.specs.Valid.{IsValidPart}
+use Rattle.nook_data.specs.declared.steps.Event.{Event}
+use Rattle.nook_data.specs.declared.scenario.PartSpec.{PartSpec}
+use Rattle.part_defs.specs.Runs.{IsRun}
+use Rattle.nook_data.specs.Valid.{IsValidPart}
 use Rattle.part_laws.proofs.ReadAloud.{kept_agrees, kept_licensed, kept_shows_one_run}
 use Rattle.part_laws.proofs.RunBound.{run_bound}
 use Rattle.part_laws.proofs.StepsFit.{run_collecting, run_isolated}

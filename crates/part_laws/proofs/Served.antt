@@ -1,14 +1,15 @@
 use Rattle.std.proofs.Common.{◌≡◌, ℕ, ◌+◌, ◌&&◌, not, cond, eqb, Bool, true, false, Option, Some, None, Result, Ok, Err, List, sym, refl, ap, ◌∙◌, nat_le, nat_lt, length}
 use Rattle.std.proofs.lemmas.Bool.{eqb-true}
-use Rattle.nook_defs.specs.declared.classes.Class.{Class}
-use Rattle.nook_defs.specs.declared.classes.Class.TheVariants as class
-use Rattle.nook_defs.specs.declared.entries.Entry.{Entry}
-use Rattle.nook_defs.specs.declared.machine.BadParam.{BadParam}
-use Rattle.nook_defs.specs.declared.machine.Service.{Service}
-use Rattle.nook_defs.specs.declared.machine.Service.TheVariants as service
-use Rattle.nook_defs.specs.Classes.{same_class}
-use Rattle.nook_defs.specs.Entries.{borrow_start, free_start}
-use Rattle.nook_defs.specs.Services.{needs, is_frame_length, tested_length, checked_frame, checked, served, alloc_served, borrow_served, give_back_served}
+use Rattle.nook_data.specs.declared.classes.Class.{Class}
+use Rattle.nook_data.specs.declared.classes.Class.TheVariants as class
+use Rattle.nook_data.specs.declared.entries.Entry.{Entry}
+use Rattle.nook_data.specs.declared.machine.BadParam.{BadParam}
+use Rattle.nook_data.specs.declared.machine.Service.{Service}
+use Rattle.nook_data.specs.declared.machine.Service.TheVariants as service
+use Rattle.nook_data.specs.Classes.{same_class}
+use Rattle.machine_defs.specs.Entries.{borrow_start, free_start}
+use Rattle.machine_defs.specs.Services.{needs, is_frame_length, tested_length, checked_frame, checked, served}
+use Rattle.machine_defs.specs.Services.{alloc_served, borrow_served, give_back_served}
 use Rattle.part_laws.proofs.Crossings.{taken_up}
 
 -- Service 6 alone changes the kernel's queue.

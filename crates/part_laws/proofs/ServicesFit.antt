@@ -1,17 +1,20 @@
 use Rattle.std.proofs.Common.{◌≡◌, ◌⊎◌, inl, inr, ℕ, ◌+◌, ◌-◌, ◌≤◌, ◌==◌, ◌&&◌, nat_le, not, Bool, true, false, Option, Some, None, Result, Ok, List, length, slice_range, refl, sym, ap, ◌∙◌, arith, eqb-true}
 use Rattle.std.specs.List.{list_any, AllByRecursion}
 use Rattle.std.proofs.lemmas.Bool.{and_parts, leb-true, cases_eq}
-use Rattle.nook_defs.specs.declared.classes.Class.{Class}
-use Rattle.nook_defs.specs.declared.classes.Class.TheVariants as class
-use Rattle.nook_defs.specs.declared.entries.Entry.{Entry}
-use Rattle.nook_defs.specs.declared.entries.Entry.TheVariants as entry
-use Rattle.nook_defs.specs.declared.machine.BadParam.{BadParam}
-use Rattle.nook_defs.specs.declared.machine.Service.{Service}
-use Rattle.nook_defs.specs.declared.machine.Service.TheVariants as service
-use Rattle.nook_defs.specs.Classes.{same_class, class_code}
-use Rattle.nook_defs.specs.Entries.{is_borrow_of, is_heap_at, is_registered, free_start, borrow_start, registered, without_heap}
-use Rattle.nook_defs.specs.Pages.{object_words, object_start, with_words}
-use Rattle.nook_defs.specs.Services.{needs, checked, checked_frame, is_frame_length, tested_length, Served, served, alloc_served, borrow_served, give_back_served, frame_served, plainly_served}
+use Rattle.nook_data.specs.declared.classes.Class.{Class}
+use Rattle.nook_data.specs.declared.classes.Class.TheVariants as class
+use Rattle.nook_data.specs.declared.entries.Entry.{Entry}
+use Rattle.nook_data.specs.declared.entries.Entry.TheVariants as entry
+use Rattle.nook_data.specs.declared.machine.BadParam.{BadParam}
+use Rattle.nook_data.specs.declared.machine.Service.{Service}
+use Rattle.nook_data.specs.declared.machine.Service.TheVariants as service
+use Rattle.nook_data.specs.Classes.{same_class, class_code}
+use Rattle.machine_defs.specs.Entries.{is_borrow_of, is_heap_at, is_registered, free_start, borrow_start, registered}
+use Rattle.machine_defs.specs.Entries.{without_heap}
+use Rattle.machine_defs.specs.Pages.{object_words, with_words}
+use Rattle.nook_data.specs.Layout.{object_start}
+use Rattle.machine_defs.specs.Services.{needs, checked, checked_frame, is_frame_length, tested_length, Served, served}
+use Rattle.machine_defs.specs.Services.{alloc_served, borrow_served, give_back_served, frame_served, plainly_served}
 use Rattle.part_laws.proofs.BurstKeeps.{split}
 use Rattle.part_laws.proofs.EntriesFit.{with_entry_fits, filter_fits, registered_fits, with_entry_ordered, registered_ordered, without_heap_ordered, without_borrow_ordered, free_start_within, IsBorrowedAt, borrowed_at}
 use Rattle.part_laws.proofs.Objects.{SameObjects, object_stays, words_put, object_taken, other_object_stays}

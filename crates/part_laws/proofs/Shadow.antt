@@ -1,18 +1,18 @@
 use Rattle.std.proofs.Common.{if◌then◌else◌, ◌≡◌, ℕ, not, eqb, Bool, true, false, Option, Some, None, List, [], ◌∷◌, ◌++◌, slice_index, refl, ap, arith}
 use Rattle.std.proofs.lemmas.Bool.{and_from, eq-eqb}
-use Rattle.nook_defs.specs.declared.calls.Answer.{Answer}
-use Rattle.nook_defs.specs.declared.calls.Answer.TheVariants as answered
-use Rattle.nook_defs.specs.declared.calls.Op.{Op}
-use Rattle.nook_defs.specs.declared.calls.Op.TheVariants.{Read, Write, Send, Recv, Open, Play, Close, Get, Set}
-use Rattle.nook_defs.specs.declared.steps.Stage.{Stage}
-use Rattle.nook_defs.specs.declared.steps.Stage.TheVariants as stage
-use Rattle.nook_defs.specs.Classes.{is_holder}
+use Rattle.nook_data.specs.declared.calls.Answer.{Answer}
+use Rattle.nook_data.specs.declared.calls.Answer.TheVariants as answered
+use Rattle.nook_data.specs.declared.calls.Op.{Op}
+use Rattle.nook_data.specs.declared.calls.Op.TheVariants.{Read, Write, Send, Recv, Open, Play, Close, Get, Set}
+use Rattle.nook_data.specs.declared.steps.Stage.{Stage}
+use Rattle.nook_data.specs.declared.steps.Stage.TheVariants as stage
+use Rattle.nook_data.specs.Classes.{is_holder}
 use Rattle.part_laws.specs.Watch.{Watch}
-use Rattle.nook_defs.specs.Ideal.{Ideal}
+use Rattle.promise_defs.specs.Ideal.{Ideal}
 use Rattle.part_laws.specs.Allowed.{allows}
-use Rattle.nook_defs.specs.Log.{shadow_answer, is_held, queue_after, frame_or_empty}
-use Rattle.nook_defs.specs.Trace.{Track, kept_blocks}
-use Rattle.nook_defs.specs.Licence.{same_stage}
+use Rattle.part_defs.specs.Log.{shadow_answer, is_held, queue_after, frame_or_empty}
+use Rattle.promise_defs.specs.Trace.{Track, kept_blocks}
+use Rattle.promise_defs.specs.Licence.{same_stage}
 use Rattle.part_laws.specs.Facts.{Sub}
 use Rattle.part_laws.proofs.Balances.{TakesFrame}
 use Rattle.part_laws.proofs.Closing.{Comes, frame_comes}

@@ -1,11 +1,11 @@
 -- The smallest clause that is broken, as a running minimum and as the first of a list.
 use Rattle.std.proofs.Common.{◌≡◌, ℕ, ◌<◌, ◌||◌, not, min, Bool, true, false, Option, Some, None, List, [], ◌∷◌, filter, sym, refl, ap, ◌∙◌, arith}
-use Rattle.nook_defs.specs.declared.verdicts.Break.{Break}
+use Rattle.nook_data.specs.declared.verdicts.Break.{Break}
 use Rattle.part_laws.specs.Watch.{break_at, smaller_clause, wanted}
 use Rattle.part_laws.proofs.Places.{split}
-use Rattle.nook_defs.specs.declared.clause.Clause.{Clause}
-use Rattle.nook_defs.specs.Contract.{all_clauses, clause_number}
-use Rattle.nook_defs.proofs.Changes.{break_or}
+use Rattle.nook_data.specs.declared.clause.Clause.{Clause}
+use Rattle.nook_data.specs.Clauses.{all_clauses, clause_number}
+use Rattle.promise_defs.proofs.PromiseChanges.{break_or}
 
 -- the smallest of these clauses that the test finds broken, and of one that was broken before
 abbrev pub smallest_or : List Clause → (Clause → Bool) → Option ℕ → Option ℕ

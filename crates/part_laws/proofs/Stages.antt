@@ -1,24 +1,26 @@
 use Rattle.std.proofs.Common.{◌≡◌, ◌⊎◌, ℕ, cond, Bool, true, false, Option, Some, is_some, List, [], length, slice_set, slice_index, sym, refl, ap, ap₂, subst, ◌∙◌, inl, inr, length-set}
 use Rattle.std.proofs.lemmas.Bool.{cond-true, cond-false}
-use Rattle.nook_defs.specs.declared.devices.DeviceKind.{DeviceKind}
-use Rattle.nook_defs.specs.declared.devices.DeviceKind.TheVariants as kind
-use Rattle.nook_defs.specs.declared.devices.DeviceState.{DeviceState}
-use Rattle.nook_defs.specs.declared.entries.Entry.{Entry}
-use Rattle.nook_defs.specs.declared.steps.Event.TheVariants as event
-use Rattle.nook_defs.specs.declared.steps.Mode.{Mode}
-use Rattle.nook_defs.specs.declared.steps.Mode.TheVariants as mode
-use Rattle.nook_defs.specs.declared.steps.Stage.{Stage}
-use Rattle.nook_defs.specs.declared.steps.Stage.TheVariants as stage
-use Rattle.nook_defs.specs.declared.machine.Context.{Context}
-use Rattle.nook_defs.specs.Calls.{Stepped}
+use Rattle.nook_data.specs.declared.devices.DeviceKind.{DeviceKind}
+use Rattle.nook_data.specs.declared.devices.DeviceKind.TheVariants as kind
+use Rattle.nook_data.specs.declared.devices.DeviceState.{DeviceState}
+use Rattle.nook_data.specs.declared.entries.Entry.{Entry}
+use Rattle.nook_data.specs.declared.steps.Event.TheVariants as event
+use Rattle.nook_data.specs.declared.steps.Mode.{Mode}
+use Rattle.nook_data.specs.declared.steps.Mode.TheVariants as mode
+use Rattle.nook_data.specs.declared.steps.Stage.{Stage}
+use Rattle.nook_data.specs.declared.steps.Stage.TheVariants as stage
+use Rattle.nook_data.specs.declared.machine.Context.{Context}
+use Rattle.part_defs.specs.Calls.{Stepped}
 use Rattle.part_laws.specs.Watch.{Watch, sees_stage}
-use Rattle.nook_defs.specs.Devices.{reset_device, reset_kind}
-use Rattle.nook_defs.proofs.Cases.{medium_of_kind, ring_of_kind}
-use Rattle.nook_defs.specs.Domain.{context_of, entered_domain, plainly_entered, stopped_domain, collected_domain, loaded_domain}
-use Rattle.nook_defs.specs.Ideal.{ran}
-use Rattle.nook_defs.specs.Stages.{is_given_up, stops, gives_up_part, collects, resets, loads_image, inits, replays_set, replays_open, resumes, stage_due, stage_stepped}
-use Rattle.nook_defs.specs.State.{PartState}
-use Rattle.nook_defs.specs.Steps.{is_driven}
+use Rattle.machine_defs.specs.Devices.{reset_device, reset_kind}
+use Rattle.machine_defs.proofs.MachineCases.{medium_of_kind, ring_of_kind}
+use Rattle.part_defs.specs.Domain.{context_of, entered_domain, plainly_entered, stopped_domain, collected_domain}
+use Rattle.part_defs.specs.Domain.{loaded_domain}
+use Rattle.promise_defs.specs.Ideal.{ran}
+use Rattle.part_defs.specs.Stages.{is_given_up, stops, gives_up_part, collects, resets, loads_image, inits, replays_set}
+use Rattle.part_defs.specs.Stages.{replays_open, resumes, stage_due, stage_stepped}
+use Rattle.part_defs.specs.State.{PartState}
+use Rattle.part_defs.specs.Steps.{is_driven}
 use Rattle.part_laws.specs.Counts.{Counts, count_stage}
 use Rattle.part_laws.specs.Balance.{tally, held_at, Balance, Balanced}
 use Rattle.part_laws.specs.ActsOn.{Dev, dev_of, is_link}

@@ -4,41 +4,49 @@ use Rattle.std.proofs.lemmas.Bool.{and_parts, not-true}
 use Rattle.part_laws.proofs.InsideCalls.{StaysInside, push_stays, removed_stays, entered_stays, entered_inside}
 use Rattle.part_laws.proofs.LentEntries.{NoMore, without_more, filter_no_more, left_other, collected_none, any_with_entry, served_no_more}
 use Rattle.part_laws.specs.Loans.{IsWithoutLoans, AreForInside, is_unsettled, AreLoansIn, HasLoans}
-use Rattle.nook_defs.specs.declared.classes.Accept.{Accept}
-use Rattle.nook_defs.specs.declared.classes.Accept.TheVariants as accepts
-use Rattle.nook_defs.specs.declared.classes.Admit.{Admit}
-use Rattle.nook_defs.specs.declared.classes.Admit.TheVariants as admits
-use Rattle.nook_defs.specs.declared.calls.Answer.{Answer}
-use Rattle.nook_defs.specs.declared.calls.CallEntry.{CallEntry}
-use Rattle.nook_defs.specs.declared.entries.Entry.{Entry}
-use Rattle.nook_defs.specs.declared.entries.Entry.TheVariants as entry
-use Rattle.nook_defs.specs.declared.steps.Event.{Event}
-use Rattle.nook_defs.specs.declared.steps.Mode.{Mode}
-use Rattle.nook_defs.specs.declared.steps.Mode.TheVariants as mode
-use Rattle.nook_defs.specs.declared.calls.Op.{Op}
-use Rattle.nook_defs.specs.declared.calls.Op.TheVariants as op
-use Rattle.nook_defs.specs.declared.scenario.PartSpec.{PartSpec}
-use Rattle.nook_defs.specs.declared.steps.Stage.{Stage}
-use Rattle.nook_defs.specs.declared.steps.Stage.TheVariants as stage
-use Rattle.nook_defs.specs.declared.steps.Step.{Step}
-use Rattle.nook_defs.specs.declared.steps.Step.TheVariants as step
-use Rattle.nook_defs.specs.declared.machine.BadParam.{BadParam}
-use Rattle.nook_defs.specs.declared.machine.BurstEnd.{BurstEnd}
-use Rattle.nook_defs.specs.declared.machine.BurstEnd.TheVariants as ends
-use Rattle.nook_defs.specs.declared.machine.Context.{Context}
-use Rattle.nook_defs.specs.declared.machine.Service.{Service}
-use Rattle.nook_defs.specs.Calls.{after_invoke, invoked_with, answer_in, queue_in, after_enter, after_admit}
-use Rattle.nook_defs.specs.Classes.{static_check, admit, accept}
-use Rattle.nook_defs.specs.Crossing.{fails, heap_start, next_stage, next_mode, is_accepted, shadow_replied, noted_set, closes_call, call_replied, after_crossing, is_last}
-use Rattle.nook_defs.specs.Domain.{DomainBurst, Lent, buffer_of, lent_entries, entered_domain, plainly_entered, context_of, domain_burst, result_set, left_domain, collected_domain, loaded_domain, noted, opening_domain, first_argument, second_argument}
-use Rattle.nook_defs.specs.Entries.{is_buffer_of, without_buffer}
-use Rattle.nook_defs.specs.Log.{with_call, with_answered_call, call_of_thread, after_entering, after_answering, after_acknowledging, is_blocked}
-use Rattle.nook_defs.proofs.Cases.{change_entry, entered_by, entered_call, invoked_by, new_entry, reply_by, serve_by, stage_by, with_burst}
-use Rattle.nook_defs.specs.Runs.{state_of, step_of, state_after, state_from, IsRunFrom, IsRun}
-use Rattle.nook_defs.specs.Services.{checked}
-use Rattle.nook_defs.specs.Stages.{stage_due, is_given_up, stops, gives_up_part, collects, resets, loads_image, inits, replays_set, replays_open, resumes, stage_done, stage_stepped, with_stage}
-use Rattle.nook_defs.specs.State.{DomainState, PartState}
-use Rattle.nook_defs.specs.Steps.{opening, enabled, is_running, is_ready, is_inside, can_enter, can_burst, faults_of_burst, burst_stepped, after_arrival, stepped}
+use Rattle.nook_data.specs.declared.classes.Accept.{Accept}
+use Rattle.nook_data.specs.declared.classes.Accept.TheVariants as accepts
+use Rattle.nook_data.specs.declared.classes.Admit.{Admit}
+use Rattle.nook_data.specs.declared.classes.Admit.TheVariants as admits
+use Rattle.nook_data.specs.declared.calls.Answer.{Answer}
+use Rattle.nook_data.specs.declared.calls.CallEntry.{CallEntry}
+use Rattle.nook_data.specs.declared.entries.Entry.{Entry}
+use Rattle.nook_data.specs.declared.entries.Entry.TheVariants as entry
+use Rattle.nook_data.specs.declared.steps.Event.{Event}
+use Rattle.nook_data.specs.declared.steps.Mode.{Mode}
+use Rattle.nook_data.specs.declared.steps.Mode.TheVariants as mode
+use Rattle.nook_data.specs.declared.calls.Op.{Op}
+use Rattle.nook_data.specs.declared.calls.Op.TheVariants as op
+use Rattle.nook_data.specs.declared.scenario.PartSpec.{PartSpec}
+use Rattle.nook_data.specs.declared.steps.Stage.{Stage}
+use Rattle.nook_data.specs.declared.steps.Stage.TheVariants as stage
+use Rattle.nook_data.specs.declared.steps.Step.{Step}
+use Rattle.nook_data.specs.declared.steps.Step.TheVariants as step
+use Rattle.nook_data.specs.declared.machine.BadParam.{BadParam}
+use Rattle.nook_data.specs.declared.machine.BurstEnd.{BurstEnd}
+use Rattle.nook_data.specs.declared.machine.BurstEnd.TheVariants as ends
+use Rattle.nook_data.specs.declared.machine.Context.{Context}
+use Rattle.nook_data.specs.declared.machine.Service.{Service}
+use Rattle.part_defs.specs.Calls.{after_invoke, invoked_with, answer_in, queue_in, after_enter, after_admit}
+use Rattle.nook_data.specs.Classes.{static_check, admit, accept}
+use Rattle.part_defs.specs.Crossing.{fails, heap_start, next_stage, next_mode, is_accepted, shadow_replied, noted_set}
+use Rattle.part_defs.specs.Crossing.{closes_call, call_replied, after_crossing, is_last}
+use Rattle.part_defs.specs.Domain.{DomainBurst, Lent, buffer_of, lent_entries, entered_domain, plainly_entered}
+use Rattle.part_defs.specs.Domain.{context_of, domain_burst, result_set, left_domain, collected_domain, loaded_domain}
+use Rattle.part_defs.specs.Domain.{noted, opening_domain, first_argument, second_argument}
+use Rattle.machine_defs.specs.Entries.{is_buffer_of, without_buffer}
+use Rattle.part_defs.specs.Log.{with_call, with_answered_call, call_of_thread, after_entering, after_answering}
+use Rattle.part_defs.specs.Log.{after_acknowledging, is_blocked}
+use Rattle.part_defs.proofs.PartCases.{change_entry, entered_by, entered_call, invoked_by, new_entry, reply_by}
+use Rattle.part_defs.proofs.PartCases.{serve_by, stage_by, with_burst}
+use Rattle.part_defs.specs.Runs.{state_of, step_of, state_after, state_from, IsRunFrom, IsRun}
+use Rattle.machine_defs.specs.Services.{checked}
+use Rattle.part_defs.specs.Stages.{stage_due, is_given_up, stops, gives_up_part, collects, resets, loads_image, inits}
+use Rattle.part_defs.specs.Stages.{replays_set, replays_open, resumes, stage_done, stage_stepped, with_stage}
+use Rattle.part_defs.specs.State.{DomainState, PartState}
+use Rattle.part_defs.specs.Steps.{opening, enabled, is_running, is_ready, is_inside, can_enter, can_burst}
+use Rattle.part_defs.specs.Steps.{burst_stepped, after_arrival, stepped}
+use Rattle.machine_defs.specs.BurstFaults.{faults_of_burst}
 use Rattle.part_laws.proofs.BurstKeeps.{split}
 use Rattle.part_laws.proofs.DomainFit.{burst_kept}
 use Rattle.part_laws.proofs.RunBound.{opening_tied}

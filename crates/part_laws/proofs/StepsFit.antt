@@ -1,34 +1,41 @@
 use Rattle.std.proofs.Common.{◌≡◌, inl, inr, ℕ, ◌+◌, ◌<◌, ◌&&◌, nat_lt, is_none, true, false, Option, Some, None, List, [], ◌∷◌, ◌++◌, length, map, refl, sym, ap, ◌∙◌, subst, arith}
 use Rattle.std.specs.List.{list_any, filter, AllByRecursion}
 use Rattle.std.proofs.lemmas.Bool.{and_parts, ltb-true}
-use Rattle.nook_defs.specs.declared.classes.Admit.{Admit}
-use Rattle.nook_defs.specs.declared.classes.Admit.TheVariants as admits
-use Rattle.nook_defs.specs.declared.calls.Answer.{Answer}
-use Rattle.nook_defs.specs.declared.calls.CallEntry.{CallEntry}
-use Rattle.nook_defs.specs.declared.classes.Class.{Class}
-use Rattle.nook_defs.specs.declared.steps.Event.{Event}
-use Rattle.nook_defs.specs.declared.steps.Mode.TheVariants as mode
-use Rattle.nook_defs.specs.declared.calls.Op.{Op}
-use Rattle.nook_defs.specs.declared.calls.Op.TheVariants as op
-use Rattle.nook_defs.specs.declared.scenario.PartSpec.{PartSpec}
-use Rattle.nook_defs.specs.declared.steps.Stage.{Stage}
-use Rattle.nook_defs.specs.declared.steps.Stage.TheVariants as stage
-use Rattle.nook_defs.specs.declared.steps.Step.{Step}
-use Rattle.nook_defs.specs.declared.steps.Step.TheVariants as step
-use Rattle.nook_defs.specs.Calls.{Stepped, after_invoke, answer_in, queue_in, after_enter, after_admit}
-use Rattle.nook_defs.specs.Classes.{static_check, admit, init_place, open_place, set_place}
-use Rattle.nook_defs.specs.Crossing.{Crossed, after_crossing, heap_start}
-use Rattle.nook_defs.specs.Devices.{with_arrival, tail_of}
-use Rattle.nook_defs.specs.Domain.{DomainBurst, domain_burst, entered_domain, plainly_entered, stopped_domain, collected_domain, loaded_domain, opening_domain}
-use Rattle.nook_defs.specs.Entries.{is_borrow_of}
-use Rattle.nook_defs.specs.Isolation.{KeepsWithin, IsIsolatedStep, IsIsolatedFrom, IsIsolated}
-use Rattle.nook_defs.specs.Log.{with_call, with_answered_call, after_entering, after_answering, held_call, is_call, call_of_thread, stop_queue, is_held}
-use Rattle.nook_defs.proofs.Cases.{burst_step, change_entry, entered_by, entered_call, invoked_by, log_after_invoke, new_entry, stage_by, stop_calls, with_burst}
-use Rattle.nook_defs.specs.Runs.{step_of, state_after, state_from, IsRunFrom, IsRun}
-use Rattle.nook_defs.specs.Stages.{stage_due, with_stage, is_given_up, stops, gives_up_part, collects, with_reset, resets, loads_image, inits, replays_set, replays_open, resumes, stage_done, stage_stepped}
-use Rattle.nook_defs.specs.State.{CallLog, PartState}
-use Rattle.nook_defs.specs.Steps.{opening, enabled, can_invoke, faults_of_burst, burst_stepped, after_arrival, stepped}
-use Rattle.nook_defs.specs.Log.{opening_log}
+use Rattle.nook_data.specs.declared.classes.Admit.{Admit}
+use Rattle.nook_data.specs.declared.classes.Admit.TheVariants as admits
+use Rattle.nook_data.specs.declared.calls.Answer.{Answer}
+use Rattle.nook_data.specs.declared.calls.CallEntry.{CallEntry}
+use Rattle.nook_data.specs.declared.classes.Class.{Class}
+use Rattle.nook_data.specs.declared.steps.Event.{Event}
+use Rattle.nook_data.specs.declared.steps.Mode.TheVariants as mode
+use Rattle.nook_data.specs.declared.calls.Op.{Op}
+use Rattle.nook_data.specs.declared.calls.Op.TheVariants as op
+use Rattle.nook_data.specs.declared.scenario.PartSpec.{PartSpec}
+use Rattle.nook_data.specs.declared.steps.Stage.{Stage}
+use Rattle.nook_data.specs.declared.steps.Stage.TheVariants as stage
+use Rattle.nook_data.specs.declared.steps.Step.{Step}
+use Rattle.nook_data.specs.declared.steps.Step.TheVariants as step
+use Rattle.part_defs.specs.Calls.{Stepped, after_invoke, answer_in, queue_in, after_enter, after_admit}
+use Rattle.nook_data.specs.Classes.{static_check, admit, init_place, open_place, set_place}
+use Rattle.part_defs.specs.Crossing.{Crossed, after_crossing, heap_start}
+use Rattle.machine_defs.specs.Devices.{with_arrival}
+use Rattle.nook_data.specs.Frames.{tail_of}
+use Rattle.part_defs.specs.Domain.{DomainBurst, domain_burst, entered_domain, plainly_entered, stopped_domain}
+use Rattle.part_defs.specs.Domain.{collected_domain, loaded_domain, opening_domain}
+use Rattle.machine_defs.specs.Entries.{is_borrow_of}
+use Rattle.promise_defs.specs.Isolation.{KeepsWithin, IsIsolatedStep, IsIsolatedFrom, IsIsolated}
+use Rattle.part_defs.specs.Log.{with_call, with_answered_call, after_entering, after_answering, held_call, is_call}
+use Rattle.part_defs.specs.Log.{call_of_thread, stop_queue, is_held}
+use Rattle.part_defs.proofs.PartCases.{burst_step, change_entry, entered_by, entered_call, invoked_by, log_after_invoke}
+use Rattle.part_defs.proofs.PartCases.{new_entry, stage_by, stop_calls, with_burst}
+use Rattle.part_defs.specs.Runs.{step_of, state_after, state_from, IsRunFrom, IsRun}
+use Rattle.part_defs.specs.Stages.{stage_due, with_stage, is_given_up, stops, gives_up_part, collects, with_reset}
+use Rattle.part_defs.specs.Stages.{resets, loads_image, inits, replays_set, replays_open, resumes, stage_done}
+use Rattle.part_defs.specs.Stages.{stage_stepped}
+use Rattle.part_defs.specs.State.{CallLog, PartState}
+use Rattle.part_defs.specs.Steps.{opening, enabled, can_invoke, burst_stepped, after_arrival, stepped}
+use Rattle.machine_defs.specs.BurstFaults.{faults_of_burst}
+use Rattle.part_defs.specs.Log.{opening_log}
 use Rattle.part_laws.proofs.BurstIsolation.{domain_within}
 use Rattle.part_laws.proofs.BurstKeeps.{split}
 use Rattle.part_laws.proofs.CrossingFit.{unmoved, quiet, CrossKept, crossed_kept, found_fits}

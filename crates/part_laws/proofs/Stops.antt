@@ -1,23 +1,24 @@
 use Rattle.std.proofs.Common.{◌≡◌, ℕ, suc, ◌&&◌, Bool, true, false, Option, Some, None, List, [], ◌∷◌, ◌++◌, map, length, sym, refl, ap, subst, ◌∙◌, arith, append_assoc, length-append}
 use Rattle.std.proofs.lemmas.Bool.{and_parts, and_from}
-use Rattle.nook_defs.specs.declared.calls.Answer.{Answer}
-use Rattle.nook_defs.specs.declared.calls.CallEntry.{CallEntry}
-use Rattle.nook_defs.specs.declared.calls.Op.{Op}
-use Rattle.nook_defs.specs.declared.calls.Op.TheVariants.{Read, Write, Send, Recv, Open, Play, Close, Get, Set}
-use Rattle.nook_defs.specs.declared.steps.Stage.TheVariants as stage
-use Rattle.nook_defs.specs.Classes.{is_write, static_check}
+use Rattle.nook_data.specs.declared.calls.Answer.{Answer}
+use Rattle.nook_data.specs.declared.calls.CallEntry.{CallEntry}
+use Rattle.nook_data.specs.declared.calls.Op.{Op}
+use Rattle.nook_data.specs.declared.calls.Op.TheVariants.{Read, Write, Send, Recv, Open, Play, Close, Get, Set}
+use Rattle.nook_data.specs.declared.steps.Stage.TheVariants as stage
+use Rattle.nook_data.specs.Classes.{is_write, static_check}
 use Rattle.part_laws.specs.Watch.{Watch, leaves}
-use Rattle.nook_defs.specs.Domain.{stopped_domain}
-use Rattle.nook_defs.specs.Ideal.{Ideal, Opened, ran}
-use Rattle.nook_defs.proofs.Changes.{stops_waiting}
+use Rattle.part_defs.specs.Domain.{stopped_domain}
+use Rattle.promise_defs.specs.Ideal.{Ideal, Opened, ran}
+use Rattle.promise_defs.proofs.PromiseChanges.{stops_waiting}
 use Rattle.part_laws.specs.Allowed.{allows, allows_each}
-use Rattle.nook_defs.specs.Log.{shadow_answer, is_held, queue_after, with_answer, stop_answers, stop_queue}
-use Rattle.nook_defs.proofs.Cases.{closes, stop_calls}
-use Rattle.nook_defs.specs.Places.{at_number, change_number}
-use Rattle.nook_defs.specs.Stages.{stops}
-use Rattle.nook_defs.specs.State.{PartState}
-use Rattle.nook_defs.specs.Steps.{is_driven}
-use Rattle.nook_defs.specs.Trace.{Visible, Track, answer, kept_blocks, shown_answers}
+use Rattle.part_defs.specs.Log.{shadow_answer, is_held, queue_after, with_answer, stop_answers, stop_queue}
+use Rattle.promise_defs.proofs.PromiseCases.{closes}
+use Rattle.part_defs.proofs.PartCases.{stop_calls}
+use Rattle.nook_data.specs.Places.{at_number, change_number}
+use Rattle.part_defs.specs.Stages.{stops}
+use Rattle.part_defs.specs.State.{PartState}
+use Rattle.part_defs.specs.Steps.{is_driven}
+use Rattle.promise_defs.specs.Trace.{Visible, Track, answer, kept_blocks, shown_answers}
 use Rattle.part_laws.specs.Counts.{Counts, count_answer, count_answers}
 use Rattle.part_laws.specs.Balance.{tally, held_at, Balance}
 use Rattle.part_laws.specs.Recovery.{StepKeeps}

@@ -1,8 +1,8 @@
 use Rattle.std.proofs.Common.{◌≡◌, ℕ, true, false, Some, List, [], ◌∷◌, ◌++◌, sym, refl, ap, subst, ◌∙◌, inl, inr, bytes_eq, drop}
 use Rattle.std.proofs.lemmas.Bool.{cond-true, cond-false, and_parts}
 use Rattle.std.proofs.lemmas.Slice.Eq.{bytes_eq-Decides}
-use Rattle.nook_defs.specs.Ideal.{after_frame}
-use Rattle.nook_defs.specs.Contract.{is_front}
+use Rattle.promise_defs.specs.Ideal.{after_frame}
+use Rattle.promise_defs.specs.Contract.{is_front}
 use Rattle.part_laws.specs.Facts.{Sub}
 use Rattle.part_laws.proofs.Places.{split}
 

@@ -4,15 +4,15 @@ use Rattle.std.specs.Prelude.{◌==◌, if◌then◌else◌}
 use Rattle.std.specs.List.{list_any}
 use Rattle.std.proofs.lemmas.Bool.{eqb-true, eq-eqb, ne_eqb}
 use Rattle.std.proofs.lemmas.List.Sums.{sum_by-cons}
-use Rattle.nook_defs.specs.declared.machine.Act.{Act}
-use Rattle.nook_defs.specs.declared.machine.Act.TheVariants as act
-use Rattle.nook_defs.specs.declared.calls.Answer.{Answer}
-use Rattle.nook_defs.specs.declared.calls.Op.{Op}
+use Rattle.nook_data.specs.declared.machine.Act.{Act}
+use Rattle.nook_data.specs.declared.machine.Act.TheVariants as act
+use Rattle.nook_data.specs.declared.calls.Answer.{Answer}
+use Rattle.nook_data.specs.declared.calls.Op.{Op}
 use Rattle.part_laws.specs.Counts.{Counted, Counts, count_act, count_acts, count_answer, count_answered, count_answers, count_handed, count_played, count_sent, counted}
-use Rattle.nook_defs.specs.Places.{change_number}
+use Rattle.nook_data.specs.Places.{change_number}
 use Rattle.part_laws.proofs.Places.{split}
-use Rattle.nook_defs.specs.Losses.{Tally, is_played, is_sent, new_tally}
-use Rattle.nook_defs.proofs.Changes.{with_acts}
+use Rattle.promise_defs.specs.Losses.{Tally, is_played, is_sent, new_tally}
+use Rattle.promise_defs.proofs.PromiseChanges.{with_acts}
 use Rattle.part_laws.specs.Orderly.{is_open, is_told, kept_from}
 use Rattle.part_laws.proofs.Picked.{change_at, change_one, find_at}
 

@@ -1,26 +1,31 @@
 use Rattle.std.proofs.Common.{◌≡◌, ℕ, ◌+◌, ◌-◌, ◌*◌, ◌<◌, ◌≤◌, ◌==◌, not, is_some, Bool, true, false, Option, Some, None, List, [], ◌∷◌, length, map, replicate, slice_set, refl, sym, ap, ◌∙◌, subst, arith, true≢false, eqb-true}
 use Rattle.std.specs.List.{filter, AllByRecursion}
 use Rattle.std.proofs.lemmas.Bool.{and_parts, ltb-false}
-use Rattle.nook_defs.specs.declared.calls.CallEntry.{CallEntry}
-use Rattle.nook_defs.specs.declared.steps.Event.{Event}
-use Rattle.nook_defs.specs.declared.scenario.Fault.{Fault}
-use Rattle.nook_defs.specs.declared.steps.Mode.{Mode}
-use Rattle.nook_defs.specs.declared.steps.Mode.TheVariants as mode
-use Rattle.nook_defs.specs.declared.calls.Op.TheVariants as op
-use Rattle.nook_defs.specs.declared.steps.Stage.{Stage}
-use Rattle.nook_defs.specs.declared.steps.Stage.TheVariants as stage
-use Rattle.nook_defs.specs.declared.steps.Step.{Step}
-use Rattle.nook_defs.specs.declared.steps.Step.TheVariants as step
-use Rattle.nook_defs.specs.declared.machine.Context.{Context}
-use Rattle.nook_defs.specs.Burst.{Burst, burst}
-use Rattle.nook_defs.specs.Classes.{init_place, open_place, set_place}
-use Rattle.nook_defs.specs.Crossing.{after_crossing}
-use Rattle.nook_defs.specs.Domain.{context_of, machine_of, after_burst, domain_burst, entered_domain, plainly_entered, stopped_domain, collected_domain, loaded_domain}
-use Rattle.nook_defs.specs.Log.{held_call, call_of_thread, is_held}
-use Rattle.nook_defs.proofs.Cases.{burst_by, burst_step, no_context, stage_by, stop_calls, with_burst}
-use Rattle.nook_defs.specs.Stages.{stage_due, with_stage, is_given_up, stops, gives_up_part, collects, with_reset, resets, loads_image, inits, replays_set, replays_open, resumes, stage_done, stage_stepped}
-use Rattle.nook_defs.specs.State.{DomainState, PartState}
-use Rattle.nook_defs.specs.Steps.{enabled, is_running, is_driven, is_inside, can_burst, can_stage, faults_of_burst, burst_stepped, stepped}
+use Rattle.nook_data.specs.declared.calls.CallEntry.{CallEntry}
+use Rattle.nook_data.specs.declared.steps.Event.{Event}
+use Rattle.nook_data.specs.declared.scenario.Fault.{Fault}
+use Rattle.nook_data.specs.declared.steps.Mode.{Mode}
+use Rattle.nook_data.specs.declared.steps.Mode.TheVariants as mode
+use Rattle.nook_data.specs.declared.calls.Op.TheVariants as op
+use Rattle.nook_data.specs.declared.steps.Stage.{Stage}
+use Rattle.nook_data.specs.declared.steps.Stage.TheVariants as stage
+use Rattle.nook_data.specs.declared.steps.Step.{Step}
+use Rattle.nook_data.specs.declared.steps.Step.TheVariants as step
+use Rattle.nook_data.specs.declared.machine.Context.{Context}
+use Rattle.machine_defs.specs.Burst.{Burst, burst}
+use Rattle.nook_data.specs.Classes.{init_place, open_place, set_place}
+use Rattle.part_defs.specs.Crossing.{after_crossing}
+use Rattle.part_defs.specs.Domain.{context_of, machine_of, after_burst, domain_burst, entered_domain, plainly_entered}
+use Rattle.part_defs.specs.Domain.{stopped_domain, collected_domain, loaded_domain}
+use Rattle.part_defs.specs.Log.{held_call, call_of_thread, is_held}
+use Rattle.part_defs.proofs.PartCases.{burst_by, burst_step, no_context, stage_by, stop_calls, with_burst}
+use Rattle.part_defs.specs.Stages.{stage_due, with_stage, is_given_up, stops, gives_up_part, collects, with_reset}
+use Rattle.part_defs.specs.Stages.{resets, loads_image, inits, replays_set, replays_open, resumes, stage_done}
+use Rattle.part_defs.specs.Stages.{stage_stepped}
+use Rattle.part_defs.specs.State.{DomainState, PartState}
+use Rattle.part_defs.specs.Steps.{enabled, is_running, is_driven, is_inside, can_burst, can_stage, burst_stepped}
+use Rattle.part_defs.specs.Steps.{stepped}
+use Rattle.machine_defs.specs.BurstFaults.{faults_of_burst}
 use Rattle.part_laws.proofs.BurstKeeps.{split}
 use Rattle.part_laws.proofs.EntriesFit.{filter_fits}
 use Rattle.part_laws.proofs.RunsDetermined.{found_thread}
@@ -32,7 +37,7 @@ use Rattle.part_laws.specs.Fit.{IsFit}
 use Rattle.part_laws.specs.Tied.{GoesOn, is_stop, IsAwayCall, IsRunningCall, IsTiedCall, is_driving_stage, is_driving, IsDriven, IsFitStage, IsFitMode, may_exceed, IsTied}
 use Rattle.std.proofs.lemmas.List.{length-set}
 use Rattle.part_laws.proofs.TiedSteps.{price, StepTied, threads_of_fit, running_is, invoke_tied, enter_tied, arrive_tied}
-use Rattle.nook_defs.proofs.Options.{none_is_some, same_inside}
+use Rattle.nook_data.proofs.Options.{none_is_some, same_inside}
 
 -- Bursts and stages keep how calls, contexts and mode hang together; every step does.
 

@@ -1,12 +1,12 @@
 use Rattle.std.proofs.Common.{◌≡◌, ◌≢◌, ℕ, zero, suc, ◌+◌, ◌-◌, ◌*◌, ◌<◌, ◌≤◌, ◌==◌, not, Bool, true, false, Option, Some, None, List, [], ◌∷◌, ◌++◌, length, map, replicate, slice_set, is_none, refl, sym, ap, ◌∙◌, arith, subst, true≢false, eqb-true}
 use Rattle.std.specs.List.{find, filter, AllByRecursion}
 use Rattle.std.proofs.lemmas.Bool.{eqb-false, eq-eqb, ne_eqb}
-use Rattle.nook_defs.specs.declared.calls.CallEntry.{CallEntry}
-use Rattle.nook_defs.specs.declared.calls.Op.{Op}
-use Rattle.nook_defs.specs.declared.machine.Context.{Context}
-use Rattle.nook_defs.specs.Domain.{context_of}
-use Rattle.nook_defs.specs.Log.{is_call, call_of_thread, held_call}
-use Rattle.nook_defs.proofs.Cases.{bursts_of, change_entry, is_of_thread, new_entry, no_context}
+use Rattle.nook_data.specs.declared.calls.CallEntry.{CallEntry}
+use Rattle.nook_data.specs.declared.calls.Op.{Op}
+use Rattle.nook_data.specs.declared.machine.Context.{Context}
+use Rattle.part_defs.specs.Domain.{context_of}
+use Rattle.part_defs.specs.Log.{is_call, call_of_thread, held_call}
+use Rattle.part_defs.proofs.PartCases.{bursts_of, change_entry, is_of_thread, new_entry, no_context}
 use Rattle.part_laws.proofs.BurstKeeps.{split}
 use Rattle.part_laws.specs.Tied.{IsRising, AreApart}
 

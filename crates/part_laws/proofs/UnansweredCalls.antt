@@ -3,36 +3,41 @@ use Rattle.std.proofs.Common.{◌≡◌, ◌⊎◌, ℕ, ◌+◌, ◌<◌, ◌�
 use Rattle.std.specs.Prelude.{if◌then◌else◌, ◌==◌}
 use Rattle.std.specs.List.{AllByRecursion}
 use Rattle.std.proofs.lemmas.Bool.Decides.{nat_tests}
-use Rattle.nook_defs.specs.declared.classes.Admit.{Admit}
-use Rattle.nook_defs.specs.declared.classes.Admit.TheVariants as admits
-use Rattle.nook_defs.specs.declared.calls.Answer.{Answer}
-use Rattle.nook_defs.specs.declared.calls.CallEntry.{CallEntry}
-use Rattle.nook_defs.specs.declared.machine.Act.{Act}
-use Rattle.nook_defs.specs.declared.calls.Answer.TheVariants as answer
-use Rattle.nook_defs.specs.declared.steps.End.{End}
-use Rattle.nook_defs.specs.declared.entries.Entry.{Entry}
-use Rattle.nook_defs.specs.declared.steps.FailCause.{FailCause}
-use Rattle.nook_defs.specs.declared.steps.Event.{Event}
-use Rattle.nook_defs.specs.declared.steps.Event.TheVariants as event
-use Rattle.nook_defs.specs.declared.calls.Op.{Op}
-use Rattle.nook_defs.specs.declared.calls.Op.TheVariants as op
-use Rattle.nook_defs.specs.declared.steps.Stage.{Stage}
-use Rattle.nook_defs.specs.declared.steps.Stage.TheVariants as stage
-use Rattle.nook_defs.specs.declared.steps.Step.{Step}
-use Rattle.nook_defs.specs.declared.steps.Step.TheVariants as step
-use Rattle.nook_defs.specs.Calls.{after_admit, answer_in, queue_in, after_enter, after_invoke, invoked_with}
-use Rattle.nook_defs.specs.Classes.{static_check}
-use Rattle.nook_defs.specs.Crossing.{Crossed, after_crossing}
-use Rattle.nook_defs.specs.Devices.{head_of}
-use Rattle.nook_defs.specs.Domain.{DomainBurst, domain_burst}
-use Rattle.nook_defs.specs.Entries.{released}
-use Rattle.nook_defs.specs.Log.{after_answering, call_of_thread, after_entering, gone_answers, held_call, is_held, queue_after, shadow_answer, stop_answers, with_answer}
-use Rattle.nook_defs.specs.Views.CallLogs.{IsNumbered}
-use Rattle.nook_defs.proofs.Cases.{burst_event, change_entry, entered_by, entered_call, invoked_by, is_of_thread, stage_by, with_burst}
-use Rattle.nook_defs.specs.Runs.{IsRunFrom, answer_among, event_of, state_after, state_from, step_of}
-use Rattle.nook_defs.specs.Stages.{collects, gives_up_part, inits, is_given_up, loads_image, replays_open, replays_set, resets, resumes, stage_done, stage_due, stage_stepped, stops}
-use Rattle.nook_defs.specs.State.{PartState}
-use Rattle.nook_defs.specs.Steps.{after_arrival, burst_stepped, faults_of_burst, served_number, stepped}
+use Rattle.nook_data.specs.declared.classes.Admit.{Admit}
+use Rattle.nook_data.specs.declared.classes.Admit.TheVariants as admits
+use Rattle.nook_data.specs.declared.calls.Answer.{Answer}
+use Rattle.nook_data.specs.declared.calls.CallEntry.{CallEntry}
+use Rattle.nook_data.specs.declared.machine.Act.{Act}
+use Rattle.nook_data.specs.declared.calls.Answer.TheVariants as answer
+use Rattle.nook_data.specs.declared.steps.End.{End}
+use Rattle.nook_data.specs.declared.entries.Entry.{Entry}
+use Rattle.nook_data.specs.declared.steps.FailCause.{FailCause}
+use Rattle.nook_data.specs.declared.steps.Event.{Event}
+use Rattle.nook_data.specs.declared.steps.Event.TheVariants as event
+use Rattle.nook_data.specs.declared.calls.Op.{Op}
+use Rattle.nook_data.specs.declared.calls.Op.TheVariants as op
+use Rattle.nook_data.specs.declared.steps.Stage.{Stage}
+use Rattle.nook_data.specs.declared.steps.Stage.TheVariants as stage
+use Rattle.nook_data.specs.declared.steps.Step.{Step}
+use Rattle.nook_data.specs.declared.steps.Step.TheVariants as step
+use Rattle.part_defs.specs.Calls.{after_admit, answer_in, queue_in, after_enter, after_invoke, invoked_with}
+use Rattle.nook_data.specs.Classes.{static_check}
+use Rattle.part_defs.specs.Crossing.{Crossed, after_crossing}
+use Rattle.nook_data.specs.Frames.{head_of}
+use Rattle.part_defs.specs.Domain.{DomainBurst, domain_burst}
+use Rattle.machine_defs.specs.Entries.{released}
+use Rattle.part_defs.specs.Log.{after_answering, call_of_thread, after_entering, gone_answers, held_call, is_held}
+use Rattle.part_defs.specs.Log.{queue_after, shadow_answer, stop_answers, with_answer}
+use Rattle.part_defs.specs.Views.CallLogs.{IsNumbered}
+use Rattle.part_defs.proofs.PartCases.{burst_event, change_entry, entered_by, entered_call, invoked_by, is_of_thread}
+use Rattle.part_defs.proofs.PartCases.{stage_by, with_burst}
+use Rattle.part_defs.specs.Runs.{IsRunFrom, event_of, state_after, state_from, step_of}
+use Rattle.nook_data.specs.Answers.{answer_among}
+use Rattle.part_defs.specs.Stages.{collects, gives_up_part, inits, is_given_up, loads_image, replays_open, replays_set}
+use Rattle.part_defs.specs.Stages.{resets, resumes, stage_done, stage_due, stage_stepped, stops}
+use Rattle.part_defs.specs.State.{PartState}
+use Rattle.part_defs.specs.Steps.{after_arrival, burst_stepped, served_number, stepped}
+use Rattle.machine_defs.specs.BurstFaults.{faults_of_burst}
 use Rattle.part_laws.proofs.CallNumbers.{AllOpen, CameFrom, HasEntry, InvokesAbove, KeepsCall, Quiet, Silent, LogStepped, all_bounds, none_call, numbered_bound, numbered_filter, numbered_map, open_both, open_filter, open_has, open_itself, open_map, open_weaker, other_call, small_calls, stepped_answered, stepped_at_once, stepped_changed, stepped_open, stepped_same}
 use Rattle.part_laws.proofs.OrderlyRuns.{ClosesCall, ClosesNone, crossing_crosses, served_is}
 use Rattle.part_laws.proofs.Places.{split}

@@ -1,5 +1,5 @@
-use Rattle.nook_defs.specs.Valid.{IsValidPart}
-use Rattle.nook_defs.specs.declared.scenario.PartSpec.{PartSpec}
+use Rattle.nook_data.specs.Valid.{IsValidPart}
+use Rattle.nook_data.specs.declared.scenario.PartSpec.{PartSpec}
 use Rattle.part_laws.specs.Fit.{IsFitSpec}
 
 -- the image of a valid part fits its memory

@@ -1,14 +1,14 @@
 use Rattle.std.proofs.Common.{◌≡◌, ℕ, zero, suc, ◌&&◌, ◌||◌, not, eqb, Bool, true, false, Option, Some, None, List, [], ◌∷◌, sym, refl, ap, ap₂, ◌∙◌, arith, bytes_eq}
 use Rattle.std.proofs.lemmas.Bool.{eqb-true, cond-true, cond-false, and_parts}
-use Rattle.nook_defs.specs.declared.machine.Act.{Act}
-use Rattle.nook_defs.specs.declared.machine.Act.TheVariants as act
-use Rattle.nook_defs.specs.declared.calls.Op.{Op}
-use Rattle.nook_defs.specs.declared.calls.Op.TheVariants.{Read, Write, Send, Recv, Open, Play, Close, Get, Set}
-use Rattle.nook_defs.specs.Blocks.{words_for}
-use Rattle.nook_defs.specs.Classes.{covers, is_write}
+use Rattle.nook_data.specs.declared.machine.Act.{Act}
+use Rattle.nook_data.specs.declared.machine.Act.TheVariants as act
+use Rattle.nook_data.specs.declared.calls.Op.{Op}
+use Rattle.nook_data.specs.declared.calls.Op.TheVariants.{Read, Write, Send, Recv, Open, Play, Close, Get, Set}
+use Rattle.promise_defs.specs.Blocks.{words_for}
+use Rattle.nook_data.specs.Classes.{covers, is_write}
 use Rattle.part_laws.specs.Watch.{Watch, Watched, wanted, stores_at, is_covered, is_agreed, is_setting, sees_act, sees_acts}
-use Rattle.nook_defs.specs.Places.{at_number, number_where, one_later}
-use Rattle.nook_defs.specs.Contract.{sets}
+use Rattle.nook_data.specs.Places.{at_number, number_where, one_later}
+use Rattle.promise_defs.specs.Contract.{sets}
 use Rattle.part_laws.specs.Facts.{At}
 use Rattle.part_laws.proofs.Places.{split, some_same}
 use Rattle.part_laws.proofs.Subs.{same_bytes}

@@ -1,6 +1,6 @@
 use Rattle.std.proofs.Common.{◌≡◌, ℕ, zero, suc, ◌+◌, ◌-◌, ◌<◌, ◌≤◌, min, List, [], ◌∷◌, ◌++◌, length, take, drop, set, replicate, slice_index, slice_range, refl, sym, ap, ◌∙◌, arith, length-append, length-drop, length-take, get_or-drop, get_or-take, ext_get_or, take_at, drop_at}
 use Rattle.std.proofs.lemmas.List.{length-take-le, get_or_append_left, get_or-append_right, length-replicate}
-use Rattle.nook_defs.specs.Pages.{with_words, padded_words}
+use Rattle.machine_defs.specs.Pages.{with_words, padded_words}
 
 -- Words of memory: what a change of a run of them leaves.
 

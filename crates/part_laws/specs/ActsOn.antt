@@ -1,10 +1,10 @@
 use Rattle.std.specs.Prelude.{◌≡◌, ◌<◌, ℕ, Bool, true, false, List, [], ◌∷◌, drop, length, slice_index, slice_set}
-use Rattle.nook_defs.specs.declared.machine.Act.{Act}
-use Rattle.nook_defs.specs.declared.machine.Act.TheVariants as act
-use Rattle.nook_defs.specs.declared.devices.DeviceKind.{DeviceKind}
-use Rattle.nook_defs.specs.declared.devices.DeviceKind.TheVariants as kind
-use Rattle.nook_defs.specs.declared.devices.DeviceState.{DeviceState}
-use Rattle.nook_defs.specs.Devices.{medium_of, ring_of}
+use Rattle.nook_data.specs.declared.machine.Act.{Act}
+use Rattle.nook_data.specs.declared.machine.Act.TheVariants as act
+use Rattle.nook_data.specs.declared.devices.DeviceKind.{DeviceKind}
+use Rattle.nook_data.specs.declared.devices.DeviceKind.TheVariants as kind
+use Rattle.nook_data.specs.declared.devices.DeviceState.{DeviceState}
+use Rattle.machine_defs.specs.Devices.{medium_of, ring_of}
 
 -- What the acts of a burst tell of its device.
 

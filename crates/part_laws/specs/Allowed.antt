@@ -1,26 +1,26 @@
 use Rattle.std.specs.Prelude.{◌≡◌, ℕ, Bool, true, false, List, [], ◌∷◌, length, Option, Some, None, is_some, is_none}
 use Rattle.std.specs.Prelude.{nat_lt, ◌+◌, ◌==◌, ◌&&◌, ◌||◌}
-use Rattle.nook_defs.specs.declared.calls.Answer.{Answer}
-use Rattle.nook_defs.specs.declared.calls.Answer.TheVariants as answered
-use Rattle.nook_defs.specs.declared.steps.Event.{Event}
-use Rattle.nook_defs.specs.declared.steps.Event.TheVariants as event
-use Rattle.nook_defs.specs.declared.verdicts.Losses.{Losses}
-use Rattle.nook_defs.specs.declared.steps.Mode.TheVariants as mode
-use Rattle.nook_defs.specs.declared.steps.Mode.{Mode}
-use Rattle.nook_defs.specs.declared.calls.Op.{Op}
-use Rattle.nook_defs.specs.declared.calls.Op.TheVariants.{Send, Play}
-use Rattle.nook_defs.specs.declared.scenario.PartSpec.{PartSpec}
-use Rattle.nook_defs.specs.declared.steps.Stage.{Stage}
-use Rattle.nook_defs.specs.declared.steps.Stage.TheVariants as stages
-use Rattle.nook_defs.specs.Blocks.{has_block}
+use Rattle.nook_data.specs.declared.calls.Answer.{Answer}
+use Rattle.nook_data.specs.declared.calls.Answer.TheVariants as answered
+use Rattle.nook_data.specs.declared.steps.Event.{Event}
+use Rattle.nook_data.specs.declared.steps.Event.TheVariants as event
+use Rattle.nook_data.specs.declared.verdicts.Losses.{Losses}
+use Rattle.nook_data.specs.declared.steps.Mode.TheVariants as mode
+use Rattle.nook_data.specs.declared.steps.Mode.{Mode}
+use Rattle.nook_data.specs.declared.calls.Op.{Op}
+use Rattle.nook_data.specs.declared.calls.Op.TheVariants.{Send, Play}
+use Rattle.nook_data.specs.declared.scenario.PartSpec.{PartSpec}
+use Rattle.nook_data.specs.declared.steps.Stage.{Stage}
+use Rattle.nook_data.specs.declared.steps.Stage.TheVariants as stages
+use Rattle.promise_defs.specs.Blocks.{has_block}
 use Rattle.part_laws.specs.Watch.{Watch, Watched, first_watch, sees}
 use Rattle.part_laws.specs.Counts.{counted_losses}
-use Rattle.nook_defs.specs.Places.{at_number}
-use Rattle.nook_defs.specs.Runs.{state_after, step_of}
-use Rattle.nook_defs.specs.State.{PartState}
-use Rattle.nook_defs.specs.Steps.{opening}
-use Rattle.nook_defs.specs.Licence.{is_balanced, is_stage, same_stage, shadow_stage}
-use Rattle.nook_defs.specs.Devices.{is_empty}
+use Rattle.nook_data.specs.Places.{at_number}
+use Rattle.part_defs.specs.Runs.{state_after, step_of}
+use Rattle.part_defs.specs.State.{PartState}
+use Rattle.part_defs.specs.Steps.{opening}
+use Rattle.promise_defs.specs.Licence.{is_balanced, is_stage, same_stage, shadow_stage}
+use Rattle.nook_data.specs.Frames.{is_empty}
 
 -- The licence of losses and busy answers by the fold of the contract: what is proved first. Over a run it is the
 -- licence that nook_defs defines.

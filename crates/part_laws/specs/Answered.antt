@@ -1,6 +1,6 @@
 use Rattle.std.specs.Prelude.{ℕ, ◌&&◌, nat_le, not, is_some, Bool}
-use Rattle.nook_defs.specs.Log.{open_call}
-use Rattle.nook_defs.specs.State.{CallLog}
+use Rattle.part_defs.specs.Log.{open_call}
+use Rattle.part_defs.specs.State.{CallLog}
 
 -- the number was given to a call, and the call is open no more
 abbrev pub is_answered : CallLog → ℕ → Bool

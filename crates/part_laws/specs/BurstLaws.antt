@@ -1,9 +1,9 @@
 use Rattle.std.specs.Prelude.{◌≡◌, List, length}
-use Rattle.nook_defs.specs.declared.entries.Entry.{Entry}
-use Rattle.nook_defs.specs.declared.scenario.Fault.{Fault}
-use Rattle.nook_defs.specs.Burst.{burst}
-use Rattle.nook_defs.specs.Isolation.{ChangesOnlyAllowed}
-use Rattle.nook_defs.specs.Turn.{Machine}
+use Rattle.nook_data.specs.declared.entries.Entry.{Entry}
+use Rattle.nook_data.specs.declared.scenario.Fault.{Fault}
+use Rattle.machine_defs.specs.Burst.{burst}
+use Rattle.promise_defs.specs.Isolation.{ChangesOnlyAllowed}
+use Rattle.machine_defs.specs.Turn.{Machine}
 
 -- a burst changes no word that the driver may not write, but a text word that a fault of the burst names, and
 -- memory keeps its length

@@ -1,13 +1,13 @@
 use Rattle.std.specs.Prelude.{◌≡◌, Bool, List, [], ◌∷◌, ◌++◌}
-use Rattle.nook_defs.specs.declared.entries.Entry.{Entry}
-use Rattle.nook_defs.specs.declared.entries.Entry.TheVariants as entry
-use Rattle.nook_defs.specs.declared.steps.Event.{Event}
-use Rattle.nook_defs.specs.declared.steps.Event.TheVariants as event
-use Rattle.nook_defs.specs.declared.scenario.PartSpec.{PartSpec}
-use Rattle.nook_defs.specs.declared.steps.Stage.TheVariants as stage
-use Rattle.nook_defs.specs.Runs.{step_of, state_after}
-use Rattle.nook_defs.specs.State.{PartState}
-use Rattle.nook_defs.specs.Steps.{opening}
+use Rattle.nook_data.specs.declared.entries.Entry.{Entry}
+use Rattle.nook_data.specs.declared.entries.Entry.TheVariants as entry
+use Rattle.nook_data.specs.declared.steps.Event.{Event}
+use Rattle.nook_data.specs.declared.steps.Event.TheVariants as event
+use Rattle.nook_data.specs.declared.scenario.PartSpec.{PartSpec}
+use Rattle.nook_data.specs.declared.steps.Stage.TheVariants as stage
+use Rattle.part_defs.specs.Runs.{step_of, state_after}
+use Rattle.part_defs.specs.State.{PartState}
+use Rattle.part_defs.specs.Steps.{opening}
 use Rattle.part_laws.specs.Fit.{IsOrdered}
 
 -- Collect releases everything but the registration, and tells it in order.

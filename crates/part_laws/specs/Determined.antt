@@ -1,8 +1,8 @@
 use Rattle.std.specs.Prelude.{List, [], ◌∷◌}
-use Rattle.nook_defs.specs.declared.steps.Event.{Event}
-use Rattle.nook_defs.specs.declared.steps.Step.{Step}
-use Rattle.nook_defs.specs.Runs.{event_of, state_after}
-use Rattle.nook_defs.specs.State.{PartState}
+use Rattle.nook_data.specs.declared.steps.Event.{Event}
+use Rattle.nook_data.specs.declared.steps.Step.{Step}
+use Rattle.part_defs.specs.Runs.{event_of, state_after}
+use Rattle.part_defs.specs.State.{PartState}
 
 -- What a list of steps makes of a part.
 

@@ -1,18 +1,18 @@
 use Rattle.std.specs.Prelude.{◌≡◌, ℕ, ◌+◌, ◌≤◌, ◌<◌, true, false, None, List, [], ◌∷◌, length}
 use Rattle.std.specs.List.{AllByRecursion}
-use Rattle.nook_defs.specs.declared.calls.CallEntry.{CallEntry}
-use Rattle.nook_defs.specs.declared.classes.Class.{Class}
-use Rattle.nook_defs.specs.declared.entries.Entry.{Entry}
-use Rattle.nook_defs.specs.declared.entries.Entry.TheVariants as entry
-use Rattle.nook_defs.specs.declared.scenario.PartSpec.{PartSpec}
-use Rattle.nook_defs.specs.declared.limits.TheConstants.{CONTEXTS, MOST_THREADS, SHADOW}
-use Rattle.nook_defs.specs.declared.memory_map.TheConstants.{DATA_END, DATA_WORDS, LAST_OBJECT, MEMORY_WORDS}
-use Rattle.nook_defs.specs.declared.memory_map.TheConstants.{OBJECT_WORDS, TEXT_WORDS}
-use Rattle.nook_defs.specs.Classes.{static_check, defaults_of}
-use Rattle.nook_defs.specs.Crossing.{heap_start}
-use Rattle.nook_defs.specs.Entries.{comes_before, is_registration}
-use Rattle.nook_defs.specs.Isolation.{object_of, kernel_object}
-use Rattle.nook_defs.specs.State.{DomainState, CallLog, PartState}
+use Rattle.nook_data.specs.declared.calls.CallEntry.{CallEntry}
+use Rattle.nook_data.specs.declared.classes.Class.{Class}
+use Rattle.nook_data.specs.declared.entries.Entry.{Entry}
+use Rattle.nook_data.specs.declared.entries.Entry.TheVariants as entry
+use Rattle.nook_data.specs.declared.scenario.PartSpec.{PartSpec}
+use Rattle.nook_data.specs.declared.limits.TheConstants.{CONTEXTS, MOST_THREADS, SHADOW}
+use Rattle.nook_data.specs.declared.memory_map.TheConstants.{DATA_END, DATA_WORDS, LAST_OBJECT, MEMORY_WORDS}
+use Rattle.nook_data.specs.declared.memory_map.TheConstants.{OBJECT_WORDS, TEXT_WORDS}
+use Rattle.nook_data.specs.Classes.{static_check, defaults_of}
+use Rattle.part_defs.specs.Crossing.{heap_start}
+use Rattle.machine_defs.specs.Entries.{comes_before, is_registration}
+use Rattle.promise_defs.specs.Isolation.{object_of, kernel_object}
+use Rattle.part_defs.specs.State.{DomainState, CallLog, PartState}
 
 -- What every part keeps at every step.
 

@@ -1,13 +1,13 @@
 -- What is claimed of each part of a run.
 use Rattle.std.specs.Prelude.{◌≡◌, ◌≤◌, false, None, List, [], ◌∷◌, length}
-use Rattle.nook_defs.specs.declared.steps.Event.{Event}
-use Rattle.nook_defs.specs.declared.scenario.PartSpec.{PartSpec}
-use Rattle.nook_defs.specs.Contract.{first_break}
-use Rattle.nook_defs.specs.Ideal.{Ideal, IsClassRun}
-use Rattle.nook_defs.specs.Isolation.{IsIsolated}
-use Rattle.nook_defs.specs.Licence.{IsLicensed}
-use Rattle.nook_defs.specs.Runs.{IsRun, state_of}
-use Rattle.nook_defs.specs.Trace.{trace}
+use Rattle.nook_data.specs.declared.steps.Event.{Event}
+use Rattle.nook_data.specs.declared.scenario.PartSpec.{PartSpec}
+use Rattle.promise_defs.specs.Contract.{first_break}
+use Rattle.promise_defs.specs.Ideal.{Ideal, IsClassRun}
+use Rattle.promise_defs.specs.Isolation.{IsIsolated}
+use Rattle.promise_defs.specs.Licence.{IsLicensed}
+use Rattle.part_defs.specs.Runs.{IsRun, state_of}
+use Rattle.promise_defs.specs.Trace.{trace}
 use Rattle.part_laws.specs.Bound.{most_events}
 use Rattle.part_laws.specs.Collection.{IsCollecting}
 use Rattle.part_laws.specs.Facts.{is_dead}

@@ -1,7 +1,7 @@
 use Rattle.std.specs.Prelude.{ℕ, suc, ◌+◌, ◌&&◌, Bool, true, false, [], ◌∷◌, nat_lt, if◌then◌else◌}
-use Rattle.nook_defs.specs.Classes.{covers}
-use Rattle.nook_defs.specs.Log.{is_held}
-use Rattle.nook_defs.specs.declared.calls.Op.{Op}
+use Rattle.nook_data.specs.Classes.{covers}
+use Rattle.part_defs.specs.Log.{is_held}
+use Rattle.nook_data.specs.declared.calls.Op.{Op}
 use Rattle.part_laws.specs.Views.{Core, Call}
 
 -- What a step makes of a call.

@@ -1,22 +1,22 @@
 use Rattle.std.specs.Prelude.{◌≡◌, ◌&&◌, Bool, true, false, Some, None, List, [], ◌++◌, fold, length}
 use Rattle.std.specs.List.{list_any}
-use Rattle.nook_defs.specs.declared.calls.CallEntry.{CallEntry}
-use Rattle.nook_defs.specs.declared.steps.Event.{Event}
-use Rattle.nook_defs.specs.declared.steps.Mode.TheVariants as mode
-use Rattle.nook_defs.specs.declared.scenario.PartSpec.{PartSpec}
-use Rattle.nook_defs.specs.declared.limits.TheConstants.{CONTEXTS}
-use Rattle.nook_defs.specs.Calls.{Stepped}
-use Rattle.nook_defs.specs.Classes.{is_set, is_write}
-use Rattle.nook_defs.specs.Contract.{first_break}
+use Rattle.nook_data.specs.declared.calls.CallEntry.{CallEntry}
+use Rattle.nook_data.specs.declared.steps.Event.{Event}
+use Rattle.nook_data.specs.declared.steps.Mode.TheVariants as mode
+use Rattle.nook_data.specs.declared.scenario.PartSpec.{PartSpec}
+use Rattle.nook_data.specs.declared.limits.TheConstants.{CONTEXTS}
+use Rattle.part_defs.specs.Calls.{Stepped}
+use Rattle.nook_data.specs.Classes.{is_set, is_write}
+use Rattle.promise_defs.specs.Contract.{first_break}
 use Rattle.part_laws.specs.Watch.{first_watch, sees}
-use Rattle.nook_defs.specs.Devices.{medium_of}
-use Rattle.nook_defs.specs.Ideal.{Ideal, never_failing, ran}
+use Rattle.machine_defs.specs.Devices.{medium_of}
+use Rattle.promise_defs.specs.Ideal.{Ideal, never_failing, ran}
 use Rattle.part_laws.specs.Allowed.{licenses}
 use Rattle.part_laws.specs.Counts.{Counts, count_event}
-use Rattle.nook_defs.specs.Runs.{IsRun, state_of}
-use Rattle.nook_defs.specs.State.{PartState}
-use Rattle.nook_defs.specs.Steps.{is_driven}
-use Rattle.nook_defs.specs.Trace.{Visible, shown, trace, tracks_after}
+use Rattle.part_defs.specs.Runs.{IsRun, state_of}
+use Rattle.part_defs.specs.State.{PartState}
+use Rattle.part_defs.specs.Steps.{is_driven}
+use Rattle.promise_defs.specs.Trace.{Visible, shown, trace, tracks_after}
 use Rattle.part_laws.specs.Balance.{Balanced}
 use Rattle.part_laws.specs.Facts.{Facts, is_dead}
 use Rattle.part_laws.specs.Views.{Past, view_of, watch_of, ideal_of, tracks_of}

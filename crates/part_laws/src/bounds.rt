@@ -1,11 +1,11 @@
 //! Laws on how long runs are, and on how they go on.
 
-ghost use Rattle.nook_defs.specs.Runs.{IsRun, state_of};
-ghost use Rattle.nook_defs.specs.State.{PartState};
-ghost use Rattle.nook_defs.specs.Steps.{enabled, stepped};
-ghost use Rattle.nook_defs.specs.declared.steps.Event.{Event};
-ghost use Rattle.nook_defs.specs.declared.scenario.PartSpec.{PartSpec};
-ghost use Rattle.nook_defs.specs.declared.steps.Step.{Step};
+ghost use Rattle.part_defs.specs.Runs.{IsRun, state_of};
+ghost use Rattle.part_defs.specs.State.{PartState};
+ghost use Rattle.part_defs.specs.Steps.{enabled, stepped};
+ghost use Rattle.nook_data.specs.declared.steps.Event.{Event};
+ghost use Rattle.nook_data.specs.declared.scenario.PartSpec.{PartSpec};
+ghost use Rattle.nook_data.specs.declared.steps.Step.{Step};
 ghost use Rattle.part_laws.specs.Bound.{IsMeasured, most_events};
 ghost use Rattle.part_laws.specs.Fit.{IsFit, IsFitSpec};
 ghost use Rattle.part_laws.specs.Progress.{HasProgress};

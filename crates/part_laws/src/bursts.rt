@@ -1,9 +1,9 @@
 //! Laws of one burst.
 
-ghost use Rattle.nook_defs.specs.Turn.{Machine};
-ghost use Rattle.nook_defs.specs.declared.entries.Entry.{Entry};
-ghost use Rattle.nook_defs.specs.declared.scenario.Fault.{Fault};
-ghost use Rattle.nook_defs.specs.Burst.{burst};
+ghost use Rattle.machine_defs.specs.Turn.{Machine};
+ghost use Rattle.nook_data.specs.declared.entries.Entry.{Entry};
+ghost use Rattle.nook_data.specs.declared.scenario.Fault.{Fault};
+ghost use Rattle.machine_defs.specs.Burst.{burst};
 ghost use Rattle.part_laws.specs.ActsOn.{dev_of, Tells};
 ghost use Rattle.part_laws.specs.BurstLaws.{IsIsolatedBurst};
 ghost use Rattle.std.specs.Prelude.{List};

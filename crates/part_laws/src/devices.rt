@@ -1,16 +1,16 @@
 //! A device stays of its class over bursts, steps and runs, and a part keeps its spec.
 
-ghost use Rattle.nook_defs.specs.Burst.{burst};
-ghost use Rattle.nook_defs.specs.Views.Ports.{class_of};
-ghost use Rattle.nook_defs.specs.Runs.{IsRun, state_of};
-ghost use Rattle.nook_defs.specs.State.{PartState};
-ghost use Rattle.nook_defs.specs.Steps.{stepped};
-ghost use Rattle.nook_defs.specs.Turn.{Machine};
-ghost use Rattle.nook_defs.specs.declared.entries.Entry.{Entry};
-ghost use Rattle.nook_defs.specs.declared.steps.Event.{Event};
-ghost use Rattle.nook_defs.specs.declared.scenario.Fault.{Fault};
-ghost use Rattle.nook_defs.specs.declared.scenario.PartSpec.{PartSpec};
-ghost use Rattle.nook_defs.specs.declared.steps.Step.{Step};
+ghost use Rattle.machine_defs.specs.Burst.{burst};
+ghost use Rattle.machine_defs.specs.Views.Ports.{class_of};
+ghost use Rattle.part_defs.specs.Runs.{IsRun, state_of};
+ghost use Rattle.part_defs.specs.State.{PartState};
+ghost use Rattle.part_defs.specs.Steps.{stepped};
+ghost use Rattle.machine_defs.specs.Turn.{Machine};
+ghost use Rattle.nook_data.specs.declared.entries.Entry.{Entry};
+ghost use Rattle.nook_data.specs.declared.steps.Event.{Event};
+ghost use Rattle.nook_data.specs.declared.scenario.Fault.{Fault};
+ghost use Rattle.nook_data.specs.declared.scenario.PartSpec.{PartSpec};
+ghost use Rattle.nook_data.specs.declared.steps.Step.{Step};
 ghost use Rattle.std.specs.Prelude.{List, ◌≡◌};
 
 /// Whatever a driver and its faults do in a burst, the device stays of its class.

@@ -1,9 +1,9 @@
 //! The headline: all that is promised of a part, as one law.
 
-ghost use Rattle.nook_defs.specs.Runs.{IsRun};
-ghost use Rattle.nook_defs.specs.Valid.{IsValidPart};
-ghost use Rattle.nook_defs.specs.declared.steps.Event.{Event};
-ghost use Rattle.nook_defs.specs.declared.scenario.PartSpec.{PartSpec};
+ghost use Rattle.part_defs.specs.Runs.{IsRun};
+ghost use Rattle.nook_data.specs.Valid.{IsValidPart};
+ghost use Rattle.nook_data.specs.declared.steps.Event.{Event};
+ghost use Rattle.nook_data.specs.declared.scenario.PartSpec.{PartSpec};
 ghost use Rattle.part_laws.specs.Headline.{IsSafe};
 ghost use Rattle.std.specs.Prelude.{List};
 

@@ -1,12 +1,12 @@
 //! Laws on whose buffers are lent.
 
 ghost use Rattle.part_laws.specs.Loans.{HasLoans};
-ghost use Rattle.nook_defs.specs.Runs.{IsRun, state_of};
-ghost use Rattle.nook_defs.specs.State.{PartState};
-ghost use Rattle.nook_defs.specs.Steps.{enabled, stepped};
-ghost use Rattle.nook_defs.specs.declared.steps.Event.{Event};
-ghost use Rattle.nook_defs.specs.declared.scenario.PartSpec.{PartSpec};
-ghost use Rattle.nook_defs.specs.declared.steps.Step.{Step};
+ghost use Rattle.part_defs.specs.Runs.{IsRun, state_of};
+ghost use Rattle.part_defs.specs.State.{PartState};
+ghost use Rattle.part_defs.specs.Steps.{enabled, stepped};
+ghost use Rattle.nook_data.specs.declared.steps.Event.{Event};
+ghost use Rattle.nook_data.specs.declared.scenario.PartSpec.{PartSpec};
+ghost use Rattle.nook_data.specs.declared.steps.Step.{Step};
 ghost use Rattle.part_laws.specs.Fit.{IsFit, IsFitSpec};
 ghost use Rattle.part_laws.specs.Tied.{IsTied};
 ghost use Rattle.std.specs.Prelude.{List, true, ◌≡◌};

@@ -2,16 +2,16 @@
 //! see one run of a device that never fails, wherever the driver's failures fall.
 
 ghost use Rattle.part_laws.specs.Watch.{sees};
-ghost use Rattle.nook_defs.specs.Ideal.{Ideal, IsClassRun};
-ghost use Rattle.nook_defs.specs.Licence.{IsLicensed};
-ghost use Rattle.nook_defs.specs.Runs.{state_of};
-ghost use Rattle.nook_defs.specs.State.{PartState};
-ghost use Rattle.nook_defs.specs.Steps.{enabled, stepped};
-ghost use Rattle.nook_defs.specs.Trace.{trace};
-ghost use Rattle.nook_defs.specs.declared.steps.Event.{Event};
-ghost use Rattle.nook_defs.specs.declared.limits.TheConstants.{CONTEXTS};
-ghost use Rattle.nook_defs.specs.declared.scenario.PartSpec.{PartSpec};
-ghost use Rattle.nook_defs.specs.declared.steps.Step.{Step};
+ghost use Rattle.promise_defs.specs.Ideal.{Ideal, IsClassRun};
+ghost use Rattle.promise_defs.specs.Licence.{IsLicensed};
+ghost use Rattle.part_defs.specs.Runs.{state_of};
+ghost use Rattle.part_defs.specs.State.{PartState};
+ghost use Rattle.part_defs.specs.Steps.{enabled, stepped};
+ghost use Rattle.promise_defs.specs.Trace.{trace};
+ghost use Rattle.nook_data.specs.declared.steps.Event.{Event};
+ghost use Rattle.nook_data.specs.declared.limits.TheConstants.{CONTEXTS};
+ghost use Rattle.nook_data.specs.declared.scenario.PartSpec.{PartSpec};
+ghost use Rattle.nook_data.specs.declared.steps.Step.{Step};
 ghost use Rattle.part_laws.specs.Facts.{Facts, is_dead};
 ghost use Rattle.part_laws.specs.Recovery.{Agrees, Gone, HasFacts, IsKeptRun, ShowsDevice, StepKeeps};
 ghost use Rattle.part_laws.specs.Views.{Past, view_of, watch_of};

@@ -1,14 +1,14 @@
 //! Laws of steps and of journals that are runs: what every part keeps, isolation and collection.
 
-ghost use Rattle.nook_defs.specs.Isolation.{IsIsolated};
-ghost use Rattle.nook_defs.specs.Runs.{IsRun, event_of, state_after, state_of, step_of};
-ghost use Rattle.nook_defs.specs.Views.CallLogs.{answered_at};
-ghost use Rattle.nook_defs.specs.Steps.{enabled, opening, stepped};
-ghost use Rattle.nook_defs.specs.State.{PartState};
-ghost use Rattle.nook_defs.specs.Valid.{IsValidPart};
-ghost use Rattle.nook_defs.specs.declared.steps.Event.{Event};
-ghost use Rattle.nook_defs.specs.declared.scenario.PartSpec.{PartSpec};
-ghost use Rattle.nook_defs.specs.declared.steps.Step.{Step};
+ghost use Rattle.promise_defs.specs.Isolation.{IsIsolated};
+ghost use Rattle.part_defs.specs.Runs.{IsRun, event_of, state_after, state_of, step_of};
+ghost use Rattle.part_defs.specs.Views.CallLogs.{answered_at};
+ghost use Rattle.part_defs.specs.Steps.{enabled, opening, stepped};
+ghost use Rattle.part_defs.specs.State.{PartState};
+ghost use Rattle.nook_data.specs.Valid.{IsValidPart};
+ghost use Rattle.nook_data.specs.declared.steps.Event.{Event};
+ghost use Rattle.nook_data.specs.declared.scenario.PartSpec.{PartSpec};
+ghost use Rattle.nook_data.specs.declared.steps.Step.{Step};
 ghost use Rattle.part_laws.specs.Answered.{is_answered};
 ghost use Rattle.part_laws.specs.Collection.{IsCollecting};
 ghost use Rattle.part_laws.specs.Determined.{events_made, state_made};

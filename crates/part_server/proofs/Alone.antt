@@ -1,6 +1,6 @@
 -- What a desk's seat may claim, from what a turn's seat may.
 use Rattle.std.proofs.Common.{◌≡◌, ℕ, ◌<◌, ◌≤◌, Bool, true, false, List, length, All, refl, sym, ap, ◌∙◌, subst, arith}
-use Rattle.nook_defs.specs.declared.steps.Event.{Event}
+use Rattle.nook_data.specs.declared.steps.Event.{Event}
 use Rattle.desk_like.specs.Desks.{Accounts}
 use Rattle.shares.specs.Shares.{Share, half, IsWhole}
 use Rattle.shares.proofs.Shares.{half_in, half_has, halves_apart}

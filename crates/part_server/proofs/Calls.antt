@@ -1,11 +1,11 @@
 -- What calls of several turns do to what a seat knows.
 use Rattle.std.proofs.Common.{ℕ, ◌<◌, ◌≤◌, Bool, true, false, Some, None, Result, Ok, Err, length, sym, ◌∙◌, subst, arith}
-use Rattle.nook_defs.specs.declared.desks.DeskRefused.{DeskRefused}
-use Rattle.nook_defs.specs.declared.desks.DeskRefused.TheVariants as refused
-use Rattle.nook_defs.specs.declared.calls.Op.{Op}
-use Rattle.nook_defs.specs.declared.scenario.PartSpec.{PartSpec}
-use Rattle.nook_defs.specs.declared.desks.Receipt.{Receipt}
-use Rattle.nook_defs.specs.declared.memory.NoMemory.{NoMemory}
+use Rattle.nook_data.specs.declared.desks.DeskRefused.{DeskRefused}
+use Rattle.nook_data.specs.declared.desks.DeskRefused.TheVariants as refused
+use Rattle.nook_data.specs.declared.calls.Op.{Op}
+use Rattle.nook_data.specs.declared.scenario.PartSpec.{PartSpec}
+use Rattle.nook_data.specs.declared.desks.Receipt.{Receipt}
+use Rattle.nook_data.specs.declared.memory.NoMemory.{NoMemory}
 use Rattle.desk_like.specs.Desks.{DeskView, IsAt, IsInvoke, Answers, Waits, Invokes, HasOpen, CallEnds, ResumeEnds, state_seen}
 use Rattle.turn_lock.proofs.Prefixes.{prefix_length}
 use Rattle.part_server.specs.declared.waiting.Progress.TheVariants as progress

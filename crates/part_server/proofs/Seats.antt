@@ -2,16 +2,16 @@
 use Rattle.std.proofs.Common.{◌≡◌, ℕ, ◌+◌, ◌<◌, ◌^◌, Bool, true, false, Some, None, Result, Ok, Err, List, [], ◌∷◌, ◌++◌, length, drop, refl, sym, ap, ◌∙◌, subst, arith}
 use Rattle.std.specs.Prelude.{is_ok}
 use mathlib.Core.List.{IsPrefix}
-use Rattle.nook_defs.specs.declared.desks.DeskRefused.{DeskRefused}
-use Rattle.nook_defs.specs.declared.steps.Event.{Event}
-use Rattle.nook_defs.specs.declared.calls.Op.{Op}
-use Rattle.nook_defs.specs.declared.scenario.PartSpec.{PartSpec}
-use Rattle.nook_defs.specs.declared.desks.Receipt.{Receipt}
-use Rattle.nook_defs.specs.declared.memory.NoMemory.{NoMemory}
-use Rattle.nook_defs.specs.Runs.{PartRun, IsRun, state_of}
-use Rattle.nook_defs.specs.Views.CallLogs.{answered_from}
-use Rattle.nook_defs.specs.State.{PartState}
-use Rattle.nook_defs.specs.Valid.{IsValidPart}
+use Rattle.nook_data.specs.declared.desks.DeskRefused.{DeskRefused}
+use Rattle.nook_data.specs.declared.steps.Event.{Event}
+use Rattle.nook_data.specs.declared.calls.Op.{Op}
+use Rattle.nook_data.specs.declared.scenario.PartSpec.{PartSpec}
+use Rattle.nook_data.specs.declared.desks.Receipt.{Receipt}
+use Rattle.nook_data.specs.declared.memory.NoMemory.{NoMemory}
+use Rattle.part_defs.specs.Runs.{PartRun, IsRun, state_of}
+use Rattle.part_defs.specs.Views.CallLogs.{answered_from}
+use Rattle.part_defs.specs.State.{PartState}
+use Rattle.nook_data.specs.Valid.{IsValidPart}
 use Rattle.desk_like.specs.Desks.{DeskView, IsAt, IsArrive, IsOther, Answers, HasOpen, ArriveEnds}
 use Rattle.part_core.specs.Kept.{IsKept}
 use Rattle.turn_lock.specs.Seats.{IsAlone}

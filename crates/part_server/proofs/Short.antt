@@ -2,48 +2,54 @@
 use Rattle.std.proofs.Common.{◌≡◌, ℕ, zero, suc, ◌+◌, ◌-◌, ◌*◌, ◌≤◌, ◌==◌, ◌&&◌, nat_lt, nat_le, not, if◌then◌else◌, Bool, true, false, Option, Some, None, Result, Ok, Err, List, [], ◌∷◌, ◌++◌, length, take, drop, min, slice_range, refl, sym, subst, arith, length-take}
 use Rattle.std.specs.List.{AllByRecursion}
 use Rattle.std.proofs.lemmas.Bool.{and_parts, leb-true}
-use Rattle.nook_defs.specs.declared.classes.Accept.{Accept}
-use Rattle.nook_defs.specs.declared.classes.Accept.TheVariants as accepts
-use Rattle.nook_defs.specs.declared.classes.Admit.{Admit}
-use Rattle.nook_defs.specs.declared.classes.Admit.TheVariants as admits
-use Rattle.nook_defs.specs.declared.calls.Answer.{Answer}
-use Rattle.nook_defs.specs.declared.calls.Answer.TheVariants as answer
-use Rattle.nook_defs.specs.declared.calls.CallEntry.{CallEntry}
-use Rattle.nook_defs.specs.declared.classes.Class.{Class}
-use Rattle.nook_defs.specs.declared.classes.Class.TheVariants as class
-use Rattle.nook_defs.specs.declared.entries.Entry.{Entry}
-use Rattle.nook_defs.specs.declared.steps.Event.{Event}
-use Rattle.nook_defs.specs.declared.steps.Event.TheVariants as event
-use Rattle.nook_defs.specs.declared.steps.Mode.{Mode}
-use Rattle.nook_defs.specs.declared.steps.Mode.TheVariants as mode
-use Rattle.nook_defs.specs.declared.calls.Op.{Op}
-use Rattle.nook_defs.specs.declared.calls.Op.TheVariants as op
-use Rattle.nook_defs.specs.declared.scenario.PartSpec.{PartSpec}
-use Rattle.nook_defs.specs.declared.steps.Stage.{Stage}
-use Rattle.nook_defs.specs.declared.steps.Stage.TheVariants as stage
-use Rattle.nook_defs.specs.declared.steps.Step.{Step}
-use Rattle.nook_defs.specs.declared.steps.Step.TheVariants as step
-use Rattle.nook_defs.specs.declared.machine.BadParam.{BadParam}
-use Rattle.nook_defs.specs.declared.machine.BurstEnd.{BurstEnd}
-use Rattle.nook_defs.specs.declared.machine.BurstEnd.TheVariants as ends
-use Rattle.nook_defs.specs.declared.machine.Service.{Service}
-use Rattle.nook_defs.specs.declared.machine.Service.TheVariants as service
-use Rattle.nook_defs.specs.Calls.{Stepped, after_invoke, answer_in, queue_in, after_enter, after_admit}
-use Rattle.nook_defs.proofs.Cases.{admit_open, entered_by, invoked_by, reply_by, serve_by, stage_by, with_burst}
-use Rattle.nook_defs.specs.Classes.{static_check, check_op, check_range, check_length, is_block_length, is_of_class, maximum_of, same_class, admit, admit_holder, is_holder, entry_place, accept}
-use Rattle.nook_defs.specs.Crossing.{Crossed, fails, is_last, heap_start, is_accepted, next_stage, closes_call, reply_answer, call_replied, after_crossing}
-use Rattle.nook_defs.specs.Devices.{head_of, tail_of}
-use Rattle.nook_defs.specs.Domain.{domain_burst, first_argument, second_argument}
-use Rattle.nook_defs.specs.Log.{call_of_thread, shadow_answer, frame_or_empty, queue_after, with_answer, stop_answers, stop_queue, gone_answers}
-use Rattle.nook_defs.specs.Pages.{buffer_start}
-use Rattle.nook_defs.specs.Places.{at_number}
-use Rattle.nook_defs.specs.Valid.{IsValidPart}
-use Rattle.nook_defs.specs.Answers.{one_answer}
-use Rattle.nook_defs.specs.Runs.{IsRun, IsRunFrom, answer_among, event_of, state_after, step_of}
-use Rattle.nook_defs.specs.Services.{needs, is_frame_length, tested_length, checked_frame, checked, served}
-use Rattle.nook_defs.specs.Stages.{stage_due, is_given_up, stops, gives_up_part, collects, resets, loads_image, inits, replays_set, replays_open, resumes, stage_stepped}
-use Rattle.nook_defs.specs.State.{PartState}
-use Rattle.nook_defs.specs.Steps.{opening, stepped, burst_stepped, faults_of_burst, after_arrival}
+use Rattle.nook_data.specs.declared.classes.Accept.{Accept}
+use Rattle.nook_data.specs.declared.classes.Accept.TheVariants as accepts
+use Rattle.nook_data.specs.declared.classes.Admit.{Admit}
+use Rattle.nook_data.specs.declared.classes.Admit.TheVariants as admits
+use Rattle.nook_data.specs.declared.calls.Answer.{Answer}
+use Rattle.nook_data.specs.declared.calls.Answer.TheVariants as answer
+use Rattle.nook_data.specs.declared.calls.CallEntry.{CallEntry}
+use Rattle.nook_data.specs.declared.classes.Class.{Class}
+use Rattle.nook_data.specs.declared.classes.Class.TheVariants as class
+use Rattle.nook_data.specs.declared.entries.Entry.{Entry}
+use Rattle.nook_data.specs.declared.steps.Event.{Event}
+use Rattle.nook_data.specs.declared.steps.Event.TheVariants as event
+use Rattle.nook_data.specs.declared.steps.Mode.{Mode}
+use Rattle.nook_data.specs.declared.steps.Mode.TheVariants as mode
+use Rattle.nook_data.specs.declared.calls.Op.{Op}
+use Rattle.nook_data.specs.declared.calls.Op.TheVariants as op
+use Rattle.nook_data.specs.declared.scenario.PartSpec.{PartSpec}
+use Rattle.nook_data.specs.declared.steps.Stage.{Stage}
+use Rattle.nook_data.specs.declared.steps.Stage.TheVariants as stage
+use Rattle.nook_data.specs.declared.steps.Step.{Step}
+use Rattle.nook_data.specs.declared.steps.Step.TheVariants as step
+use Rattle.nook_data.specs.declared.machine.BadParam.{BadParam}
+use Rattle.nook_data.specs.declared.machine.BurstEnd.{BurstEnd}
+use Rattle.nook_data.specs.declared.machine.BurstEnd.TheVariants as ends
+use Rattle.nook_data.specs.declared.machine.Service.{Service}
+use Rattle.nook_data.specs.declared.machine.Service.TheVariants as service
+use Rattle.part_defs.specs.Calls.{Stepped, after_invoke, answer_in, queue_in, after_enter, after_admit}
+use Rattle.part_defs.proofs.PartCases.{admit_open, entered_by, invoked_by, reply_by, serve_by, stage_by, with_burst}
+use Rattle.nook_data.specs.Classes.{static_check, check_op, check_range, check_length, is_block_length, is_of_class}
+use Rattle.nook_data.specs.Classes.{maximum_of, same_class, admit, admit_holder, is_holder, entry_place, accept}
+use Rattle.part_defs.specs.Crossing.{Crossed, fails, is_last, heap_start, is_accepted, next_stage, closes_call}
+use Rattle.part_defs.specs.Crossing.{reply_answer, call_replied, after_crossing}
+use Rattle.nook_data.specs.Frames.{head_of, tail_of}
+use Rattle.part_defs.specs.Domain.{domain_burst, first_argument, second_argument}
+use Rattle.part_defs.specs.Log.{call_of_thread, shadow_answer, frame_or_empty, queue_after, with_answer, stop_answers}
+use Rattle.part_defs.specs.Log.{stop_queue, gone_answers}
+use Rattle.nook_data.specs.Layout.{buffer_start}
+use Rattle.nook_data.specs.Places.{at_number}
+use Rattle.nook_data.specs.Valid.{IsValidPart}
+use Rattle.nook_data.specs.Answers.{one_answer}
+use Rattle.part_defs.specs.Runs.{IsRun, IsRunFrom, event_of, state_after, step_of}
+use Rattle.nook_data.specs.Answers.{answer_among}
+use Rattle.machine_defs.specs.Services.{needs, is_frame_length, tested_length, checked_frame, checked, served}
+use Rattle.part_defs.specs.Stages.{stage_due, is_given_up, stops, gives_up_part, collects, resets, loads_image, inits}
+use Rattle.part_defs.specs.Stages.{replays_set, replays_open, resumes, stage_stepped}
+use Rattle.part_defs.specs.State.{PartState}
+use Rattle.part_defs.specs.Steps.{opening, stepped, burst_stepped, after_arrival}
+use Rattle.machine_defs.specs.BurstFaults.{faults_of_burst}
 use Rattle.part_laws.proofs.PartFacts.{open_read_count}
 use Rattle.part_laws.proofs.BurstKeeps.{split}
 use Rattle.part_laws.proofs.Served.{queue_stays}

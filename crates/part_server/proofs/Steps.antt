@@ -2,26 +2,28 @@
 use Rattle.std.proofs.Common.{◌≡◌, ℕ, zero, suc, ◌+◌, ◌-◌, ◌<◌, ◌≤◌, ◌&&◌, nat_lt, nat_le, is_none, Bool, true, false, Option, Some, None, IsSome, Result, Ok, Err, List, [], ◌∷◌, ◌++◌, length, drop, is_some, slice_get, refl, sym, ap, ◌∙◌, subst, arith, true≢false}
 use Rattle.std.specs.List.{list_any}
 use Rattle.std.proofs.lemmas.Bool.{and_from, lt-ltb, ltb-false, le-leb}
-use Rattle.nook_defs.specs.declared.classes.Class.TheVariants as class
-use Rattle.nook_defs.specs.declared.steps.Event.{Event}
-use Rattle.nook_defs.specs.declared.steps.Event.TheVariants as event
-use Rattle.nook_defs.specs.declared.desks.DeskRefused.{DeskRefused}
-use Rattle.nook_defs.specs.declared.calls.Op.{Op}
-use Rattle.nook_defs.specs.declared.desks.Receipt.{Receipt}
-use Rattle.nook_defs.specs.declared.scenario.PartSpec.{PartSpec}
-use Rattle.nook_defs.specs.declared.steps.Step.{Step}
-use Rattle.nook_defs.specs.declared.steps.Step.TheVariants as step
-use Rattle.nook_defs.specs.declared.calls.CallEntry.{CallEntry}
-use Rattle.nook_defs.specs.Classes.{same_class}
-use Rattle.nook_defs.specs.Log.{call_of_thread}
-use Rattle.nook_defs.specs.Places.{at_number}
+use Rattle.nook_data.specs.declared.classes.Class.TheVariants as class
+use Rattle.nook_data.specs.declared.steps.Event.{Event}
+use Rattle.nook_data.specs.declared.steps.Event.TheVariants as event
+use Rattle.nook_data.specs.declared.desks.DeskRefused.{DeskRefused}
+use Rattle.nook_data.specs.declared.calls.Op.{Op}
+use Rattle.nook_data.specs.declared.desks.Receipt.{Receipt}
+use Rattle.nook_data.specs.declared.scenario.PartSpec.{PartSpec}
+use Rattle.nook_data.specs.declared.steps.Step.{Step}
+use Rattle.nook_data.specs.declared.steps.Step.TheVariants as step
+use Rattle.nook_data.specs.declared.calls.CallEntry.{CallEntry}
+use Rattle.nook_data.specs.Classes.{same_class}
+use Rattle.part_defs.specs.Log.{call_of_thread}
+use Rattle.nook_data.specs.Places.{at_number}
 use Rattle.std.specs.Option.{option_or}
-use Rattle.nook_defs.specs.Runs.{PartRun, IsRun, answer_at, event_of, run_after, state_after, state_of, step_of, if_enabled, next_for, next_recovery, next_of_calls, next_any}
-use Rattle.nook_defs.specs.Views.CallLogs.{answered_from}
-use Rattle.nook_defs.specs.State.{PartState}
-use Rattle.nook_defs.specs.Steps.{can_invoke, enabled}
-use Rattle.nook_defs.specs.Valid.{IsValidPart}
-use Rattle.nook_defs.proofs.NextSteps.{next_for_case}
+use Rattle.part_defs.specs.Runs.{PartRun, IsRun, event_of, run_after, state_after, state_of, step_of, if_enabled}
+use Rattle.part_defs.specs.Runs.{next_for, next_recovery, next_of_calls, next_any}
+use Rattle.nook_data.specs.Answers.{answer_at}
+use Rattle.part_defs.specs.Views.CallLogs.{answered_from}
+use Rattle.part_defs.specs.State.{PartState}
+use Rattle.part_defs.specs.Steps.{can_invoke, enabled}
+use Rattle.nook_data.specs.Valid.{IsValidPart}
+use Rattle.part_defs.proofs.NextSteps.{next_for_case}
 use Rattle.desk_like.specs.Desks.{IsAt, Answers, IsInvoke, IsArrive, IsOther, HasOpen, HasNoneOpen}
 use Rattle.part_laws.proofs.DeviceStays.{spec_after}
 use Rattle.part_core.proofs.Kept.{kept_after}
@@ -45,7 +47,7 @@ use Rattle.part_server.specs.Answers.{Invokes, Numbers, is_invocation}
 use Rattle.part_server.specs.Turns.{Grows, InvokeGives, InvokedGives, GoOnGives, ReachedGives, LookGives, IsOwn, IsGoingOn, IsWaitingFor}
 use Rattle.part_server.proofs.Views.{low_at}
 use Rattle.part_server.proofs.Opens.{open_after, opened_after, was_invoked, answer_there}
-use Rattle.nook_defs.proofs.Options.{none_is_some, same_inside}
+use Rattle.nook_data.proofs.Options.{none_is_some, same_inside}
 
 -- ---- the last event
 

@@ -4,9 +4,9 @@ use Rattle.std.specs.List.{Contains, AllByRecursion}
 use Rattle.std.proofs.lemmas.List.Elements.{All-nil, All-cons, All-append, Contains-append_left, Contains-append_right, recursion_from_All, All-from_recursion}
 use Rattle.std.proofs.lemmas.Bool.{cases_lt}
 use mathlib.Core.List.{IsPrefix}
-use Rattle.nook_defs.specs.declared.steps.Event.{Event}
-use Rattle.nook_defs.specs.declared.calls.Op.{Op}
-use Rattle.nook_defs.specs.Places.{at_number}
+use Rattle.nook_data.specs.declared.steps.Event.{Event}
+use Rattle.nook_data.specs.declared.calls.Op.{Op}
+use Rattle.nook_data.specs.Places.{at_number}
 use Rattle.desk_like.specs.Desks.{DeskView, IsAlone, IsAt, IsInvoke, IsOther, IsRisingFrom, Adds, AddsNothing, Waits, Invokes}
 use Rattle.shares.specs.Shares.{IsWhole}
 use Rattle.part_laws.proofs.Places.{get_keep}

@@ -1,12 +1,12 @@
 -- How many words an answer has, and which event invokes a call.
 use Rattle.std.specs.Prelude.{◌≡◌, ℕ, ◌≤◌, ◌==◌, ◌&&◌, Bool, false, Some, length}
-use Rattle.nook_defs.specs.declared.calls.Answer.{Answer}
-use Rattle.nook_defs.specs.declared.steps.Event.{Event}
-use Rattle.nook_defs.specs.declared.steps.Event.TheVariants as event
-use Rattle.nook_defs.specs.declared.calls.Op.{Op}
-use Rattle.nook_defs.specs.declared.limits.TheConstants.{MOST_ANSWER_WORDS}
-use Rattle.nook_defs.specs.Views.Room.{answer_words}
-use Rattle.nook_defs.specs.Runs.{answer_at}
+use Rattle.nook_data.specs.declared.calls.Answer.{Answer}
+use Rattle.nook_data.specs.declared.steps.Event.{Event}
+use Rattle.nook_data.specs.declared.steps.Event.TheVariants as event
+use Rattle.nook_data.specs.declared.calls.Op.{Op}
+use Rattle.nook_data.specs.declared.limits.TheConstants.{MOST_ANSWER_WORDS}
+use Rattle.nook_data.specs.Views.Room.{answer_words}
+use Rattle.nook_data.specs.Answers.{answer_at}
 use Rattle.desk_like.specs.Desks.{IsInvoke}
 
 -- an answer of at most 128 words

@@ -1,5 +1,5 @@
 -- A desk and its seats, as contracts name them.
-use Rattle.nook_defs.specs.declared.scenario.PartSpec.{PartSpec}
+use Rattle.nook_data.specs.declared.scenario.PartSpec.{PartSpec}
 use Rattle.desk_like.specs.Desks.{DeskView}
 use Rattle.turn_lock.specs.Seats.{IsSeatOf}
 use Rattle.part_server.specs.declared.desk.PartDesk.{PartDesk}

@@ -2,18 +2,19 @@
 use Rattle.std.specs.Prelude.{◌≡◌, ℕ, ◌+◌, ◌<◌, ◌≤◌, Bool, true, false, Option, Some, None, Result, Ok, Err, List, []}
 use Rattle.std.specs.Prelude.{◌∷◌, ◌++◌, drop, length}
 use Rattle.atomic_table.specs.declared.shared.Seat.{Seat}
-use Rattle.nook_defs.specs.declared.desks.DeskRefused.{DeskRefused}
-use Rattle.nook_defs.specs.declared.desks.DeskRefused.TheVariants as refused
-use Rattle.nook_defs.specs.declared.steps.Event.{Event}
-use Rattle.nook_defs.specs.declared.calls.Op.{Op}
-use Rattle.nook_defs.specs.declared.scenario.PartSpec.{PartSpec}
-use Rattle.nook_defs.specs.declared.desks.Receipt.{Receipt}
-use Rattle.nook_defs.specs.declared.steps.Step.{Step}
-use Rattle.nook_defs.specs.declared.steps.Step.TheVariants as step
-use Rattle.nook_defs.specs.declared.memory.NoMemory.{NoMemory}
-use Rattle.nook_defs.specs.declared.limits.TheConstants.{MOST_ANSWER_WORDS}
-use Rattle.nook_defs.specs.Runs.{PartRun, IsRun, answer_at, next_any}
-use Rattle.nook_defs.specs.Views.CallLogs.{answered_from}
+use Rattle.nook_data.specs.declared.desks.DeskRefused.{DeskRefused}
+use Rattle.nook_data.specs.declared.desks.DeskRefused.TheVariants as refused
+use Rattle.nook_data.specs.declared.steps.Event.{Event}
+use Rattle.nook_data.specs.declared.calls.Op.{Op}
+use Rattle.nook_data.specs.declared.scenario.PartSpec.{PartSpec}
+use Rattle.nook_data.specs.declared.desks.Receipt.{Receipt}
+use Rattle.nook_data.specs.declared.steps.Step.{Step}
+use Rattle.nook_data.specs.declared.steps.Step.TheVariants as step
+use Rattle.nook_data.specs.declared.memory.NoMemory.{NoMemory}
+use Rattle.nook_data.specs.declared.limits.TheConstants.{MOST_ANSWER_WORDS}
+use Rattle.part_defs.specs.Runs.{PartRun, IsRun, next_any}
+use Rattle.nook_data.specs.Answers.{answer_at}
+use Rattle.part_defs.specs.Views.CallLogs.{answered_from}
 use Rattle.desk_like.specs.Desks.{DeskView, IsAt, IsInvoke, IsArrive, IsOther, Answers, Adds, AddsNothing, Waits}
 use Rattle.desk_like.specs.Desks.{HasOpen, HasNoneOpen, CallEnds, ResumeEnds, state_seen}
 use Rattle.shares.specs.Shares.{whole}

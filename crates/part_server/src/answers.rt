@@ -2,11 +2,11 @@
 
 ghost use Rattle.std.specs.Prelude.{◌≡◌, ◌+◌, ◌≤◌, None, Some, MatchOption, drop, false, length};
 ghost use Rattle.std.specs.List.{list_any};
-ghost use Rattle.nook_defs.specs.Views.CallLogs.{answered_from};
+ghost use Rattle.part_defs.specs.Views.CallLogs.{answered_from};
 ghost use Rattle.desk_like.specs.Desks.{IsAt};
 ghost use Rattle.part_server.specs.Answers.{InvokesCall, is_invocation};
 
-use nook_defs::steps::Event;
+use nook_data::steps::Event;
 
 /// The place, from 1, of the first event behind the first `looked` that answers a call.
 pub fn first_answer(events: &[Event], looked: usize, call: u32) -> Option<u64>

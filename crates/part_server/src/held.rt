@@ -1,11 +1,11 @@
 //! The part that a turn keeps, and what a caller does with it while it has the turn.
 
 ghost use Rattle.std.specs.Prelude.{◌≡◌, ◌<◌, ◌≤◌, IsSome, Some, false, length, true};
-ghost use Rattle.nook_defs.specs.Classes.{same_class};
-ghost use Rattle.nook_defs.specs.Places.{at_number};
-ghost use Rattle.nook_defs.specs.Log.{call_of_thread};
-ghost use Rattle.nook_defs.specs.Steps.{can_invoke, enabled};
-ghost use Rattle.nook_defs.specs.declared.classes.Class.TheVariants as class;
+ghost use Rattle.nook_data.specs.Classes.{same_class};
+ghost use Rattle.nook_data.specs.Places.{at_number};
+ghost use Rattle.part_defs.specs.Log.{call_of_thread};
+ghost use Rattle.part_defs.specs.Steps.{can_invoke, enabled};
+ghost use Rattle.nook_data.specs.declared.classes.Class.TheVariants as class;
 ghost use Rattle.part_core.specs.Kept.{IsKept};
 ghost use Rattle.part_core.specs.Turning.{IsStepped};
 ghost use Rattle.part_server.specs.Answers.{AnswersShortly, Invokes};
@@ -15,13 +15,13 @@ ghost use Rattle.desk_like.specs.Desks.{IsAt};
 
 use crate::answers::{first_answer, invocation};
 use crate::waiting::{Progress, Waiting};
-use nook_defs::calls::Op;
-use nook_defs::desks::{DeskRefused, Receipt};
-use nook_defs::limits::{MOST_ANSWER_WORDS, MOST_FRAME_WORDS};
-use nook_defs::lists::Words;
-use nook_defs::memory::{NoMemory, Room};
-use nook_defs::scenario::PartSpec;
-use nook_defs::steps::{Event, Step};
+use nook_data::calls::Op;
+use nook_data::desks::{DeskRefused, Receipt};
+use nook_data::limits::{MOST_ANSWER_WORDS, MOST_FRAME_WORDS};
+use nook_data::lists::Words;
+use nook_data::memory::{NoMemory, Room};
+use nook_data::scenario::PartSpec;
+use nook_data::steps::{Event, Step};
 use part_core::{Part, StepDone, StepRefused};
 use std::marker::Model;
 use turn_lock::Kept;
@@ -33,7 +33,7 @@ pub struct Held {
 }
 
 impl Model for Held {
-    ghost use Rattle.nook_defs.specs.Runs.{PartRun};
+    ghost use Rattle.part_defs.specs.Runs.{PartRun};
     ghost use Rattle.part_core.specs.Kept.{IsKept};
 
     ghost Value = { PartRun };

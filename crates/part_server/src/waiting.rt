@@ -1,13 +1,13 @@
 //! A call that waits for its answer.
 
 ghost use Rattle.std.specs.Prelude.{◌≡◌, ◌≤◌, Some, is_some, true};
-ghost use Rattle.nook_defs.specs.Runs.{answer_at};
+ghost use Rattle.nook_data.specs.Answers.{answer_at};
 ghost use Rattle.part_server.specs.Answers.{AnswersShortly};
 
-use nook_defs::desks::Receipt;
-use nook_defs::limits::MOST_ANSWER_WORDS;
-use nook_defs::memory::Room;
-use nook_defs::steps::Event;
+use nook_data::desks::Receipt;
+use nook_data::limits::MOST_ANSWER_WORDS;
+use nook_data::memory::Room;
+use nook_data::steps::Event;
 
 /// An open call of a thread, the place of its invocation, and room for its answer. None of the first `looked` events
 /// answers it.

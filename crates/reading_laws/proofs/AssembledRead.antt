@@ -6,36 +6,43 @@ use Rattle.std.proofs.lemmas.Bool.{leb-true, ltb-true, ltb-false, and_parts}
 use Rattle.std.proofs.lemmas.List.{length-replicate}
 use Rattle.std.proofs.lemmas.List.Elements.{All-nil, All-cons, All-head, All-tail, All-push, All-set, All-replicate}
 use Rattle.std.proofs.Math.ListN.{length-set}
-use Rattle.nook_defs.specs.AsmLines.{Labels, first_of, definition_of, behind_definition, has_bad_token, behind_name, line_says, operands_with, operands_of, value_of, right_or_wrong, instr_statement, bare_statement, word_statement, class_statement, place_among, entry_value, entry_statement, directive_statement, statement_of}
-use Rattle.nook_defs.specs.Views.Assembling.{at_most_wrong, no_register, no_value, named_statement, class_by, entry_by, statement_by}
-use Rattle.nook_defs.specs.AsmTokens.{kind_of, is_register, lines_of, register_named, register_text, tokens_of}
-use Rattle.nook_defs.specs.Assembler.{Draft, all_given, assembled, at_line, draft_after, draft_from, fault_if, first_draft, first_cursor, image_with, is_above, is_out_of_range, is_second_given, is_second_label, known, labels_from, with_statement, with_word}
-use Rattle.nook_defs.specs.Views.Assembling.{with_class}
-use Rattle.nook_defs.specs.Classes.{entry_count}
-use Rattle.nook_defs.specs.Keys.{class_named, entry_keys}
-use Rattle.nook_defs.specs.Machine.{encode_of, word_of}
-use Rattle.nook_defs.specs.Mnemonics.{instr_with, form_of, mnemonic_named}
-use Rattle.nook_defs.specs.Results.{◌>>=◌}
-use Rattle.nook_defs.specs.Valid.{AreWords, IsValidImage, IsWord}
-use Rattle.nook_defs.specs.Views.Limits.{IsTextPlace}
-use Rattle.nook_defs.specs.declared.assembler.AsmFault.{AsmFault}
-use Rattle.nook_defs.specs.declared.assembler.AsmKind.{AsmKind}
-use Rattle.nook_defs.specs.declared.assembler.AsmKind.TheVariants as fault
-use Rattle.nook_defs.specs.declared.assembler.Form.{Form}
-use Rattle.nook_defs.specs.declared.assembler.Form.TheVariants as form
-use Rattle.nook_defs.specs.declared.assembler.Mnemonic.{Mnemonic}
-use Rattle.nook_defs.specs.declared.assembler.Mnemonic.TheVariants as mnemonic
-use Rattle.nook_defs.specs.declared.assembler.Operands.{Operands}
-use Rattle.nook_defs.specs.declared.assembler.Section.{Section}
-use Rattle.nook_defs.specs.declared.assembler.Section.TheVariants as section
-use Rattle.nook_defs.specs.declared.assembler.Statement.{Statement}
-use Rattle.nook_defs.specs.declared.assembler.Statement.TheVariants as statement
-use Rattle.nook_defs.specs.declared.assembler.TokenKind.{TokenKind}
-use Rattle.nook_defs.specs.declared.assembler.TokenKind.TheVariants as kind
-use Rattle.nook_defs.specs.declared.assembler.Value.{Value}
-use Rattle.nook_defs.specs.declared.assembler.Value.TheVariants as value
-use Rattle.nook_defs.specs.declared.classes.Class.{Class}
-use Rattle.nook_defs.specs.declared.scenario.Image.{Image}
+use Rattle.asm_defs.specs.AsmLines.{Labels, first_of, definition_of, behind_definition, has_bad_token, behind_name}
+use Rattle.asm_defs.specs.AsmLines.{line_says, operands_with, operands_of, value_of, right_or_wrong, instr_statement}
+use Rattle.asm_defs.specs.AsmLines.{bare_statement, word_statement, class_statement, place_among, entry_value}
+use Rattle.asm_defs.specs.AsmLines.{entry_statement, directive_statement, statement_of}
+use Rattle.asm_defs.specs.Views.Assembling.{at_most_wrong, no_register, no_value, named_statement, class_by, entry_by}
+use Rattle.asm_defs.specs.Views.Assembling.{statement_by}
+use Rattle.asm_defs.specs.AsmTokens.{kind_of, is_register, lines_of, register_named, register_text, tokens_of}
+use Rattle.asm_defs.specs.Assembler.{Draft, all_given, assembled, at_line, draft_after, draft_from, fault_if}
+use Rattle.asm_defs.specs.Assembler.{first_draft, first_cursor, image_with, is_above, is_out_of_range, is_second_given}
+use Rattle.asm_defs.specs.Assembler.{is_second_label, known, labels_from, with_statement, with_word}
+use Rattle.asm_defs.specs.Views.Assembling.{with_class}
+use Rattle.nook_data.specs.Classes.{entry_count}
+use Rattle.nook_data.specs.ClassNames.{class_named}
+use Rattle.asm_defs.specs.Keys.{entry_keys}
+use Rattle.machine_defs.specs.Machine.{encode_of, word_of}
+use Rattle.machine_defs.specs.Mnemonics.{instr_with, form_of, mnemonic_named}
+use Rattle.asm_defs.specs.Results.{◌>>=◌}
+use Rattle.nook_data.specs.Valid.{AreWords, IsValidImage, IsWord}
+use Rattle.nook_data.specs.Views.Limits.{IsTextPlace}
+use Rattle.asm_defs.specs.declared.assembler.AsmFault.{AsmFault}
+use Rattle.asm_defs.specs.declared.assembler.AsmKind.{AsmKind}
+use Rattle.asm_defs.specs.declared.assembler.AsmKind.TheVariants as fault
+use Rattle.nook_data.specs.declared.machine.Form.{Form}
+use Rattle.nook_data.specs.declared.machine.Form.TheVariants as form
+use Rattle.nook_data.specs.declared.machine.Mnemonic.{Mnemonic}
+use Rattle.nook_data.specs.declared.machine.Mnemonic.TheVariants as mnemonic
+use Rattle.asm_defs.specs.declared.assembler.Operands.{Operands}
+use Rattle.asm_defs.specs.declared.assembler.Section.{Section}
+use Rattle.asm_defs.specs.declared.assembler.Section.TheVariants as section
+use Rattle.asm_defs.specs.declared.assembler.Statement.{Statement}
+use Rattle.asm_defs.specs.declared.assembler.Statement.TheVariants as statement
+use Rattle.asm_defs.specs.declared.assembler.TokenKind.{TokenKind}
+use Rattle.asm_defs.specs.declared.assembler.TokenKind.TheVariants as kind
+use Rattle.asm_defs.specs.declared.assembler.Value.{Value}
+use Rattle.asm_defs.specs.declared.assembler.Value.TheVariants as value
+use Rattle.nook_data.specs.declared.classes.Class.{Class}
+use Rattle.nook_data.specs.declared.scenario.Image.{Image}
 use Rattle.reading_laws.proofs.Readings.{chained, passed}
 
 -- ---- words of instructions

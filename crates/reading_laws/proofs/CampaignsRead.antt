@@ -3,22 +3,23 @@ use Rattle.std.proofs.Common.{◌≡◌, refl, ℕ, ◌-◌, ◌≤◌, Bool, tr
 use Rattle.std.specs.Prelude.{Result, Ok, IfOk, All, ⊤}
 use Rattle.std.proofs.lemmas.Bool.{ltb-false}
 use Rattle.serde_json.specs.Data.{Data}
-use Rattle.nook_defs.specs.CampaignReading.{campaign_from, campaign_of, check_base, check_ops, check_own_faults, member_faults_of}
-use Rattle.nook_defs.specs.Campaigns.{IsValidCampaign, faults_at, ops_count}
-use Rattle.nook_defs.specs.PartReading.{fault_of}
-use Rattle.nook_defs.specs.Reading.{json_of, number_at, object_with, refuse_if, required, under}
-use Rattle.nook_defs.specs.Results.{◌>>=◌}
-use Rattle.nook_defs.specs.ScenarioReading.{scenario_of}
-use Rattle.nook_defs.specs.Valid.{IsValidFault, IsValidScenario}
-use Rattle.nook_defs.specs.declared.campaign.Campaign.{Campaign}
-use Rattle.nook_defs.specs.declared.scenario.Fault.{Fault}
-use Rattle.nook_defs.specs.declared.scenario.Scenario.{Scenario}
-use Rattle.nook_defs.specs.declared.scenario.ThreadSpec.{ThreadSpec}
-use Rattle.nook_defs.specs.declared.input.InputFault.{InputFault}
-use Rattle.nook_defs.specs.declared.input.InputFault.TheVariants as fault
-use Rattle.nook_defs.specs.declared.input.Key.TheVariants as key
-use Rattle.nook_defs.specs.declared.input.PathStep.TheVariants as step
-use Rattle.nook_defs.specs.declared.input.Refusal.{Refusal}
+use Rattle.input_defs.specs.CampaignReading.{campaign_from, campaign_of, check_base, check_ops, check_own_faults}
+use Rattle.input_defs.specs.CampaignReading.{member_faults_of}
+use Rattle.nook_data.specs.Members.{IsValidCampaign, faults_at, ops_count}
+use Rattle.input_defs.specs.PartReading.{fault_of}
+use Rattle.input_defs.specs.Reading.{json_of, number_at, object_with, refuse_if, required, under}
+use Rattle.asm_defs.specs.Results.{◌>>=◌}
+use Rattle.input_defs.specs.ScenarioReading.{scenario_of}
+use Rattle.nook_data.specs.Valid.{IsValidFault, IsValidScenario}
+use Rattle.nook_data.specs.declared.campaign.Campaign.{Campaign}
+use Rattle.nook_data.specs.declared.scenario.Fault.{Fault}
+use Rattle.nook_data.specs.declared.scenario.Scenario.{Scenario}
+use Rattle.nook_data.specs.declared.scenario.ThreadSpec.{ThreadSpec}
+use Rattle.input_defs.specs.declared.input.InputFault.{InputFault}
+use Rattle.input_defs.specs.declared.input.InputFault.TheVariants as fault
+use Rattle.asm_defs.specs.declared.keys.Key.TheVariants as key
+use Rattle.input_defs.specs.declared.input.PathStep.TheVariants as step
+use Rattle.input_defs.specs.declared.input.Refusal.{Refusal}
 use Rattle.reading_laws.proofs.PartsRead.{fault_holds}
 use Rattle.reading_laws.proofs.Readings.{IsBetween, Listed, beneath, chained, each_holds, less, number_at_holds, passed, required_holds}
 use Rattle.reading_laws.proofs.ScenariosRead.{scenario_holds}

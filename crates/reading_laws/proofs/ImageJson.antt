@@ -8,18 +8,19 @@ use Rattle.serde_json.specs.Data.{number, unsigned, Members, no_members, put}
 use Rattle.serde_json.specs.Read.{number_of, of_json, of_items, of_members, max_depth}
 use Rattle.serde_json.specs.Written.{outline, items_outline, members_outline}
 use Rattle.serde_json.proofs.Numbers.{number_of-decimal}
-use Rattle.nook_defs.specs.Classes.{entry_count}
-use Rattle.nook_defs.specs.ImageReading.{image_from}
-use Rattle.nook_defs.specs.ImageText.{hex_text, word_items, entry_members, image_data, image_text}
-use Rattle.nook_defs.specs.Keys.{key_text, class_text, entry_keys}
-use Rattle.nook_defs.specs.Valid.{IsValidImage}
-use Rattle.nook_defs.specs.declared.classes.Class.{Class}
-use Rattle.nook_defs.specs.declared.classes.Class.TheVariants as class
-use Rattle.nook_defs.specs.declared.scenario.Image.{Image}
-use Rattle.nook_defs.specs.declared.input.Key.{Key}
-use Rattle.nook_defs.proofs.AsmNumbers.{at_below}
-use Rattle.nook_defs.proofs.AsmWhole.{Low, low_from, five, six}
-use Rattle.nook_defs.proofs.ImageBack.{image_back}
+use Rattle.nook_data.specs.Classes.{entry_count}
+use Rattle.input_defs.specs.ImageReading.{image_from}
+use Rattle.asm_defs.specs.ImageText.{hex_text, word_items, entry_members, image_data, image_text}
+use Rattle.asm_defs.specs.Keys.{key_text, entry_keys}
+use Rattle.nook_data.specs.ClassNames.{class_text}
+use Rattle.nook_data.specs.Valid.{IsValidImage}
+use Rattle.nook_data.specs.declared.classes.Class.{Class}
+use Rattle.nook_data.specs.declared.classes.Class.TheVariants as class
+use Rattle.nook_data.specs.declared.scenario.Image.{Image}
+use Rattle.asm_defs.specs.declared.keys.Key.{Key}
+use Rattle.asm_defs.proofs.AsmNumbers.{at_below}
+use Rattle.asm_defs.proofs.AsmWhole.{Low, low_from, five, six}
+use Rattle.input_defs.proofs.ImageBack.{image_back}
 use Rattle.reading_laws.proofs.PlainData.{IsPlain, ArePlain, ArePlainMembers, put_plain, json_with_feed}
 
 -- ---- the value is of texts and unsigned numbers

@@ -8,21 +8,21 @@ use Rattle.std.proofs.lemmas.Bool.{ltb-true, eqb-true, and_parts}
 use Rattle.std.proofs.lemmas.Int.Digits.{digits_value-lt}
 use Rattle.std.proofs.lemmas.List.Elements.{All-nil, All-push}
 use Rattle.serde_json.specs.Data.{Data}
-use Rattle.nook_defs.specs.Classes.{entry_count}
-use Rattle.nook_defs.specs.ImageReading.{known_class, hex_word, words_of, places_from, entries_of, image_of}
-use Rattle.nook_defs.specs.Views.Readings.{is_hex_digit, text_word}
-use Rattle.nook_defs.specs.Keys.{entry_keys}
-use Rattle.nook_defs.specs.Reading.{bad, text_of, object_with, required, number_at}
-use Rattle.nook_defs.specs.Results.{◌>>=◌}
-use Rattle.nook_defs.specs.Valid.{AreWords, IsValidImage, IsWord}
-use Rattle.nook_defs.specs.Views.Limits.{IsTextPlace}
-use Rattle.nook_defs.specs.declared.classes.Class.{Class}
-use Rattle.nook_defs.specs.declared.classes.Class.TheVariants as class
-use Rattle.nook_defs.specs.declared.scenario.Image.{Image}
-use Rattle.nook_defs.specs.declared.input.InputFault.TheVariants as fault
-use Rattle.nook_defs.specs.declared.input.Key.{Key}
-use Rattle.nook_defs.specs.declared.input.Key.TheVariants as key
-use Rattle.nook_defs.specs.declared.input.Refusal.{Refusal}
+use Rattle.nook_data.specs.Classes.{entry_count}
+use Rattle.input_defs.specs.ImageReading.{known_class, hex_word, words_of, places_from, entries_of, image_of}
+use Rattle.input_defs.specs.Views.Readings.{is_hex_digit, text_word}
+use Rattle.asm_defs.specs.Keys.{entry_keys}
+use Rattle.input_defs.specs.Reading.{bad, text_of, object_with, required, number_at}
+use Rattle.asm_defs.specs.Results.{◌>>=◌}
+use Rattle.nook_data.specs.Valid.{AreWords, IsValidImage, IsWord}
+use Rattle.nook_data.specs.Views.Limits.{IsTextPlace}
+use Rattle.nook_data.specs.declared.classes.Class.{Class}
+use Rattle.nook_data.specs.declared.classes.Class.TheVariants as class
+use Rattle.nook_data.specs.declared.scenario.Image.{Image}
+use Rattle.input_defs.specs.declared.input.InputFault.TheVariants as fault
+use Rattle.asm_defs.specs.declared.keys.Key.{Key}
+use Rattle.asm_defs.specs.declared.keys.Key.TheVariants as key
+use Rattle.input_defs.specs.declared.input.Refusal.{Refusal}
 use Rattle.reading_laws.proofs.Readings.{any, chained, passed, less, required_holds, number_at_holds, IsBetween, Listed, each_holds}
 
 all_digits : (digits : List ℕ) → list_all is_hex_digit digits ≡ true → AllDigits 16 digits

@@ -2,14 +2,14 @@
 use Rattle.std.proofs.Common.{◌≡◌, ◌∙◌, refl, sym, subst, ap, ℕ, zero, suc, ◌≤◌, true, List, [], ◌∷◌, ◌++◌, length, Option, Some, None, arith, length-append}
 use Rattle.std.specs.Prelude.{All, slice_get}
 use Rattle.std.proofs.lemmas.List.Elements.{All-cons, All-head, All-push, All-same, All-tail}
-use Rattle.nook_defs.specs.Campaigns.{IsValidCampaign, faults_at, member, struck_parts, with_fault, with_struck}
-use Rattle.nook_defs.specs.PartReading.{part_names}
-use Rattle.nook_defs.specs.Valid.{FitsClass, IsValidFault, IsValidPart, IsValidScenario, IsValidThread, are_distinct}
-use Rattle.nook_defs.specs.declared.campaign.Campaign.{Campaign}
-use Rattle.nook_defs.specs.declared.classes.Class.{Class}
-use Rattle.nook_defs.specs.declared.classes.Class.TheVariants as class
-use Rattle.nook_defs.specs.declared.scenario.Fault.{Fault}
-use Rattle.nook_defs.specs.declared.scenario.PartSpec.{PartSpec}
+use Rattle.nook_data.specs.Members.{IsValidCampaign, faults_at, member, struck_parts, with_fault, with_struck}
+use Rattle.nook_data.specs.Valid.{part_names}
+use Rattle.nook_data.specs.Valid.{FitsClass, IsValidFault, IsValidPart, IsValidScenario, IsValidThread, are_distinct}
+use Rattle.nook_data.specs.declared.campaign.Campaign.{Campaign}
+use Rattle.nook_data.specs.declared.classes.Class.{Class}
+use Rattle.nook_data.specs.declared.classes.Class.TheVariants as class
+use Rattle.nook_data.specs.declared.scenario.Fault.{Fault}
+use Rattle.nook_data.specs.declared.scenario.PartSpec.{PartSpec}
 
 -- ---- the struck part
 

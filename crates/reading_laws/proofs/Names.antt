@@ -4,12 +4,13 @@ use Rattle.std.specs.Prelude.{Result, Ok, Err, IfOk, bytes_eq}
 use Rattle.std.proofs.lemmas.Bool.{and_parts}
 use Rattle.std.proofs.lemmas.Slice.Eq.{bytes_eq-Decides}
 use Rattle.serde_json.specs.Data.{Data}
-use Rattle.nook_defs.specs.Names.{is_name}
-use Rattle.nook_defs.specs.PartReading.{is_among, name_of, new_name}
-use Rattle.nook_defs.specs.Reading.{bad, text_of}
-use Rattle.nook_defs.specs.Valid.{are_distinct}
-use Rattle.nook_defs.specs.declared.input.InputFault.TheVariants as fault
-use Rattle.nook_defs.specs.declared.input.Refusal.{Refusal}
+use Rattle.nook_data.specs.Names.{is_name}
+use Rattle.nook_data.specs.Names.{is_among}
+use Rattle.input_defs.specs.PartReading.{name_of, new_name}
+use Rattle.input_defs.specs.Reading.{bad, text_of}
+use Rattle.nook_data.specs.Valid.{are_distinct}
+use Rattle.input_defs.specs.declared.input.InputFault.TheVariants as fault
+use Rattle.input_defs.specs.declared.input.Refusal.{Refusal}
 use Rattle.reading_laws.proofs.Readings.{passed}
 
 pub or_false : (a b : Bool) → (a || b) ≡ false → (a ≡ false) × (b ≡ false)

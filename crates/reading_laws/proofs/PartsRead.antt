@@ -5,34 +5,39 @@ use Rattle.std.proofs.lemmas.Bool.{eqb-true}
 use Rattle.std.proofs.lemmas.List.Elements.{All-nil, All-push}
 use Rattle.serde_json.specs.Data.{Data}
 use Rattle.serde_json.specs.Find.{get}
-use Rattle.nook_defs.specs.Assembler.{assembled}
-use Rattle.nook_defs.specs.Classes.{class_code, same_class}
-use Rattle.nook_defs.specs.ImageReading.{known_class, image_of, or_bad_asm, driver_of}
-use Rattle.nook_defs.specs.Views.Readings.{asm_of, driver_image}
-use Rattle.nook_defs.specs.Keys.{key_text}
-use Rattle.nook_defs.specs.Names.{is_name}
-use Rattle.nook_defs.specs.PartReading.{is_among, name_of, fault_named, fault_keys, fault_kind, fault_of, bad_block_of, part_blocks, part_bad, part_arrivals, part_keys, part_names, part_of}
-use Rattle.nook_defs.specs.Views.Readings.{faults_of, bad_blocks_of, frame_of, frames_of}
-use Rattle.nook_defs.specs.Reading.{bad, under, refuse_if, text_of, named_of, is_object, object_with, required, optional, whole_number, number_at, list_of, numbers_of}
-use Rattle.nook_defs.specs.Views.Readings.{number_or}
-use Rattle.nook_defs.specs.Results.{◌>>=◌}
-use Rattle.nook_defs.specs.Valid.{AreWords, IsWord, IsValidImage, IsValidKind, IsValidFault, IsValidBadBlock, FitsClass, IsValidPart, are_distinct}
-use Rattle.nook_defs.specs.Views.Limits.{IsValidFrame}
-use Rattle.nook_defs.specs.declared.assembler.AsmFault.{AsmFault}
-use Rattle.nook_defs.specs.declared.scenario.BadBlock.{BadBlock}
-use Rattle.nook_defs.specs.declared.classes.Class.{Class}
-use Rattle.nook_defs.specs.declared.classes.Class.TheVariants as class
-use Rattle.nook_defs.specs.declared.scenario.Fault.{Fault}
-use Rattle.nook_defs.specs.declared.scenario.FaultKind.{FaultKind}
-use Rattle.nook_defs.specs.declared.scenario.FaultKind.TheVariants as strikes
-use Rattle.nook_defs.specs.declared.scenario.Image.{Image}
-use Rattle.nook_defs.specs.declared.scenario.PartSpec.{PartSpec}
-use Rattle.nook_defs.specs.declared.input.FaultName.{FaultName}
-use Rattle.nook_defs.specs.declared.input.FaultName.TheVariants as named
-use Rattle.nook_defs.specs.declared.input.InputFault.TheVariants as fault
-use Rattle.nook_defs.specs.declared.input.Key.TheVariants as key
-use Rattle.nook_defs.specs.declared.input.PathStep.TheVariants as step
-use Rattle.nook_defs.specs.declared.input.Refusal.{Refusal}
+use Rattle.asm_defs.specs.Assembler.{assembled}
+use Rattle.nook_data.specs.Classes.{class_code, same_class}
+use Rattle.input_defs.specs.ImageReading.{known_class, image_of, or_bad_asm, driver_of}
+use Rattle.input_defs.specs.Views.Readings.{asm_of, driver_image}
+use Rattle.asm_defs.specs.Keys.{key_text}
+use Rattle.nook_data.specs.Names.{is_name}
+use Rattle.nook_data.specs.Names.{is_among}
+use Rattle.input_defs.specs.PartReading.{name_of, fault_named, fault_keys, fault_kind, fault_of, bad_block_of}
+use Rattle.input_defs.specs.PartReading.{part_blocks, part_bad, part_arrivals, part_keys, part_of}
+use Rattle.nook_data.specs.Valid.{part_names}
+use Rattle.input_defs.specs.Views.Readings.{faults_of, bad_blocks_of, frame_of, frames_of}
+use Rattle.input_defs.specs.Reading.{bad, under, refuse_if, text_of, named_of, is_object, object_with, required}
+use Rattle.input_defs.specs.Reading.{optional, whole_number, number_at, list_of, numbers_of}
+use Rattle.input_defs.specs.Views.Readings.{number_or}
+use Rattle.asm_defs.specs.Results.{◌>>=◌}
+use Rattle.nook_data.specs.Valid.{AreWords, IsWord, IsValidImage, IsValidKind, IsValidFault, IsValidBadBlock, FitsClass}
+use Rattle.nook_data.specs.Valid.{IsValidPart, are_distinct}
+use Rattle.nook_data.specs.Views.Limits.{IsValidFrame}
+use Rattle.asm_defs.specs.declared.assembler.AsmFault.{AsmFault}
+use Rattle.nook_data.specs.declared.scenario.BadBlock.{BadBlock}
+use Rattle.nook_data.specs.declared.classes.Class.{Class}
+use Rattle.nook_data.specs.declared.classes.Class.TheVariants as class
+use Rattle.nook_data.specs.declared.scenario.Fault.{Fault}
+use Rattle.nook_data.specs.declared.scenario.FaultKind.{FaultKind}
+use Rattle.nook_data.specs.declared.scenario.FaultKind.TheVariants as strikes
+use Rattle.nook_data.specs.declared.scenario.Image.{Image}
+use Rattle.nook_data.specs.declared.scenario.PartSpec.{PartSpec}
+use Rattle.input_defs.specs.declared.input.FaultName.{FaultName}
+use Rattle.input_defs.specs.declared.input.FaultName.TheVariants as named
+use Rattle.input_defs.specs.declared.input.InputFault.TheVariants as fault
+use Rattle.asm_defs.specs.declared.keys.Key.TheVariants as key
+use Rattle.input_defs.specs.declared.input.PathStep.TheVariants as step
+use Rattle.input_defs.specs.declared.input.Refusal.{Refusal}
 use Rattle.reading_laws.proofs.AssembledRead.{assembled_is_valid}
 use Rattle.reading_laws.proofs.ImagesRead.{image_is_valid}
 use Rattle.reading_laws.proofs.Names.{IsNewName, name_holds, distinct_push}

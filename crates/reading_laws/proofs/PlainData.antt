@@ -18,7 +18,7 @@ use Rattle.serde_json.specs.Data.{Num, unsigned, negative, float, Data, null, bo
 use Rattle.serde_json.specs.Read.{read, of_json, max_depth}
 use Rattle.serde_json.specs.Written.{outline, items_outline, members_outline, comma_if, compact_text, items_text, members_text}
 use Rattle.serde_json.proofs.Texts.{print-outline}
-use Rattle.nook_defs.specs.Reading.{is_utf8, json_of}
+use Rattle.input_defs.specs.Reading.{is_utf8, json_of}
 use Rattle.reading_laws.proofs.LineFeed.{tokens_with_feed}
 
 -- texts and unsigned numbers, nested at most so deep

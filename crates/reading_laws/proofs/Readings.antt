@@ -5,15 +5,16 @@ use Rattle.std.proofs.lemmas.Bool.{ltb-false}
 use Rattle.std.proofs.lemmas.List.Elements.{All-nil, All-push}
 use Rattle.serde_json.specs.Data.{Data, Items, no_items, item}
 use Rattle.serde_json.specs.Find.{get, as_array, as_number, as_u64}
-use Rattle.nook_defs.specs.Keys.{key_text}
-use Rattle.nook_defs.specs.Reading.{bad, or_bad, under, refuse_if, whole_number, number_at, required, optional, count_of, items_from, list_of, numbers_of}
-use Rattle.nook_defs.specs.Views.Readings.{number_or}
-use Rattle.nook_defs.specs.Results.{◌>>=◌}
-use Rattle.nook_defs.specs.declared.input.InputFault.TheVariants as fault
-use Rattle.nook_defs.specs.declared.input.Key.{Key}
-use Rattle.nook_defs.specs.declared.input.PathStep.{PathStep}
-use Rattle.nook_defs.specs.declared.input.PathStep.TheVariants as step
-use Rattle.nook_defs.specs.declared.input.Refusal.{Refusal}
+use Rattle.asm_defs.specs.Keys.{key_text}
+use Rattle.input_defs.specs.Reading.{bad, or_bad, under, refuse_if, whole_number, number_at, required, optional}
+use Rattle.input_defs.specs.Reading.{count_of, items_from, list_of, numbers_of}
+use Rattle.input_defs.specs.Views.Readings.{number_or}
+use Rattle.asm_defs.specs.Results.{◌>>=◌}
+use Rattle.input_defs.specs.declared.input.InputFault.TheVariants as fault
+use Rattle.asm_defs.specs.declared.keys.Key.{Key}
+use Rattle.input_defs.specs.declared.input.PathStep.{PathStep}
+use Rattle.input_defs.specs.declared.input.PathStep.TheVariants as step
+use Rattle.input_defs.specs.declared.input.Refusal.{Refusal}
 
 -- nothing is asked of what is read
 pub any : {T E : Type 0} (r : Result T E) → IfOk r (λ _. Unit {0})

@@ -3,29 +3,35 @@ use Rattle.std.proofs.Common.{◌≡◌, ◌∙◌, refl, sym, ap, ℕ, ◌+◌,
 use Rattle.std.specs.Prelude.{Result, Ok, Err, IfOk, All, ⊤}
 use Rattle.std.proofs.lemmas.List.Elements.{All-nil, All-push}
 use Rattle.serde_json.specs.Data.{Data}
-use Rattle.nook_defs.specs.PartReading.{is_among, name_of, part_of, part_names}
-use Rattle.nook_defs.specs.Reading.{is_object, json_of, named_of, object_with, required, optional, whole_number, number_at, list_of, numbers_of}
-use Rattle.nook_defs.specs.Results.{◌>>=◌}
-use Rattle.nook_defs.specs.ScenarioReading.{schedule_named, schedule_keys, schedule_by, schedule_of, op_named, op_keys, op_words_of, op_by, op_of, thread_names, thread_of, scenario_of, scenario_from}
-use Rattle.nook_defs.specs.Reading.{word_at}
-use Rattle.nook_defs.specs.Views.Readings.{picks_of, ops_of, parts_of, threads_of}
-use Rattle.nook_defs.specs.Valid.{AreWords, IsWord, IsValidOp, IsValidPart, IsValidSchedule, IsValidThread, IsValidScenario, are_distinct}
-use Rattle.nook_defs.specs.Views.Limits.{IsValidStep}
-use Rattle.nook_defs.proofs.Changes.{IsPick}
-use Rattle.nook_defs.specs.declared.calls.Op.{Op}
-use Rattle.nook_defs.specs.declared.calls.Op.TheVariants as op
-use Rattle.nook_defs.specs.declared.scenario.PartSpec.{PartSpec}
-use Rattle.nook_defs.specs.declared.scenario.Scenario.{Scenario}
-use Rattle.nook_defs.specs.declared.scenario.ScheduleSpec.{ScheduleSpec}
-use Rattle.nook_defs.specs.declared.scenario.ScheduleSpec.TheVariants as schedule
-use Rattle.nook_defs.specs.declared.scenario.ThreadSpec.{ThreadSpec}
-use Rattle.nook_defs.specs.declared.input.Key.{Key}
-use Rattle.nook_defs.specs.declared.input.Key.TheVariants as key
-use Rattle.nook_defs.specs.declared.input.OpName.{OpName}
-use Rattle.nook_defs.specs.declared.input.OpName.TheVariants as asks
-use Rattle.nook_defs.specs.declared.input.Refusal.{Refusal}
-use Rattle.nook_defs.specs.declared.input.ScheduleName.{ScheduleName}
-use Rattle.nook_defs.specs.declared.input.ScheduleName.TheVariants as named
+use Rattle.nook_data.specs.Names.{is_among}
+use Rattle.input_defs.specs.PartReading.{name_of, part_of}
+use Rattle.nook_data.specs.Valid.{part_names}
+use Rattle.input_defs.specs.Reading.{is_object, json_of, named_of, object_with, required, optional, whole_number}
+use Rattle.input_defs.specs.Reading.{number_at, list_of, numbers_of}
+use Rattle.asm_defs.specs.Results.{◌>>=◌}
+use Rattle.input_defs.specs.ScenarioReading.{schedule_named, schedule_keys, schedule_by, schedule_of, op_named, op_keys}
+use Rattle.input_defs.specs.ScenarioReading.{op_words_of, op_by, op_of, thread_of, scenario_of, scenario_from}
+use Rattle.nook_data.specs.Valid.{thread_names}
+use Rattle.input_defs.specs.Reading.{word_at}
+use Rattle.input_defs.specs.Views.Readings.{picks_of, ops_of, parts_of, threads_of}
+use Rattle.nook_data.specs.Valid.{AreWords, IsWord, IsValidOp, IsValidPart, IsValidSchedule, IsValidThread}
+use Rattle.nook_data.specs.Valid.{IsValidScenario, are_distinct}
+use Rattle.nook_data.specs.Views.Limits.{IsValidStep}
+use Rattle.nook_data.specs.Views.Limits.{IsPick}
+use Rattle.nook_data.specs.declared.calls.Op.{Op}
+use Rattle.nook_data.specs.declared.calls.Op.TheVariants as op
+use Rattle.nook_data.specs.declared.scenario.PartSpec.{PartSpec}
+use Rattle.nook_data.specs.declared.scenario.Scenario.{Scenario}
+use Rattle.nook_data.specs.declared.scenario.ScheduleSpec.{ScheduleSpec}
+use Rattle.nook_data.specs.declared.scenario.ScheduleSpec.TheVariants as schedule
+use Rattle.nook_data.specs.declared.scenario.ThreadSpec.{ThreadSpec}
+use Rattle.asm_defs.specs.declared.keys.Key.{Key}
+use Rattle.asm_defs.specs.declared.keys.Key.TheVariants as key
+use Rattle.input_defs.specs.declared.input.OpName.{OpName}
+use Rattle.input_defs.specs.declared.input.OpName.TheVariants as asks
+use Rattle.input_defs.specs.declared.input.Refusal.{Refusal}
+use Rattle.input_defs.specs.declared.input.ScheduleName.{ScheduleName}
+use Rattle.input_defs.specs.declared.input.ScheduleName.TheVariants as named
 use Rattle.reading_laws.proofs.Names.{IsNewName, name_holds, distinct_push}
 use Rattle.reading_laws.proofs.PartsRead.{ArePartsRead, numbers_hold, parts_hold, word_at_holds}
 use Rattle.reading_laws.proofs.Readings.{chained, passed, less, required_holds, optional_holds, number_holds, number_at_holds, IsBetween, Listed, list_holds, each_holds}

@@ -2,14 +2,14 @@
 
 ghost use Rattle.std.specs.Prelude.{List, ℕ, IfOk};
 ghost use Rattle.serde_json.specs.Data.{Data};
-ghost use Rattle.nook_defs.specs.Valid.{IsValidFault, IsValidImage, IsValidScenario};
-ghost use Rattle.nook_defs.specs.Assembler.{assembled};
-ghost use Rattle.nook_defs.specs.CampaignReading.{campaign_from};
-ghost use Rattle.nook_defs.specs.Campaigns.{IsValidCampaign, member};
-ghost use Rattle.nook_defs.specs.ImageReading.{image_of};
-ghost use Rattle.nook_defs.specs.ScenarioReading.{scenario_from};
-ghost use Rattle.nook_defs.specs.declared.campaign.Campaign.{Campaign};
-ghost use Rattle.nook_defs.specs.declared.scenario.Fault.{Fault};
+ghost use Rattle.nook_data.specs.Valid.{IsValidFault, IsValidImage, IsValidScenario};
+ghost use Rattle.asm_defs.specs.Assembler.{assembled};
+ghost use Rattle.input_defs.specs.CampaignReading.{campaign_from};
+ghost use Rattle.nook_data.specs.Members.{IsValidCampaign, member};
+ghost use Rattle.input_defs.specs.ImageReading.{image_of};
+ghost use Rattle.input_defs.specs.ScenarioReading.{scenario_from};
+ghost use Rattle.nook_data.specs.declared.campaign.Campaign.{Campaign};
+ghost use Rattle.nook_data.specs.declared.scenario.Fault.{Fault};
 
 /// The image that a JSON value is read as keeps the limits of images.
 pub fn images_are_valid()

@@ -1,9 +1,9 @@
 //! The text of an image reads back as the image.
 
-ghost use Rattle.nook_defs.specs.ImageReading.{image_from};
-ghost use Rattle.nook_defs.specs.ImageText.{image_text};
-ghost use Rattle.nook_defs.specs.Valid.{IsValidImage};
-ghost use Rattle.nook_defs.specs.declared.scenario.Image.{Image};
+ghost use Rattle.input_defs.specs.ImageReading.{image_from};
+ghost use Rattle.asm_defs.specs.ImageText.{image_text};
+ghost use Rattle.nook_data.specs.Valid.{IsValidImage};
+ghost use Rattle.nook_data.specs.declared.scenario.Image.{Image};
 ghost use Rattle.std.specs.Prelude.{Ok, ◌≡◌};
 
 /// The JSON text that is written for a valid image, with its line feed, is read as that image.

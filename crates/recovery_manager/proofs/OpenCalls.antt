@@ -1,14 +1,15 @@
 -- Stop goes over the open calls from the first to the last.
 use Rattle.std.proofs.Common.{◌≡◌, ℕ, zero, suc, ◌+◌, ◌≤◌, Option, Some, None, List, [], ◌∷◌, ◌++◌, length, drop, slice_get, refl, sym, ap, ◌∙◌, append_assoc, length-append, arith}
-use Rattle.nook_defs.specs.declared.calls.Answer.{Answer}
-use Rattle.nook_defs.specs.declared.calls.Answer.TheVariants as answer
-use Rattle.nook_defs.specs.declared.calls.CallEntry.{CallEntry}
-use Rattle.nook_defs.specs.declared.calls.Op.{Op}
-use Rattle.nook_defs.specs.declared.calls.Op.TheVariants as op
-use Rattle.nook_defs.specs.declared.steps.Stage.{Stage}
-use Rattle.nook_defs.specs.declared.steps.Stage.TheVariants as stage
-use Rattle.nook_defs.specs.Log.{shadow_answer, frame_or_empty, queue_after, with_answer, stop_answers, stop_queue, gone_answers}
-use Rattle.nook_defs.specs.Views.CallLogs.{front_of}
+use Rattle.nook_data.specs.declared.calls.Answer.{Answer}
+use Rattle.nook_data.specs.declared.calls.Answer.TheVariants as answer
+use Rattle.nook_data.specs.declared.calls.CallEntry.{CallEntry}
+use Rattle.nook_data.specs.declared.calls.Op.{Op}
+use Rattle.nook_data.specs.declared.calls.Op.TheVariants as op
+use Rattle.nook_data.specs.declared.steps.Stage.{Stage}
+use Rattle.nook_data.specs.declared.steps.Stage.TheVariants as stage
+use Rattle.part_defs.specs.Log.{shadow_answer, frame_or_empty, queue_after, with_answer, stop_answers, stop_queue}
+use Rattle.part_defs.specs.Log.{gone_answers}
+use Rattle.nook_data.specs.Frames.{front_of}
 use Rattle.shadow_proxy.specs.Front.{front_for}
 use Rattle.shadow_proxy.specs.Table.{queue_of}
 

@@ -1,15 +1,16 @@
 -- Behind Stop the calls without an answer are those that the shadow's table holds.
 use Rattle.std.proofs.Common.{◌≡◌, ℕ, ◌<◌, ◌≤◌, cond, is_none, Option, Some, None, List, [], ◌∷◌, filter, map, refl, ap, ◌∙◌, arith}
 use Rattle.std.proofs.lemmas.Bool.{eq-eqb, ne_eqb}
-use Rattle.nook_defs.specs.declared.calls.Answer.{Answer}
-use Rattle.nook_defs.specs.declared.calls.CallEntry.{CallEntry}
-use Rattle.nook_defs.specs.declared.calls.Op.{Op}
-use Rattle.nook_defs.specs.declared.calls.Op.TheVariants as op
-use Rattle.nook_defs.specs.declared.steps.Stage.TheVariants as stage
-use Rattle.nook_defs.specs.Log.{held_by_shadow, held_call, is_held, queue_after, shadow_answer, stop_answers, with_answer}
-use Rattle.nook_defs.specs.Views.CallLogs.{IsNumbered}
-use Rattle.nook_defs.specs.Runs.{answer_among}
-use Rattle.nook_defs.specs.State.{CallLog}
+use Rattle.nook_data.specs.declared.calls.Answer.{Answer}
+use Rattle.nook_data.specs.declared.calls.CallEntry.{CallEntry}
+use Rattle.nook_data.specs.declared.calls.Op.{Op}
+use Rattle.nook_data.specs.declared.calls.Op.TheVariants as op
+use Rattle.nook_data.specs.declared.steps.Stage.TheVariants as stage
+use Rattle.part_defs.specs.Log.{held_by_shadow, held_call, is_held, queue_after, shadow_answer, stop_answers}
+use Rattle.part_defs.specs.Log.{with_answer}
+use Rattle.part_defs.specs.Views.CallLogs.{IsNumbered}
+use Rattle.nook_data.specs.Answers.{answer_among}
+use Rattle.part_defs.specs.State.{CallLog}
 use Rattle.shadow_log.specs.Stopped.{after_answers, is_unanswered}
 
 -- the table holds an operation, whoever asks and whatever is known

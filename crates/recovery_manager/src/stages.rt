@@ -1,9 +1,9 @@
 //! The order of the stages.
 
 ghost use Rattle.std.specs.Prelude.{◌≡◌};
-ghost use Rattle.nook_defs.specs.Log.{following};
+ghost use Rattle.part_defs.specs.Log.{following};
 
-use nook_defs::steps::Stage;
+use nook_data::steps::Stage;
 use shadow_log::ShadowLog;
 
 /// The stage that follows a stage of a recovery. None exactly after Resume.

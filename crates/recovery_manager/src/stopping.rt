@@ -1,14 +1,14 @@
 //! The stage Stop: open calls are answered, or held for the driver that comes.
 
 ghost use Rattle.std.specs.Prelude.{◌≡◌, ◌+◌, ◌++◌, [], ◌<◌, ◌≤◌, length, vec_len, vec_capacity, IfOk, OnOk, OnErr};
-ghost use Rattle.nook_defs.specs.Log.{gone_answers, held_by_shadow, no_call_open, stop_answers, stop_queue};
-ghost use Rattle.nook_defs.specs.Log.{with_answer};
+ghost use Rattle.part_defs.specs.Log.{gone_answers, held_by_shadow, no_call_open, stop_answers, stop_queue};
+ghost use Rattle.part_defs.specs.Log.{with_answer};
 ghost use Rattle.shadow_proxy.specs.Table.{answer_of};
 
-use nook_defs::calls::{Answer, CallAnswers};
-use nook_defs::memory::{NoMemory, Room};
-use nook_defs::outside::RxFront;
-use nook_defs::steps::Stage;
+use nook_data::calls::{Answer, CallAnswers};
+use nook_data::memory::{NoMemory, Room};
+use nook_data::steps::Stage;
+use nook_io::outside::RxFront;
 use shadow_log::ShadowLog;
 use shadow_proxy::{Proxy, front_for, proxy};
 use std::alloc::Global;

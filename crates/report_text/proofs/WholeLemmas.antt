@@ -3,29 +3,32 @@ use Rattle.std.proofs.Common.{◌≡◌, ℕ, zero, suc, ◌+◌, ◌≤◌, ◌
 use Rattle.std.specs.List.{flat_map}
 use Rattle.std.proofs.lemmas.List.{drop_all}
 use Rattle.std.proofs.lemmas.List.Concat.{flat_map-append}
-use Rattle.nook_defs.specs.declared.machine.Act.{Act}
-use Rattle.nook_defs.specs.declared.machine.Act.TheVariants as act
-use Rattle.nook_defs.specs.declared.verdicts.Break.{Break}
-use Rattle.nook_defs.specs.declared.classes.Class.{Class}
-use Rattle.nook_defs.specs.declared.classes.Class.TheVariants as class
-use Rattle.nook_defs.specs.declared.steps.Event.{Event}
-use Rattle.nook_defs.specs.declared.verdicts.Losses.{Losses}
-use Rattle.nook_defs.specs.declared.mirror.MirrorAnswer.{MirrorAnswer}
-use Rattle.nook_defs.specs.declared.scenario.PartSpec.{PartSpec}
-use Rattle.nook_defs.specs.declared.scenario.Scenario.{Scenario}
-use Rattle.nook_defs.specs.declared.scenario.ThreadSpec.{ThreadSpec}
-use Rattle.nook_defs.specs.Contract.{first_break}
-use Rattle.nook_defs.specs.Devices.{medium_of}
-use Rattle.nook_defs.specs.Losses.{losses}
-use Rattle.nook_defs.specs.Pages.{object_words}
-use Rattle.nook_defs.specs.ReportLines.{event_lines, line_feed, spaced, with_list, with_number}
-use Rattle.nook_defs.specs.ReportText.{journal_acts, block_lines, contract_line, device_lines, failures_count, final_lines, has_break, has_given_up, losses_lines, object_lines, part_line, part_text, parts_text, played_line, report_text, status_line, status_of, taps_text, threads_text, wire_line}
-use Rattle.nook_defs.specs.Views.Reporting.{config_line, failures_line, object_line, thread_line}
-use Rattle.nook_defs.specs.Views.Reporting.{acts_of_event}
-use Rattle.nook_defs.specs.Views.Room.{Kept}
-use Rattle.nook_defs.specs.Runs.{state_of}
-use Rattle.nook_defs.specs.Stages.{is_given_up}
-use Rattle.nook_defs.specs.State.{PartState}
+use Rattle.nook_data.specs.declared.machine.Act.{Act}
+use Rattle.nook_data.specs.declared.machine.Act.TheVariants as act
+use Rattle.nook_data.specs.declared.verdicts.Break.{Break}
+use Rattle.nook_data.specs.declared.classes.Class.{Class}
+use Rattle.nook_data.specs.declared.classes.Class.TheVariants as class
+use Rattle.nook_data.specs.declared.steps.Event.{Event}
+use Rattle.nook_data.specs.declared.verdicts.Losses.{Losses}
+use Rattle.nook_data.specs.declared.mirror.MirrorAnswer.{MirrorAnswer}
+use Rattle.nook_data.specs.declared.scenario.PartSpec.{PartSpec}
+use Rattle.nook_data.specs.declared.scenario.Scenario.{Scenario}
+use Rattle.nook_data.specs.declared.scenario.ThreadSpec.{ThreadSpec}
+use Rattle.promise_defs.specs.Contract.{first_break}
+use Rattle.machine_defs.specs.Devices.{medium_of}
+use Rattle.promise_defs.specs.Losses.{losses}
+use Rattle.machine_defs.specs.Pages.{object_words}
+use Rattle.report_defs.specs.ReportLines.{event_lines, line_feed, spaced, with_list, with_number}
+use Rattle.report_defs.specs.ReportText.{journal_acts, block_lines, contract_line, device_lines, failures_count}
+use Rattle.report_defs.specs.ReportText.{final_lines, has_break, has_given_up, losses_lines, object_lines, part_line}
+use Rattle.report_defs.specs.ReportText.{part_text, parts_text, played_line, report_text, status_line, status_of}
+use Rattle.report_defs.specs.ReportText.{taps_text, threads_text, wire_line}
+use Rattle.report_defs.specs.Views.Reporting.{config_line, failures_line, object_line, thread_line}
+use Rattle.report_defs.specs.Views.Reporting.{acts_of_event}
+use Rattle.nook_data.specs.Views.Room.{Kept}
+use Rattle.part_defs.specs.Runs.{state_of}
+use Rattle.part_defs.specs.Stages.{is_given_up}
+use Rattle.part_defs.specs.State.{PartState}
 use Rattle.report_text.specs.declared.report.Run.{Run}
 use Rattle.report_text.specs.declared.whole_report.PartEnd.{PartEnd}
 use Rattle.report_text.specs.declared.whole_report.PartReport.{PartReport}

@@ -1,13 +1,13 @@
 -- The text of a report of a mirror: that of the two parts, with the mirror's answers in the thread's lines.
 use Rattle.std.specs.Prelude.{ℕ, List, [], ◌∷◌, ◌++◌, Bool, codes, decimal}
-use Rattle.nook_defs.specs.declared.steps.Event.{Event}
-use Rattle.nook_defs.specs.declared.mirror.MirrorAnswer.{MirrorAnswer}
-use Rattle.nook_defs.specs.declared.mirror.MirrorAnswer.TheVariants as mirrored
-use Rattle.nook_defs.specs.declared.scenario.Scenario.{Scenario}
-use Rattle.nook_defs.specs.declared.scenario.ThreadSpec.{ThreadSpec}
-use Rattle.nook_defs.specs.ReportLines.{line_feed, with_list, with_number}
-use Rattle.nook_defs.specs.ReportText.{parts_text, status_line, taps_text}
-use Rattle.nook_defs.specs.Views.Reporting.{thread_line}
+use Rattle.nook_data.specs.declared.steps.Event.{Event}
+use Rattle.nook_data.specs.declared.mirror.MirrorAnswer.{MirrorAnswer}
+use Rattle.nook_data.specs.declared.mirror.MirrorAnswer.TheVariants as mirrored
+use Rattle.nook_data.specs.declared.scenario.Scenario.{Scenario}
+use Rattle.nook_data.specs.declared.scenario.ThreadSpec.{ThreadSpec}
+use Rattle.report_defs.specs.ReportLines.{line_feed, with_list, with_number}
+use Rattle.report_defs.specs.ReportText.{parts_text, status_line, taps_text}
+use Rattle.report_defs.specs.Views.Reporting.{thread_line}
 use Rattle.report_text.specs.declared.whole_report.Report.{Report}
 use Rattle.report_text.specs.Whole.{parts_rows}
 use Rattle.report_text.specs.Writing.{each_text}

@@ -1,26 +1,26 @@
 -- A report with what its parts end in, and its text by rows of it.
 use Rattle.std.specs.Prelude.{◌≡◌, ℕ, zero, suc, ◌+◌, Bool, false, is_some, nat_lt, ◌||◌, if◌then◌else◌, List, [], ◌∷◌}
 use Rattle.std.specs.Prelude.{◌++◌, codes, map, flat_map}
-use Rattle.nook_defs.specs.declared.machine.Act.{Act}
-use Rattle.nook_defs.specs.declared.machine.Act.TheVariants as act
-use Rattle.nook_defs.specs.declared.classes.Class.{Class}
-use Rattle.nook_defs.specs.declared.classes.Class.TheVariants as class
-use Rattle.nook_defs.specs.declared.steps.Event.{Event}
-use Rattle.nook_defs.specs.declared.verdicts.Losses.{Losses}
-use Rattle.nook_defs.specs.declared.scenario.PartSpec.{PartSpec}
-use Rattle.nook_defs.specs.declared.scenario.Scenario.{Scenario}
-use Rattle.nook_defs.specs.Contract.{first_break}
-use Rattle.nook_defs.specs.Devices.{medium_of}
-use Rattle.nook_defs.specs.Losses.{losses}
-use Rattle.nook_defs.specs.Pages.{object_words}
-use Rattle.nook_defs.specs.ReportLines.{event_lines, line_feed, spaced, with_list, with_number}
-use Rattle.nook_defs.specs.ReportText.{block_lines, contract_line, losses_lines, part_line, played_line, status_line}
-use Rattle.nook_defs.specs.ReportText.{status_of, taps_text, threads_text, wire_line}
-use Rattle.nook_defs.specs.Views.Reporting.{config_line, failures_line, object_line}
-use Rattle.nook_defs.specs.Views.Reporting.{acts_of_event}
-use Rattle.nook_defs.specs.Views.Room.{Kept}
-use Rattle.nook_defs.specs.Runs.{state_of}
-use Rattle.nook_defs.specs.State.{PartState}
+use Rattle.nook_data.specs.declared.machine.Act.{Act}
+use Rattle.nook_data.specs.declared.machine.Act.TheVariants as act
+use Rattle.nook_data.specs.declared.classes.Class.{Class}
+use Rattle.nook_data.specs.declared.classes.Class.TheVariants as class
+use Rattle.nook_data.specs.declared.steps.Event.{Event}
+use Rattle.nook_data.specs.declared.verdicts.Losses.{Losses}
+use Rattle.nook_data.specs.declared.scenario.PartSpec.{PartSpec}
+use Rattle.nook_data.specs.declared.scenario.Scenario.{Scenario}
+use Rattle.promise_defs.specs.Contract.{first_break}
+use Rattle.machine_defs.specs.Devices.{medium_of}
+use Rattle.promise_defs.specs.Losses.{losses}
+use Rattle.machine_defs.specs.Pages.{object_words}
+use Rattle.report_defs.specs.ReportLines.{event_lines, line_feed, spaced, with_list, with_number}
+use Rattle.report_defs.specs.ReportText.{block_lines, contract_line, losses_lines, part_line, played_line, status_line}
+use Rattle.report_defs.specs.ReportText.{status_of, taps_text, threads_text, wire_line}
+use Rattle.report_defs.specs.Views.Reporting.{config_line, failures_line, object_line}
+use Rattle.report_defs.specs.Views.Reporting.{acts_of_event}
+use Rattle.nook_data.specs.Views.Room.{Kept}
+use Rattle.part_defs.specs.Runs.{state_of}
+use Rattle.part_defs.specs.State.{PartState}
 use Rattle.report_text.specs.declared.whole_report.PartEnd.{PartEnd}
 use Rattle.report_text.specs.declared.whole_report.PartReport.{PartReport}
 use Rattle.report_text.specs.declared.whole_report.Report.{Report}

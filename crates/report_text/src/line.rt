@@ -3,8 +3,8 @@
 ghost use Rattle.std.specs.Prelude.{◌≡◌, [], ◌∷◌, ◌++◌, OnErr, OnOk, decimal, string_bytes};
 
 use itoa::Buffer;
-use nook_defs::lists::Words8;
-use nook_defs::memory::NoMemory;
+use nook_data::lists::Words8;
+use nook_data::memory::NoMemory;
 use std::alloc::Global;
 use std::marker::Model;
 

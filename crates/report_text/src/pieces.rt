@@ -1,24 +1,23 @@
 //! The pieces of the lines: each call adds the text of one thing to a line, which its maker drops after `NoMemory`.
 
 ghost use Rattle.std.specs.Prelude.{◌≡◌, [], ◌∷◌, ◌++◌, Option, OnOk};
-ghost use Rattle.nook_defs.specs.Keys.{class_text};
-ghost use Rattle.nook_defs.specs.ReportLines.{act_text, acts_tail, answer_tail, answer_text, cause_tail, cause_text};
-ghost use Rattle.nook_defs.specs.ReportLines.{end_text, event_text, inner_words, op_text, released_text, result_text};
-ghost use Rattle.nook_defs.specs.ReportLines.{spaced, stage_text, trap_text, with_list, with_number};
-ghost use Rattle.nook_defs.specs.Views.Reporting.{answers_tail, comma_words, failed_text, kept_text, moved_text};
-ghost use Rattle.nook_defs.specs.Views.Reporting.{released_tail, right_text, words_text};
+ghost use Rattle.nook_data.specs.ClassNames.{class_text};
+ghost use Rattle.report_defs.specs.ReportLines.{act_text, acts_tail, answer_tail, answer_text, cause_tail, cause_text};
+ghost use Rattle.report_defs.specs.ReportLines.{end_text, event_text, inner_words, op_text, released_text, result_text};
+ghost use Rattle.report_defs.specs.ReportLines.{spaced, stage_text, trap_text, with_list, with_number};
+ghost use Rattle.report_defs.specs.Views.Reporting.{answers_tail, comma_words, failed_text, kept_text, moved_text};
+ghost use Rattle.report_defs.specs.Views.Reporting.{released_tail, right_text, words_text};
 ghost use Rattle.report_text.specs.Mirrored.{mirror_answer_text};
 
 use crate::line::Line;
-use nook_defs::calls::{Answer, Op};
-use nook_defs::classes::Class;
-use nook_defs::entries::Entry;
-use nook_defs::keys::class_text;
-use nook_defs::lists::Words;
-use nook_defs::machine::{Act, Acts, TrapCause};
-use nook_defs::memory::NoMemory;
-use nook_defs::mirror::MirrorAnswer;
-use nook_defs::steps::{End, Event, FailCause, Stage};
+use nook_data::calls::{Answer, Op};
+use nook_data::classes::{Class, class_text};
+use nook_data::entries::Entry;
+use nook_data::lists::Words;
+use nook_data::machine::{Act, Acts, TrapCause};
+use nook_data::memory::NoMemory;
+use nook_data::mirror::MirrorAnswer;
+use nook_data::steps::{End, Event, FailCause, Stage};
 
 /// A text and a number.
 pub fn push_number(line: &mut Line, text: &str, number: u64) -> Result<(), NoMemory>

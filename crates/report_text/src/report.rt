@@ -1,9 +1,9 @@
 //! What a run left.
 
-use nook_defs::calls::AnswerTable;
-use nook_defs::journal::Journal;
-use nook_defs::listeners::TapTotals;
-use nook_defs::lists::Items;
+use nook_data::calls::AnswerTable;
+use nook_data::journal::Journal;
+use nook_data::lists::Items;
+use nook_io::listeners::TapTotals;
 
 /// Each part's journal.
 pub type Journals = Items<Journal>;

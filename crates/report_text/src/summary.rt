@@ -1,6 +1,6 @@
 //! The one line of a generated scenario.
 
-ghost use Rattle.nook_defs.specs.ReportText.{gen_line};
+ghost use Rattle.report_defs.specs.ReportText.{gen_line};
 ghost use Rattle.std.specs.Prelude.{◌≡◌, ◌++◌, OnOk};
 ghost use Rattle.report_text.specs.Statuses.{status_number};
 ghost use Rattle.report_text.specs.Writing.{Wrote};
@@ -8,9 +8,9 @@ ghost use Rattle.report_text.specs.Writing.{Wrote};
 use crate::line::Line;
 use crate::status::ReportStatus;
 use crate::write::WriteStop;
-use nook_defs::memory::NoMemory;
-use nook_defs::outside::Sink;
-use nook_defs::whole::write_all;
+use nook_data::memory::NoMemory;
+use nook_io::outside::Sink;
+use nook_io::whole::write_all;
 use std::alloc::Global;
 
 /// What the line of a generated scenario has: its number, the events and failures of all its parts, and the status

@@ -1,20 +1,20 @@
 //! What a run left with what its parts end in, and what the report sums up of it.
 
 ghost use Rattle.std.specs.Prelude.{◌≡◌, ◌++◌, IfOk, OnOk};
-ghost use Rattle.nook_defs.specs.Contract.{first_break};
-ghost use Rattle.nook_defs.specs.Losses.{losses};
+ghost use Rattle.promise_defs.specs.Contract.{first_break};
+ghost use Rattle.promise_defs.specs.Losses.{losses};
 ghost use Rattle.report_text.specs.Statuses.{status_number};
 ghost use Rattle.report_text.specs.Whole.{HaveEnds, IsReport, is_broken, is_gone, status_in, summaries, summary};
 
 use crate::report::Run;
 use crate::status::ReportStatus;
 use contract_monitor::Monitor;
-use nook_defs::journal::Journal;
-use nook_defs::lists::{Frames, Items};
-use nook_defs::memory::NoMemory;
-use nook_defs::scenario::{PartSpec, Scenario};
-use nook_defs::steps::Event;
-use nook_defs::verdicts::{Break, Losses};
+use nook_data::journal::Journal;
+use nook_data::lists::{Frames, Items};
+use nook_data::memory::NoMemory;
+use nook_data::scenario::{PartSpec, Scenario};
+use nook_data::steps::Event;
+use nook_data::verdicts::{Break, Losses};
 use std::alloc::Global;
 
 /// What a part ends in: the kernel objects 1 to 12, the medium, the configuration last acknowledged, the failures.

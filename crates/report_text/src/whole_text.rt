@@ -1,13 +1,13 @@
 //! The writing of a whole report into a sink.
 
 ghost use Rattle.std.specs.Prelude.{◌≡◌, ◌+◌, ◌^◌, ◌<◌, ◌++◌, ℕ, List, OnOk, bytes_eq, flat_map, length, replicate};
-ghost use Rattle.nook_defs.specs.Pages.{opening_object};
-ghost use Rattle.nook_defs.specs.ReportLines.{spaced};
-ghost use Rattle.nook_defs.specs.ReportText.{block_lines, contract_line, final_lines, losses_lines, played_line};
-ghost use Rattle.nook_defs.specs.ReportText.{report_text, status_line, taps_text, threads_text, wire_line};
-ghost use Rattle.nook_defs.specs.Views.Reporting.{block_line, config_line, failures_line, object_line, tap_line};
-ghost use Rattle.nook_defs.specs.Views.Reporting.{tap_text};
-ghost use Rattle.nook_defs.specs.State.{PartState};
+ghost use Rattle.machine_defs.specs.Pages.{opening_object};
+ghost use Rattle.report_defs.specs.ReportLines.{spaced};
+ghost use Rattle.report_defs.specs.ReportText.{block_lines, contract_line, final_lines, losses_lines, played_line};
+ghost use Rattle.report_defs.specs.ReportText.{report_text, status_line, taps_text, threads_text, wire_line};
+ghost use Rattle.report_defs.specs.Views.Reporting.{block_line, config_line, failures_line, object_line, tap_line};
+ghost use Rattle.report_defs.specs.Views.Reporting.{tap_text};
+ghost use Rattle.part_defs.specs.State.{PartState};
 ghost use Rattle.report_text.specs.Mirrored.{mirror_report_rows, mirror_report_text};
 ghost use Rattle.report_text.specs.Whole.{IsReport, ShowsState, device_rows, ending_rows, event_rows, event_text};
 ghost use Rattle.report_text.specs.Whole.{final_rows, frame_counts, kept_counts, lists_of, lost_counts, part_rows};
@@ -21,18 +21,18 @@ use crate::write::{
     WriteStop, spill, write_events, write_mirror_threads, write_part_line, write_status_line,
     write_text, write_threads,
 };
-use nook_defs::classes::Class;
-use nook_defs::journal::Journal;
-use nook_defs::limits::BLOCK_WORDS;
-use nook_defs::lists::Words;
-use nook_defs::machine::Act;
-use nook_defs::memory::NoMemory;
-use nook_defs::memory_map::OBJECT_WORDS;
-use nook_defs::mirror::{MirrorAnswer, MirrorAnswers};
-use nook_defs::outside::Sink;
-use nook_defs::scenario::{PartSpec, Scenario};
-use nook_defs::steps::Event;
-use nook_defs::verdicts::{Break, Losses};
+use nook_data::classes::Class;
+use nook_data::journal::Journal;
+use nook_data::limits::BLOCK_WORDS;
+use nook_data::lists::Words;
+use nook_data::machine::Act;
+use nook_data::memory::NoMemory;
+use nook_data::memory_map::OBJECT_WORDS;
+use nook_data::mirror::{MirrorAnswer, MirrorAnswers};
+use nook_data::scenario::{PartSpec, Scenario};
+use nook_data::steps::Event;
+use nook_data::verdicts::{Break, Losses};
+use nook_io::outside::Sink;
 use std::alloc::Global;
 
 /// Which acts of a device are told line by line.
@@ -289,7 +289,7 @@ fn push_ending(
 }
 
 /// Listeners, the first of them number 0.
-#[tactic(auto, unfolding(nook_defs::specs::ReportText::taps_text))]
+#[tactic(auto, unfolding(report_defs::specs::ReportText::taps_text))]
 fn push_taps(line: &mut Line, taps: &[(u64, bool)]) -> Result<(), NoMemory>
     ensures { OnOk result (line.new ≡ line.old ++ taps_text 0 taps.now) }
 {

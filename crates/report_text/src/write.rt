@@ -1,23 +1,23 @@
 //! The writing of a report into a sink. Lines are collected in a buffer, and written when it holds many bytes.
 
 ghost use Rattle.std.specs.Prelude.{◌≡◌, ◌+◌, ◌^◌, ◌<◌, ◌++◌, ℕ, List, IfOk, OnOk, length};
-ghost use Rattle.nook_defs.specs.ReportLines.{event_line, event_lines};
-ghost use Rattle.nook_defs.specs.ReportText.{answer_lines, part_line, status_line, threads_text};
-ghost use Rattle.nook_defs.specs.Views.Reporting.{thread_line};
+ghost use Rattle.report_defs.specs.ReportLines.{event_line, event_lines};
+ghost use Rattle.report_defs.specs.ReportText.{answer_lines, part_line, status_line, threads_text};
+ghost use Rattle.report_defs.specs.Views.Reporting.{thread_line};
 ghost use Rattle.report_text.specs.Answers.{answer_line};
 ghost use Rattle.report_text.specs.Mirrored.{mirror_answer_line, mirror_threads_text};
 ghost use Rattle.report_text.specs.Writing.{Spilled, Wrote, each_text};
 
 use crate::line::Line;
 use crate::pieces::{push_answer, push_class, push_event, push_mirror_answer, push_number};
-use nook_defs::calls::{Answer, PartAnswers};
-use nook_defs::lists::Words8;
-use nook_defs::memory::NoMemory;
-use nook_defs::mirror::MirrorAnswer;
-use nook_defs::outside::{Failed, Sink};
-use nook_defs::scenario::{PartSpec, ThreadSpec};
-use nook_defs::steps::Event;
-use nook_defs::whole::write_all;
+use nook_data::calls::{Answer, PartAnswers};
+use nook_data::lists::Words8;
+use nook_data::memory::NoMemory;
+use nook_data::mirror::MirrorAnswer;
+use nook_data::scenario::{PartSpec, ThreadSpec};
+use nook_data::steps::Event;
+use nook_io::outside::{Failed, Sink};
+use nook_io::whole::write_all;
 use std::alloc::Global;
 
 /// Why a text was not written whole. The sink has gained a front of it.
@@ -62,7 +62,7 @@ trait Lined {
 impl Lined for Event {
     ghost text = { event_line };
 
-    #[tactic(auto, unfolding(nook_defs::specs::ReportLines::event_line))]
+    #[tactic(auto, unfolding(report_defs::specs::ReportLines::event_line))]
     fn push_line(&self, place: u64, line: &mut Line) -> Result<(), NoMemory> {
         line.number(place)?;
         line.push(" ")?;
@@ -221,7 +221,7 @@ fn write_answers<K: Sink>(
 }
 
 /// Writes the lines of the threads, the first of them number `place`.
-#[tactic(auto, unfolding(nook_defs::specs::ReportText::threads_text))]
+#[tactic(auto, unfolding(report_defs::specs::ReportText::threads_text))]
 pub fn write_threads<K: Sink>(
     alloc: Global,
     sink: &mut K,

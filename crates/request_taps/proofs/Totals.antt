@@ -4,9 +4,9 @@ use Rattle.std.proofs.lemmas.Bool.{lt-ltb, le-ltb, le-leb, lt-leb, cases_lt}
 use Rattle.std.proofs.lemmas.List.{map-id}
 use Rattle.request_taps.proofs.Taps.{fused}
 use Rattle.std.proofs.lemmas.Simd.{map-map}
-use Rattle.nook_defs.specs.Listening.{Listening, heard, hears, count_if}
-use Rattle.nook_defs.specs.Listening.{heard_events, tap_total, tap_result}
-use Rattle.nook_defs.specs.declared.steps.Event.{Event}
+use Rattle.nook_io.specs.Listening.{Listening, heard, hears, count_if}
+use Rattle.nook_io.specs.Listening.{heard_events, tap_total, tap_result}
+use Rattle.nook_data.specs.declared.steps.Event.{Event}
 use Rattle.request_taps.specs.Bus.{result_of, settled, heard_below, told, told_all}
 use Rattle.request_taps.specs.declared.tap.Tap.{Tap}
 use Rattle.request_taps.specs.declared.tap.Tap.TheVariants as tap

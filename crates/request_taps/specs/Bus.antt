@@ -1,8 +1,8 @@
 -- What a bus of listeners keeps: for each listener what it hears and has heard, or the total of one that was dropped.
 use Rattle.std.specs.Prelude.{ℕ, Bool, true, false, nat_lt, List, [], ◌∷◌, map, Option, Some, None, if◌then◌else◌}
 use Rattle.std.specs.Prelude.{slice_index_or}
-use Rattle.nook_defs.specs.declared.steps.Event.{Event}
-use Rattle.nook_defs.specs.Listening.{Listening, heard}
+use Rattle.nook_data.specs.declared.steps.Event.{Event}
+use Rattle.nook_io.specs.Listening.{Listening, heard}
 use Rattle.request_taps.specs.declared.tap.Tap.{Tap}
 use Rattle.request_taps.specs.declared.tap.Tap.TheVariants as tap
 

@@ -6,11 +6,11 @@ ghost use Rattle.request_taps.specs.Bus.{tap_at, told, total_of};
 
 use crate::boxed::{Boxed, all_held};
 use crate::tap::Tap;
-use nook_defs::listeners::TapTotals;
-use nook_defs::lists::Items;
-use nook_defs::memory::NoMemory;
-use nook_defs::outside::Listener;
-use nook_defs::steps::Event;
+use nook_data::lists::Items;
+use nook_data::memory::NoMemory;
+use nook_data::steps::Event;
+use nook_io::listeners::TapTotals;
+use nook_io::outside::Listener;
 use std::alloc::Global;
 use std::marker::Model;
 

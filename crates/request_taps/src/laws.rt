@@ -1,9 +1,9 @@
 //! What a bus tells at the end of a run.
 
 ghost use Rattle.std.specs.Prelude.{◌≡◌, ℕ, List, map};
-ghost use Rattle.nook_defs.specs.Listening.{Listening};
-ghost use Rattle.nook_defs.specs.Listening.{tap_result};
-ghost use Rattle.nook_defs.specs.declared.steps.Event.{Event};
+ghost use Rattle.nook_io.specs.Listening.{Listening};
+ghost use Rattle.nook_io.specs.Listening.{tap_result};
+ghost use Rattle.nook_data.specs.declared.steps.Event.{Event};
 ghost use Rattle.request_taps.specs.Bus.{result_of, settled, told_all};
 
 /// After any events, each with its part, a bus of any listeners tells for each the number of events that its masks

@@ -4,8 +4,8 @@ ghost use Rattle.std.specs.Prelude.{◌≡◌, ◌<◌, false};
 ghost use Rattle.request_taps.specs.Bus.{detach_answer, detached, heard_below, is_present, seen, settled_tap, told};
 ghost use Rattle.request_taps.specs.Bus.{total_of};
 
-use nook_defs::outside::Listener;
-use nook_defs::steps::Event;
+use nook_data::steps::Event;
+use nook_io::outside::Listener;
 
 /// A listener that is there, or the total of one that was dropped.
 #[derive(Drop)]

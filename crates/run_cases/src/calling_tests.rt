@@ -1,8 +1,8 @@
 //! A part that takes as many calls as it may, which is more than any scenario asks for.
 
-use nook_defs::calls::Op;
-use nook_defs::lists::TryCopy;
-use nook_defs::steps::Step;
+use nook_data::calls::Op;
+use nook_data::lists::TryCopy;
+use nook_data::steps::Step;
 use part_core::{Part, StepRefused};
 use scenario_gen::generate;
 use std::test::Fail;
@@ -27,7 +27,10 @@ fn a_part_takes_its_calls_and_no_more(rt: HostRuntime) -> Result<(), Fail> {
         });
         assert!(rt; taken.is_ok());
     }
-    assert_eq!(rt; (part.calls(), part.answered_at(100_000)), (100_000, Some(100_000)));
+    assert_eq!(rt;
+        (part.calls(), part.answered_at(100_000)),
+        (100_000, Some(100_000))
+    );
     let refused = part.step(Step::Invoke {
         thread: 0,
         op: READ,

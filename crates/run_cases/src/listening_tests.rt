@@ -1,9 +1,9 @@
 //! A listener that tells what is done to it, and one that is detached.
 
-use nook_defs::listeners::CountListener;
-use nook_defs::lists::Items;
-use nook_defs::outside::Listener;
-use nook_defs::steps::{End, Event, Stage};
+use nook_data::lists::Items;
+use nook_data::steps::{End, Event, Stage};
+use nook_io::listeners::CountListener;
+use nook_io::outside::Listener;
 use request_taps::TapBus;
 use std::alloc::Global;
 use std::sync::Arc;
@@ -102,6 +102,9 @@ fn listeners_are_called_and_dropped(rt: HostRuntime) -> Result<(), Fail> {
         assert_eq!(rt; bus.detach(1), Some(3));
     }
     let told = bus.totals(alloc)?;
-    assert_eq!(rt; told.as_slice(), [(3, false), (3, false), (0, false)].as_slice());
+    assert_eq!(rt;
+        told.as_slice(),
+        [(3, false), (3, false), (0, false)].as_slice()
+    );
     Ok(())
 }

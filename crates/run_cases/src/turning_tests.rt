@@ -1,8 +1,10 @@
 //! A trace whose sink fails.
 
-use nook_defs::lists::Words;
-use nook_defs::scenario::Scenario;
-use nook_defs::streams_in_memory::ListSink;
+ghost use Rattle.nook_data.specs.Valid.{IsValidScenario};
+
+use nook_data::lists::Words;
+use nook_data::scenario::Scenario;
+use nook_io::streams_in_memory::ListSink;
 use report_text::WriteStop;
 use scenario_read::read_scenario;
 use sim_run::run_to_burst;
@@ -10,10 +12,9 @@ use std::alloc::Global;
 use std::test::Fail;
 use turn_trace::trace_burst;
 
-ghost use Rattle.nook_defs.specs.Valid.{IsValidScenario};
-
 /// A disk whose driver counts its turns in a register.
-const COUNTS: &str = r#"{"version":1,"parts":[{"name":"d0","class":"block","blocks":4,"driver":{"asm":
+const COUNTS: &str =
+    r#"{"version":1,"parts":[{"name":"d0","class":"block","blocks":4,"driver":{"asm":
 ".class block\n.entry init 0\n.entry read 0\n.entry write 0\n.entry get 0\n.entry set 0\nADDI r1 r1 1\nADDI r1 r1 1\nADDI r1 r1 1\nADDI r1 r1 1\nADDI r1 r1 1\nRET r0\n"
 }}],"threads":[]}"#;
 
@@ -25,7 +26,12 @@ fn turns_and_lines(alloc: Global, scenario: &Scenario, failing: u32) -> Result<[
     let found = run_to_burst(alloc, scenario, 0, 1)?.ok_or("no burst")?;
     let mut cpu = found.domain.inside(16).ok_or("no context")?.cpu;
     let mut bus = found.domain.detach();
-    let mut sink = ListSink::new(alloc, 1000, Words::from_vec(vec![in alloc; failing]?), false)?;
+    let mut sink = ListSink::new(
+        alloc,
+        1000,
+        Words::from_vec(vec![in alloc; failing]?),
+        false,
+    )?;
     match trace_burst(alloc, &mut cpu, &mut bus, &[], &mut sink) {
         Err(WriteStop::Fault) => {}
         _ => return Err(Fail::from("another end")),

@@ -1,6 +1,6 @@
 -- The kernel objects of a part, one by one.
 use Rattle.std.proofs.Common.{◌≡◌, ℕ, suc, ◌+◌, ◌-◌, ◌<◌, List, [], ◌∷◌, ◌++◌, refl, sym, ap, ◌∙◌, arith, add-one, append-nil, append_assoc}
-use Rattle.nook_defs.specs.Pages.{object_words}
+use Rattle.machine_defs.specs.Pages.{object_words}
 use Rattle.report_text.specs.Whole.{objects_from}
 use Rattle.run_ends.specs.Ends.{objects_in}
 

@@ -1,7 +1,7 @@
 -- What taps hear of events in order, and what a failed run leaves.
 use Rattle.std.proofs.Common.{◌≡◌, ℕ, List, [], ◌∷◌, ◌++◌, map, refl, Result, Ok, Err, OnErr}
-use Rattle.nook_defs.specs.declared.steps.Event.{Event}
-use Rattle.nook_defs.specs.Listening.{Listening}
+use Rattle.nook_data.specs.declared.steps.Event.{Event}
+use Rattle.nook_io.specs.Listening.{Listening}
 use Rattle.request_taps.specs.Bus.{told, told_all}
 use Rattle.request_taps.specs.declared.tap.Tap.{Tap}
 

@@ -1,6 +1,6 @@
 use Rattle.std.specs.Prelude.{ℕ, List}
-use Rattle.nook_defs.specs.Devices.{medium_of}
-use Rattle.nook_defs.specs.State.{PartState}
+use Rattle.machine_defs.specs.Devices.{medium_of}
+use Rattle.part_defs.specs.State.{PartState}
 use Rattle.report_text.specs.Whole.{objects_from}
 use Rattle.report_text.specs.declared.whole_report.PartEnd.{PartEnd}
 

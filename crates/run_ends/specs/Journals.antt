@@ -1,9 +1,9 @@
 -- The journals that a whole run leaves.
 use Rattle.std.specs.Prelude.{ℕ, List, [], ◌∷◌}
-use Rattle.nook_defs.specs.declared.steps.Event.{Event}
-use Rattle.nook_defs.specs.declared.scenario.PartSpec.{PartSpec}
-use Rattle.nook_defs.specs.Views.Room.{Kept}
-use Rattle.nook_defs.specs.Runs.{IsRun}
+use Rattle.nook_data.specs.declared.steps.Event.{Event}
+use Rattle.nook_data.specs.declared.scenario.PartSpec.{PartSpec}
+use Rattle.nook_data.specs.Views.Room.{Kept}
+use Rattle.part_defs.specs.Runs.{IsRun}
 
 abbrev pub events_in : Kept Event → List Event
 events_in journal = journal.list

@@ -3,9 +3,9 @@
 ghost use Rattle.std.specs.Prelude.{◌≡◌, IfOk};
 ghost use Rattle.run_ends.specs.Ends.{end_of, objects_in};
 
-use nook_defs::limits::BLOCK_WORDS;
-use nook_defs::lists::{Frames, Items, Word};
-use nook_defs::memory::NoMemory;
+use nook_data::limits::BLOCK_WORDS;
+use nook_data::lists::{Frames, Items, Word};
+use nook_data::memory::NoMemory;
 use part_core::Part;
 use report_text::PartEnd;
 use std::alloc::Global;

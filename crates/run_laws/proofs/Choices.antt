@@ -2,16 +2,18 @@
 -- where there is none no actor has a step.
 use Rattle.std.proofs.Common.{◌≡◌, ℕ, zero, suc, ◌+◌, true, Option, Some, None, List, [], ◌∷◌, length, slice_get, refl, sym, ap, ◌∙◌, subst, arith}
 use Rattle.std.specs.List.{AllByRecursion}
-use Rattle.nook_defs.specs.declared.calls.Op.{Op}
-use Rattle.nook_defs.specs.declared.steps.Step.{Step}
-use Rattle.nook_defs.specs.declared.steps.Step.TheVariants as step
-use Rattle.nook_defs.specs.Runs.{if_enabled, next_for, next_recovery}
-use Rattle.nook_defs.specs.Simulation.{Choice, RunningPart, Simulation, ThreadState, Waiting, arrival, going_on, invocation, choices_of}
-use Rattle.nook_defs.proofs.ChoicesInOrder.{with_choice, with_invocation, with_thread, thread_choices, part_choices, choices_in_order}
-use Rattle.nook_defs.specs.State.{PartState}
-use Rattle.nook_defs.specs.Steps.{enabled}
-use Rattle.nook_defs.proofs.NextSteps.{if_enabled_case, next_for_case}
-use Rattle.nook_defs.proofs.Options.{none_is_some, same_inside}
+use Rattle.nook_data.specs.declared.calls.Op.{Op}
+use Rattle.nook_data.specs.declared.steps.Step.{Step}
+use Rattle.nook_data.specs.declared.steps.Step.TheVariants as step
+use Rattle.part_defs.specs.Runs.{if_enabled, next_for, next_recovery}
+use Rattle.run_defs.specs.Simulation.{Choice, RunningPart, Simulation, ThreadState, Waiting, arrival, going_on}
+use Rattle.run_defs.specs.Simulation.{invocation, choices_of}
+use Rattle.run_defs.proofs.ChoicesInOrder.{with_choice, with_invocation, with_thread, thread_choices, part_choices}
+use Rattle.run_defs.proofs.ChoicesInOrder.{choices_in_order}
+use Rattle.part_defs.specs.State.{PartState}
+use Rattle.part_defs.specs.Steps.{enabled}
+use Rattle.part_defs.proofs.NextSteps.{if_enabled_case, next_for_case}
+use Rattle.nook_data.proofs.Options.{none_is_some, same_inside}
 
 -- the thread waits nowhere, and the operation is its next
 pub record IsNext (threads : List ThreadState) (thread part : ℕ) (o : Op) : Type 0 where

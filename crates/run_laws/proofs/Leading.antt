@@ -1,13 +1,13 @@
 -- What the events of a section lead to.
 use Rattle.std.proofs.Common.{◌≡◌, ℕ, List, [], ◌∷◌, ◌++◌, refl, sym, ap, ◌∙◌, append_assoc, append-nil}
-use Rattle.nook_defs.specs.Contract.{first_break}
-use Rattle.nook_defs.specs.Losses.{losses}
-use Rattle.nook_defs.specs.ReportText.{final_lines}
-use Rattle.nook_defs.specs.Runs.{event_of, state_from, step_of}
-use Rattle.nook_defs.specs.State.{PartState}
-use Rattle.nook_defs.specs.declared.steps.Event.{Event}
-use Rattle.nook_defs.specs.declared.scenario.PartSpec.{PartSpec}
-use Rattle.nook_defs.specs.declared.scenario.ThreadSpec.{ThreadSpec}
+use Rattle.promise_defs.specs.Contract.{first_break}
+use Rattle.promise_defs.specs.Losses.{losses}
+use Rattle.report_defs.specs.ReportText.{final_lines}
+use Rattle.part_defs.specs.Runs.{event_of, state_from, step_of}
+use Rattle.part_defs.specs.State.{PartState}
+use Rattle.nook_data.specs.declared.steps.Event.{Event}
+use Rattle.nook_data.specs.declared.scenario.PartSpec.{PartSpec}
+use Rattle.nook_data.specs.declared.scenario.ThreadSpec.{ThreadSpec}
 use Rattle.run_laws.specs.Audit.{Section, opening_section, section_after, section_end}
 use Rattle.run_laws.specs.Fitting.{FitsFrom, section_from}
 

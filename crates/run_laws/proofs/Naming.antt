@@ -1,19 +1,19 @@
 -- The line of an event names the event's step.
 use Rattle.std.proofs.Common.{◌≡◌, ℕ, ◌<◌, ◌==◌, ◌&&◌, nat_lt, true, is_none, Some, None, Option, List, [], ◌∷◌, ◌++◌, refl, sym, ap, ◌∙◌, arith, append_assoc, true≢false, bytes_eq, codes, decimal, if◌then◌else◌, eqb-true, ltb-true}
 use Rattle.std.proofs.lemmas.Bool.{and_parts}
-use Rattle.nook_defs.specs.Log.{call_of_thread}
-use Rattle.nook_defs.proofs.Cases.{is_of_thread}
-use Rattle.nook_defs.specs.ReportLines.{answer_tail, event_line, event_text, op_text, stage_text}
-use Rattle.nook_defs.specs.Views.Reporting.{answers_tail, kept_text, released_tail, words_text}
-use Rattle.nook_defs.specs.Runs.{step_of}
-use Rattle.nook_defs.specs.State.{PartState}
-use Rattle.nook_defs.specs.Steps.{enabled, is_inside, is_ready, is_running}
-use Rattle.nook_defs.specs.declared.calls.CallEntry.{CallEntry}
-use Rattle.nook_defs.specs.declared.steps.Event.{Event}
-use Rattle.nook_defs.specs.declared.steps.Event.TheVariants as event
-use Rattle.nook_defs.specs.declared.calls.Op.{Op}
-use Rattle.nook_defs.specs.declared.steps.Step.{Step}
-use Rattle.nook_defs.specs.declared.steps.Step.TheVariants as step
+use Rattle.part_defs.specs.Log.{call_of_thread}
+use Rattle.part_defs.proofs.PartCases.{is_of_thread}
+use Rattle.report_defs.specs.ReportLines.{answer_tail, event_line, event_text, op_text, stage_text}
+use Rattle.report_defs.specs.Views.Reporting.{answers_tail, kept_text, released_tail, words_text}
+use Rattle.part_defs.specs.Runs.{step_of}
+use Rattle.part_defs.specs.State.{PartState}
+use Rattle.part_defs.specs.Steps.{enabled, is_inside, is_ready, is_running}
+use Rattle.nook_data.specs.declared.calls.CallEntry.{CallEntry}
+use Rattle.nook_data.specs.declared.steps.Event.{Event}
+use Rattle.nook_data.specs.declared.steps.Event.TheVariants as event
+use Rattle.nook_data.specs.declared.calls.Op.{Op}
+use Rattle.nook_data.specs.declared.steps.Step.{Step}
+use Rattle.nook_data.specs.declared.steps.Step.TheVariants as step
 use Rattle.part_laws.proofs.CrossingFit.{found_fits}
 use Rattle.part_laws.proofs.Places.{split}
 use Rattle.part_laws.proofs.RunsDetermined.{found_thread}

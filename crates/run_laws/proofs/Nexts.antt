@@ -1,14 +1,14 @@
 -- The step that a line names is the next of its kind.
 use Rattle.std.proofs.Common.{◌≡◌, ℕ, None, Some, Option, List, [], ◌∷◌, refl, sym, ap, ◌∙◌, subst, bytes_eq, codes, slice_get, if◌then◌else◌}
-use Rattle.nook_defs.specs.Simulation.{ThreadState}
-use Rattle.nook_defs.specs.declared.calls.Op.{Op}
-use Rattle.nook_defs.specs.declared.steps.Step.{Step}
-use Rattle.nook_defs.specs.declared.steps.Step.TheVariants as step
+use Rattle.run_defs.specs.Simulation.{ThreadState}
+use Rattle.nook_data.specs.declared.calls.Op.{Op}
+use Rattle.nook_data.specs.declared.steps.Step.{Step}
+use Rattle.nook_data.specs.declared.steps.Step.TheVariants as step
 use Rattle.part_laws.proofs.Places.{split}
 use Rattle.run_laws.proofs.Naming.{named_by, named_by_words}
 use Rattle.run_laws.specs.Audit.{Section, arrival_of, context_in, if_burst, if_entered, if_invoked, invocation_by, step_named, word_at}
 use Rattle.run_laws.specs.Fitting.{IsNext}
-use Rattle.nook_defs.proofs.Options.{none_is_some, same_inside}
+use Rattle.nook_data.proofs.Options.{none_is_some, same_inside}
 
 -- an invocation by a thread is one of that thread
 is_invocation : (thread : ℕ) (q : Option ThreadState) (s : Step) → invocation_by thread q ≡ Some s → (o : Op) × (s ≡ step.Invoke thread o)

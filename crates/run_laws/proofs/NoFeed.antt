@@ -1,26 +1,29 @@
 -- The text of an event has no line feed.
 use Rattle.std.proofs.Common.{◌≡◌, ℕ, true, false, None, Some, Option, List, [], ◌∷◌, ◌++◌, ◌==◌, not, refl, codes, decimal}
 use Rattle.std.proofs.lemmas.Bool.{and_from, and_parts}
-use Rattle.nook_defs.specs.ReportLines.{act_text, acts_tail, answer_tail, answer_text, cause_tail, cause_text, end_text, event_text, inner_words, op_text, released_text, result_text, spaced, stage_text, trap_text, with_list, with_number}
-use Rattle.nook_defs.specs.Views.Reporting.{answers_tail, comma_words, kept_text, moved_text, released_tail, right_text, words_text}
-use Rattle.nook_defs.specs.declared.machine.Act.{Act}
-use Rattle.nook_defs.specs.declared.machine.Act.TheVariants as act
-use Rattle.nook_defs.specs.declared.calls.Answer.{Answer}
-use Rattle.nook_defs.specs.declared.calls.Answer.TheVariants as answered
-use Rattle.nook_defs.specs.declared.steps.End.{End}
-use Rattle.nook_defs.specs.declared.steps.End.TheVariants as ends
-use Rattle.nook_defs.specs.declared.entries.Entry.{Entry}
-use Rattle.nook_defs.specs.declared.entries.Entry.TheVariants as entry
-use Rattle.nook_defs.specs.declared.steps.Event.{Event}
-use Rattle.nook_defs.specs.declared.steps.Event.TheVariants as event
-use Rattle.nook_defs.specs.declared.steps.FailCause.{FailCause}
-use Rattle.nook_defs.specs.declared.steps.FailCause.TheVariants as cause
-use Rattle.nook_defs.specs.declared.calls.Op.{Op}
-use Rattle.nook_defs.specs.declared.calls.Op.TheVariants as op
-use Rattle.nook_defs.specs.declared.steps.Stage.{Stage}
-use Rattle.nook_defs.specs.declared.steps.Stage.TheVariants as stages
-use Rattle.nook_defs.specs.declared.machine.TrapCause.{TrapCause}
-use Rattle.nook_defs.specs.declared.machine.TrapCause.TheVariants as trap
+use Rattle.report_defs.specs.ReportLines.{act_text, acts_tail, answer_tail, answer_text, cause_tail, cause_text}
+use Rattle.report_defs.specs.ReportLines.{end_text, event_text, inner_words, op_text, released_text, result_text}
+use Rattle.report_defs.specs.ReportLines.{spaced, stage_text, trap_text, with_list, with_number}
+use Rattle.report_defs.specs.Views.Reporting.{answers_tail, comma_words, kept_text, moved_text, released_tail}
+use Rattle.report_defs.specs.Views.Reporting.{right_text, words_text}
+use Rattle.nook_data.specs.declared.machine.Act.{Act}
+use Rattle.nook_data.specs.declared.machine.Act.TheVariants as act
+use Rattle.nook_data.specs.declared.calls.Answer.{Answer}
+use Rattle.nook_data.specs.declared.calls.Answer.TheVariants as answered
+use Rattle.nook_data.specs.declared.steps.End.{End}
+use Rattle.nook_data.specs.declared.steps.End.TheVariants as ends
+use Rattle.nook_data.specs.declared.entries.Entry.{Entry}
+use Rattle.nook_data.specs.declared.entries.Entry.TheVariants as entry
+use Rattle.nook_data.specs.declared.steps.Event.{Event}
+use Rattle.nook_data.specs.declared.steps.Event.TheVariants as event
+use Rattle.nook_data.specs.declared.steps.FailCause.{FailCause}
+use Rattle.nook_data.specs.declared.steps.FailCause.TheVariants as cause
+use Rattle.nook_data.specs.declared.calls.Op.{Op}
+use Rattle.nook_data.specs.declared.calls.Op.TheVariants as op
+use Rattle.nook_data.specs.declared.steps.Stage.{Stage}
+use Rattle.nook_data.specs.declared.steps.Stage.TheVariants as stages
+use Rattle.nook_data.specs.declared.machine.TrapCause.{TrapCause}
+use Rattle.nook_data.specs.declared.machine.TrapCause.TheVariants as trap
 use Rattle.run_laws.proofs.Lines.{has_no_feed}
 use Rattle.run_laws.proofs.Words.{decimal_no_feed}
 

@@ -2,15 +2,15 @@
 use Rattle.std.proofs.Common.{◌≡◌, ℕ, ◌==◌, ◌&&◌, nat_le, true, not, List, [], ◌∷◌, ◌++◌, length, refl, sym, ap, ◌∙◌, subst, append_assoc, codes, decimal, arith}
 use Rattle.std.proofs.lemmas.Bool.{and_from, and_parts, ne_eqb, not_from_false}
 use Rattle.std.proofs.lemmas.Grind.{common_steps}
-use Rattle.nook_defs.specs.Keys.{class_text}
+use Rattle.nook_data.specs.ClassNames.{class_text}
 use Rattle.std.specs.List.{list_all}
-use Rattle.nook_defs.specs.Names.{is_name, is_name_byte}
-use Rattle.nook_defs.specs.ReportLines.{event_line, event_text, with_number}
-use Rattle.nook_defs.specs.ReportText.{part_line}
-use Rattle.nook_defs.specs.declared.classes.Class.{Class}
-use Rattle.nook_defs.specs.declared.classes.Class.TheVariants as class
-use Rattle.nook_defs.specs.declared.steps.Event.{Event}
-use Rattle.nook_defs.specs.declared.scenario.PartSpec.{PartSpec}
+use Rattle.nook_data.specs.Names.{is_name, is_name_byte}
+use Rattle.report_defs.specs.ReportLines.{event_line, event_text, with_number}
+use Rattle.report_defs.specs.ReportText.{part_line}
+use Rattle.nook_data.specs.declared.classes.Class.{Class}
+use Rattle.nook_data.specs.declared.classes.Class.TheVariants as class
+use Rattle.nook_data.specs.declared.steps.Event.{Event}
+use Rattle.nook_data.specs.declared.scenario.PartSpec.{PartSpec}
 use Rattle.run_laws.proofs.Lines.{ended_behind, first_line, has_no_feed}
 use Rattle.run_laws.proofs.NoFeed.{IsPlain, event_plain, plain}
 use Rattle.run_laws.proofs.Words.{decimal_no_feed}

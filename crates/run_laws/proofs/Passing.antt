@@ -4,14 +4,14 @@ use Rattle.std.proofs.lemmas.Bool.{and_from}
 use Rattle.std.proofs.lemmas.List.Elements.{recursion_from_All}
 use Rattle.std.proofs.lemmas.Slice.Eq.{bytes_eq-Decides}
 use Rattle.std.specs.List.{AllByRecursion}
-use Rattle.nook_defs.specs.ReportLines.{event_line, event_lines}
-use Rattle.nook_defs.specs.ReportText.{part_line, part_text, parts_text}
-use Rattle.nook_defs.specs.Runs.{event_of, step_of}
-use Rattle.nook_defs.specs.Steps.{enabled}
-use Rattle.nook_defs.specs.Valid.{IsValidPart, IsValidScenario}
-use Rattle.nook_defs.specs.declared.steps.Event.{Event}
-use Rattle.nook_defs.specs.declared.scenario.PartSpec.{PartSpec}
-use Rattle.nook_defs.specs.declared.scenario.Scenario.{Scenario}
+use Rattle.report_defs.specs.ReportLines.{event_line, event_lines}
+use Rattle.report_defs.specs.ReportText.{part_line, part_text, parts_text}
+use Rattle.part_defs.specs.Runs.{event_of, step_of}
+use Rattle.part_defs.specs.Steps.{enabled}
+use Rattle.nook_data.specs.Valid.{IsValidPart, IsValidScenario}
+use Rattle.nook_data.specs.declared.steps.Event.{Event}
+use Rattle.nook_data.specs.declared.scenario.PartSpec.{PartSpec}
+use Rattle.nook_data.specs.declared.scenario.Scenario.{Scenario}
 use Rattle.part_laws.proofs.StepsFit.{fit_after, opening_fit}
 use Rattle.part_laws.proofs.ValidFits.{valid_fits}
 use Rattle.part_laws.specs.Fit.{IsFit}

@@ -4,24 +4,28 @@ use Rattle.std.proofs.Common.{◌≡◌, ◌⊎◌, inl, inr, ℕ, zero, suc, �
 use Rattle.std.specs.List.{AllByRecursion}
 use Rattle.std.proofs.lemmas.Bool.{eq-eqb, eqb-true, ne_eqb, lt-ltb, ltb-true, ltb-false}
 use Rattle.std.proofs.lemmas.List.Elements.{recursion_from_All}
-use Rattle.nook_defs.specs.declared.calls.CallEntry.{CallEntry}
-use Rattle.nook_defs.specs.declared.steps.Event.{Event}
-use Rattle.nook_defs.specs.declared.steps.Event.TheVariants as event
-use Rattle.nook_defs.specs.declared.calls.Op.{Op}
-use Rattle.nook_defs.specs.declared.scenario.PartSpec.{PartSpec}
-use Rattle.nook_defs.specs.declared.scenario.Scenario.{Scenario}
-use Rattle.nook_defs.specs.declared.steps.Step.TheVariants as step
-use Rattle.nook_defs.specs.declared.scenario.ThreadSpec.{ThreadSpec}
-use Rattle.nook_defs.specs.Log.{call_of_thread, opening_log}
-use Rattle.nook_defs.specs.Runs.{answer_at, event_of, if_enabled, next_for, next_recovery, next_of_calls, next_any, step_of}
-use Rattle.nook_defs.specs.Schedules.{Order, picked}
-use Rattle.nook_defs.specs.Simulation.{Choice, IsScheduledRun, RunningPart, Simulation, ThreadState, Waiting, actor_of, answer_table, answers_of_thread, arrival, begins, choices_of, going_on, invocation, opening_part, opening_thread, runs, part_after, stepped_by, taken, threads_after}
-use Rattle.nook_defs.proofs.Changes.{taken_by}
-use Rattle.nook_defs.proofs.ChoicesInOrder.{part_choices, choices_in_order}
-use Rattle.nook_defs.specs.State.{PartState}
-use Rattle.nook_defs.specs.Steps.{enabled, opening}
-use Rattle.nook_defs.specs.Valid.{IsValidPart, IsValidScenario, IsValidThread}
-use Rattle.nook_defs.specs.Views.Limits.{IsValidStep}
+use Rattle.nook_data.specs.declared.calls.CallEntry.{CallEntry}
+use Rattle.nook_data.specs.declared.steps.Event.{Event}
+use Rattle.nook_data.specs.declared.steps.Event.TheVariants as event
+use Rattle.nook_data.specs.declared.calls.Op.{Op}
+use Rattle.nook_data.specs.declared.scenario.PartSpec.{PartSpec}
+use Rattle.nook_data.specs.declared.scenario.Scenario.{Scenario}
+use Rattle.nook_data.specs.declared.steps.Step.TheVariants as step
+use Rattle.nook_data.specs.declared.scenario.ThreadSpec.{ThreadSpec}
+use Rattle.part_defs.specs.Log.{call_of_thread, opening_log}
+use Rattle.nook_data.specs.Answers.{answer_at}
+use Rattle.part_defs.specs.Runs.{event_of, if_enabled, next_for, next_recovery, next_of_calls, next_any, step_of}
+use Rattle.run_defs.specs.Schedules.{Order, picked}
+use Rattle.run_defs.specs.Simulation.{Choice, IsScheduledRun, RunningPart, Simulation, ThreadState, Waiting, actor_of}
+use Rattle.run_defs.specs.Simulation.{answer_table, answers_of_thread, arrival, begins, choices_of, going_on}
+use Rattle.run_defs.specs.Simulation.{invocation, opening_part, opening_thread, runs, part_after, stepped_by, taken}
+use Rattle.run_defs.specs.Simulation.{threads_after}
+use Rattle.run_defs.proofs.RunChanges.{taken_by}
+use Rattle.run_defs.proofs.ChoicesInOrder.{part_choices, choices_in_order}
+use Rattle.part_defs.specs.State.{PartState}
+use Rattle.part_defs.specs.Steps.{enabled, opening}
+use Rattle.nook_data.specs.Valid.{IsValidPart, IsValidScenario, IsValidThread}
+use Rattle.nook_data.specs.Views.Limits.{IsValidStep}
 use Rattle.part_laws.proofs.BurstKeeps.{split}
 use Rattle.part_laws.proofs.Counts.{step_counted}
 use Rattle.part_laws.proofs.Places.{from_map, get_set, length_map}
@@ -37,7 +41,7 @@ use Rattle.part_laws.specs.Tied.{IsTied}
 use Rattle.run_laws.proofs.Choices.{IsOwn, IsGood, HasNoStep, arrivals_none, choices_good, threads_none, parts_none}
 use Rattle.run_laws.proofs.Numbers.{number, told_number, started_number, found_none, step_says}
 use Rattle.run_laws.proofs.Threads.{AreThreadsOf, IsThreadOf, all_parts, heard_length, rest_count, rest_le, rest_less, threads_step, waiting_part, waits_in}
-use Rattle.nook_defs.proofs.Options.{none_is_some, same_inside}
+use Rattle.nook_data.proofs.Options.{none_is_some, same_inside}
 
 -- the part with a number
 abbrev At : List RunningPart → ℕ → RunningPart → Type 0

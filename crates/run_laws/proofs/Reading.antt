@@ -2,20 +2,20 @@
 use Rattle.std.proofs.Common.{◌≡◌, ℕ, suc, ◌+◌, ◌==◌, true, false, None, Some, Option, List, [], ◌∷◌, ◌++◌, length, refl, sym, ap, ◌∙◌, subst, append_assoc, append-nil, length-append, arith, eqb-true, bytes_eq}
 use Rattle.std.proofs.lemmas.Bool.{and_parts}
 use Rattle.std.proofs.lemmas.Slice.Eq.{bytes_eq-Decides}
-use Rattle.nook_defs.specs.ReportLines.{event_line, event_lines}
-use Rattle.nook_defs.specs.ReportText.{part_line, part_text, parts_text}
-use Rattle.nook_defs.specs.Runs.{event_of}
-use Rattle.nook_defs.specs.Steps.{enabled}
-use Rattle.nook_defs.specs.declared.steps.Event.{Event}
-use Rattle.nook_defs.specs.declared.scenario.PartSpec.{PartSpec}
-use Rattle.nook_defs.specs.declared.scenario.Scenario.{Scenario}
-use Rattle.nook_defs.specs.declared.steps.Step.{Step}
+use Rattle.report_defs.specs.ReportLines.{event_line, event_lines}
+use Rattle.report_defs.specs.ReportText.{part_line, part_text, parts_text}
+use Rattle.part_defs.specs.Runs.{event_of}
+use Rattle.part_defs.specs.Steps.{enabled}
+use Rattle.nook_data.specs.declared.steps.Event.{Event}
+use Rattle.nook_data.specs.declared.scenario.PartSpec.{PartSpec}
+use Rattle.nook_data.specs.declared.scenario.Scenario.{Scenario}
+use Rattle.nook_data.specs.declared.steps.Step.{Step}
 use Rattle.part_laws.proofs.Places.{split}
 use Rattle.part_laws.proofs.RunsDetermined.{step_named as step_of_event}
 use Rattle.run_laws.proofs.Leading.{section_end_is}
 use Rattle.run_laws.proofs.Lines.{text_of, text_of_lines}
 use Rattle.run_laws.proofs.Nexts.{named_next}
-use Rattle.nook_defs.proofs.Options.{none_is_some, same_inside}
+use Rattle.nook_data.proofs.Options.{none_is_some, same_inside}
 use Rattle.run_laws.specs.Audit.{Auditing, Done, Section, after_event, after_line, after_step, audited, behind, by_due, done_of, first_unfit, is_complete, is_ended, is_line_of, is_next, is_numbered, last_lines, lines_of, opening_audit, opening_section, past_section, section_after, section_end, step_named, with_due, with_section}
 use Rattle.run_laws.specs.Fitting.{AllFit, FitsFrom, IsNext, fitting_text, section_from, sections_of}
 

@@ -2,24 +2,26 @@
 -- to invoke are its operations, in order; and it waits where it has an open call.
 use Rattle.std.proofs.Common.{drop, ◌≡◌, ◌⊎◌, inl, inr, ℕ, zero, suc, ◌+◌, ◌≤◌, ◌==◌, if◌then◌else◌, true, false, Option, Some, None, List, [], ◌∷◌, ◌++◌, map, length, slice_get, slice_set, refl, sym, ap, ◌∙◌, subst, arith, append_assoc}
 use Rattle.std.proofs.lemmas.Bool.{eqb-true, eq-eqb, ne_eqb}
-use Rattle.nook_defs.specs.declared.calls.Answer.{Answer}
-use Rattle.nook_defs.specs.declared.steps.Event.{Event}
-use Rattle.nook_defs.specs.declared.steps.Event.TheVariants as event
-use Rattle.nook_defs.specs.declared.calls.Op.{Op}
-use Rattle.nook_defs.specs.declared.steps.Step.{Step}
-use Rattle.nook_defs.specs.declared.steps.Step.TheVariants as step
-use Rattle.nook_defs.specs.declared.scenario.ThreadSpec.{ThreadSpec}
-use Rattle.nook_defs.specs.Runs.{answer_at, event_of, step_of}
-use Rattle.nook_defs.specs.Simulation.{RunningPart, ThreadState, Waiting, started, thread_after, threads_after, part_after}
-use Rattle.nook_defs.proofs.Changes.{settled_by, settled}
-use Rattle.nook_defs.specs.Steps.{enabled}
+use Rattle.nook_data.specs.declared.calls.Answer.{Answer}
+use Rattle.nook_data.specs.declared.steps.Event.{Event}
+use Rattle.nook_data.specs.declared.steps.Event.TheVariants as event
+use Rattle.nook_data.specs.declared.calls.Op.{Op}
+use Rattle.nook_data.specs.declared.steps.Step.{Step}
+use Rattle.nook_data.specs.declared.steps.Step.TheVariants as step
+use Rattle.nook_data.specs.declared.scenario.ThreadSpec.{ThreadSpec}
+use Rattle.nook_data.specs.Answers.{answer_at}
+use Rattle.part_defs.specs.Runs.{event_of, step_of}
+use Rattle.run_defs.specs.Simulation.{RunningPart, ThreadState, Waiting, started, thread_after, threads_after}
+use Rattle.run_defs.specs.Simulation.{part_after}
+use Rattle.run_defs.proofs.RunChanges.{settled_by, settled}
+use Rattle.part_defs.specs.Steps.{enabled}
 use Rattle.part_laws.proofs.BurstKeeps.{split}
 use Rattle.part_laws.proofs.Places.{get_set, map_push}
 use Rattle.part_laws.proofs.RunsDetermined.{step_named}
 use Rattle.part_laws.specs.Tied.{IsTied}
 use Rattle.run_laws.proofs.Choices.{IsOwn}
 use Rattle.run_laws.proofs.Numbers.{number, told_number, started_number, step_says}
-use Rattle.nook_defs.proofs.Options.{same_inside}
+use Rattle.nook_data.proofs.Options.{same_inside}
 
 -- the number of the call that a thread waits for in a part
 abbrev pub waits_in : ℕ → Option Waiting → Option ℕ

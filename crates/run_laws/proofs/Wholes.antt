@@ -1,24 +1,27 @@
 -- The lines behind a section's events and those behind the sections are whole; the first of the former is of no event.
 use Rattle.std.proofs.Common.{◌≡◌, ℕ, zero, suc, Bool, true, false, Option, Some, None, List, [], ◌∷◌, ◌++◌, map, replicate, refl, bytes_eq, codes, decimal}
 use Rattle.std.specs.List.{flat_map}
-use Rattle.nook_defs.specs.Devices.{medium_of}
-use Rattle.nook_defs.specs.Pages.{object_words, opening_object}
-use Rattle.nook_defs.specs.ReportLines.{answer_text, line_feed, spaced, with_list, with_number}
-use Rattle.nook_defs.specs.ReportText.{journal_acts, answer_lines, block_lines, contract_line, device_lines, final_lines, losses_lines, object_lines, played_line, status_line, status_of, taps_text, threads_text, wire_line}
-use Rattle.nook_defs.specs.Views.Reporting.{block_line, config_line, failures_line, object_line, tap_line, thread_line}
-use Rattle.nook_defs.specs.Views.Reporting.{tap_text}
-use Rattle.nook_defs.specs.State.{PartState}
-use Rattle.nook_defs.specs.Listening.{tap_result}
-use Rattle.nook_defs.specs.declared.machine.Act.{Act}
-use Rattle.nook_defs.specs.declared.machine.Act.TheVariants as act
-use Rattle.nook_defs.specs.declared.calls.Answer.{Answer}
-use Rattle.nook_defs.specs.declared.verdicts.Break.{Break}
-use Rattle.nook_defs.specs.declared.classes.Class.{Class}
-use Rattle.nook_defs.specs.declared.classes.Class.TheVariants as class
-use Rattle.nook_defs.specs.declared.steps.Event.{Event}
-use Rattle.nook_defs.specs.declared.verdicts.Losses.{Losses}
-use Rattle.nook_defs.specs.declared.scenario.Scenario.{Scenario}
-use Rattle.nook_defs.specs.declared.scenario.ThreadSpec.{ThreadSpec}
+use Rattle.machine_defs.specs.Devices.{medium_of}
+use Rattle.machine_defs.specs.Pages.{object_words, opening_object}
+use Rattle.report_defs.specs.ReportLines.{answer_text, line_feed, spaced, with_list, with_number}
+use Rattle.report_defs.specs.ReportText.{journal_acts, answer_lines, block_lines, contract_line, device_lines}
+use Rattle.report_defs.specs.ReportText.{final_lines, losses_lines, object_lines, played_line, status_line, status_of}
+use Rattle.report_defs.specs.ReportText.{taps_text, threads_text, wire_line}
+use Rattle.report_defs.specs.Views.Reporting.{block_line, config_line, failures_line, object_line, tap_line}
+use Rattle.report_defs.specs.Views.Reporting.{thread_line}
+use Rattle.report_defs.specs.Views.Reporting.{tap_text}
+use Rattle.part_defs.specs.State.{PartState}
+use Rattle.nook_io.specs.Listening.{tap_result}
+use Rattle.nook_data.specs.declared.machine.Act.{Act}
+use Rattle.nook_data.specs.declared.machine.Act.TheVariants as act
+use Rattle.nook_data.specs.declared.calls.Answer.{Answer}
+use Rattle.nook_data.specs.declared.verdicts.Break.{Break}
+use Rattle.nook_data.specs.declared.classes.Class.{Class}
+use Rattle.nook_data.specs.declared.classes.Class.TheVariants as class
+use Rattle.nook_data.specs.declared.steps.Event.{Event}
+use Rattle.nook_data.specs.declared.verdicts.Losses.{Losses}
+use Rattle.nook_data.specs.declared.scenario.Scenario.{Scenario}
+use Rattle.nook_data.specs.declared.scenario.ThreadSpec.{ThreadSpec}
 use Rattle.part_laws.proofs.Places.{split}
 use Rattle.run_laws.proofs.Lines.{ended_behind, ended_whole, is_whole, whole_both}
 use Rattle.run_laws.specs.Audit.{Done, Section, answers_in_order, is_ended, is_numbered, journal_in, last_lines, own_listeners, published_in, section_end}

@@ -2,25 +2,25 @@
 use Rattle.std.specs.Prelude.{ℕ, zero, suc, ◌==◌, ◌&&◌, nat_le, if◌then◌else◌, Bool, true, false, is_none, Option, Some}
 use Rattle.std.specs.Prelude.{None, List, [], ◌∷◌, ◌++◌, length, map, filter, bytes_eq, codes, decimal, slice_get}
 use Rattle.std.specs.Prelude.{slice_index_or, slice_set}
-use Rattle.nook_defs.specs.Contract.{first_break}
-use Rattle.nook_defs.specs.Listening.{Listening}
-use Rattle.nook_defs.specs.Losses.{losses}
-use Rattle.nook_defs.specs.ReportLines.{event_line}
-use Rattle.nook_defs.specs.ReportText.{final_lines, part_line, status_line, status_of, taps_text, threads_text}
-use Rattle.nook_defs.specs.Runs.{event_of, next_any}
-use Rattle.nook_defs.specs.Simulation.{RunningPart, ThreadState, answers_of_thread, opening_part, part_after}
-use Rattle.nook_defs.specs.Simulation.{threads_after}
-use Rattle.nook_defs.specs.Steps.{enabled}
-use Rattle.nook_defs.specs.Listening.{tap_result}
-use Rattle.nook_defs.specs.declared.calls.Answer.{Answer}
-use Rattle.nook_defs.specs.declared.steps.Event.{Event}
-use Rattle.nook_defs.specs.declared.calls.Op.{Op}
-use Rattle.nook_defs.specs.declared.scenario.PartSpec.{PartSpec}
-use Rattle.nook_defs.specs.declared.scenario.Scenario.{Scenario}
-use Rattle.nook_defs.specs.declared.steps.Step.{Step}
-use Rattle.nook_defs.specs.declared.steps.Step.TheVariants as step
-use Rattle.nook_defs.specs.declared.scenario.ThreadSpec.{ThreadSpec}
-use Rattle.nook_defs.specs.declared.limits.TheConstants.{CONTEXTS}
+use Rattle.promise_defs.specs.Contract.{first_break}
+use Rattle.nook_io.specs.Listening.{Listening}
+use Rattle.promise_defs.specs.Losses.{losses}
+use Rattle.report_defs.specs.ReportLines.{event_line}
+use Rattle.report_defs.specs.ReportText.{final_lines, part_line, status_line, status_of, taps_text, threads_text}
+use Rattle.part_defs.specs.Runs.{event_of, next_any}
+use Rattle.run_defs.specs.Simulation.{RunningPart, ThreadState, answers_of_thread, opening_part, part_after}
+use Rattle.run_defs.specs.Simulation.{threads_after}
+use Rattle.part_defs.specs.Steps.{enabled}
+use Rattle.nook_io.specs.Listening.{tap_result}
+use Rattle.nook_data.specs.declared.calls.Answer.{Answer}
+use Rattle.nook_data.specs.declared.steps.Event.{Event}
+use Rattle.nook_data.specs.declared.calls.Op.{Op}
+use Rattle.nook_data.specs.declared.scenario.PartSpec.{PartSpec}
+use Rattle.nook_data.specs.declared.scenario.Scenario.{Scenario}
+use Rattle.nook_data.specs.declared.steps.Step.{Step}
+use Rattle.nook_data.specs.declared.steps.Step.TheVariants as step
+use Rattle.nook_data.specs.declared.scenario.ThreadSpec.{ThreadSpec}
+use Rattle.nook_data.specs.declared.limits.TheConstants.{CONTEXTS}
 
 -- ---- lines
 

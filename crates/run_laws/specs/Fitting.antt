@@ -1,14 +1,14 @@
 -- The runs that a report can be of: the invocations in each journal are the scripts', the arrivals the scenario's.
 use Rattle.std.specs.Prelude.{◌≡◌, ℕ, suc, true, Some, List, [], ◌∷◌, ◌++◌}
-use Rattle.nook_defs.specs.ReportText.{parts_text}
-use Rattle.nook_defs.specs.Runs.{event_of, step_of}
-use Rattle.nook_defs.specs.Steps.{enabled}
-use Rattle.nook_defs.specs.declared.steps.Event.{Event}
-use Rattle.nook_defs.specs.declared.scenario.PartSpec.{PartSpec}
-use Rattle.nook_defs.specs.declared.scenario.Scenario.{Scenario}
-use Rattle.nook_defs.specs.declared.steps.Step.{Step}
-use Rattle.nook_defs.specs.declared.steps.Step.TheVariants as step
-use Rattle.nook_defs.specs.declared.scenario.ThreadSpec.{ThreadSpec}
+use Rattle.report_defs.specs.ReportText.{parts_text}
+use Rattle.part_defs.specs.Runs.{event_of, step_of}
+use Rattle.part_defs.specs.Steps.{enabled}
+use Rattle.nook_data.specs.declared.steps.Event.{Event}
+use Rattle.nook_data.specs.declared.scenario.PartSpec.{PartSpec}
+use Rattle.nook_data.specs.declared.scenario.Scenario.{Scenario}
+use Rattle.nook_data.specs.declared.steps.Step.{Step}
+use Rattle.nook_data.specs.declared.steps.Step.TheVariants as step
+use Rattle.nook_data.specs.declared.scenario.ThreadSpec.{ThreadSpec}
 use Rattle.std.specs.Prelude.{slice_get}
 use Rattle.run_laws.specs.Audit.{Done, Section, arrival_of, done_of, invocation_by, is_complete, last_lines}
 use Rattle.run_laws.specs.Audit.{opening_section, section_after}

@@ -1,8 +1,8 @@
 //! A scheduled run ends only when every operation has its answer.
 
-ghost use Rattle.nook_defs.specs.Simulation.{IsScheduledRun, Simulation, answer_table};
-ghost use Rattle.nook_defs.specs.Valid.{IsValidScenario};
-ghost use Rattle.nook_defs.specs.declared.scenario.Scenario.{Scenario};
+ghost use Rattle.run_defs.specs.Simulation.{IsScheduledRun, Simulation, answer_table};
+ghost use Rattle.nook_data.specs.Valid.{IsValidScenario};
+ghost use Rattle.nook_data.specs.declared.scenario.Scenario.{Scenario};
 ghost use Rattle.std.specs.Prelude.{length, map, ◌≡◌};
 
 /// At the end of a scheduled run each thread has as many answers as operations, and the parts of its answers are, in

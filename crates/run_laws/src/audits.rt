@@ -1,9 +1,9 @@
 //! Laws of reports and their auditing.
 
 ghost use Rattle.std.specs.Prelude.{◌≡◌, List, ℕ, None};
-ghost use Rattle.nook_defs.specs.declared.steps.Event.{Event};
-ghost use Rattle.nook_defs.specs.Valid.{IsValidScenario};
-ghost use Rattle.nook_defs.specs.declared.scenario.Scenario.{Scenario};
+ghost use Rattle.nook_data.specs.declared.steps.Event.{Event};
+ghost use Rattle.nook_data.specs.Valid.{IsValidScenario};
+ghost use Rattle.nook_data.specs.declared.scenario.Scenario.{Scenario};
 ghost use Rattle.run_laws.specs.Audit.{audited};
 ghost use Rattle.run_laws.specs.Fitting.{AllFit, fitting_text};
 

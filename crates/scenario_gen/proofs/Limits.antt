@@ -7,13 +7,15 @@ use Rattle.std.proofs.lemmas.Bool.{ltb-true, leb-true, and_parts}
 use Rattle.std.proofs.lemmas.List.{length-replicate}
 use Rattle.std.proofs.lemmas.List.Elements.{All-nil, All-cons, All-push, All-map, All-weaker, All-replicate}
 use Rattle.std.proofs.lemmas.List.Sums.{AllPass-from_list_all}
-use Rattle.nook_defs.specs.Generated.{generated_disk, frames_to, generated_link, generated_op, ops_to, generated_thread, generated}
+use Rattle.run_defs.specs.Generated.{generated_disk, frames_to, generated_link, generated_op, ops_to, generated_thread}
+use Rattle.run_defs.specs.Generated.{generated}
 use Rattle.scenario_gen.specs.Pieces.{trap_at, generated_audio}
-use Rattle.nook_defs.specs.References.{block_image, block_words, net_image, net_words, sound_image, sound_words}
-use Rattle.nook_defs.specs.Valid.{IsWord, AreWords, IsValidImage, IsValidFault, IsValidPart, IsValidThread, IsValidScenario}
-use Rattle.nook_defs.specs.Views.Limits.{IsValidFrame, IsValidStep}
-use Rattle.nook_defs.specs.Names.{is_name}
-use Rattle.nook_defs.specs.declared.calls.Op.TheVariants as op
+use Rattle.run_defs.specs.References.{block_image, block_words, net_image, net_words, sound_image, sound_words}
+use Rattle.nook_data.specs.Valid.{IsWord, AreWords, IsValidImage, IsValidFault, IsValidPart, IsValidThread}
+use Rattle.nook_data.specs.Valid.{IsValidScenario}
+use Rattle.nook_data.specs.Views.Limits.{IsValidFrame, IsValidStep}
+use Rattle.nook_data.specs.Names.{is_name}
+use Rattle.nook_data.specs.declared.calls.Op.TheVariants as op
 
 -- numbers that a test finds small
 below : (n : ℕ) (xs : List ℕ) → list_all (λ x. nat_lt x n) xs ≡ true → All (λ x. x < n) xs

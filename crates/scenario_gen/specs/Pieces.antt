@@ -1,9 +1,9 @@
 use Rattle.std.specs.Prelude.{ℕ, codes}
-use Rattle.nook_defs.specs.Generated.{generated_part}
-use Rattle.nook_defs.specs.References.{sound_image}
-use Rattle.nook_defs.specs.Types.{Fault, PartSpec}
-use Rattle.nook_defs.specs.declared.classes.Class.TheVariants as class
-use Rattle.nook_defs.specs.declared.scenario.FaultKind.TheVariants as strikes
+use Rattle.run_defs.specs.Generated.{generated_part}
+use Rattle.run_defs.specs.References.{sound_image}
+use Rattle.nook_data.specs.Types.{Fault, PartSpec}
+use Rattle.nook_data.specs.declared.classes.Class.TheVariants as class
+use Rattle.nook_data.specs.declared.scenario.FaultKind.TheVariants as strikes
 
 -- a trap in a burst, after 40 turns
 abbrev pub trap_at : ℕ → Fault

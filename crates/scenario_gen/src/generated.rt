@@ -2,26 +2,26 @@
 
 ghost use Rattle.std.specs.Prelude.{◌≡◌, ◌+◌, ◌*◌, ◌%◌, ◌<◌, ◌≤◌, [], ◌∷◌, ◌++◌, true, codes, decimal, replicate, map};
 ghost use Rattle.std.specs.Prelude.{IfOk};
-ghost use Rattle.nook_defs.specs.Generated.{frames_to, generated, generated_disk, generated_link, generated_op};
-ghost use Rattle.nook_defs.specs.Generated.{generated_thread, ops_to};
+ghost use Rattle.run_defs.specs.Generated.{frames_to, generated, generated_disk, generated_link, generated_op};
+ghost use Rattle.run_defs.specs.Generated.{generated_thread, ops_to};
 ghost use Rattle.scenario_gen.specs.Pieces.{generated_audio, trap_at};
-ghost use Rattle.nook_defs.specs.Names.{is_name};
-ghost use Rattle.nook_defs.specs.Valid.{IsValidScenario};
+ghost use Rattle.nook_data.specs.Names.{is_name};
+ghost use Rattle.nook_data.specs.Valid.{IsValidScenario};
 
 use crate::references::{block_driver, net_driver, sound_driver};
-use nook_defs::calls::{Op, PartOps};
-use nook_defs::classes::Class;
-use nook_defs::lists::{Frames, Items, Words};
-use nook_defs::memory::NoMemory;
-use nook_defs::name::Name;
-use nook_defs::scenario::{
+use nook_data::calls::{Op, PartOps};
+use nook_data::classes::Class;
+use nook_data::lists::{Frames, Items, Words};
+use nook_data::memory::NoMemory;
+use nook_data::name::Name;
+use nook_data::scenario::{
     Fault, FaultKind, Faults, PartSpec, Parts, Scenario, ScheduleSpec, ThreadSpec, ThreadSpecs,
 };
 use std::alloc::Global;
 
 /// The scenario of a number from 1 to 256: so many operations a thread, so many arrivals, and a schedule that is
 /// drawn from it.
-#[tactic(auto, using(crate::proofs::Limits::generated_is_valid), unfolding(nook_defs::specs::Generated::generated))]
+#[tactic(auto, using(crate::proofs::Limits::generated_is_valid), unfolding(run_defs::specs::Generated::generated))]
 pub fn generate(n: u32, alloc: Global) -> Result<Scenario, NoMemory>
     requires { n ≤ 256 }
     ensures made { IfOk result (λ made. made ≡ generated n) }

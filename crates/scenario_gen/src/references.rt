@@ -1,13 +1,13 @@
 //! The reference drivers as images: a disk's, a net device's and a sound device's.
 
 ghost use Rattle.std.specs.Prelude.{◌≡◌, [], ◌∷◌, IfOk};
-ghost use Rattle.nook_defs.specs.References.{block_image, block_words, net_image, net_words, sound_image, sound_words};
-ghost use Rattle.nook_defs.specs.Valid.{IsValidImage};
+ghost use Rattle.run_defs.specs.References.{block_image, block_words, net_image, net_words, sound_image, sound_words};
+ghost use Rattle.nook_data.specs.Valid.{IsValidImage};
 
-use nook_defs::classes::Class;
-use nook_defs::lists::{Items, Words};
-use nook_defs::memory::NoMemory;
-use nook_defs::scenario::Image;
+use nook_data::classes::Class;
+use nook_data::lists::{Items, Words};
+use nook_data::memory::NoMemory;
+use nook_data::scenario::Image;
 use std::alloc::Global;
 
 // the text of the block driver

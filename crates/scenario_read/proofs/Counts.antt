@@ -2,7 +2,7 @@
 use Rattle.std.proofs.Common.{◌≡◌, List, [], ◌∷◌, length, refl, arith}
 use Rattle.serde_json.specs.View.{items_view}
 use Rattle.serde_json.specs.declared.value.Value.{Value}
-use Rattle.nook_defs.specs.Reading.{count_of}
+use Rattle.input_defs.specs.Reading.{count_of}
 
 pub count_items : (values : List Value) → count_of (items_view values) ≡ length values
 count_items [] = refl

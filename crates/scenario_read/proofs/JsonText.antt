@@ -5,8 +5,8 @@ use Rattle.std.proofs.lemmas.Str.{encodes-chars, scalars-chars}
 use Rattle.std.proofs.lemmas.Slice.Eq.{bytes_eq-Decides}
 use Rattle.serde_json.specs.Data.{Data}
 use Rattle.serde_json.specs.Read.{read}
-use Rattle.nook_defs.specs.Reading.{is_utf8, json_of, bad}
-use Rattle.nook_defs.specs.declared.input.InputFault.TheVariants as fault
+use Rattle.input_defs.specs.Reading.{is_utf8, json_of, bad}
+use Rattle.input_defs.specs.declared.input.InputFault.TheVariants as fault
 
 and_true : (a b : Bool) → (a && b) ≡ true → (a ≡ true) × (b ≡ true)
 and_true true b h = (refl, h)

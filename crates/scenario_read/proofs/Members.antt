@@ -6,9 +6,9 @@ use Rattle.std.specs.declared.alloc.Global.{Global}
 use Rattle.std.proofs.lemmas.List.Sums.{AllPass-from_list_all, list_all-from_AllPass}
 use Rattle.serde_json.specs.View.{members_view}
 use Rattle.serde_json.specs.declared.value.Value.{Value}
-use Rattle.nook_defs.specs.Views.Readings.{is_key}
-use Rattle.nook_defs.specs.Reading.{all_known}
-use Rattle.nook_defs.specs.declared.input.Key.{Key}
+use Rattle.input_defs.specs.Views.Readings.{is_key}
+use Rattle.input_defs.specs.Reading.{all_known}
+use Rattle.asm_defs.specs.declared.keys.Key.{Key}
 
 same : (a b : Bool) → (a ≡ true → b ≡ true) → (b ≡ true → a ≡ true) → a ≡ b
 same true true there back = refl

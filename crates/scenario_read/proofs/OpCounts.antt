@@ -2,8 +2,8 @@
 use Rattle.std.proofs.Common.{◌≡◌, refl, sym, ℕ, ◌+◌, ◌-◌, ◌<◌, ◌≤◌, true, nat_lt, List, length, drop, get_or, add-one, arith}
 use Rattle.std.proofs.Math.Seq.{drop-cons}
 use Rattle.std.proofs.lemmas.Bool.Decides.{nat_tests}
-use Rattle.nook_defs.specs.Campaigns.{ops_count}
-use Rattle.nook_defs.specs.declared.scenario.ThreadSpec.{ThreadSpec}
+use Rattle.nook_data.specs.Members.{ops_count}
+use Rattle.nook_data.specs.declared.scenario.ThreadSpec.{ThreadSpec}
 
 -- the operations from a thread on are its own and those of the later threads
 pub one_thread : (threads : List ThreadSpec) (i : ℕ) (thread : ThreadSpec) → i < length threads → thread ≡ get_or threads i thread

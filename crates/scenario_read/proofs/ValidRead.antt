@@ -2,14 +2,14 @@
 use Rattle.std.proofs.Common.{subst}
 use Rattle.std.specs.Prelude.{Result, Ok, Err, IfOk}
 use Rattle.serde_json.specs.Data.{Data}
-use Rattle.nook_defs.specs.CampaignReading.{campaign_of}
-use Rattle.nook_defs.specs.Campaigns.{IsValidCampaign}
-use Rattle.nook_defs.specs.ImageReading.{image_of}
-use Rattle.nook_defs.specs.ScenarioReading.{scenario_of}
-use Rattle.nook_defs.specs.Valid.{IsValidImage, IsValidScenario}
-use Rattle.nook_defs.specs.declared.campaign.Campaign.{Campaign}
-use Rattle.nook_defs.specs.declared.scenario.Image.{Image}
-use Rattle.nook_defs.specs.declared.scenario.Scenario.{Scenario}
+use Rattle.input_defs.specs.CampaignReading.{campaign_of}
+use Rattle.nook_data.specs.Members.{IsValidCampaign}
+use Rattle.input_defs.specs.ImageReading.{image_of}
+use Rattle.input_defs.specs.ScenarioReading.{scenario_of}
+use Rattle.nook_data.specs.Valid.{IsValidImage, IsValidScenario}
+use Rattle.nook_data.specs.declared.campaign.Campaign.{Campaign}
+use Rattle.nook_data.specs.declared.scenario.Image.{Image}
+use Rattle.nook_data.specs.declared.scenario.Scenario.{Scenario}
 use Rattle.reading_laws.proofs.CampaignsRead.{campaign_holds}
 use Rattle.reading_laws.proofs.ImagesRead.{image_is_valid}
 use Rattle.reading_laws.proofs.ScenariosRead.{scenario_holds}

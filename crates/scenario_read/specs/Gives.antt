@@ -1,8 +1,8 @@
 use Rattle.std.specs.Prelude.{◌≡◌, ⊤, [], ◌∷◌, Result, Ok, Err}
-use Rattle.nook_defs.specs.declared.input.InputFault.TheVariants as fault
-use Rattle.nook_defs.specs.declared.input.Key.{Key}
-use Rattle.nook_defs.specs.declared.input.PathStep.TheVariants as step
-use Rattle.nook_defs.specs.declared.input.Refusal.{Refusal}
+use Rattle.input_defs.specs.declared.input.InputFault.TheVariants as fault
+use Rattle.asm_defs.specs.declared.keys.Key.{Key}
+use Rattle.input_defs.specs.declared.input.PathStep.TheVariants as step
+use Rattle.input_defs.specs.declared.input.Refusal.{Refusal}
 use Rattle.scenario_read.specs.declared.stop.ScenarioFault.{ScenarioFault}
 use Rattle.scenario_read.specs.declared.stop.ScenarioFault.TheVariants as stop
 

@@ -2,21 +2,22 @@
 
 ghost use Rattle.std.specs.Prelude.{◌≡◌, ◌-◌, List, IfOk, length, nat_lt};
 ghost use Rattle.serde_json.specs.View.{view};
-ghost use Rattle.nook_defs.specs.CampaignReading.{campaign_from, campaign_of, check_base, check_ops, check_own_faults};
-ghost use Rattle.nook_defs.specs.Campaigns.{IsValidCampaign, faults_at, ops_count};
-ghost use Rattle.nook_defs.specs.Reading.{refuse_if};
-ghost use Rattle.nook_defs.specs.declared.scenario.Fault.{Fault};
-ghost use Rattle.nook_defs.specs.declared.input.InputFault.TheVariants as fault;
+ghost use Rattle.input_defs.specs.CampaignReading.{campaign_from, campaign_of, check_base, check_ops, check_own_faults};
+ghost use Rattle.nook_data.specs.Members.{IsValidCampaign, faults_at, ops_count};
+ghost use Rattle.input_defs.specs.Reading.{refuse_if};
+ghost use Rattle.nook_data.specs.declared.scenario.Fault.{Fault};
+ghost use Rattle.input_defs.specs.declared.input.InputFault.TheVariants as fault;
 ghost use Rattle.scenario_read.specs.Gives.{Gives};
 
 use crate::faults::member_faults_of;
 use crate::fields::{check_keys, field, number_at};
 use crate::scenario::{json_of, scenario_of};
 use crate::stop::{ScenarioFault, at, bad_here, behind};
-use nook_defs::campaign::Campaign;
-use nook_defs::input::{InputFault, Key, PathStep};
-use nook_defs::limits::{MOST_CAMPAIGN_OPS, MOST_FAULTS};
-use nook_defs::scenario::{PartSpec, Scenario, ThreadSpec};
+use asm_defs::keys::Key;
+use input_defs::input::{InputFault, PathStep};
+use nook_data::campaign::Campaign;
+use nook_data::limits::{MOST_CAMPAIGN_OPS, MOST_FAULTS};
+use nook_data::scenario::{PartSpec, Scenario, ThreadSpec};
 use serde_json::Value;
 use std::alloc::Global;
 
@@ -26,7 +27,7 @@ use std::alloc::Global;
 ///
 /// The first fault of the text with its path, or want of memory. The scenario comes first, then the part, then the
 /// faults, then the operations of all threads together, then the faults that the part has of its own.
-#[tactic(auto, unfolding(nook_defs::specs::CampaignReading::campaign_from), using(crate::proofs::ValidRead::valid_campaign))]
+#[tactic(auto, unfolding(input_defs::specs::CampaignReading::campaign_from), using(crate::proofs::ValidRead::valid_campaign))]
 pub fn read_campaign(alloc: Global, bytes: &[u8]) -> Result<Campaign, ScenarioFault>
     ensures gives { Gives result (campaign_from bytes.now) }
     ensures valid { IfOk result IsValidCampaign }
@@ -36,7 +37,7 @@ pub fn read_campaign(alloc: Global, bytes: &[u8]) -> Result<Campaign, ScenarioFa
 }
 
 /// A campaign: its scenario, the place of the struck part and the faults, and then the limits of the scenario.
-#[tactic(auto, unfolding(nook_defs::specs::CampaignReading::campaign_of))]
+#[tactic(auto, unfolding(input_defs::specs::CampaignReading::campaign_of))]
 fn campaign_of(alloc: Global, value: &Value) -> Result<Campaign, ScenarioFault>
     ensures { Gives result (campaign_of (view value.now)) }
 {

@@ -2,29 +2,29 @@
 
 ghost use Rattle.std.specs.Prelude.{◌≡◌};
 ghost use Rattle.serde_json.specs.View.{view};
-ghost use Rattle.nook_defs.specs.Classes.{same_class};
-ghost use Rattle.nook_defs.specs.ImageReading.{driver_of, or_bad_asm};
-ghost use Rattle.nook_defs.specs.Views.Readings.{asm_of, driver_image};
-ghost use Rattle.nook_defs.specs.Assembler.{assembled};
-ghost use Rattle.nook_defs.specs.Keys.{key_text};
-ghost use Rattle.nook_defs.specs.declared.input.Key.TheVariants as key;
+ghost use Rattle.nook_data.specs.Classes.{same_class};
+ghost use Rattle.input_defs.specs.ImageReading.{driver_of, or_bad_asm};
+ghost use Rattle.input_defs.specs.Views.Readings.{asm_of, driver_image};
+ghost use Rattle.asm_defs.specs.Assembler.{assembled};
+ghost use Rattle.asm_defs.specs.Keys.{key_text};
+ghost use Rattle.asm_defs.specs.declared.keys.Key.TheVariants as key;
 ghost use Rattle.serde_json.specs.Find.{get};
 ghost use Rattle.scenario_read.specs.Gives.{Gives};
 
 use crate::fields::{check_keys, field, text_in};
 use crate::image::image_of;
 use crate::stop::{ScenarioFault, at, bad_here};
+use asm_defs::assembler::AsmFault;
+use asm_defs::keys::{Key, key_text};
 use driver_asm::{AsmError, assemble};
-use nook_defs::assembler::AsmFault;
-use nook_defs::classes::Class;
-use nook_defs::input::{InputFault, Key};
-use nook_defs::keys::key_text;
-use nook_defs::scenario::Image;
+use input_defs::input::InputFault;
+use nook_data::classes::Class;
+use nook_data::scenario::Image;
 use serde_json::Value;
 use std::alloc::Global;
 
 /// The image of a driver of a class, given under exactly one of the keys `image` and `asm`.
-#[tactic(auto, unfolding(nook_defs::specs::ImageReading::driver_of))]
+#[tactic(auto, unfolding(input_defs::specs::ImageReading::driver_of))]
 pub fn driver_of(alloc: Global, value: &Value, class: Class) -> Result<Image, ScenarioFault>
     ensures { Gives result (driver_of class (view value.now)) }
 {

@@ -2,20 +2,21 @@
 
 ghost use Rattle.std.specs.Prelude.{◌≡◌};
 ghost use Rattle.serde_json.specs.View.{view};
-ghost use Rattle.nook_defs.specs.CampaignReading.{member_faults_of};
-ghost use Rattle.nook_defs.specs.Reading.{named_of, required};
-ghost use Rattle.nook_defs.specs.PartReading.{bad_block_of, fault_kind, fault_named, fault_of};
-ghost use Rattle.nook_defs.specs.Views.Readings.{bad_blocks_of, faults_of};
-ghost use Rattle.nook_defs.specs.declared.input.Key.TheVariants as key;
+ghost use Rattle.input_defs.specs.CampaignReading.{member_faults_of};
+ghost use Rattle.input_defs.specs.Reading.{named_of, required};
+ghost use Rattle.input_defs.specs.PartReading.{bad_block_of, fault_kind, fault_named, fault_of};
+ghost use Rattle.input_defs.specs.Views.Readings.{bad_blocks_of, faults_of};
+ghost use Rattle.asm_defs.specs.declared.keys.Key.TheVariants as key;
 ghost use Rattle.scenario_read.specs.Gives.{Gives};
 
 use crate::fields::{check_keys, check_object, field, number_at, word_at};
 use crate::keys::{fault_keys, fault_named};
 use crate::lists::{ItemReader, read_list};
 use crate::stop::{ScenarioFault, at, bad_here};
-use nook_defs::input::{FaultName, InputFault, Key};
-use nook_defs::limits::{MOST_BAD_BLOCKS, MOST_CAMPAIGN_FAULTS, MOST_FAULTS, MOST_TURNS};
-use nook_defs::scenario::{BadBlock, BadBlocks, Fault, FaultKind, Faults};
+use asm_defs::keys::Key;
+use input_defs::input::{FaultName, InputFault};
+use nook_data::limits::{MOST_BAD_BLOCKS, MOST_CAMPAIGN_FAULTS, MOST_FAULTS, MOST_TURNS};
+use nook_data::scenario::{BadBlock, BadBlocks, Fault, FaultKind, Faults};
 use serde_json::Value;
 use std::alloc::Global;
 
@@ -52,7 +53,7 @@ impl ItemReader for FaultReader {
 }
 
 /// A fault: the burst, the turns before it, its kind and the keys of that kind.
-#[tactic(auto, unfolding(nook_defs::specs::PartReading::fault_of))]
+#[tactic(auto, unfolding(input_defs::specs::PartReading::fault_of))]
 fn fault_of(alloc: Global, value: &Value) -> Result<Fault, ScenarioFault>
     ensures { Gives result (fault_of (view value.now)) }
 {
@@ -79,7 +80,7 @@ fn fault_name(alloc: Global, value: &Value) -> Result<FaultName, ScenarioFault>
 }
 
 /// What a fault of a kind does.
-#[tactic(auto, unfolding(nook_defs::specs::PartReading::fault_kind))]
+#[tactic(auto, unfolding(input_defs::specs::PartReading::fault_kind))]
 fn fault_kind(alloc: Global, value: &Value, name: FaultName) -> Result<FaultKind, ScenarioFault>
     ensures { Gives result (fault_kind name (view value.now)) }
 {
@@ -133,7 +134,7 @@ impl ItemReader for BadBlockReader {
 }
 
 /// A bad block: its number, and the commands that it still does.
-#[tactic(auto, unfolding(nook_defs::specs::PartReading::bad_block_of))]
+#[tactic(auto, unfolding(input_defs::specs::PartReading::bad_block_of))]
 fn bad_block_of(alloc: Global, value: &Value, blocks: u32) -> Result<BadBlock, ScenarioFault>
     ensures { Gives result (bad_block_of blocks (view value.now)) }
 {

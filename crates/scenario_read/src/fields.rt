@@ -4,15 +4,15 @@ ghost use Rattle.std.specs.Prelude.{◌≡◌, ◌↔◌, All, IsTrue, IsSome, O
 ghost use Rattle.serde_json.specs.View.{view, members_view};
 ghost use Rattle.std.specs.BTreeMap.{keys};
 ghost use Rattle.serde_json.specs.Find.{as_object, get};
-ghost use Rattle.nook_defs.specs.Keys.{key_text};
-ghost use Rattle.nook_defs.specs.Views.Readings.{is_key};
-ghost use Rattle.nook_defs.specs.Reading.{all_known, bad, object_with, is_object, whole_number, number_at, text_of};
-ghost use Rattle.nook_defs.specs.Views.Readings.{number_or};
+ghost use Rattle.asm_defs.specs.Keys.{key_text};
+ghost use Rattle.input_defs.specs.Views.Readings.{is_key};
+ghost use Rattle.input_defs.specs.Reading.{all_known, bad, object_with, is_object, whole_number, number_at, text_of};
+ghost use Rattle.input_defs.specs.Views.Readings.{number_or};
 ghost use Rattle.scenario_read.specs.Gives.{Fails, Gives, IsMissing};
 
 use crate::stop::{ScenarioFault, at, bad_here, missing};
-use nook_defs::input::{InputFault, Key};
-use nook_defs::keys::key_text;
+use asm_defs::keys::{Key, key_text};
+use input_defs::input::InputFault;
 use serde_json::{Map, Value};
 use std::alloc::Global;
 

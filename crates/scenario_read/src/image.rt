@@ -4,22 +4,22 @@ ghost use Rattle.std.specs.Prelude.{◌≡◌, [], IfOk, length, true};
 ghost use Rattle.std.specs.List.{list_all};
 ghost use Rattle.std.specs.Str.Parse.{digits_value};
 ghost use Rattle.serde_json.specs.View.{view};
-ghost use Rattle.nook_defs.specs.ImageReading.{known_class, entries_of, hex_word, image_from, image_of, places_from};
-ghost use Rattle.nook_defs.specs.ImageReading.{words_of};
-ghost use Rattle.nook_defs.specs.Views.Readings.{is_hex_digit, text_word};
-ghost use Rattle.nook_defs.specs.Valid.{IsValidImage};
+ghost use Rattle.input_defs.specs.ImageReading.{known_class, entries_of, hex_word, image_from, image_of, places_from};
+ghost use Rattle.input_defs.specs.ImageReading.{words_of};
+ghost use Rattle.input_defs.specs.Views.Readings.{is_hex_digit, text_word};
+ghost use Rattle.nook_data.specs.Valid.{IsValidImage};
 ghost use Rattle.scenario_read.specs.Gives.{Gives};
 
 use crate::fields::{check_keys, field, number_at, text_in};
 use crate::lists::{ItemReader, read_list};
 use crate::scenario::json_of;
 use crate::stop::{ScenarioFault, at, bad_here};
-use nook_defs::classes::Class;
-use nook_defs::input::{InputFault, Key};
-use nook_defs::keys::{class_named, entry_keys};
-use nook_defs::lists::{Items, Words};
-use nook_defs::memory_map::TEXT_WORDS;
-use nook_defs::scenario::Image;
+use asm_defs::keys::{Key, entry_keys};
+use input_defs::input::InputFault;
+use nook_data::classes::{Class, class_named};
+use nook_data::lists::{Items, Words};
+use nook_data::memory_map::TEXT_WORDS;
+use nook_data::scenario::Image;
 use serde_json::Value;
 use std::alloc::Global;
 
@@ -28,7 +28,7 @@ use std::alloc::Global;
 /// # Errors
 ///
 /// The first fault of the text with its path, or want of memory.
-#[tactic(auto, unfolding(nook_defs::specs::ImageReading::image_from), using(crate::proofs::ValidRead::valid_image))]
+#[tactic(auto, unfolding(input_defs::specs::ImageReading::image_from), using(crate::proofs::ValidRead::valid_image))]
 pub fn read_image(alloc: Global, bytes: &[u8]) -> Result<Image, ScenarioFault>
     ensures gives { Gives result (image_from bytes.now) }
     ensures valid { IfOk result IsValidImage }
@@ -38,7 +38,7 @@ pub fn read_image(alloc: Global, bytes: &[u8]) -> Result<Image, ScenarioFault>
 }
 
 /// An image: its class, initial words, entries and text.
-#[tactic(auto, unfolding(nook_defs::specs::ImageReading::image_of))]
+#[tactic(auto, unfolding(input_defs::specs::ImageReading::image_of))]
 pub fn image_of(alloc: Global, value: &Value) -> Result<Image, ScenarioFault>
     ensures { Gives result (image_of (view value.now)) }
 {
@@ -124,7 +124,7 @@ impl ItemReader for HexReader {
 }
 
 /// The word of exactly eight hexadecimal digits of either case.
-#[tactic(auto, unfolding(nook_defs::specs::ImageReading::hex_word))]
+#[tactic(auto, unfolding(input_defs::specs::ImageReading::hex_word))]
 fn hex_word(alloc: Global, digits: &str) -> Result<u32, ScenarioFault>
     ensures { Gives result (hex_word digits.now) }
 {

@@ -1,12 +1,13 @@
 //! Which keys an object has, and names that stand for one of a few things.
 
 ghost use Rattle.std.specs.Prelude.{◌≡◌, ◌∷◌};
-ghost use Rattle.nook_defs.specs.PartReading.{fault_named, fault_keys, part_keys};
-ghost use Rattle.nook_defs.specs.ScenarioReading.{schedule_named, schedule_keys, op_named, op_keys};
-ghost use Rattle.nook_defs.specs.declared.input.Key.TheVariants as key;
+ghost use Rattle.input_defs.specs.PartReading.{fault_named, fault_keys, part_keys};
+ghost use Rattle.input_defs.specs.ScenarioReading.{schedule_named, schedule_keys, op_named, op_keys};
+ghost use Rattle.asm_defs.specs.declared.keys.Key.TheVariants as key;
 
-use nook_defs::classes::Class;
-use nook_defs::input::{FaultName, Key, OpName, ScheduleName};
+use asm_defs::keys::Key;
+use input_defs::input::{FaultName, OpName, ScheduleName};
+use nook_data::classes::Class;
 
 /// The keys of a part of a class, in a scenario of a version.
 pub fn part_keys(version: u32, class: Class) -> &'static [Key]
@@ -82,7 +83,7 @@ pub fn op_keys(name: OpName) -> &'static [Key]
 }
 
 /// The kind of fault of a name.
-#[tactic(auto, unfolding(nook_defs::specs::PartReading::fault_named))]
+#[tactic(auto, unfolding(input_defs::specs::PartReading::fault_named))]
 pub fn fault_named(name: &str) -> Option<FaultName>
     ensures { result ≡ fault_named name.now }
 {
@@ -97,7 +98,7 @@ pub fn fault_named(name: &str) -> Option<FaultName>
 }
 
 /// The kind of schedule of a name.
-#[tactic(auto, unfolding(nook_defs::specs::ScenarioReading::schedule_named))]
+#[tactic(auto, unfolding(input_defs::specs::ScenarioReading::schedule_named))]
 pub fn schedule_named(name: &str) -> Option<ScheduleName>
     ensures { result ≡ schedule_named name.now }
 {
@@ -110,7 +111,7 @@ pub fn schedule_named(name: &str) -> Option<ScheduleName>
 }
 
 /// The operation of a name.
-#[tactic(auto, unfolding(nook_defs::specs::ScenarioReading::op_named))]
+#[tactic(auto, unfolding(input_defs::specs::ScenarioReading::op_named))]
 pub fn op_named(name: &str) -> Option<OpName>
     ensures { result ≡ op_named name.now }
 {

@@ -1,12 +1,12 @@
 //! The line that tells why an input is refused.
 
 ghost use Rattle.std.specs.Prelude.{◌≡◌, ◌∷◌, ◌++◌, codes, IfOk, OnOk, flat_map, string_bytes, decimal};
-ghost use Rattle.nook_defs.specs.Faults.{asm_number, fault_line, fault_text, path_text, step_text};
+ghost use Rattle.input_defs.specs.Faults.{asm_number, fault_line, fault_text, path_text, step_text};
 
-use nook_defs::assembler::AsmKind;
-use nook_defs::input::{InputFault, PathStep, Refusal};
-use nook_defs::keys::key_text;
-use nook_defs::memory::NoMemory;
+use asm_defs::assembler::AsmKind;
+use asm_defs::keys::key_text;
+use input_defs::input::{InputFault, PathStep, Refusal};
+use nook_data::memory::NoMemory;
 use std::alloc::Global;
 use std::fmt::Write;
 
@@ -15,7 +15,7 @@ use std::fmt::Write;
 /// # Errors
 ///
 /// Want of memory.
-#[tactic(auto, unfolding(nook_defs::specs::Faults::fault_line))]
+#[tactic(auto, unfolding(input_defs::specs::Faults::fault_line))]
 pub fn fault_line(alloc: Global, refusal: &Refusal) -> Result<String, NoMemory>
     ensures { IfOk result (λ line. string_bytes line ≡ fault_line refusal.now) }
 {

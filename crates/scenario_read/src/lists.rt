@@ -2,14 +2,14 @@
 
 ghost use Rattle.std.specs.Prelude.{◌≡◌, ◌≤◌, [], length, IfOk, Result};
 ghost use Rattle.serde_json.specs.View.{view, items_view};
-ghost use Rattle.nook_defs.specs.Reading.{items_from, list_of, whole_number, numbers_of};
+ghost use Rattle.input_defs.specs.Reading.{items_from, list_of, whole_number, numbers_of};
 ghost use Rattle.scenario_read.specs.Gives.{Gives};
 
 use crate::fields::number_in;
 use crate::stop::{ScenarioFault, bad_here, behind};
-use nook_defs::input::{InputFault, PathStep};
-use nook_defs::lists::{Items, Words};
-use nook_defs::memory::NoMemory;
+use input_defs::input::{InputFault, PathStep};
+use nook_data::lists::{Items, Words};
+use nook_data::memory::NoMemory;
 use serde_json::Value;
 use std::alloc::Global;
 
@@ -18,7 +18,7 @@ pub trait ItemReader {
     ghost use Rattle.std.specs.Prelude.{List, Result};
     ghost use Rattle.serde_json.specs.Data.{Data};
     ghost use Rattle.serde_json.specs.View.{view};
-    ghost use Rattle.nook_defs.specs.declared.input.Refusal.{Refusal};
+    ghost use Rattle.input_defs.specs.declared.input.Refusal.{Refusal};
     ghost use Rattle.scenario_read.specs.Gives.{Gives};
 
     /// What an item is read as.

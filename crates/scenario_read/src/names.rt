@@ -2,15 +2,17 @@
 
 ghost use Rattle.std.specs.Prelude.{◌≡◌, List, ℕ};
 ghost use Rattle.serde_json.specs.View.{view};
-ghost use Rattle.nook_defs.specs.PartReading.{is_among, name_of, new_name, part_names};
-ghost use Rattle.nook_defs.specs.ScenarioReading.{thread_names};
+ghost use Rattle.nook_data.specs.Names.{is_among};
+ghost use Rattle.input_defs.specs.PartReading.{name_of, new_name};
+ghost use Rattle.nook_data.specs.Valid.{part_names};
+ghost use Rattle.nook_data.specs.Valid.{thread_names};
 ghost use Rattle.scenario_read.specs.Gives.{Gives};
 
 use crate::fields::text_in;
 use crate::stop::{ScenarioFault, bad_here};
-use nook_defs::input::InputFault;
-use nook_defs::name::Name;
-use nook_defs::scenario::{PartSpec, ThreadSpec};
+use input_defs::input::InputFault;
+use nook_data::name::Name;
+use nook_data::scenario::{PartSpec, ThreadSpec};
 use serde_json::Value;
 use std::alloc::Global;
 
@@ -35,7 +37,7 @@ pub fn thread_name(
 }
 
 /// A name that is told to be taken or not.
-#[tactic(auto, unfolding(nook_defs::specs::PartReading::new_name))]
+#[tactic(auto, unfolding(input_defs::specs::PartReading::new_name))]
 fn new_name(alloc: Global, name: &str, taken: bool) -> Result<Name, ScenarioFault>
     ensures { (earlier : List (List ℕ)) → taken ≡ is_among earlier name.now → Gives result (new_name earlier name.now) }
 {

@@ -2,19 +2,20 @@
 
 ghost use Rattle.std.specs.Prelude.{◌≡◌};
 ghost use Rattle.serde_json.specs.View.{view};
-ghost use Rattle.nook_defs.specs.Reading.{named_of};
-ghost use Rattle.nook_defs.specs.ScenarioReading.{op_by, op_named, op_of, op_words_of};
-ghost use Rattle.nook_defs.specs.Views.Readings.{ops_of};
+ghost use Rattle.input_defs.specs.Reading.{named_of};
+ghost use Rattle.input_defs.specs.ScenarioReading.{op_by, op_named, op_of, op_words_of};
+ghost use Rattle.input_defs.specs.Views.Readings.{ops_of};
 ghost use Rattle.scenario_read.specs.Gives.{Gives};
 
 use crate::fields::{check_keys, check_object, field, number_at, word_at};
 use crate::keys::{op_keys, op_named};
 use crate::lists::{ItemReader, read_list, read_words};
 use crate::stop::{ScenarioFault, at, bad_here};
-use nook_defs::calls::{Op, PartOps};
-use nook_defs::input::{InputFault, Key, OpName};
-use nook_defs::limits::MOST_OPS;
-use nook_defs::lists::Words;
+use asm_defs::keys::Key;
+use input_defs::input::{InputFault, OpName};
+use nook_data::calls::{Op, PartOps};
+use nook_data::limits::MOST_OPS;
+use nook_data::lists::Words;
 use serde_json::Value;
 use std::alloc::Global;
 
@@ -47,7 +48,7 @@ impl ItemReader for OpReader {
 }
 
 /// An operation and its part. It is not checked against the part's class.
-#[tactic(auto, unfolding(nook_defs::specs::ScenarioReading::op_of))]
+#[tactic(auto, unfolding(input_defs::specs::ScenarioReading::op_of))]
 fn op_of(alloc: Global, value: &Value, parts: u32) -> Result<(u32, Op), ScenarioFault>
     ensures { Gives result (op_of parts (view value.now)) }
 {
@@ -71,7 +72,7 @@ fn op_name(alloc: Global, value: &Value) -> Result<OpName, ScenarioFault>
 }
 
 /// What an operation asks.
-#[tactic(auto, unfolding(nook_defs::specs::ScenarioReading::op_by))]
+#[tactic(auto, unfolding(input_defs::specs::ScenarioReading::op_by))]
 fn op_by(alloc: Global, value: &Value, name: OpName) -> Result<Op, ScenarioFault>
     ensures { Gives result (op_by name (view value.now)) }
 {

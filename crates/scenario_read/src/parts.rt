@@ -2,11 +2,11 @@
 
 ghost use Rattle.std.specs.Prelude.{◌≡◌, [], Ok};
 ghost use Rattle.serde_json.specs.View.{view};
-ghost use Rattle.nook_defs.specs.Reading.{optional};
-ghost use Rattle.nook_defs.specs.PartReading.{part_arrivals, part_bad, part_blocks, part_of};
-ghost use Rattle.nook_defs.specs.Views.Readings.{frame_of, frames_of, faults_of};
-ghost use Rattle.nook_defs.specs.Views.Readings.{parts_of};
-ghost use Rattle.nook_defs.specs.declared.input.Key.TheVariants as key;
+ghost use Rattle.input_defs.specs.Reading.{optional};
+ghost use Rattle.input_defs.specs.PartReading.{part_arrivals, part_bad, part_blocks, part_of};
+ghost use Rattle.input_defs.specs.Views.Readings.{frame_of, frames_of, faults_of};
+ghost use Rattle.input_defs.specs.Views.Readings.{parts_of};
+ghost use Rattle.asm_defs.specs.declared.keys.Key.TheVariants as key;
 ghost use Rattle.scenario_read.specs.Gives.{Gives};
 
 use crate::driver::driver_of;
@@ -17,14 +17,13 @@ use crate::keys::part_keys;
 use crate::lists::{ItemReader, read_list, read_words};
 use crate::names::part_name;
 use crate::stop::{ScenarioFault, at};
-use nook_defs::classes::Class;
-use nook_defs::input::Key;
-use nook_defs::keys::key_text;
-use nook_defs::limits::{
+use asm_defs::keys::{Key, key_text};
+use nook_data::classes::Class;
+use nook_data::limits::{
     MOST_ARRIVALS, MOST_DISK_BLOCKS, MOST_FAILURES, MOST_FRAME_WORDS, MOST_PARTS,
 };
-use nook_defs::lists::{Frames, Words};
-use nook_defs::scenario::{BadBlocks, Faults, PartSpec, Parts};
+use nook_data::lists::{Frames, Words};
+use nook_data::scenario::{BadBlocks, Faults, PartSpec, Parts};
 use serde_json::Value;
 use std::alloc::Global;
 
@@ -57,7 +56,7 @@ impl ItemReader for PartReader {
 }
 
 /// A part, behind the earlier parts.
-#[tactic(auto, unfolding(nook_defs::specs::PartReading::part_of))]
+#[tactic(auto, unfolding(input_defs::specs::PartReading::part_of))]
 fn part_of(
     alloc: Global,
     value: &Value,

@@ -2,11 +2,11 @@
 
 ghost use Rattle.std.specs.Prelude.{◌≡◌, IfOk, IfErr, Ok, length};
 ghost use Rattle.serde_json.specs.View.{view};
-ghost use Rattle.nook_defs.specs.Reading.{json_of, optional};
-ghost use Rattle.nook_defs.specs.ScenarioReading.{scenario_from, scenario_of, schedule_of};
-ghost use Rattle.nook_defs.specs.Valid.{IsValidScenario};
-ghost use Rattle.nook_defs.specs.declared.scenario.ScheduleSpec.TheVariants as schedule;
-ghost use Rattle.nook_defs.specs.declared.input.Key.TheVariants as key;
+ghost use Rattle.input_defs.specs.Reading.{json_of, optional};
+ghost use Rattle.input_defs.specs.ScenarioReading.{scenario_from, scenario_of, schedule_of};
+ghost use Rattle.nook_data.specs.Valid.{IsValidScenario};
+ghost use Rattle.nook_data.specs.declared.scenario.ScheduleSpec.TheVariants as schedule;
+ghost use Rattle.asm_defs.specs.declared.keys.Key.TheVariants as key;
 ghost use Rattle.scenario_read.specs.Gives.{Fails, Gives};
 
 use crate::fields::{check_keys, field, number_at};
@@ -14,9 +14,9 @@ use crate::parts::parts_of;
 use crate::schedule::schedule_of;
 use crate::stop::{ScenarioFault, at, bad_here};
 use crate::threads::threads_of;
-use nook_defs::input::{InputFault, Key};
-use nook_defs::keys::key_text;
-use nook_defs::scenario::{Scenario, ScheduleSpec};
+use asm_defs::keys::{Key, key_text};
+use input_defs::input::InputFault;
+use nook_data::scenario::{Scenario, ScheduleSpec};
 use serde_json::Value;
 use std::alloc::Global;
 
@@ -25,7 +25,7 @@ use std::alloc::Global;
 /// # Errors
 ///
 /// The first fault of the text with its path, or want of memory.
-#[tactic(auto, unfolding(nook_defs::specs::ScenarioReading::scenario_from), using(crate::proofs::ValidRead::valid_scenario))]
+#[tactic(auto, unfolding(input_defs::specs::ScenarioReading::scenario_from), using(crate::proofs::ValidRead::valid_scenario))]
 pub fn read_scenario(alloc: Global, bytes: &[u8]) -> Result<Scenario, ScenarioFault>
     ensures gives { Gives result (scenario_from bytes.now) }
     ensures valid { IfOk result IsValidScenario }
@@ -48,7 +48,7 @@ pub fn json_of(alloc: Global, bytes: &[u8]) -> Result<Value, ScenarioFault>
 }
 
 /// A scenario: its version, schedule, parts and threads.
-#[tactic(auto, unfolding(nook_defs::specs::ScenarioReading::scenario_of))]
+#[tactic(auto, unfolding(input_defs::specs::ScenarioReading::scenario_of))]
 pub fn scenario_of(alloc: Global, value: &Value) -> Result<Scenario, ScenarioFault>
     ensures { Gives result (scenario_of (view value.now)) }
 {

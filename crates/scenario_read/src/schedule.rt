@@ -2,23 +2,24 @@
 
 ghost use Rattle.std.specs.Prelude.{◌≡◌};
 ghost use Rattle.serde_json.specs.View.{view};
-ghost use Rattle.nook_defs.specs.Reading.{named_of};
-ghost use Rattle.nook_defs.specs.ScenarioReading.{schedule_by, schedule_named, schedule_of};
-ghost use Rattle.nook_defs.specs.Views.Readings.{picks_of};
+ghost use Rattle.input_defs.specs.Reading.{named_of};
+ghost use Rattle.input_defs.specs.ScenarioReading.{schedule_by, schedule_named, schedule_of};
+ghost use Rattle.input_defs.specs.Views.Readings.{picks_of};
 ghost use Rattle.scenario_read.specs.Gives.{Gives};
 
 use crate::fields::{check_keys, check_object, field, number_at};
 use crate::keys::{schedule_keys, schedule_named};
 use crate::lists::{PickReader, read_list};
 use crate::stop::{ScenarioFault, at, bad_here};
-use nook_defs::input::{InputFault, Key, ScheduleName};
-use nook_defs::lists::Picks;
-use nook_defs::scenario::ScheduleSpec;
+use asm_defs::keys::Key;
+use input_defs::input::{InputFault, ScheduleName};
+use nook_data::lists::Picks;
+use nook_data::scenario::ScheduleSpec;
 use serde_json::Value;
 use std::alloc::Global;
 
 /// A schedule: its kind and the keys of that kind.
-#[tactic(auto, unfolding(nook_defs::specs::ScenarioReading::schedule_of))]
+#[tactic(auto, unfolding(input_defs::specs::ScenarioReading::schedule_of))]
 pub fn schedule_of(alloc: Global, value: &Value) -> Result<ScheduleSpec, ScenarioFault>
     ensures { Gives result (schedule_of (view value.now)) }
 {
@@ -42,7 +43,7 @@ fn schedule_name(alloc: Global, value: &Value) -> Result<ScheduleName, ScenarioF
 }
 
 /// A schedule of a kind.
-#[tactic(auto, unfolding(nook_defs::specs::ScenarioReading::schedule_by))]
+#[tactic(auto, unfolding(input_defs::specs::ScenarioReading::schedule_by))]
 fn schedule_by(
     alloc: Global,
     value: &Value,

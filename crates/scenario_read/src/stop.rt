@@ -1,14 +1,15 @@
 //! Why a value is not read, and the way to it.
 
 ghost use Rattle.std.specs.Prelude.{◌≡◌, [], ◌∷◌, Result, Ok, Err, IfOk};
-ghost use Rattle.nook_defs.specs.Reading.{bad, under};
-ghost use Rattle.nook_defs.specs.declared.input.Refusal.{Refusal};
-ghost use Rattle.nook_defs.specs.declared.input.PathStep.TheVariants as step;
+ghost use Rattle.input_defs.specs.Reading.{bad, under};
+ghost use Rattle.input_defs.specs.declared.input.Refusal.{Refusal};
+ghost use Rattle.input_defs.specs.declared.input.PathStep.TheVariants as step;
 ghost use Rattle.scenario_read.specs.Gives.{Gives, IsMissing};
 
-use nook_defs::input::{InputFault, Key, Path, PathStep, Refusal};
-use nook_defs::lists::Items;
-use nook_defs::memory::NoMemory;
+use asm_defs::keys::Key;
+use input_defs::input::{InputFault, Path, PathStep, Refusal};
+use nook_data::lists::Items;
+use nook_data::memory::NoMemory;
 use std::alloc::Global;
 
 /// Why nothing was read.

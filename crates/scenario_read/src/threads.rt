@@ -2,8 +2,8 @@
 
 ghost use Rattle.std.specs.Prelude.{◌≡◌};
 ghost use Rattle.serde_json.specs.View.{view};
-ghost use Rattle.nook_defs.specs.ScenarioReading.{thread_of};
-ghost use Rattle.nook_defs.specs.Views.Readings.{threads_of};
+ghost use Rattle.input_defs.specs.ScenarioReading.{thread_of};
+ghost use Rattle.input_defs.specs.Views.Readings.{threads_of};
 ghost use Rattle.scenario_read.specs.Gives.{Gives};
 
 use crate::fields::{check_keys, field};
@@ -11,9 +11,9 @@ use crate::lists::{ItemReader, read_list};
 use crate::names::thread_name;
 use crate::ops::ops_of;
 use crate::stop::{ScenarioFault, at};
-use nook_defs::input::Key;
-use nook_defs::limits::MOST_THREADS;
-use nook_defs::scenario::{ThreadSpec, ThreadSpecs};
+use asm_defs::keys::Key;
+use nook_data::limits::MOST_THREADS;
+use nook_data::scenario::{ThreadSpec, ThreadSpecs};
 use serde_json::Value;
 use std::alloc::Global;
 
@@ -46,7 +46,7 @@ impl ItemReader for ThreadReader {
 }
 
 /// A thread, behind the earlier threads.
-#[tactic(auto, unfolding(nook_defs::specs::ScenarioReading::thread_of))]
+#[tactic(auto, unfolding(input_defs::specs::ScenarioReading::thread_of))]
 fn thread_of(
     alloc: Global,
     value: &Value,

@@ -1,9 +1,9 @@
 -- The text of a valid scenario is read as that scenario.
 use Rattle.std.proofs.Common.{◌≡◌, Ok}
 use Rattle.serde_json.specs.Read.{max_depth}
-use Rattle.nook_defs.specs.ScenarioReading.{scenario_from}
-use Rattle.nook_defs.specs.Valid.{IsValidScenario}
-use Rattle.nook_defs.specs.declared.scenario.Scenario.{Scenario}
+use Rattle.input_defs.specs.ScenarioReading.{scenario_from}
+use Rattle.nook_data.specs.Valid.{IsValidScenario}
+use Rattle.nook_data.specs.declared.scenario.Scenario.{Scenario}
 use Rattle.reading_laws.proofs.PlainData.{json_read, json_with_feed}
 use Rattle.scenario_write.proofs.PlainScenario.{scenario_plain}
 use Rattle.scenario_write.proofs.Sorted.{read_sorted, sorted}

@@ -4,9 +4,9 @@ use Rattle.std.specs.Prelude.{⊤, Result, nat_lt, false, All}
 use Rattle.std.proofs.lemmas.Bool.{le-ltb}
 use Rattle.std.proofs.lemmas.List.Elements.{All-head, All-tail}
 use Rattle.serde_json.specs.Data.{Data}
-use Rattle.nook_defs.specs.Reading.{count_of, items_from, list_of, whole_number, numbers_of}
-use Rattle.nook_defs.specs.Valid.{AreWords, IsWord}
-use Rattle.nook_defs.specs.declared.input.Refusal.{Refusal}
+use Rattle.input_defs.specs.Reading.{count_of, items_from, list_of, whole_number, numbers_of}
+use Rattle.nook_data.specs.Valid.{AreWords, IsWord}
+use Rattle.input_defs.specs.declared.input.Refusal.{Refusal}
 use Rattle.scenario_write.specs.ScenarioText.{items_with, list_data, number_data, numbers_data}
 use Rattle.scenario_write.proofs.Sorted.{sorted, sorted_items}
 

@@ -2,8 +2,8 @@
 use Rattle.std.proofs.Common.{◌≡◌, refl, ℕ, true, false, not, List, [], ◌∷◌, ◌++◌}
 use Rattle.std.specs.Prelude.{bytes_eq}
 use Rattle.std.proofs.lemmas.Bool.{and_parts}
-use Rattle.nook_defs.specs.PartReading.{is_among}
-use Rattle.nook_defs.specs.Valid.{are_distinct}
+use Rattle.nook_data.specs.Names.{is_among}
+use Rattle.nook_data.specs.Valid.{are_distinct}
 use Rattle.reading_laws.proofs.Names.{neither, not_true, or_false, other}
 
 differs : (front : List (List ℕ)) (name : List ℕ) (back : List (List ℕ)) (a : List ℕ) → is_among (front ++ name ∷ back) a ≡ false → bytes_eq a name ≡ false

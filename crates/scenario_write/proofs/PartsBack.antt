@@ -5,26 +5,30 @@ use Rattle.std.proofs.lemmas.Bool.{le-ltb}
 use Rattle.std.proofs.lemmas.List.Elements.{All-head, All-tail}
 use Rattle.serde_json.specs.Data.{Data}
 use Rattle.serde_json.specs.Read.{max_depth}
-use Rattle.nook_defs.proofs.ImageBack.{image_back}
-use Rattle.nook_defs.specs.Classes.{same_class}
-use Rattle.nook_defs.specs.ImageReading.{driver_of, image_of}
-use Rattle.nook_defs.specs.ImageText.{image_data}
-use Rattle.nook_defs.specs.Keys.{class_named}
-use Rattle.nook_defs.specs.Names.{is_name}
-use Rattle.nook_defs.specs.PartReading.{bad_block_of, fault_of, is_among, new_name, part_names, part_of}
-use Rattle.nook_defs.specs.Views.Readings.{frame_of}
-use Rattle.nook_defs.specs.Reading.{list_of, numbers_of}
-use Rattle.nook_defs.specs.ScenarioReading.{op_of, thread_names, thread_of}
-use Rattle.nook_defs.specs.Valid.{IsValidBadBlock, IsValidFault, IsValidImage, IsValidPart, IsValidThread, IsWord, are_distinct}
-use Rattle.nook_defs.specs.Views.Limits.{IsValidFrame, IsValidStep}
-use Rattle.nook_defs.specs.declared.scenario.BadBlock.{BadBlock}
-use Rattle.nook_defs.specs.declared.classes.Class.{Class}
-use Rattle.nook_defs.specs.declared.classes.Class.TheVariants as class
-use Rattle.nook_defs.specs.declared.scenario.Fault.{Fault}
-use Rattle.nook_defs.specs.declared.scenario.Image.{Image}
-use Rattle.nook_defs.specs.declared.calls.Op.{Op}
-use Rattle.nook_defs.specs.declared.scenario.PartSpec.{PartSpec}
-use Rattle.nook_defs.specs.declared.scenario.ThreadSpec.{ThreadSpec}
+use Rattle.input_defs.proofs.ImageBack.{image_back}
+use Rattle.nook_data.specs.Classes.{same_class}
+use Rattle.input_defs.specs.ImageReading.{driver_of, image_of}
+use Rattle.asm_defs.specs.ImageText.{image_data}
+use Rattle.nook_data.specs.ClassNames.{class_named}
+use Rattle.nook_data.specs.Names.{is_name}
+use Rattle.input_defs.specs.PartReading.{bad_block_of, fault_of, new_name, part_of}
+use Rattle.nook_data.specs.Names.{is_among}
+use Rattle.nook_data.specs.Valid.{part_names}
+use Rattle.input_defs.specs.Views.Readings.{frame_of}
+use Rattle.input_defs.specs.Reading.{list_of, numbers_of}
+use Rattle.input_defs.specs.ScenarioReading.{op_of, thread_of}
+use Rattle.nook_data.specs.Valid.{thread_names}
+use Rattle.nook_data.specs.Valid.{IsValidBadBlock, IsValidFault, IsValidImage, IsValidPart, IsValidThread, IsWord}
+use Rattle.nook_data.specs.Valid.{are_distinct}
+use Rattle.nook_data.specs.Views.Limits.{IsValidFrame, IsValidStep}
+use Rattle.nook_data.specs.declared.scenario.BadBlock.{BadBlock}
+use Rattle.nook_data.specs.declared.classes.Class.{Class}
+use Rattle.nook_data.specs.declared.classes.Class.TheVariants as class
+use Rattle.nook_data.specs.declared.scenario.Fault.{Fault}
+use Rattle.nook_data.specs.declared.scenario.Image.{Image}
+use Rattle.nook_data.specs.declared.calls.Op.{Op}
+use Rattle.nook_data.specs.declared.scenario.PartSpec.{PartSpec}
+use Rattle.nook_data.specs.declared.scenario.ThreadSpec.{ThreadSpec}
 use Rattle.reading_laws.proofs.ImageJson.{image_plain, image_read}
 use Rattle.scenario_write.proofs.ListsBack.{Reads, list_back, no_less, numbers_back, reads_all, word_within}
 use Rattle.scenario_write.proofs.NamesApart.{apart}

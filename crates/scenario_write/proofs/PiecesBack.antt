@@ -1,19 +1,19 @@
 -- Schedules, faults, bad blocks and operations are read back.
 use Rattle.std.proofs.Common.{◌≡◌, ℕ, ◌-◌, ◌<◌, ◌≤◌, Ok, refl, arith}
 use Rattle.std.proofs.lemmas.Bool.{le-ltb}
-use Rattle.nook_defs.specs.PartReading.{bad_block_of, fault_kind, fault_named, fault_of}
-use Rattle.nook_defs.specs.ScenarioReading.{op_by, op_named, op_of, schedule_by, schedule_named, schedule_of}
-use Rattle.nook_defs.specs.Valid.{IsValidBadBlock, IsValidFault, IsValidKind, IsValidOp, IsValidSchedule, IsWord}
-use Rattle.nook_defs.specs.Views.Limits.{IsValidStep}
-use Rattle.nook_defs.proofs.Changes.{IsPick}
-use Rattle.nook_defs.specs.declared.scenario.BadBlock.{BadBlock}
-use Rattle.nook_defs.specs.declared.scenario.Fault.{Fault}
-use Rattle.nook_defs.specs.declared.scenario.FaultKind.{FaultKind}
-use Rattle.nook_defs.specs.declared.scenario.FaultKind.TheVariants as strikes
-use Rattle.nook_defs.specs.declared.calls.Op.{Op}
-use Rattle.nook_defs.specs.declared.calls.Op.TheVariants as op
-use Rattle.nook_defs.specs.declared.scenario.ScheduleSpec.{ScheduleSpec}
-use Rattle.nook_defs.specs.declared.scenario.ScheduleSpec.TheVariants as schedule
+use Rattle.input_defs.specs.PartReading.{bad_block_of, fault_kind, fault_named, fault_of}
+use Rattle.input_defs.specs.ScenarioReading.{op_by, op_named, op_of, schedule_by, schedule_named, schedule_of}
+use Rattle.nook_data.specs.Valid.{IsValidBadBlock, IsValidFault, IsValidKind, IsValidOp, IsValidSchedule, IsWord}
+use Rattle.nook_data.specs.Views.Limits.{IsValidStep}
+use Rattle.nook_data.specs.Views.Limits.{IsPick}
+use Rattle.nook_data.specs.declared.scenario.BadBlock.{BadBlock}
+use Rattle.nook_data.specs.declared.scenario.Fault.{Fault}
+use Rattle.nook_data.specs.declared.scenario.FaultKind.{FaultKind}
+use Rattle.nook_data.specs.declared.scenario.FaultKind.TheVariants as strikes
+use Rattle.nook_data.specs.declared.calls.Op.{Op}
+use Rattle.nook_data.specs.declared.calls.Op.TheVariants as op
+use Rattle.nook_data.specs.declared.scenario.ScheduleSpec.{ScheduleSpec}
+use Rattle.nook_data.specs.declared.scenario.ScheduleSpec.TheVariants as schedule
 use Rattle.scenario_write.specs.ScenarioText.{bad_block_data, fault_data, schedule_data, step_data}
 use Rattle.scenario_write.proofs.ListsBack.{no_less, numbers_back, word_within, words_back}
 use Rattle.scenario_write.proofs.Sorted.{sorted}

@@ -5,26 +5,28 @@ use Rattle.std.proofs.lemmas.List.Elements.{All-head, All-tail}
 use Rattle.json.proofs.Printed.Utf8.{are_ascii, IsUtf8-are_ascii}
 use Rattle.serde_json.specs.Data.{Data, Members, no_members}
 use Rattle.serde_json.specs.Read.{max_depth}
-use Rattle.nook_defs.proofs.NameText.{name_utf8}
-use Rattle.nook_defs.specs.Keys.{class_text, key_text}
-use Rattle.nook_defs.specs.Valid.{FitsClass, IsValidBadBlock, IsValidFault, IsValidKind, IsValidOp, IsValidPart, IsValidScenario, IsValidSchedule, IsValidThread, IsWord}
-use Rattle.nook_defs.specs.Views.Limits.{IsValidFrame, IsValidStep}
-use Rattle.nook_defs.proofs.Changes.{IsPick}
-use Rattle.nook_defs.specs.declared.scenario.BadBlock.{BadBlock}
-use Rattle.nook_defs.specs.declared.classes.Class.{Class}
-use Rattle.nook_defs.specs.declared.classes.Class.TheVariants as class
-use Rattle.nook_defs.specs.declared.scenario.Fault.{Fault}
-use Rattle.nook_defs.specs.declared.scenario.FaultKind.{FaultKind}
-use Rattle.nook_defs.specs.declared.scenario.FaultKind.TheVariants as strikes
-use Rattle.nook_defs.specs.declared.calls.Op.{Op}
-use Rattle.nook_defs.specs.declared.calls.Op.TheVariants as op
-use Rattle.nook_defs.specs.declared.scenario.PartSpec.{PartSpec}
-use Rattle.nook_defs.specs.declared.scenario.Scenario.{Scenario}
-use Rattle.nook_defs.specs.declared.scenario.ScheduleSpec.{ScheduleSpec}
-use Rattle.nook_defs.specs.declared.scenario.ScheduleSpec.TheVariants as schedule
-use Rattle.nook_defs.specs.declared.scenario.ThreadSpec.{ThreadSpec}
-use Rattle.nook_defs.specs.declared.input.Key.{Key}
-use Rattle.nook_defs.specs.declared.input.Key.TheVariants as key
+use Rattle.nook_data.proofs.NameText.{name_utf8}
+use Rattle.nook_data.specs.ClassNames.{class_text}
+use Rattle.asm_defs.specs.Keys.{key_text}
+use Rattle.nook_data.specs.Valid.{FitsClass, IsValidBadBlock, IsValidFault, IsValidKind, IsValidOp, IsValidPart}
+use Rattle.nook_data.specs.Valid.{IsValidScenario, IsValidSchedule, IsValidThread, IsWord}
+use Rattle.nook_data.specs.Views.Limits.{IsValidFrame, IsValidStep}
+use Rattle.nook_data.specs.Views.Limits.{IsPick}
+use Rattle.nook_data.specs.declared.scenario.BadBlock.{BadBlock}
+use Rattle.nook_data.specs.declared.classes.Class.{Class}
+use Rattle.nook_data.specs.declared.classes.Class.TheVariants as class
+use Rattle.nook_data.specs.declared.scenario.Fault.{Fault}
+use Rattle.nook_data.specs.declared.scenario.FaultKind.{FaultKind}
+use Rattle.nook_data.specs.declared.scenario.FaultKind.TheVariants as strikes
+use Rattle.nook_data.specs.declared.calls.Op.{Op}
+use Rattle.nook_data.specs.declared.calls.Op.TheVariants as op
+use Rattle.nook_data.specs.declared.scenario.PartSpec.{PartSpec}
+use Rattle.nook_data.specs.declared.scenario.Scenario.{Scenario}
+use Rattle.nook_data.specs.declared.scenario.ScheduleSpec.{ScheduleSpec}
+use Rattle.nook_data.specs.declared.scenario.ScheduleSpec.TheVariants as schedule
+use Rattle.nook_data.specs.declared.scenario.ThreadSpec.{ThreadSpec}
+use Rattle.asm_defs.specs.declared.keys.Key.{Key}
+use Rattle.asm_defs.specs.declared.keys.Key.TheVariants as key
 use Rattle.reading_laws.proofs.ImageJson.{image_plain}
 use Rattle.reading_laws.proofs.PlainData.{ArePlain, ArePlainMembers, IsPlain}
 use Rattle.scenario_write.specs.ScenarioText.{arrival_members, at, bad_block_data, bad_members, disk_members, fault_data, has_bad, items_with, kind_members, list_data, number_data, numbers_data, op_members, part_data, part_members, scenario_data, schedule_data, step_data, thread_data}

@@ -2,12 +2,12 @@
 use Rattle.std.proofs.Common.{◌≡◌, ℕ, List, [], ◌∷◌, ◌++◌, true, refl, ◌∙◌, append_assoc, codes, decimal}
 use Rattle.json.specs.Print.{escape_byte, quoted}
 use Rattle.serde_json.specs.Written.{compact_text, members_text}
-use Rattle.nook_defs.specs.ImageText.{image_data}
-use Rattle.nook_defs.specs.Keys.{class_text}
-use Rattle.nook_defs.specs.declared.scenario.PartSpec.{PartSpec}
-use Rattle.nook_defs.specs.declared.scenario.Fault.{Fault}
-use Rattle.nook_defs.specs.declared.scenario.Scenario.{Scenario}
-use Rattle.nook_defs.specs.declared.scenario.ThreadSpec.{ThreadSpec}
+use Rattle.asm_defs.specs.ImageText.{image_data}
+use Rattle.nook_data.specs.ClassNames.{class_text}
+use Rattle.nook_data.specs.declared.scenario.PartSpec.{PartSpec}
+use Rattle.nook_data.specs.declared.scenario.Fault.{Fault}
+use Rattle.nook_data.specs.declared.scenario.Scenario.{Scenario}
+use Rattle.nook_data.specs.declared.scenario.ThreadSpec.{ThreadSpec}
 use Rattle.scenario_write.specs.ScenarioText.{arrival_members, disk_members, fault_data, list_data, part_data, part_members, scenario_data, schedule_data, thread_data, version_of}
 
 nine : (old a b c d e f g h i : List ℕ) → old ++ (a ++ b) ++ c ++ d ++ e ++ f ++ g ++ h ++ i ≡ old ++ (a ++ (b ++ (c ++ (d ++ (e ++ (f ++ (g ++ (h ++ i))))))))

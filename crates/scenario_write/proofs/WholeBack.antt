@@ -3,12 +3,12 @@ use Rattle.std.proofs.Common.{◌≡◌, ℕ, ◌≤◌, ◌==◌, inl, inr, Boo
 use Rattle.std.specs.Prelude.{All, if◌then◌else◌}
 use Rattle.std.proofs.lemmas.Bool.{eqb-true, le-ltb}
 use Rattle.std.proofs.lemmas.List.Elements.{All-cons, All-nil}
-use Rattle.nook_defs.specs.ScenarioReading.{scenario_of, thread_of}
-use Rattle.nook_defs.specs.PartReading.{part_of}
-use Rattle.nook_defs.specs.Valid.{IsValidScenario}
-use Rattle.nook_defs.specs.declared.scenario.BadBlock.{BadBlock}
-use Rattle.nook_defs.specs.declared.scenario.PartSpec.{PartSpec}
-use Rattle.nook_defs.specs.declared.scenario.Scenario.{Scenario}
+use Rattle.input_defs.specs.ScenarioReading.{scenario_of, thread_of}
+use Rattle.input_defs.specs.PartReading.{part_of}
+use Rattle.nook_data.specs.Valid.{IsValidScenario}
+use Rattle.nook_data.specs.declared.scenario.BadBlock.{BadBlock}
+use Rattle.nook_data.specs.declared.scenario.PartSpec.{PartSpec}
+use Rattle.nook_data.specs.declared.scenario.Scenario.{Scenario}
 use Rattle.scenario_write.proofs.ListsBack.{list_back}
 use Rattle.scenario_write.proofs.PartsBack.{FitsVersion, IsEmpty, parts_back, threads_back}
 use Rattle.scenario_write.proofs.PiecesBack.{schedule_back}

@@ -2,24 +2,25 @@ use Rattle.std.specs.Prelude.{ℕ, ◌==◌, ◌||◌, not, List, [], ◌∷◌,
 use Rattle.serde_json.specs.Data.{Data, string, number, array, object, unsigned, Items, no_items, item, Members}
 use Rattle.serde_json.specs.Data.{no_members, member}
 use Rattle.serde_json.specs.Written.{compact_text}
-use Rattle.nook_defs.specs.ImageText.{image_data}
-use Rattle.nook_defs.specs.Keys.{class_text, key_text}
-use Rattle.nook_defs.specs.declared.scenario.BadBlock.{BadBlock}
-use Rattle.nook_defs.specs.declared.classes.Class.{Class}
-use Rattle.nook_defs.specs.declared.classes.Class.TheVariants as class
-use Rattle.nook_defs.specs.declared.scenario.Fault.{Fault}
-use Rattle.nook_defs.specs.declared.scenario.FaultKind.{FaultKind}
-use Rattle.nook_defs.specs.declared.scenario.FaultKind.TheVariants as strikes
-use Rattle.nook_defs.specs.declared.scenario.Image.{Image}
-use Rattle.nook_defs.specs.declared.calls.Op.{Op}
-use Rattle.nook_defs.specs.declared.calls.Op.TheVariants as op
-use Rattle.nook_defs.specs.declared.scenario.PartSpec.{PartSpec}
-use Rattle.nook_defs.specs.declared.scenario.Scenario.{Scenario}
-use Rattle.nook_defs.specs.declared.scenario.ScheduleSpec.{ScheduleSpec}
-use Rattle.nook_defs.specs.declared.scenario.ScheduleSpec.TheVariants as schedule
-use Rattle.nook_defs.specs.declared.scenario.ThreadSpec.{ThreadSpec}
-use Rattle.nook_defs.specs.declared.input.Key.{Key}
-use Rattle.nook_defs.specs.declared.input.Key.TheVariants as key
+use Rattle.asm_defs.specs.ImageText.{image_data}
+use Rattle.nook_data.specs.ClassNames.{class_text}
+use Rattle.asm_defs.specs.Keys.{key_text}
+use Rattle.nook_data.specs.declared.scenario.BadBlock.{BadBlock}
+use Rattle.nook_data.specs.declared.classes.Class.{Class}
+use Rattle.nook_data.specs.declared.classes.Class.TheVariants as class
+use Rattle.nook_data.specs.declared.scenario.Fault.{Fault}
+use Rattle.nook_data.specs.declared.scenario.FaultKind.{FaultKind}
+use Rattle.nook_data.specs.declared.scenario.FaultKind.TheVariants as strikes
+use Rattle.nook_data.specs.declared.scenario.Image.{Image}
+use Rattle.nook_data.specs.declared.calls.Op.{Op}
+use Rattle.nook_data.specs.declared.calls.Op.TheVariants as op
+use Rattle.nook_data.specs.declared.scenario.PartSpec.{PartSpec}
+use Rattle.nook_data.specs.declared.scenario.Scenario.{Scenario}
+use Rattle.nook_data.specs.declared.scenario.ScheduleSpec.{ScheduleSpec}
+use Rattle.nook_data.specs.declared.scenario.ScheduleSpec.TheVariants as schedule
+use Rattle.nook_data.specs.declared.scenario.ThreadSpec.{ThreadSpec}
+use Rattle.asm_defs.specs.declared.keys.Key.{Key}
+use Rattle.asm_defs.specs.declared.keys.Key.TheVariants as key
 
 -- A scenario as a JSON value, its members in the order in which they are written, and its text.
 

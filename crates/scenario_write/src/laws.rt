@@ -2,9 +2,9 @@
 //! empty body.
 
 ghost use Rattle.std.specs.Prelude.{◌≡◌, Ok};
-ghost use Rattle.nook_defs.specs.ScenarioReading.{scenario_from};
-ghost use Rattle.nook_defs.specs.Valid.{IsValidScenario};
-ghost use Rattle.nook_defs.specs.declared.scenario.Scenario.{Scenario};
+ghost use Rattle.input_defs.specs.ScenarioReading.{scenario_from};
+ghost use Rattle.nook_data.specs.Valid.{IsValidScenario};
+ghost use Rattle.nook_data.specs.declared.scenario.Scenario.{Scenario};
 ghost use Rattle.scenario_write.specs.ScenarioText.{scenario_json, scenario_line};
 
 /// The text that is written for a valid scenario is read as that scenario, with a line feed behind it and without.

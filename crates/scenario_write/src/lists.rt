@@ -5,9 +5,9 @@ ghost use Rattle.json.specs.Print.{quoted};
 ghost use Rattle.serde_json.specs.Written.{comma_if, compact_text};
 ghost use Rattle.scenario_write.specs.ScenarioText.{list_data, number_data, numbers_data};
 
-use nook_defs::lists::{Word, Words};
-use nook_defs::memory::NoMemory;
-use nook_defs::name::Name;
+use nook_data::lists::{Word, Words};
+use nook_data::memory::NoMemory;
+use nook_data::name::Name;
 use serde_json::Value;
 use std::alloc::Global;
 use std::fmt::Write;

@@ -5,10 +5,10 @@ ghost use Rattle.serde_json.specs.Written.{compact_text, members_text};
 ghost use Rattle.scenario_write.specs.ScenarioText.{numbers_data, op_members, schedule_data, step_data, thread_data};
 
 use crate::lists::{Written, push_list, push_name, push_number};
-use nook_defs::calls::Op;
-use nook_defs::lists::Words;
-use nook_defs::memory::NoMemory;
-use nook_defs::scenario::{ScheduleSpec, ThreadSpec};
+use nook_data::calls::Op;
+use nook_data::lists::Words;
+use nook_data::memory::NoMemory;
+use nook_data::scenario::{ScheduleSpec, ThreadSpec};
 use std::alloc::Global;
 
 impl Written for ScheduleSpec {

@@ -4,16 +4,16 @@ ghost use Rattle.std.specs.Prelude.{◌≡◌, ◌++◌, OnOk, codes, decimal, s
 ghost use Rattle.json.specs.Print.{quoted};
 ghost use Rattle.serde_json.specs.Data.{Members};
 ghost use Rattle.serde_json.specs.Written.{compact_text, members_text};
-ghost use Rattle.nook_defs.specs.ImageText.{image_data};
-ghost use Rattle.nook_defs.specs.Keys.{class_text};
+ghost use Rattle.asm_defs.specs.ImageText.{image_data};
+ghost use Rattle.nook_data.specs.ClassNames.{class_text};
 ghost use Rattle.scenario_write.specs.ScenarioText.{arrival_members, bad_block_data, bad_members, disk_members};
 ghost use Rattle.scenario_write.specs.ScenarioText.{fault_data, kind_members, part_data, part_members};
 
 use crate::lists::{Written, push_list, push_name, push_number};
 use driver_asm::image_value;
-use nook_defs::classes::Class;
-use nook_defs::memory::NoMemory;
-use nook_defs::scenario::{BadBlock, Fault, FaultKind, Image, PartSpec};
+use nook_data::classes::Class;
+use nook_data::memory::NoMemory;
+use nook_data::scenario::{BadBlock, Fault, FaultKind, Image, PartSpec};
 use std::alloc::Global;
 
 impl Written for BadBlock {

@@ -1,15 +1,15 @@
 //! Whole scenarios.
 
 ghost use Rattle.std.specs.Prelude.{◌≡◌, ◌++◌, IfOk, Ok, OnOk, string_bytes};
-ghost use Rattle.nook_defs.specs.ScenarioReading.{scenario_from};
-ghost use Rattle.nook_defs.specs.Valid.{IsValidScenario};
+ghost use Rattle.input_defs.specs.ScenarioReading.{scenario_from};
+ghost use Rattle.nook_data.specs.Valid.{IsValidScenario};
 ghost use Rattle.serde_json.specs.Written.{compact_text};
 ghost use Rattle.scenario_write.specs.ScenarioText.{has_bad, scenario_data, scenario_json, scenario_line, version_of};
 
 use crate::lists::{Written, push_list, push_number};
-use nook_defs::lists::Words8;
-use nook_defs::memory::NoMemory;
-use nook_defs::scenario::{PartSpec, Scenario};
+use nook_data::lists::Words8;
+use nook_data::memory::NoMemory;
+use nook_data::scenario::{PartSpec, Scenario};
 use std::alloc::Global;
 
 /// A scenario as JSON in compact form on one line, without the line's end. The keys stand in the order in which the

@@ -3,7 +3,7 @@ use Rattle.std.proofs.Common.{◌≡◌, ℕ, ◌+◌, ◌<◌, ◌≤◌, ◌==
 use Rattle.std.specs.List.{position}
 use Rattle.std.proofs.Math.ListN.{drop_of_length-le}
 use Rattle.std.proofs.lemmas.List.{drop_more}
-use Rattle.nook_defs.specs.Schedules.{Picked, listed, listed_pick, round_pick}
+use Rattle.run_defs.specs.Schedules.{Picked, listed, listed_pick, round_pick}
 
 -- a pick by the place where it is enabled
 listed_at : List ℕ → List ℕ → Option ℕ → Picked

@@ -1,5 +1,5 @@
 use Rattle.std.specs.Prelude.{drop}
-use Rattle.nook_defs.specs.Schedules.{Order, round, drawn, listed}
+use Rattle.run_defs.specs.Schedules.{Order, round, drawn, listed}
 use Rattle.schedule.specs.declared.pick.Standing.{Standing}
 use Rattle.schedule.specs.declared.pick.Standing.TheVariants as standing
 

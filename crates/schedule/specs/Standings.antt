@@ -1,5 +1,5 @@
 use Rattle.std.specs.Prelude.{◌≡◌, ℕ, ◌+◌, nat_le, List, Option, Some, None, drop, position, slice_index, unwrap_or}
-use Rattle.nook_defs.specs.Schedules.{Order, round, drawn, listed, listed_pick, round_pick}
+use Rattle.run_defs.specs.Schedules.{Order, round, drawn, listed, listed_pick, round_pick}
 
 -- the first enabled actor at or after the cursor, else the first
 abbrev pub place_from : ℕ → List ℕ → ℕ

@@ -1,11 +1,11 @@
 //! A schedule as it stands, and its picks.
 
 ghost use Rattle.std.specs.Prelude.{◌≡◌, ◌+◌, ◌<◌, ◌≤◌, IfSome, length, nat_le, position, ◌==◌};
-ghost use Rattle.nook_defs.specs.Schedules.{listed, listed_pick, opening_order, picked, round, round_pick};
+ghost use Rattle.run_defs.specs.Schedules.{listed, listed_pick, opening_order, picked, round, round_pick};
 ghost use Rattle.schedule.specs.Standings.{IsNext, cursor_after, cursor_of, place_from};
 
-use nook_defs::lists::Picks;
-use nook_defs::scenario::ScheduleSpec;
+use nook_data::lists::Picks;
+use nook_data::scenario::ScheduleSpec;
 use rand_core::SeedableRng;
 use rand_core::utils::NextWord;
 use rand_pcg::Pcg32;
@@ -28,7 +28,7 @@ pub struct Schedule {
 }
 
 impl Model for Schedule {
-    ghost use Rattle.nook_defs.specs.Schedules.{Order};
+    ghost use Rattle.run_defs.specs.Schedules.{Order};
     ghost use Rattle.schedule.specs.Orders.{order_of};
 
     ghost Value = { Order };
@@ -38,7 +38,7 @@ impl Model for Schedule {
 
 impl Schedule {
     /// A schedule before its first pick. A drawn one seeds its generator by the start. It takes no memory.
-    #[tactic(auto, unfolding(nook_defs::specs::Schedules::opening_order))]
+    #[tactic(auto, unfolding(run_defs::specs::Schedules::opening_order))]
     pub fn new(spec: ScheduleSpec) -> Schedule
         ensures { result ≡ opening_order spec }
     {
@@ -73,7 +73,7 @@ impl Schedule {
 
     /// The place in `actors` of the one that takes the next step. `actors` are the numbers of the enabled
     /// actors, in rising order; there is at least one.
-    #[tactic(auto, unfolding(nook_defs::specs::Schedules::picked))]
+    #[tactic(auto, unfolding(run_defs::specs::Schedules::picked))]
     pub fn pick(&mut self, actors: &[u16]) -> usize
         requires { 0 < length actors.now }
         ensures place { result ≡ (picked self.old actors.now).place }

@@ -1,11 +1,11 @@
 -- One call of the log changes.
 use Rattle.std.proofs.Common.{◌≡◌, ℕ, Bool, None, List, map, slice_set, slice_index_or, filter, not, refl, ap, sym}
-use Rattle.nook_defs.specs.declared.calls.Answer.{Answer}
-use Rattle.nook_defs.specs.declared.calls.CallEntry.{CallEntry}
-use Rattle.nook_defs.specs.State.{CallLog}
-use Rattle.nook_defs.specs.Log.{after_entering, held_call, open_call, is_call, after_answering}
-use Rattle.nook_defs.proofs.Cases.{entered_call}
-use Rattle.nook_defs.specs.Views.CallLogs.{IsNumbered, after_holding}
+use Rattle.nook_data.specs.declared.calls.Answer.{Answer}
+use Rattle.nook_data.specs.declared.calls.CallEntry.{CallEntry}
+use Rattle.part_defs.specs.State.{CallLog}
+use Rattle.part_defs.specs.Log.{after_entering, held_call, open_call, is_call, after_answering}
+use Rattle.part_defs.proofs.PartCases.{entered_call}
+use Rattle.part_defs.specs.Views.CallLogs.{IsNumbered, after_holding}
 use Rattle.shadow_log.specs.Places.{IsPlace}
 use Rattle.shadow_log.specs.Stopped.{is_unanswered, after_answers}
 use Rattle.shadow_log.proofs.Numbers.{changed_at, changed_nowhere, numbered_map, numbered_filter}

@@ -6,10 +6,10 @@ use Rattle.std.proofs.lemmas.Bool.{cases_Bool, cases_lt, eq-eqb, eqb-true, ne_eq
 use Rattle.std.proofs.lemmas.Option.{slice_get_past}
 use Rattle.std.proofs.lemmas.List.{get_or_read}
 use Rattle.std.proofs.lemmas.List.Folds.{find_at}
-use Rattle.nook_defs.specs.declared.calls.CallEntry.{CallEntry}
-use Rattle.nook_defs.specs.Log.{is_call, open_call, call_of_thread}
-use Rattle.nook_defs.specs.Views.CallLogs.{IsNumbered}
-use Rattle.nook_defs.proofs.Cases.{change_entry, is_of_thread}
+use Rattle.nook_data.specs.declared.calls.CallEntry.{CallEntry}
+use Rattle.part_defs.specs.Log.{is_call, open_call, call_of_thread}
+use Rattle.part_defs.specs.Views.CallLogs.{IsNumbered}
+use Rattle.part_defs.proofs.PartCases.{change_entry, is_of_thread}
 use Rattle.shadow_log.specs.Places.{IsPlace}
 
 pub numbered_more : (low count : ℕ) (xs : List CallEntry) → IsNumbered low count xs → IsNumbered low (count + 1) xs

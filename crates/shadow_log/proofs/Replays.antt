@@ -1,10 +1,10 @@
 -- The replays, key by key.
 use Rattle.std.proofs.Common.{◌≡◌, ℕ, suc, ◌+◌, ◌-◌, ◌≤◌, ◌<◌, Option, List, slice_index, refl, ◌∙◌, ◌⊎◌, inl, inr, arith}
 use Rattle.std.proofs.lemmas.Bool.{eq-eqb, ne_eqb}
-use Rattle.nook_defs.specs.declared.steps.Stage.TheVariants as stage
-use Rattle.nook_defs.specs.State.{CallLog}
-use Rattle.nook_defs.specs.Log.{next_replay}
-use Rattle.nook_defs.proofs.Cases.{replay_stream}
+use Rattle.nook_data.specs.declared.steps.Stage.TheVariants as stage
+use Rattle.part_defs.specs.State.{CallLog}
+use Rattle.part_defs.specs.Log.{next_replay}
+use Rattle.part_defs.proofs.PartCases.{replay_stream}
 
 one_less : (key : ℕ) → key < 4 → 4 - key ≡ suc (4 - (key + 1))
 one_less key l = omega (arith, l)

@@ -1,7 +1,7 @@
 use Rattle.std.specs.Prelude.{ℕ, ◌≡◌, ◌<◌, List, length, slice_get}
 use Rattle.std.specs.List.{position_or_len}
-use Rattle.nook_defs.specs.declared.calls.CallEntry.{CallEntry}
-use Rattle.nook_defs.specs.Log.{is_call, open_call}
+use Rattle.nook_data.specs.declared.calls.CallEntry.{CallEntry}
+use Rattle.part_defs.specs.Log.{is_call, open_call}
 
 -- the open call with a number stands at a place
 pub record IsPlace (call place : ℕ) (pending : List CallEntry) : Type 0 where

@@ -1,9 +1,9 @@
 use Rattle.std.specs.Prelude.{ℕ, Bool, is_none, List, map, filter}
-use Rattle.nook_defs.specs.declared.calls.Answer.{Answer}
-use Rattle.nook_defs.specs.declared.calls.CallEntry.{CallEntry}
-use Rattle.nook_defs.specs.Log.{held_call}
-use Rattle.nook_defs.specs.Runs.{answer_among}
-use Rattle.nook_defs.specs.State.{CallLog}
+use Rattle.nook_data.specs.declared.calls.Answer.{Answer}
+use Rattle.nook_data.specs.declared.calls.CallEntry.{CallEntry}
+use Rattle.part_defs.specs.Log.{held_call}
+use Rattle.nook_data.specs.Answers.{answer_among}
+use Rattle.part_defs.specs.State.{CallLog}
 
 -- a call without an answer among answers
 abbrev pub is_unanswered : List (ℕ × Answer) → CallEntry → Bool

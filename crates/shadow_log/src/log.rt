@@ -2,19 +2,19 @@
 
 ghost use Rattle.std.specs.Prelude.{◌≡◌, ◌+◌, ◌-◌, ◌<◌, ◌≤◌, true, None, Some, MatchOption, length, map, option_map};
 ghost use Rattle.std.specs.Prelude.{slice_get, slice_index, slice_set, IfSome, IfOk, OnOk, OnErr};
-ghost use Rattle.nook_defs.specs.Log.{after_answering, call_of_thread, after_entering, held_call, next_replay};
-ghost use Rattle.nook_defs.specs.Log.{no_call_open, with_answered_call, open_call, opening_log, replay_after};
-ghost use Rattle.nook_defs.specs.Log.{with_call};
-ghost use Rattle.nook_defs.specs.Views.CallLogs.{IsNumbered, acknowledged_call, after_holding, is_touched};
+ghost use Rattle.part_defs.specs.Log.{after_answering, call_of_thread, after_entering, held_call, next_replay};
+ghost use Rattle.part_defs.specs.Log.{no_call_open, with_answered_call, open_call, opening_log, replay_after};
+ghost use Rattle.part_defs.specs.Log.{with_call};
+ghost use Rattle.part_defs.specs.Views.CallLogs.{IsNumbered, acknowledged_call, after_holding, is_touched};
 ghost use Rattle.shadow_log.specs.Places.{IsPlace};
 ghost use Rattle.shadow_log.specs.Stopped.{after_answers};
 
-use nook_defs::answers::answer_among;
-use nook_defs::calls::{Answer, CallEntry, Op};
-use nook_defs::limits::MOST_CALLS;
-use nook_defs::lists::Word;
-use nook_defs::memory::NoMemory;
-use nook_defs::steps::Stage;
+use nook_data::answers::answer_among;
+use nook_data::calls::{Answer, CallEntry, Op};
+use nook_data::limits::MOST_CALLS;
+use nook_data::lists::Word;
+use nook_data::memory::NoMemory;
+use nook_data::steps::Stage;
 use std::alloc::Global;
 use std::marker::Model;
 
@@ -29,8 +29,8 @@ pub struct ShadowLog {
 }
 
 impl Model for ShadowLog {
-    ghost use Rattle.nook_defs.specs.Views.CallLogs.{IsNumbered};
-    ghost use Rattle.nook_defs.specs.State.{CallLog};
+    ghost use Rattle.part_defs.specs.Views.CallLogs.{IsNumbered};
+    ghost use Rattle.part_defs.specs.State.{CallLog};
 
     ghost Value = { CallLog };
 
@@ -47,7 +47,7 @@ impl Model for ShadowLog {
 
 impl ShadowLog {
     /// A log without calls. The record begins as the class's defaults, which are kept for the replays.
-    #[tactic(auto, unfolding(nook_defs::specs::Log::opening_log))]
+    #[tactic(auto, unfolding(part_defs::specs::Log::opening_log))]
     pub fn new(alloc: Global, defaults: [Word; 4]) -> ShadowLog
         ensures { result ≡ opening_log defaults }
     {
@@ -61,7 +61,7 @@ impl ShadowLog {
     }
 
     /// A call that stays open: it is Held and was never Inside. Its number, one more than the last one given.
-    #[tactic(auto, unfolding(nook_defs::specs::Log::with_call))]
+    #[tactic(auto, unfolding(part_defs::specs::Log::with_call))]
     pub fn invoke(&mut self, thread: u8, op: Op) -> Result<u32, NoMemory>
         requires { self.old.count < MOST_CALLS }
         ensures ok { OnOk result (self.new ≡ with_call thread op self.old) }
@@ -81,7 +81,7 @@ impl ShadowLog {
     }
 
     /// A call that is answered at once: only its number is given.
-    #[tactic(auto, unfolding(nook_defs::specs::Log::with_answered_call))]
+    #[tactic(auto, unfolding(part_defs::specs::Log::with_answered_call))]
     pub fn number(&mut self) -> u32
         requires { self.old.count < MOST_CALLS }
         ensures log { self.new ≡ with_answered_call self.old }
@@ -92,7 +92,7 @@ impl ShadowLog {
     }
 
     /// The call goes Inside, as one attempt more.
-    #[tactic(auto, unfolding(nook_defs::specs::Log::after_entering))]
+    #[tactic(auto, unfolding(part_defs::specs::Log::after_entering))]
     pub fn entered(&mut self, call: u32)
         requires { IfSome (open_call call self.old.pending) (λ c. c.attempts < 4294967295) }
         ensures { self.new ≡ after_entering call self.old }
@@ -105,7 +105,7 @@ impl ShadowLog {
     }
 
     /// The call is Held. It keeps its number and its attempts.
-    #[tactic(auto, unfolding(nook_defs::specs::Views::CallLogs::after_holding))]
+    #[tactic(auto, unfolding(part_defs::specs::Views::CallLogs::after_holding))]
     pub fn held(&mut self, call: u32)
         ensures { self.new ≡ after_holding call self.old }
     {
@@ -116,7 +116,7 @@ impl ShadowLog {
 
     /// The driver's reply to the call was accepted. A Set goes into the record, an Open makes the call's thread
     /// the holder, a Close leaves none. The call stays open.
-    #[tactic(auto, unfolding(nook_defs::specs::Views::CallLogs::acknowledged_call, nook_defs::specs::Log::after_acknowledging))]
+    #[tactic(auto, unfolding(part_defs::specs::Views::CallLogs::acknowledged_call, part_defs::specs::Log::after_acknowledging))]
     pub fn acknowledge(&mut self, call: u32)
         ensures { self.new ≡ acknowledged_call call self.old }
     {
@@ -132,7 +132,7 @@ impl ShadowLog {
     }
 
     /// The call is open no more.
-    #[tactic(auto, unfolding(nook_defs::specs::Log::after_answering))]
+    #[tactic(auto, unfolding(part_defs::specs::Log::after_answering))]
     pub fn answered(&mut self, call: u32)
         ensures { self.new ≡ after_answering call self.old }
     {
@@ -228,7 +228,7 @@ impl ShadowLog {
 
     /// The replay, or Resume, that follows Init or a replay: the keys whose word is no default by rising key,
     /// then the stream where it has a holder.
-    #[tactic(auto, unfolding(nook_defs::specs::Log::replay_after))]
+    #[tactic(auto, unfolding(part_defs::specs::Log::replay_after))]
     pub fn replay_next(&self, after: &Stage) -> Stage
         ensures { result ≡ replay_after after.now self.now }
     {

@@ -1,5 +1,5 @@
 use Rattle.std.specs.Prelude.{ℕ, Option, Some, None, List, [], ◌∷◌}
-use Rattle.nook_defs.specs.declared.calls.Answer.{Answer}
+use Rattle.nook_data.specs.declared.calls.Answer.{Answer}
 use Rattle.shadow_proxy.specs.declared.decision.Proxy.{Proxy}
 use Rattle.shadow_proxy.specs.declared.decision.Proxy.TheVariants as proxy
 

@@ -1,6 +1,6 @@
 //! The shadow's decision on an operation.
 
-use nook_defs::calls::Answer;
+use nook_data::calls::Answer;
 
 /// What the shadow does with an operation in the driver's place.
 #[derive(Debug, PartialEq, Eq, Drop)]

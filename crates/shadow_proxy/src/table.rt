@@ -1,20 +1,20 @@
 //! The table, a case for each operation.
 
 ghost use Rattle.std.specs.Prelude.{◌≡◌};
-ghost use Rattle.nook_defs.specs.Log.{queue_after, shadow_answer};
+ghost use Rattle.part_defs.specs.Log.{queue_after, shadow_answer};
 ghost use Rattle.shadow_proxy.specs.Front.{front_for};
 ghost use Rattle.shadow_proxy.specs.Table.{answer_of, queue_of};
 
 use crate::decision::Proxy;
-use nook_defs::calls::{Answer, Op};
-use nook_defs::lists::Words;
-use nook_defs::outside::RxFront;
-use nook_defs::steps::Stage;
+use nook_data::calls::{Answer, Op};
+use nook_data::lists::Words;
+use nook_data::steps::Stage;
+use nook_io::outside::RxFront;
 use shadow_log::ShadowLog;
 
 /// The shadow's table. `front` is the frame that the caller took from the kernel's queue for a Recv. It takes
 /// no memory.
-#[tactic(auto, unfolding(nook_defs::specs::Log::shadow_answer))]
+#[tactic(auto, unfolding(part_defs::specs::Log::shadow_answer))]
 pub fn proxy(op: &Op, thread: u8, log: &ShadowLog, stage: &Stage, front: Option<Words>) -> Proxy
     ensures { answer_of result ≡ shadow_answer op.now thread log.now.config log.now.holder stage.now (queue_of front) }
 {

@@ -3,10 +3,10 @@ use Rattle.std.proofs.Math.ListN.{drop_of_length-le}
 use Rattle.std.proofs.lemmas.Bool.{eqb-false, eqb-true}
 use Rattle.std.proofs.lemmas.List.{length-append, length-set}
 use Rattle.std.proofs.lemmas.Option.{slice_get-get_or, slice_get_within}
-use Rattle.nook_defs.specs.declared.steps.Event.{Event}
-use Rattle.nook_defs.specs.declared.calls.Op.{Op}
-use Rattle.nook_defs.specs.declared.steps.Step.{Step}
-use Rattle.nook_defs.specs.Simulation.{RunningPart, ThreadState, Waiting, part_after}
+use Rattle.nook_data.specs.declared.steps.Event.{Event}
+use Rattle.nook_data.specs.declared.calls.Op.{Op}
+use Rattle.nook_data.specs.declared.steps.Step.{Step}
+use Rattle.run_defs.specs.Simulation.{RunningPart, ThreadState, Waiting, part_after}
 use Rattle.part_laws.proofs.Places.{get_keep, get_mid, get_set, get_set_other, get_set_same, split}
 use Rattle.sim_run.proofs.Choosing.{drop_at}
 use Rattle.sim_run.specs.Able.{AreAble, AreAbleUpTo, able_actors, concerns, is_invocation, looks_at, looks_when}

@@ -2,10 +2,11 @@ use Rattle.std.proofs.Common.{◌≡◌, ℕ, zero, suc, ◌+◌, ◌<◌, ◌�
 use Rattle.std.proofs.lemmas.Option.{get_or_from_slice_get}
 use Rattle.std.proofs.Math.Seq.{get_or-append_seam, set-append_seam}
 use Rattle.std.proofs.lemmas.List.{drop_more, get_or_default, take_more}
-use Rattle.nook_defs.specs.declared.steps.Event.{Event}
-use Rattle.nook_defs.specs.declared.memory.NoMemory.{NoMemory}
-use Rattle.nook_defs.specs.Schedules.{Order, picked}
-use Rattle.nook_defs.specs.Simulation.{Choice, RunningPart, Simulation, ThreadState, actor_of, choices_of, started, stepped_by, threads_after, thread_after}
+use Rattle.nook_data.specs.declared.steps.Event.{Event}
+use Rattle.nook_data.specs.declared.memory.NoMemory.{NoMemory}
+use Rattle.run_defs.specs.Schedules.{Order, picked}
+use Rattle.run_defs.specs.Simulation.{Choice, RunningPart, Simulation, ThreadState, actor_of, choices_of, started}
+use Rattle.run_defs.specs.Simulation.{stepped_by, threads_after, thread_after}
 use Rattle.part_laws.proofs.Places.{length_map}
 use Rattle.sim_run.proofs.Choosing.{actors_named, choices_found, choices_open}
 use Rattle.sim_run.proofs.Picking.{picked_within}

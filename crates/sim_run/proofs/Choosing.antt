@@ -3,15 +3,17 @@ use Rattle.std.proofs.Math.ListN.{drop_of_length-le}
 use Rattle.std.proofs.lemmas.Option.{slice_get_read}
 use Rattle.std.specs.List.{AllByRecursion}
 use Rattle.std.proofs.lemmas.Bool.{false≢true, le-ltb, lt-ltb}
-use Rattle.nook_defs.specs.declared.calls.Op.{Op}
-use Rattle.nook_defs.specs.declared.steps.Step.{Step}
-use Rattle.nook_defs.specs.declared.steps.Step.TheVariants as step
-use Rattle.nook_defs.specs.Runs.{if_enabled, next_for, next_recovery}
-use Rattle.nook_defs.specs.Simulation.{actor_of, Choice, RunningPart, Simulation, ThreadState, Waiting, arrival, going_on, invocation, choices_of}
-use Rattle.nook_defs.proofs.ChoicesInOrder.{with_choice, with_invocation, with_thread, thread_choices, part_choices, choices_in_order}
-use Rattle.nook_defs.specs.State.{PartState}
-use Rattle.nook_defs.specs.Steps.{enabled}
-use Rattle.nook_defs.proofs.NextSteps.{next_for_case}
+use Rattle.nook_data.specs.declared.calls.Op.{Op}
+use Rattle.nook_data.specs.declared.steps.Step.{Step}
+use Rattle.nook_data.specs.declared.steps.Step.TheVariants as step
+use Rattle.part_defs.specs.Runs.{if_enabled, next_for, next_recovery}
+use Rattle.run_defs.specs.Simulation.{actor_of, Choice, RunningPart, Simulation, ThreadState, Waiting, arrival}
+use Rattle.run_defs.specs.Simulation.{going_on, invocation, choices_of}
+use Rattle.run_defs.proofs.ChoicesInOrder.{with_choice, with_invocation, with_thread, thread_choices, part_choices}
+use Rattle.run_defs.proofs.ChoicesInOrder.{choices_in_order}
+use Rattle.part_defs.specs.State.{PartState}
+use Rattle.part_defs.specs.Steps.{enabled}
+use Rattle.part_defs.proofs.NextSteps.{next_for_case}
 use Rattle.part_laws.proofs.BurstKeeps.{split}
 use Rattle.sim_run.specs.Actors.{choice_by, invocation_of, choice_when, choice_of_thread, step_of_seat, choice_of_seat, choice_at, named_if, actors_of_seat, actors_of_seats, actor_of_thread, actors_of_threads}
 use Rattle.sim_run.specs.Reached.{MayTake, IsOpenChoice}

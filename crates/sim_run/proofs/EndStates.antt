@@ -1,15 +1,15 @@
 -- What each part of a whole run ends in is what its journal leads to.
 use Rattle.std.proofs.Common.{◌≡◌, IfOk, map, Result, Ok, Err, List, [], ◌∷◌, sym, ap, ◌∙◌, subst}
-use Rattle.nook_defs.specs.declared.steps.Event.{Event}
-use Rattle.nook_defs.specs.declared.scenario.PartSpec.{PartSpec}
-use Rattle.nook_defs.specs.declared.scenario.Scenario.{Scenario}
-use Rattle.nook_defs.specs.declared.memory.NoMemory.{NoMemory}
-use Rattle.nook_defs.specs.Devices.{medium_of}
-use Rattle.nook_defs.specs.Views.Room.{Kept}
-use Rattle.nook_defs.specs.Runs.{state_of}
-use Rattle.nook_defs.specs.Simulation.{IsScheduledRun, RunningPart, Simulation, journal_of, journals_of}
-use Rattle.nook_defs.specs.State.{PartState}
-use Rattle.nook_defs.specs.Steps.{opening}
+use Rattle.nook_data.specs.declared.steps.Event.{Event}
+use Rattle.nook_data.specs.declared.scenario.PartSpec.{PartSpec}
+use Rattle.nook_data.specs.declared.scenario.Scenario.{Scenario}
+use Rattle.nook_data.specs.declared.memory.NoMemory.{NoMemory}
+use Rattle.machine_defs.specs.Devices.{medium_of}
+use Rattle.nook_data.specs.Views.Room.{Kept}
+use Rattle.part_defs.specs.Runs.{state_of}
+use Rattle.run_defs.specs.Simulation.{IsScheduledRun, RunningPart, Simulation, journal_of, journals_of}
+use Rattle.part_defs.specs.State.{PartState}
+use Rattle.part_defs.specs.Steps.{opening}
 use Rattle.part_laws.proofs.DeviceStays.{opening_spec, spec_from}
 use Rattle.report_text.specs.Whole.{HaveEnds, ShowsState, objects_from}
 use Rattle.sim_run.proofs.Reaching.{seats_of_runs}

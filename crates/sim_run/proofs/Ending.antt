@@ -1,11 +1,12 @@
 use Rattle.std.proofs.Common.{◌≡◌, ℕ, suc, ◌+◌, ◌<◌, ◌≤◌, ◌^◌, true, false, IfOk, map, Result, Ok, Err, List, [], ◌∷◌, ◌++◌, length, ◌⊎◌, inl, inr, Bool, refl, sym, ap, ◌∙◌, subst, arith, add-one, zero-add, suc-add, zero}
-use Rattle.nook_defs.specs.declared.steps.Event.{Event}
-use Rattle.nook_defs.specs.declared.scenario.Scenario.{Scenario}
-use Rattle.nook_defs.specs.declared.memory.NoMemory.{NoMemory}
-use Rattle.nook_defs.specs.Listening.{Listening}
-use Rattle.nook_defs.specs.ReportText.{events_count}
-use Rattle.nook_defs.specs.Simulation.{Choice, IsScheduledRun, Simulation, answer_table, begins, choices_of, journals_of, runs, taken}
-use Rattle.nook_defs.specs.Valid.{IsValidScenario}
+use Rattle.nook_data.specs.declared.steps.Event.{Event}
+use Rattle.nook_data.specs.declared.scenario.Scenario.{Scenario}
+use Rattle.nook_data.specs.declared.memory.NoMemory.{NoMemory}
+use Rattle.nook_io.specs.Listening.{Listening}
+use Rattle.run_defs.specs.Simulation.{events_count}
+use Rattle.run_defs.specs.Simulation.{Choice, IsScheduledRun, Simulation, answer_table, begins, choices_of, journals_of}
+use Rattle.run_defs.specs.Simulation.{runs, taken}
+use Rattle.nook_data.specs.Valid.{IsValidScenario}
 use Rattle.run_ends.specs.declared.whole_run.WholeRun.{WholeRun}
 use Rattle.request_taps.specs.Bus.{result_of, told_all}
 use Rattle.request_taps.specs.declared.tap.Tap.{Tap}

@@ -6,10 +6,10 @@ use Rattle.std.proofs.Math.ListN.{drop_of_length-le}
 use Rattle.std.proofs.lemmas.Bool.{cases_lt, lt-ltb, le-ltb}
 use Rattle.std.proofs.lemmas.List.Folds.{find-append, find_at}
 use Rattle.std.proofs.lemmas.Option.{get_or_from_slice_get, slice_get-get_or, slice_get_read, slice_get_within}
-use Rattle.nook_defs.specs.Schedules.{Order, picked, round}
+use Rattle.run_defs.specs.Schedules.{Order, picked, round}
 use Rattle.schedule.specs.Standings.{place_from}
-use Rattle.nook_defs.specs.Simulation.{Choice, RunningPart, ThreadState}
-use Rattle.nook_defs.specs.declared.memory.NoMemory.{NoMemory}
+use Rattle.run_defs.specs.Simulation.{Choice, RunningPart, ThreadState}
+use Rattle.nook_data.specs.declared.memory.NoMemory.{NoMemory}
 use Rattle.sim_run.proofs.AbleThreads.{ready_named}
 use Rattle.sim_run.proofs.Advancing.{none_picked, pick_is}
 use Rattle.sim_run.proofs.Choosing.{drop_at}

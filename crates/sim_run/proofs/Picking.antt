@@ -1,7 +1,7 @@
 use Rattle.std.proofs.Common.{◌≡◌, ℕ, ◌%◌, ◌<◌, ◌==◌, nat_le, Bool, Option, Some, None, List, [], ◌∷◌, length, unwrap_or, refl, arith}
 use Rattle.std.specs.List.{position}
 use Rattle.std.proofs.lemmas.List.Quantifiers.{position-Some}
-use Rattle.nook_defs.specs.Schedules.{Order, round, drawn, listed, picked, round_pick, listed_pick}
+use Rattle.run_defs.specs.Schedules.{Order, round, drawn, listed, picked, round_pick, listed_pick}
 
 -- A pick is a place in the list.
 

@@ -2,13 +2,14 @@ use Rattle.std.proofs.Common.{◌≡◌, ℕ, zero, suc, ◌+◌, ◌==◌, Opti
 use Rattle.std.specs.List.{AllByRecursion}
 use Rattle.std.proofs.lemmas.Option.{slice_get-map}
 use Rattle.std.proofs.lemmas.Bool.{both_ways, eq-eqb}
-use Rattle.nook_defs.specs.declared.steps.Event.{Event}
-use Rattle.nook_defs.specs.declared.scenario.PartSpec.{PartSpec}
-use Rattle.nook_defs.specs.declared.scenario.Scenario.{Scenario}
-use Rattle.nook_defs.specs.Listening.{Listening, count_if, hears}
-use Rattle.nook_defs.specs.Runs.{event_of}
-use Rattle.nook_defs.specs.Simulation.{Choice, RunningPart, Simulation, begins, choices_of, journal_of, journals_of, opening_part, runs, part_after, taken}
-use Rattle.nook_defs.specs.Listening.{heard_events}
+use Rattle.nook_data.specs.declared.steps.Event.{Event}
+use Rattle.nook_data.specs.declared.scenario.PartSpec.{PartSpec}
+use Rattle.nook_data.specs.declared.scenario.Scenario.{Scenario}
+use Rattle.nook_io.specs.Listening.{Listening, count_if, hears}
+use Rattle.part_defs.specs.Runs.{event_of}
+use Rattle.run_defs.specs.Simulation.{Choice, RunningPart, Simulation, begins, choices_of, journal_of, journals_of}
+use Rattle.run_defs.specs.Simulation.{opening_part, runs, part_after, taken}
+use Rattle.nook_io.specs.Listening.{heard_events}
 use Rattle.part_laws.proofs.BurstKeeps.{split}
 use Rattle.part_laws.proofs.Places.{get_set_other}
 use Rattle.sim_run.proofs.Choosing.{choices_open}

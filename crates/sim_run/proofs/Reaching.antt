@@ -1,16 +1,17 @@
 use Rattle.std.proofs.Common.{◌≡◌, ℕ, zero, suc, ◌+◌, ◌*◌, ◌^◌, ◌<◌, ◌≤◌, true, Option, Some, None, List, [], ◌∷◌, ◌++◌, map, length, slice_get, slice_set, refl, sym, ap, ◌∙◌, subst, arith, length-append}
 use Rattle.std.specs.List.{AllByRecursion}
 use Rattle.std.proofs.lemmas.List.Elements.{recursion_from_All}
-use Rattle.nook_defs.specs.declared.scenario.PartSpec.{PartSpec}
-use Rattle.nook_defs.specs.declared.scenario.Scenario.{Scenario}
-use Rattle.nook_defs.specs.declared.steps.Step.{Step}
-use Rattle.nook_defs.specs.ReportText.{events_count}
-use Rattle.nook_defs.specs.Runs.{IsRun, IsRunFrom, state_of, state_from, event_of, state_after}
-use Rattle.nook_defs.specs.Schedules.{picked}
-use Rattle.nook_defs.specs.Simulation.{Choice, RunningPart, Simulation, actor_of, begins, choices_of, journal_of, journals_of, opening_part, runs, part_after, stepped_by, taken}
-use Rattle.nook_defs.proofs.Changes.{taken_by}
-use Rattle.nook_defs.specs.Steps.{enabled, opening}
-use Rattle.nook_defs.specs.Valid.{IsValidPart, IsValidScenario}
+use Rattle.nook_data.specs.declared.scenario.PartSpec.{PartSpec}
+use Rattle.nook_data.specs.declared.scenario.Scenario.{Scenario}
+use Rattle.nook_data.specs.declared.steps.Step.{Step}
+use Rattle.run_defs.specs.Simulation.{events_count}
+use Rattle.part_defs.specs.Runs.{IsRun, IsRunFrom, state_of, state_from, event_of, state_after}
+use Rattle.run_defs.specs.Schedules.{picked}
+use Rattle.run_defs.specs.Simulation.{Choice, RunningPart, Simulation, actor_of, begins, choices_of, journal_of}
+use Rattle.run_defs.specs.Simulation.{journals_of, opening_part, runs, part_after, stepped_by, taken}
+use Rattle.run_defs.proofs.RunChanges.{taken_by}
+use Rattle.part_defs.specs.Steps.{enabled, opening}
+use Rattle.nook_data.specs.Valid.{IsValidPart, IsValidScenario}
 use Rattle.part_laws.proofs.Places.{length_map}
 use Rattle.part_laws.proofs.RunSmall.{run_small}
 use Rattle.part_laws.proofs.RunsDetermined.{run_more, state_more}

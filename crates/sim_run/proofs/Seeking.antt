@@ -2,17 +2,18 @@
 use Rattle.std.proofs.Common.{◌≡◌, ◌⊎◌, ℕ, zero, suc, ◌+◌, ◌-◌, ◌<◌, ◌≤◌, ◌^◌, ◌==◌, ◌&&◌, ◌||◌, not, Bool, true, false, cond, nat_lt, Option, Some, None, List, [], ◌∷◌, ◌++◌, map, length, option_map, Result, Ok, Err, IfOk, OnOk, position, slice_get, slice_set, take, refl, sym, ap, ◌∙◌, subst, inl, inr, arith, append-nil, append_assoc, length-append, eqb-true}
 use Rattle.std.proofs.lemmas.Bool.{eq-eqb, le-ltb, lt-ltb}
 use Rattle.std.specs.List.{list_any, prefix_len}
-use Rattle.nook_defs.specs.declared.steps.Event.{Event}
-use Rattle.nook_defs.specs.declared.steps.Event.TheVariants as event
-use Rattle.nook_defs.specs.declared.scenario.PartSpec.{PartSpec}
-use Rattle.nook_defs.specs.declared.scenario.Scenario.{Scenario}
-use Rattle.nook_defs.specs.declared.steps.Step.{Step}
-use Rattle.nook_defs.specs.declared.steps.Step.TheVariants as step
-use Rattle.nook_defs.specs.Runs.{event_of, state_of, step_of}
-use Rattle.nook_defs.specs.Simulation.{Choice, IsScheduledRun, RunningPart, Simulation, begins, choices_of, journal_of, journals_of, opening_part, runs, part_after, stepped_by, taken}
-use Rattle.nook_defs.specs.State.{DomainState, PartState}
-use Rattle.nook_defs.specs.Steps.{burst_stepped, stepped}
-use Rattle.nook_defs.specs.Valid.{IsValidScenario}
+use Rattle.nook_data.specs.declared.steps.Event.{Event}
+use Rattle.nook_data.specs.declared.steps.Event.TheVariants as event
+use Rattle.nook_data.specs.declared.scenario.PartSpec.{PartSpec}
+use Rattle.nook_data.specs.declared.scenario.Scenario.{Scenario}
+use Rattle.nook_data.specs.declared.steps.Step.{Step}
+use Rattle.nook_data.specs.declared.steps.Step.TheVariants as step
+use Rattle.part_defs.specs.Runs.{event_of, state_of, step_of}
+use Rattle.run_defs.specs.Simulation.{Choice, IsScheduledRun, RunningPart, Simulation, begins, choices_of, journal_of}
+use Rattle.run_defs.specs.Simulation.{journals_of, opening_part, runs, part_after, stepped_by, taken}
+use Rattle.part_defs.specs.State.{DomainState, PartState}
+use Rattle.part_defs.specs.Steps.{burst_stepped, stepped}
+use Rattle.nook_data.specs.Valid.{IsValidScenario}
 use Rattle.part_laws.proofs.Places.{get_map, get_mid, get_set_same, split}
 use Rattle.part_laws.proofs.RunsDetermined.{step_named}
 use Rattle.request_taps.specs.Bus.{told_all}

@@ -1,9 +1,9 @@
 use Rattle.std.specs.Prelude.{ℕ, Bool, is_some, ◌++◌, ◌+◌, ◌-◌, ◌/◌, ◌%◌, ◌==◌, nat_le, nat_lt, if◌then◌else◌, Option, Some, None, List, [], ◌∷◌, find, length, slice_get}
 use Rattle.std.specs.Option.{option_or}
-use Rattle.nook_defs.specs.declared.calls.Op.{Op}
-use Rattle.nook_defs.specs.declared.steps.Step.{Step}
-use Rattle.nook_defs.specs.Runs.{next_recovery}
-use Rattle.nook_defs.specs.Simulation.{Choice, RunningPart, ThreadState, Waiting, arrival, going_on, invocation}
+use Rattle.nook_data.specs.declared.calls.Op.{Op}
+use Rattle.nook_data.specs.declared.steps.Step.{Step}
+use Rattle.part_defs.specs.Runs.{next_recovery}
+use Rattle.run_defs.specs.Simulation.{Choice, RunningPart, ThreadState, Waiting, arrival, going_on, invocation}
 
 -- The step of one actor, by its number.
 

@@ -1,8 +1,9 @@
 use Rattle.std.specs.Prelude.{◌≡◌, ℕ, ◌<◌, slice_set, Bool, true, false, Option, Some, None, List, [], length, slice_get}
-use Rattle.nook_defs.specs.Runs.{event_of}
-use Rattle.nook_defs.specs.Schedules.{Order}
-use Rattle.nook_defs.specs.Simulation.{Choice, RunningPart, Simulation, ThreadState, choices_of, part_after, stepped_by, taken, threads_after}
-use Rattle.nook_defs.specs.declared.steps.Step.{Step}
+use Rattle.part_defs.specs.Runs.{event_of}
+use Rattle.run_defs.specs.Schedules.{Order}
+use Rattle.run_defs.specs.Simulation.{Choice, RunningPart, Simulation, ThreadState, choices_of, part_after, stepped_by}
+use Rattle.run_defs.specs.Simulation.{taken, threads_after}
+use Rattle.nook_data.specs.declared.steps.Step.{Step}
 use Rattle.sim_run.specs.Published.{made, made_of}
 use Rattle.sim_run.specs.Reached.{IsOpenChoice}
 

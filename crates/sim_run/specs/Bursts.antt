@@ -1,12 +1,12 @@
 use Rattle.std.specs.Prelude.{◌≡◌, ℕ, ◌==◌, ◌&&◌, Bool, false, Option, Some, None, List, option_map, position, slice_get, take}
-use Rattle.nook_defs.specs.declared.steps.Event.{Event}
-use Rattle.nook_defs.specs.declared.steps.Event.TheVariants as event
-use Rattle.nook_defs.specs.declared.scenario.PartSpec.{PartSpec}
-use Rattle.nook_defs.specs.declared.scenario.Scenario.{Scenario}
-use Rattle.nook_defs.specs.declared.steps.Step.{Step}
-use Rattle.nook_defs.specs.Runs.{event_of, state_of}
-use Rattle.nook_defs.specs.Simulation.{Choice, IsScheduledRun, RunningPart, Simulation, journals_of}
-use Rattle.nook_defs.specs.State.{DomainState, PartState}
+use Rattle.nook_data.specs.declared.steps.Event.{Event}
+use Rattle.nook_data.specs.declared.steps.Event.TheVariants as event
+use Rattle.nook_data.specs.declared.scenario.PartSpec.{PartSpec}
+use Rattle.nook_data.specs.declared.scenario.Scenario.{Scenario}
+use Rattle.nook_data.specs.declared.steps.Step.{Step}
+use Rattle.part_defs.specs.Runs.{event_of, state_of}
+use Rattle.run_defs.specs.Simulation.{Choice, IsScheduledRun, RunningPart, Simulation, journals_of}
+use Rattle.part_defs.specs.State.{DomainState, PartState}
 use Rattle.sim_run.specs.declared.whole_run.FoundBurst.{FoundBurst}
 
 -- One burst in the journals of a run, by its number.

@@ -1,5 +1,5 @@
 use Rattle.std.specs.Prelude.{List, map}
-use Rattle.nook_defs.specs.Simulation.{RunningPart}
+use Rattle.run_defs.specs.Simulation.{RunningPart}
 use Rattle.report_text.specs.declared.whole_report.PartEnd.{PartEnd}
 use Rattle.run_ends.specs.Ends.{end_of}
 

@@ -1,5 +1,5 @@
 use Rattle.std.specs.Prelude.{Option, Some, None}
-use Rattle.nook_defs.specs.Simulation.{Waiting}
+use Rattle.run_defs.specs.Simulation.{Waiting}
 use Rattle.sim_run.specs.declared.script.Open.{Open}
 
 -- the open call that a thread's mark stands for

@@ -1,11 +1,11 @@
 use Rattle.std.specs.Prelude.{◌≡◌, ℕ, zero, suc, ◌+◌, ◌==◌, if◌then◌else◌, Bool, true, false, Option, Some, None, Result, Ok, Err, List, [], ◌∷◌, ◌++◌, map, slice_get, ◌⊎◌}
-use Rattle.nook_defs.specs.declared.steps.Event.{Event}
-use Rattle.nook_defs.specs.declared.memory.NoMemory.{NoMemory}
-use Rattle.nook_defs.specs.Listening.{Listening}
-use Rattle.nook_defs.specs.Runs.{event_of}
-use Rattle.nook_defs.specs.Schedules.{picked}
-use Rattle.nook_defs.specs.Simulation.{Choice, RunningPart, Simulation, actor_of, choices_of, taken}
-use Rattle.nook_defs.specs.Listening.{heard_events}
+use Rattle.nook_data.specs.declared.steps.Event.{Event}
+use Rattle.nook_data.specs.declared.memory.NoMemory.{NoMemory}
+use Rattle.nook_io.specs.Listening.{Listening}
+use Rattle.part_defs.specs.Runs.{event_of}
+use Rattle.run_defs.specs.Schedules.{picked}
+use Rattle.run_defs.specs.Simulation.{Choice, RunningPart, Simulation, actor_of, choices_of, taken}
+use Rattle.nook_io.specs.Listening.{heard_events}
 use Rattle.request_taps.specs.Bus.{told_all}
 use Rattle.request_taps.specs.declared.tap.Tap.{Tap}
 use Rattle.run_ends.specs.Journals.{with_part}

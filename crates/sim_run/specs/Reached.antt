@@ -1,9 +1,9 @@
 use Rattle.std.specs.Prelude.{◌≡◌, true, Option, Some, None, List, [], ◌∷◌, slice_get}
-use Rattle.nook_defs.specs.declared.scenario.PartSpec.{PartSpec}
-use Rattle.nook_defs.specs.declared.steps.Step.{Step}
-use Rattle.nook_defs.specs.Runs.{IsRun, state_of}
-use Rattle.nook_defs.specs.Simulation.{Choice, RunningPart}
-use Rattle.nook_defs.specs.Steps.{enabled}
+use Rattle.nook_data.specs.declared.scenario.PartSpec.{PartSpec}
+use Rattle.nook_data.specs.declared.steps.Step.{Step}
+use Rattle.part_defs.specs.Runs.{IsRun, state_of}
+use Rattle.run_defs.specs.Simulation.{Choice, RunningPart}
+use Rattle.part_defs.specs.Steps.{enabled}
 
 -- What holds of each simulation that a scenario's run reaches.
 

@@ -1,10 +1,10 @@
 use Rattle.std.specs.Prelude.{◌≡◌, ℕ, Bool, List, map}
-use Rattle.nook_defs.specs.declared.calls.Answer.{Answer}
-use Rattle.nook_defs.specs.declared.steps.Event.{Event}
-use Rattle.nook_defs.specs.declared.scenario.Scenario.{Scenario}
-use Rattle.nook_defs.specs.Listening.{Listening}
-use Rattle.nook_defs.specs.Views.Room.{Kept}
-use Rattle.nook_defs.specs.Simulation.{IsScheduledRun, Simulation, answer_table, begins, journals_of}
+use Rattle.nook_data.specs.declared.calls.Answer.{Answer}
+use Rattle.nook_data.specs.declared.steps.Event.{Event}
+use Rattle.nook_data.specs.declared.scenario.Scenario.{Scenario}
+use Rattle.nook_io.specs.Listening.{Listening}
+use Rattle.nook_data.specs.Views.Room.{Kept}
+use Rattle.run_defs.specs.Simulation.{IsScheduledRun, Simulation, answer_table, begins, journals_of}
 use Rattle.request_taps.specs.Bus.{result_of, told_all}
 use Rattle.request_taps.specs.declared.tap.Tap.{Tap}
 use Rattle.run_ends.specs.Journals.{events_in}

@@ -10,8 +10,8 @@ ghost use Rattle.sim_run.specs.Actors.{actors_of_seat, actors_of_seats, choice_a
 use crate::chosen::Chosen;
 use crate::script::Script;
 use crate::seat::Seat;
-use nook_defs::limits::{MOST_PARTS, MOST_THREADS};
-use nook_defs::memory::NoMemory;
+use nook_data::limits::{MOST_PARTS, MOST_THREADS};
+use nook_data::memory::NoMemory;
 use std::alloc::Global;
 
 /// Whether each thread has a step.

@@ -3,7 +3,7 @@
 ghost use Rattle.std.specs.Prelude.{◌≡◌};
 ghost use Rattle.sim_run.specs.Actors.{choice_by};
 
-use nook_defs::steps::Step;
+use nook_data::steps::Step;
 use std::marker::Model;
 
 /// A step that an actor can take, and the part that takes it.
@@ -15,7 +15,7 @@ pub struct Chosen {
 }
 
 impl Model for Chosen {
-    ghost use Rattle.nook_defs.specs.Simulation.{Choice};
+    ghost use Rattle.run_defs.specs.Simulation.{Choice};
 
     ghost Value = { Choice };
 

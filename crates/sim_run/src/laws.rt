@@ -1,12 +1,12 @@
 //! Laws of the scheduled run of a scenario.
 
 ghost use Rattle.std.specs.Prelude.{◌≡◌, ℕ, List, Some, slice_get};
-ghost use Rattle.nook_defs.specs.Listening.{Listening};
-ghost use Rattle.nook_defs.specs.Simulation.{IsScheduledRun, Simulation, begins, journals_of, runs};
-ghost use Rattle.nook_defs.specs.Listening.{heard_events};
-ghost use Rattle.nook_defs.specs.Valid.{IsValidScenario};
-ghost use Rattle.nook_defs.specs.declared.steps.Event.{Event};
-ghost use Rattle.nook_defs.specs.declared.scenario.Scenario.{Scenario};
+ghost use Rattle.nook_io.specs.Listening.{Listening};
+ghost use Rattle.run_defs.specs.Simulation.{IsScheduledRun, Simulation, begins, journals_of, runs};
+ghost use Rattle.nook_io.specs.Listening.{heard_events};
+ghost use Rattle.nook_data.specs.Valid.{IsValidScenario};
+ghost use Rattle.nook_data.specs.declared.steps.Event.{Event};
+ghost use Rattle.nook_data.specs.declared.scenario.Scenario.{Scenario};
 ghost use Rattle.sim_run.specs.Published.{events_of_part, heard_in_journals, published};
 ghost use Rattle.run_ends.specs.Journals.{AreRuns};
 

@@ -1,18 +1,18 @@
 //! A thread of a run: its script, its open call and its answers.
 
 ghost use Rattle.std.specs.Prelude.{drop, ◌≡◌, is_some, slice_get, IfOk, None, OnOk, if◌then◌else◌};
-ghost use Rattle.nook_defs.specs.Runs.{answer_among, answer_at};
+ghost use Rattle.nook_data.specs.Answers.{answer_among, answer_at};
 ghost use Rattle.sim_run.specs.Able.{concerns, is_invocation, looks_at};
 ghost use Rattle.sim_run.specs.Actors.{choice_when, has_step};
-ghost use Rattle.nook_defs.specs.Simulation.{going_on, invocation, opening_thread, started, thread_after};
+ghost use Rattle.run_defs.specs.Simulation.{going_on, invocation, opening_thread, started, thread_after};
 
 use crate::chosen::Chosen;
 use crate::seat::Seat;
-use nook_defs::calls::{Op, PartAnswers};
-use nook_defs::lists::{Items, TryCopy};
-use nook_defs::memory::NoMemory;
-use nook_defs::scenario::ThreadSpec;
-use nook_defs::steps::{Event, Step};
+use nook_data::calls::{Op, PartAnswers};
+use nook_data::lists::{Items, TryCopy};
+use nook_data::memory::NoMemory;
+use nook_data::scenario::ThreadSpec;
+use nook_data::steps::{Event, Step};
 use std::alloc::Global;
 use std::marker::Model;
 
@@ -32,7 +32,7 @@ pub struct Script<'a> {
 }
 
 impl<'a> Model for Script<'a> {
-    ghost use Rattle.nook_defs.specs.Simulation.{ThreadState};
+    ghost use Rattle.run_defs.specs.Simulation.{ThreadState};
     ghost use Rattle.sim_run.specs.Opened.{waiting_of};
 
     ghost Value = { ThreadState };

@@ -1,20 +1,20 @@
 //! A part of a run with the frames that have not arrived.
 
 ghost use Rattle.std.specs.Prelude.{◌≡◌, ◌-◌, ◌<◌, true, is_some, Some, length, slice_get, IfOk, OnErr, OnOk};
-ghost use Rattle.nook_defs.specs.Runs.{event_of, next_for, next_recovery};
-ghost use Rattle.nook_defs.specs.Simulation.{arrival, coming_after, invocation, opening_part, part_after};
+ghost use Rattle.part_defs.specs.Runs.{event_of, next_for, next_recovery};
+ghost use Rattle.run_defs.specs.Simulation.{arrival, coming_after, invocation, opening_part, part_after};
 ghost use Rattle.sim_run.specs.Bursts.{is_burst, shown_burst, shown_step};
 ghost use Rattle.sim_run.specs.Ends.{end_of_seat};
-ghost use Rattle.nook_defs.specs.Steps.{enabled};
-ghost use Rattle.nook_defs.specs.Valid.{IsValidPart};
+ghost use Rattle.part_defs.specs.Steps.{enabled};
+ghost use Rattle.nook_data.specs.Valid.{IsValidPart};
 
 use crate::whole_run::FoundBurst;
-use nook_defs::calls::Op;
-use nook_defs::journal::Journal;
-use nook_defs::lists::{TryCopy, Words};
-use nook_defs::memory::NoMemory;
-use nook_defs::scenario::PartSpec;
-use nook_defs::steps::{Event, Step};
+use nook_data::calls::Op;
+use nook_data::journal::Journal;
+use nook_data::lists::{TryCopy, Words};
+use nook_data::memory::NoMemory;
+use nook_data::scenario::PartSpec;
+use nook_data::steps::{Event, Step};
 use part_core::{LeftRooms, Part};
 use report_text::PartEnd;
 use run_ends::end_of;
@@ -32,8 +32,8 @@ pub struct Seat<'a> {
 
 impl<'a> Model for Seat<'a> {
     ghost use Rattle.std.specs.Prelude.{◌≡◌, is_some};
-    ghost use Rattle.nook_defs.specs.Runs.{next_recovery};
-    ghost use Rattle.nook_defs.specs.Simulation.{RunningPart, arrival};
+    ghost use Rattle.part_defs.specs.Runs.{next_recovery};
+    ghost use Rattle.run_defs.specs.Simulation.{RunningPart, arrival};
 
     ghost Value = { RunningPart };
 
@@ -72,7 +72,7 @@ impl<'a> Seat<'a> {
     }
 
     /// Whether the thread may invoke an operation now.
-    #[tactic(auto, unfolding(nook_defs::specs::Steps::enabled))]
+    #[tactic(auto, unfolding(part_defs::specs::Steps::enabled))]
     pub fn can_invoke(&self, thread: u8, op: &Op) -> bool
         ensures { result ≡ is_some (invocation thread op.now (Some self.now)) }
     {
@@ -109,7 +109,7 @@ impl<'a> Seat<'a> {
     }
 
     /// The arrival of the next frame, where one is left and may arrive now.
-    #[tactic(auto, unfolding(nook_defs::specs::Steps::enabled))]
+    #[tactic(auto, unfolding(part_defs::specs::Steps::enabled))]
     pub fn arrival(&self, alloc: Global) -> Result<Option<Step>, NoMemory>
         ensures { IfOk result (λ step. step ≡ arrival self.now.run self.now.coming) }
     {
@@ -181,7 +181,7 @@ impl<'a> Seat<'a> {
 }
 
 /// Whether a frame is left and may arrive now.
-#[tactic(auto, unfolding(nook_defs::specs::Steps::enabled))]
+#[tactic(auto, unfolding(part_defs::specs::Steps::enabled))]
 fn may_arrive(part: &Part, coming: &[Words]) -> bool
     ensures { result ≡ is_some (arrival part.now coming.now) }
 {

@@ -1,9 +1,11 @@
 //! A run as it stands: its schedule, its parts and its threads.
 
 ghost use Rattle.std.specs.Prelude.{◌≡◌, ◌≤◌, ◌<◌, false, All, IfOk, IfSome, OnOk, length, map, slice_get};
-ghost use Rattle.nook_defs.specs.Schedules.{picked, round};
-ghost use Rattle.nook_defs.specs.Simulation.{answer_table, answers_of_thread, begins, journal_of, journals_of, opening_part, opening_thread, started, stepped_by, threads_after, thread_after};
-ghost use Rattle.nook_defs.specs.Valid.{IsValidPart, IsValidScenario};
+ghost use Rattle.run_defs.specs.Schedules.{picked, round};
+ghost use Rattle.run_defs.specs.Simulation.{answer_table, answers_of_thread, begins, journal_of, journals_of};
+ghost use Rattle.run_defs.specs.Simulation.{opening_part, opening_thread, started, stepped_by, threads_after};
+ghost use Rattle.run_defs.specs.Simulation.{thread_after};
+ghost use Rattle.nook_data.specs.Valid.{IsValidPart, IsValidScenario};
 ghost use Rattle.sim_run.specs.Able.{AreAble, AreAbleUpTo, concerns};
 ghost use Rattle.sim_run.specs.Actors.{has_step};
 ghost use Rattle.sim_run.specs.Advanced.{IsAdvanced, IsPick, IsSteppedSeat, IsTaken, standing};
@@ -19,14 +21,14 @@ use crate::chosen::Chosen;
 use crate::script::Script;
 use crate::seat::Seat;
 use crate::whole_run::FoundBurst;
-use nook_defs::calls::AnswerTable;
-use nook_defs::limits::{MOST_PARTS, MOST_THREADS};
-use nook_defs::listeners::TapTotals;
-use nook_defs::lists::{Items, TryCopy};
-use nook_defs::memory::NoMemory;
-use nook_defs::outside::Listener;
-use nook_defs::scenario::{PartSpec, Scenario, ThreadSpec};
-use nook_defs::steps::{Event, Step};
+use nook_data::calls::AnswerTable;
+use nook_data::limits::{MOST_PARTS, MOST_THREADS};
+use nook_data::lists::{Items, TryCopy};
+use nook_data::memory::NoMemory;
+use nook_data::scenario::{PartSpec, Scenario, ThreadSpec};
+use nook_data::steps::{Event, Step};
+use nook_io::listeners::TapTotals;
+use nook_io::outside::Listener;
 use part_core::LeftRooms;
 use report_text::{Journals, PartEnds, Run};
 use request_taps::Bus;
@@ -50,8 +52,8 @@ pub struct Simulating<'a> {
 
 impl<'a> Model for Simulating<'a> {
     ghost use Rattle.std.specs.Prelude.{◌≤◌, length, IfSome};
-    ghost use Rattle.nook_defs.specs.Simulation.{Simulation};
-    ghost use Rattle.nook_defs.specs.declared.limits.TheConstants.{MOST_PARTS, MOST_THREADS};
+    ghost use Rattle.run_defs.specs.Simulation.{Simulation};
+    ghost use Rattle.nook_data.specs.declared.limits.TheConstants.{MOST_PARTS, MOST_THREADS};
     ghost use Rattle.sim_run.specs.Able.{AreAble};
 
     ghost Value = { Simulation };
@@ -64,7 +66,7 @@ impl<'a> Model for Simulating<'a> {
 
 impl<'a> Simulating<'a> {
     /// The run of a valid scenario before its first step. Its parts take up what those of earlier runs left.
-    #[tactic(auto, unfolding(nook_defs::specs::Simulation::begins))]
+    #[tactic(auto, unfolding(run_defs::specs::Simulation::begins))]
     pub fn new(
         alloc: Global,
         scenario: &'a Scenario,

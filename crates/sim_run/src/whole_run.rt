@@ -1,7 +1,7 @@
 //! The run of a scenario.
 
 ghost use Rattle.std.specs.Prelude.{ℕ, IfOk, OnErr, map};
-ghost use Rattle.nook_defs.specs.Valid.{IsValidScenario};
+ghost use Rattle.nook_data.specs.Valid.{IsValidScenario};
 ghost use Rattle.request_taps.specs.Bus.{seen};
 ghost use Rattle.report_text.specs.Whole.{HaveEnds};
 ghost use Rattle.run_ends.specs.Journals.{AreRuns, events_in};
@@ -10,11 +10,11 @@ ghost use Rattle.sim_run.specs.Whole.{HeardSteps, IsSimulated, IsWhole};
 
 use crate::simulating::Simulating;
 use domain_call::Domain;
-use nook_defs::listeners::CountListener;
-use nook_defs::memory::NoMemory;
-use nook_defs::outside::Listener;
-use nook_defs::scenario::Scenario;
-use nook_defs::steps::Event;
+use nook_data::memory::NoMemory;
+use nook_data::scenario::Scenario;
+use nook_data::steps::Event;
+use nook_io::listeners::CountListener;
+use nook_io::outside::Listener;
 use part_core::LeftRooms;
 use request_taps::Bus;
 use run_ends::WholeRun;

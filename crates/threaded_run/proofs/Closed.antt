@@ -6,12 +6,12 @@ use Rattle.std.specs.List.{AllByRecursion}
 use mathlib.Core.List.{map-append}
 use Rattle.app_threads.specs.Workers.{AreSeats}
 use Rattle.desk_like.specs.Desks.{DeskView, IsAlone, IsAt, IsOther, Waits}
-use Rattle.nook_defs.specs.declared.steps.Event.{Event}
-use Rattle.nook_defs.specs.declared.scenario.PartSpec.{PartSpec}
-use Rattle.nook_defs.specs.Places.{at_number}
-use Rattle.nook_defs.specs.Views.Room.{Kept}
-use Rattle.nook_defs.specs.Runs.{IsRun, PartRun, next_any, state_of}
-use Rattle.nook_defs.specs.State.{PartState}
+use Rattle.nook_data.specs.declared.steps.Event.{Event}
+use Rattle.nook_data.specs.declared.scenario.PartSpec.{PartSpec}
+use Rattle.nook_data.specs.Places.{at_number}
+use Rattle.nook_data.specs.Views.Room.{Kept}
+use Rattle.part_defs.specs.Runs.{IsRun, PartRun, next_any, state_of}
+use Rattle.part_defs.specs.State.{PartState}
 use Rattle.part_laws.proofs.Places.{some_same}
 use Rattle.report_text.specs.declared.whole_report.PartEnd.{PartEnd}
 use Rattle.report_text.specs.Whole.{ShowsState}

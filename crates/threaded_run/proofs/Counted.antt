@@ -6,19 +6,19 @@ use Rattle.std.proofs.lemmas.Option.{slice_get_within}
 use Rattle.app_threads.specs.Workers.{frame_of, frames_at, invokes_at, is_invoke}
 use Rattle.app_threads.specs.Workers.{invokes_of, invokes_of_all}
 use Rattle.desk_like.specs.Desks.{Accounts, DeskView, IsAlone, IsAt, IsArrive, IsInvoke, IsRisingFrom}
-use Rattle.nook_defs.specs.declared.steps.Event.{Event}
-use Rattle.nook_defs.specs.declared.steps.Event.TheVariants as event
-use Rattle.nook_defs.specs.declared.calls.Op.{Op}
-use Rattle.nook_defs.specs.declared.scenario.PartSpec.{PartSpec}
-use Rattle.nook_defs.specs.declared.desks.Receipt.{Receipt}
-use Rattle.nook_defs.specs.declared.scenario.ThreadSpec.{ThreadSpec}
-use Rattle.nook_defs.specs.Places.{at_number}
+use Rattle.nook_data.specs.declared.steps.Event.{Event}
+use Rattle.nook_data.specs.declared.steps.Event.TheVariants as event
+use Rattle.nook_data.specs.declared.calls.Op.{Op}
+use Rattle.nook_data.specs.declared.scenario.PartSpec.{PartSpec}
+use Rattle.nook_data.specs.declared.desks.Receipt.{Receipt}
+use Rattle.nook_data.specs.declared.scenario.ThreadSpec.{ThreadSpec}
+use Rattle.nook_data.specs.Places.{at_number}
 use Rattle.part_laws.proofs.Places.{some_same, split}
 use Rattle.threaded_run.proofs.Placed.{Has, IsPlaced, all_behind, has_append, has_contained, has_filter, has_held, kept_here, left_out, places_all, places_few}
 use Rattle.threaded_run.specs.Leaving.{HaveRows}
 use Rattle.threaded_run.specs.Others.{HasNoOthers, HaveNoOthers, is_arrival, is_invocation_by, operations_on}
 use Rattle.threaded_run.specs.Threaded.{ArriveAt, HasArrivals, HaveReceipts, invoked_on, journal_at}
-use Rattle.nook_defs.proofs.Options.{none_is_some}
+use Rattle.nook_data.proofs.Options.{none_is_some}
 
 -- ---- one event
 

@@ -2,10 +2,10 @@
 use Rattle.std.proofs.Common.{◌≡◌, ℕ, zero, suc, Some, List, [], ◌∷◌, ◌++◌, slice_get, subst}
 use mathlib.Core.List.{IsPrefix}
 use Rattle.desk_like.specs.Desks.{IsAt, IsReceipt}
-use Rattle.nook_defs.specs.declared.steps.Event.{Event}
-use Rattle.nook_defs.specs.declared.calls.Op.{Op}
-use Rattle.nook_defs.specs.declared.desks.Receipt.{Receipt}
-use Rattle.nook_defs.specs.Places.{at_number}
+use Rattle.nook_data.specs.declared.steps.Event.{Event}
+use Rattle.nook_data.specs.declared.calls.Op.{Op}
+use Rattle.nook_data.specs.declared.desks.Receipt.{Receipt}
+use Rattle.nook_data.specs.Places.{at_number}
 use Rattle.threaded_run.specs.Threaded.{ArriveAt, HasArrivals, HaveReceipts, journal_at}
 
 got_before : {X : Type 0} (i : ℕ) (a c : List X) (x : X) → slice_get a i ≡ Some x → slice_get (a ++ c) i ≡ Some x

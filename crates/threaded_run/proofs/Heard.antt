@@ -1,10 +1,10 @@
 -- Journals that are published one after another.
 use Rattle.std.proofs.Common.{◌≡◌, ℕ, suc, ◌+◌, ◌<◌, List, [], ◌∷◌, length, map, drop, get_or, inl, inr, refl, sym, ap, ◌∙◌, add-one, drop-cons}
-use Rattle.nook_defs.specs.declared.calls.Answer.{Answer}
-use Rattle.nook_defs.specs.declared.steps.Event.{Event}
-use Rattle.nook_defs.specs.declared.scenario.Scenario.{Scenario}
-use Rattle.nook_defs.specs.Listening.{Listening}
-use Rattle.nook_defs.specs.Views.Room.{Kept}
+use Rattle.nook_data.specs.declared.calls.Answer.{Answer}
+use Rattle.nook_data.specs.declared.steps.Event.{Event}
+use Rattle.nook_data.specs.declared.scenario.Scenario.{Scenario}
+use Rattle.nook_io.specs.Listening.{Listening}
+use Rattle.nook_data.specs.Views.Room.{Kept}
 use Rattle.request_taps.specs.Bus.{told, told_all}
 use Rattle.request_taps.specs.declared.tap.Tap.{Tap}
 use Rattle.run_ends.proofs.Told.{told_all_append}

@@ -3,10 +3,10 @@ use Rattle.std.proofs.Common.{◌≡◌, ◌⊎◌, inl, inr, ℕ, zero, suc, �
 use Rattle.std.proofs.lemmas.Bool.{eqb-false, lt-ltb, ltb-true}
 use Rattle.std.specs.List.{AllByRecursion}
 use Rattle.desk_like.specs.Desks.{IsAt, IsRisingFrom}
-use Rattle.nook_defs.specs.Places.{at_number}
-use Rattle.nook_defs.specs.declared.steps.Event.{Event}
+use Rattle.nook_data.specs.Places.{at_number}
+use Rattle.nook_data.specs.declared.steps.Event.{Event}
 use Rattle.part_laws.proofs.Places.{some_same, split}
-use Rattle.nook_defs.proofs.Options.{none_is_some}
+use Rattle.nook_data.proofs.Options.{none_is_some}
 
 -- ---- lists and what is in them
 

@@ -14,18 +14,18 @@ use Rattle.app_threads.specs.Ends.{AtMost, IsPartRefused, IsThreadRefused, Worke
 use Rattle.app_threads.specs.Workers.{AreArrivals, AreRuns, AreScripts, IsNoInvoke, KeepAccounts, NameDesks, StayAlone, count_on, frame_of, frames_at, invokes_at, is_invoke}
 use Rattle.app_threads.specs.Works.{all_works, arrival_works, script_works}
 use Rattle.desk_like.specs.Desks.{DeskView, HasOpen, IsAt}
-use Rattle.nook_defs.specs.declared.desks.DeskRefused.{DeskRefused}
-use Rattle.nook_defs.specs.declared.desks.DeskRefused.TheVariants as refused
-use Rattle.nook_defs.specs.declared.steps.Event.{Event}
-use Rattle.nook_defs.specs.declared.steps.Event.TheVariants as event
-use Rattle.nook_defs.specs.declared.calls.Op.{Op}
-use Rattle.nook_defs.specs.declared.scenario.PartSpec.{PartSpec}
-use Rattle.nook_defs.specs.declared.scenario.ThreadSpec.{ThreadSpec}
-use Rattle.nook_defs.specs.Places.{at_number}
-use Rattle.nook_defs.specs.Runs.{IsRun, IsRunFrom, state_after, state_of, step_of}
-use Rattle.nook_defs.specs.State.{PartState}
-use Rattle.nook_defs.specs.Steps.{opening}
-use Rattle.nook_defs.specs.Valid.{IsValidPart}
+use Rattle.nook_data.specs.declared.desks.DeskRefused.{DeskRefused}
+use Rattle.nook_data.specs.declared.desks.DeskRefused.TheVariants as refused
+use Rattle.nook_data.specs.declared.steps.Event.{Event}
+use Rattle.nook_data.specs.declared.steps.Event.TheVariants as event
+use Rattle.nook_data.specs.declared.calls.Op.{Op}
+use Rattle.nook_data.specs.declared.scenario.PartSpec.{PartSpec}
+use Rattle.nook_data.specs.declared.scenario.ThreadSpec.{ThreadSpec}
+use Rattle.nook_data.specs.Places.{at_number}
+use Rattle.part_defs.specs.Runs.{IsRun, IsRunFrom, state_after, state_of, step_of}
+use Rattle.part_defs.specs.State.{PartState}
+use Rattle.part_defs.specs.Steps.{opening}
+use Rattle.nook_data.specs.Valid.{IsValidPart}
 use Rattle.part_laws.proofs.Counts.{run_measured}
 use Rattle.part_laws.proofs.Places.{some_same, split}
 use Rattle.part_laws.proofs.ValidFits.{valid_fits}

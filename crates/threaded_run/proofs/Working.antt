@@ -9,18 +9,18 @@ use Rattle.app_threads.proofs.Grown.{rising_filter}
 use Rattle.app_threads.specs.Ends.{AreFinished, HasArrived}
 use Rattle.app_threads.specs.Workers.{AreArrivals, AreFrames, AreReceipts, AreRising, AreScripts, IsNetAt, KeepAccounts, StayAlone, frame_of, frames_at, invokes_of}
 use Rattle.desk_like.specs.Desks.{Accounts, DeskView, IsAlone, IsReceipt, IsRisingFrom}
-use Rattle.nook_defs.specs.Classes.{same_class}
-use Rattle.nook_defs.specs.declared.classes.Class.{Class}
-use Rattle.nook_defs.specs.declared.classes.Class.TheVariants as class
-use Rattle.nook_defs.specs.declared.steps.Event.{Event}
-use Rattle.nook_defs.specs.declared.steps.Event.TheVariants as event
-use Rattle.nook_defs.specs.declared.calls.Op.{Op}
-use Rattle.nook_defs.specs.declared.scenario.PartSpec.{PartSpec}
-use Rattle.nook_defs.specs.declared.desks.Receipt.{Receipt}
-use Rattle.nook_defs.specs.declared.scenario.Scenario.{Scenario}
-use Rattle.nook_defs.specs.declared.scenario.ThreadSpec.{ThreadSpec}
-use Rattle.nook_defs.specs.Places.{at_number}
-use Rattle.nook_defs.specs.Valid.{FitsClass, IsValidPart, IsValidScenario, IsValidThread}
+use Rattle.nook_data.specs.Classes.{same_class}
+use Rattle.nook_data.specs.declared.classes.Class.{Class}
+use Rattle.nook_data.specs.declared.classes.Class.TheVariants as class
+use Rattle.nook_data.specs.declared.steps.Event.{Event}
+use Rattle.nook_data.specs.declared.steps.Event.TheVariants as event
+use Rattle.nook_data.specs.declared.calls.Op.{Op}
+use Rattle.nook_data.specs.declared.scenario.PartSpec.{PartSpec}
+use Rattle.nook_data.specs.declared.desks.Receipt.{Receipt}
+use Rattle.nook_data.specs.declared.scenario.Scenario.{Scenario}
+use Rattle.nook_data.specs.declared.scenario.ThreadSpec.{ThreadSpec}
+use Rattle.nook_data.specs.Places.{at_number}
+use Rattle.nook_data.specs.Valid.{FitsClass, IsValidPart, IsValidScenario, IsValidThread}
 use Rattle.part_laws.proofs.Places.{some_same}
 use Rattle.part_server.specs.Turns.{opening_view}
 use Rattle.threaded_run.proofs.Counted.{added_all, has_no_others, invoked_same, no_others_from}

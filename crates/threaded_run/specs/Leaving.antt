@@ -1,13 +1,13 @@
 -- What desks' parts leave once no step of theirs is left.
 use Rattle.std.specs.Prelude.{◌≡◌, ℕ, suc, None, List, [], ◌∷◌, ◌++◌}
 use Rattle.std.specs.List.{AllByRecursion}
-use Rattle.nook_defs.specs.declared.calls.Answer.{Answer}
-use Rattle.nook_defs.specs.declared.steps.Event.{Event}
-use Rattle.nook_defs.specs.declared.scenario.PartSpec.{PartSpec}
-use Rattle.nook_defs.specs.declared.desks.Receipt.{Receipt}
-use Rattle.nook_defs.specs.declared.scenario.ThreadSpec.{ThreadSpec}
-use Rattle.nook_defs.specs.Views.Room.{Kept}
-use Rattle.nook_defs.specs.Runs.{IsRun, PartRun, next_any, state_of}
+use Rattle.nook_data.specs.declared.calls.Answer.{Answer}
+use Rattle.nook_data.specs.declared.steps.Event.{Event}
+use Rattle.nook_data.specs.declared.scenario.PartSpec.{PartSpec}
+use Rattle.nook_data.specs.declared.desks.Receipt.{Receipt}
+use Rattle.nook_data.specs.declared.scenario.ThreadSpec.{ThreadSpec}
+use Rattle.nook_data.specs.Views.Room.{Kept}
+use Rattle.part_defs.specs.Runs.{IsRun, PartRun, next_any, state_of}
 use Rattle.report_text.specs.declared.whole_report.PartEnd.{PartEnd}
 use Rattle.report_text.specs.Whole.{ShowsState}
 use Rattle.desk_like.specs.Desks.{DeskView, IsAlone, IsOther, IsRisingFrom}

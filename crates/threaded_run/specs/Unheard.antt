@@ -2,8 +2,8 @@
 use Rattle.std.specs.Prelude.{map}
 use Rattle.app_threads.specs.declared.stop.WorkerStop.{WorkerStop}
 use Rattle.app_threads.specs.declared.stop.WorkerStop.TheVariants as stop
-use Rattle.nook_defs.specs.declared.desks.DeskRefused.TheVariants as refused
-use Rattle.nook_defs.specs.declared.scenario.Scenario.{Scenario}
+use Rattle.nook_data.specs.declared.desks.DeskRefused.TheVariants as refused
+use Rattle.nook_data.specs.declared.scenario.Scenario.{Scenario}
 use Rattle.report_text.specs.Whole.{HaveEnds}
 use Rattle.run_ends.specs.Journals.{AreRuns, events_in}
 use Rattle.threaded_run.specs.declared.running.Unheard.{Unheard}

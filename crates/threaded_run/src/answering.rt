@@ -4,10 +4,10 @@ ghost use Rattle.std.specs.Prelude.{◌≡◌, IfOk};
 ghost use Rattle.threaded_run.specs.Leaving.{answers_in};
 ghost use Rattle.threaded_run.specs.Threaded.{answers_by};
 
-use nook_defs::calls::{AnswerTable, Op, PartAnswers};
-use nook_defs::desks::{Receipts, WorkerTable};
-use nook_defs::memory::NoMemory;
-use nook_defs::scenario::ThreadSpec;
+use nook_data::calls::{AnswerTable, Op, PartAnswers};
+use nook_data::desks::{Receipts, WorkerTable};
+use nook_data::memory::NoMemory;
+use nook_data::scenario::ThreadSpec;
 use std::alloc::Global;
 
 /// The answers of each thread, by the receipts of its operations, each with its part.

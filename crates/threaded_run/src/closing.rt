@@ -7,8 +7,8 @@ ghost use Rattle.part_server.specs.Desk.{IsDeskSeat, desk_spec, desk_view};
 ghost use Rattle.threaded_run.specs.Leaving.{AreAlone, AreLeft, IsClosed, IsLeft};
 
 use crate::opening::Opened;
-use nook_defs::journal::Journal;
-use nook_defs::memory::NoMemory;
+use nook_data::journal::Journal;
+use nook_data::memory::NoMemory;
 use part_core::Part;
 use part_server::{DeskSeat, PartDesk};
 use report_text::{Journals, PartEnd, PartEnds};

@@ -2,14 +2,14 @@
 
 ghost use Rattle.std.specs.Prelude.{◌≡◌, All, IfOk, map};
 ghost use Rattle.app_threads.specs.Workers.{AreSeats};
-ghost use Rattle.nook_defs.specs.Valid.{IsValidPart};
+ghost use Rattle.nook_data.specs.Valid.{IsValidPart};
 ghost use Rattle.part_server.specs.Desk.{IsDeskSeat, desk_spec, desk_view};
 ghost use Rattle.part_server.specs.Turns.{opening_view};
 ghost use Rattle.threaded_run.specs.Leaving.{AreNew};
 
-use nook_defs::lists::{Frames, TryCopy};
-use nook_defs::memory::NoMemory;
-use nook_defs::scenario::PartSpec;
+use nook_data::lists::{Frames, TryCopy};
+use nook_data::memory::NoMemory;
+use nook_data::scenario::PartSpec;
 use part_core::Part;
 use part_server::{DeskSeat, PartDesk};
 use std::alloc::Global;

@@ -5,10 +5,10 @@ ghost use Rattle.request_taps.specs.Bus.{seen, told_all};
 ghost use Rattle.run_ends.specs.Journals.{events_in, with_part};
 ghost use Rattle.threaded_run.specs.Threaded.{in_parts};
 
-use nook_defs::journal::Journal;
-use nook_defs::limits::MOST_PARTS;
-use nook_defs::outside::Listener;
-use nook_defs::steps::Event;
+use nook_data::journal::Journal;
+use nook_data::limits::MOST_PARTS;
+use nook_data::steps::Event;
+use nook_io::outside::Listener;
 use request_taps::Bus;
 
 /// The taps hear the events of journals, one for each of up to 8 parts, part by part.

@@ -2,7 +2,7 @@
 
 ghost use Rattle.std.specs.Prelude.{◌≡◌, IfOk, OnErr, map};
 ghost use Rattle.app_threads.specs.Workers.{AreSeats};
-ghost use Rattle.nook_defs.specs.Valid.{IsValidScenario};
+ghost use Rattle.nook_data.specs.Valid.{IsValidScenario};
 ghost use Rattle.report_text.specs.Whole.{HaveEnds};
 ghost use Rattle.request_taps.specs.Bus.{result_of, seen, told_all};
 ghost use Rattle.run_ends.specs.Journals.{AreRuns, events_in};
@@ -16,11 +16,11 @@ use crate::closing::leave_all;
 use crate::opening::{Opened, arrivals_of, open_desks};
 use crate::publishing::publish_all;
 use app_threads::{WorkerStop, run_workers};
-use nook_defs::calls::AnswerTable;
-use nook_defs::desks::{DeskRefused, WorkerTable};
-use nook_defs::memory::NoMemory;
-use nook_defs::outside::{Gate, Listener};
-use nook_defs::scenario::Scenario;
+use nook_data::calls::AnswerTable;
+use nook_data::desks::{DeskRefused, WorkerTable};
+use nook_data::memory::NoMemory;
+use nook_data::scenario::Scenario;
+use nook_io::outside::{Gate, Listener};
 use report_text::{Journals, PartEnds, Run};
 use request_taps::Bus;
 use run_ends::WholeRun;

@@ -10,7 +10,7 @@ use crate::kept::Kept;
 use crate::plays::{Commit, Cut, Give, Learn, Look, Merge, Take};
 use crate::view::View;
 use atomic_table::{Seat, Table, TableRule};
-use nook_defs::memory::NoMemory;
+use nook_data::memory::NoMemory;
 use std::alloc::Global;
 use std::marker::{Model, PhantomData};
 use std::snapshot::Snapshot;

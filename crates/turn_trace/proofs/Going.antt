@@ -3,17 +3,17 @@ use Rattle.std.proofs.Common.{◌≡◌, ◌+◌, ◌-◌, ◌<◌, ◌≤◌, �
 use Rattle.std.proofs.lemmas.Bool.{eq-eqb}
 use Rattle.std.proofs.Math.Seq.{drop-cons}
 use Rattle.std.proofs.lemmas.Grind.{flat_map-append}
-use Rattle.nook_defs.specs.declared.entries.Entry.{Entry}
-use Rattle.nook_defs.specs.declared.scenario.Fault.{Fault}
-use Rattle.nook_defs.specs.declared.scenario.FaultKind.TheVariants as kinds
-use Rattle.nook_defs.specs.declared.machine.TrapCause.{TrapCause}
-use Rattle.nook_defs.specs.declared.machine.TrapCause.TheVariants as trap
-use Rattle.nook_defs.specs.declared.machine.BurstEnd.{BurstEnd}
-use Rattle.nook_defs.specs.declared.machine.BurstEnd.TheVariants as ends
-use Rattle.nook_defs.specs.Burst.{Struck, acts_of, strikes_at, struck_machine, trap_of}
-use Rattle.nook_defs.proofs.Cases.{past_trap}
-use Rattle.nook_defs.specs.ReportLines.{line_feed}
-use Rattle.nook_defs.specs.Turn.{Machine, Turn, turn}
+use Rattle.nook_data.specs.declared.entries.Entry.{Entry}
+use Rattle.nook_data.specs.declared.scenario.Fault.{Fault}
+use Rattle.nook_data.specs.declared.scenario.FaultKind.TheVariants as kinds
+use Rattle.nook_data.specs.declared.machine.TrapCause.{TrapCause}
+use Rattle.nook_data.specs.declared.machine.TrapCause.TheVariants as trap
+use Rattle.nook_data.specs.declared.machine.BurstEnd.{BurstEnd}
+use Rattle.nook_data.specs.declared.machine.BurstEnd.TheVariants as ends
+use Rattle.machine_defs.specs.Burst.{Struck, acts_of, strikes_at, struck_machine, trap_of}
+use Rattle.machine_defs.proofs.MachineCases.{past_trap}
+use Rattle.report_defs.specs.ReportLines.{line_feed}
+use Rattle.machine_defs.specs.Turn.{Machine, Turn, turn}
 use Rattle.report_text.proofs.WroteLemmas.{Progress, appends_whole, progress_halt, progress_start, progress_step, progress_stop}
 use Rattle.report_text.specs.Writing.{Wrote}
 use Rattle.report_text.specs.declared.write.WriteStop.{WriteStop}

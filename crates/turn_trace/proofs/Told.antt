@@ -1,21 +1,22 @@
 -- A trace goes along with its burst: the same strikes and turns from each place on.
 use Rattle.std.proofs.Common.{◌≡◌, ◌+◌, ◌-◌, ◌%◌, ◌^◌, ◌≤◌, ◌==◌, ℕ, zero, suc, Bool, true, false, Option, Some, None, List, [], ◌∷◌, ◌++◌, length, map, flat_map, refl, sym, ◌∙◌, ap, append-nil, append_assoc, length-append, arith}
-use Rattle.nook_defs.specs.declared.machine.Act.{Act}
-use Rattle.nook_defs.specs.declared.entries.Entry.{Entry}
-use Rattle.nook_defs.specs.declared.scenario.Fault.{Fault}
-use Rattle.nook_defs.specs.declared.machine.TrapCause.{TrapCause}
-use Rattle.nook_defs.specs.declared.machine.TrapCause.TheVariants as trap
-use Rattle.nook_defs.specs.declared.machine.BurstEnd.{BurstEnd}
-use Rattle.nook_defs.specs.declared.machine.BurstEnd.TheVariants as ends
-use Rattle.nook_defs.specs.declared.machine.Instr.{Instr}
-use Rattle.nook_defs.specs.declared.machine.Instr.TheVariants as instr
-use Rattle.nook_defs.specs.Burst.{Burst, Struck, acts_of, burst, burst_from, count_at, ended, strikes_at, struck_machine, trap_of}
-use Rattle.nook_defs.specs.Devices.{Given, Taken, input_of, output_of}
-use Rattle.nook_defs.specs.Machine.{decode_of}
-use Rattle.nook_defs.specs.Pages.{fetch_word, may_write, read_word}
-use Rattle.nook_defs.proofs.BurstTurns.{turn_cases}
-use Rattle.nook_defs.specs.Turn.{Machine, Turn, executed, past_input, past_output, r, stores, turn}
-use Rattle.nook_defs.proofs.Cases.{past_decode, past_fetch, past_read, past_trap}
+use Rattle.nook_data.specs.declared.machine.Act.{Act}
+use Rattle.nook_data.specs.declared.entries.Entry.{Entry}
+use Rattle.nook_data.specs.declared.scenario.Fault.{Fault}
+use Rattle.nook_data.specs.declared.machine.TrapCause.{TrapCause}
+use Rattle.nook_data.specs.declared.machine.TrapCause.TheVariants as trap
+use Rattle.nook_data.specs.declared.machine.BurstEnd.{BurstEnd}
+use Rattle.nook_data.specs.declared.machine.BurstEnd.TheVariants as ends
+use Rattle.nook_data.specs.declared.machine.Instr.{Instr}
+use Rattle.nook_data.specs.declared.machine.Instr.TheVariants as instr
+use Rattle.machine_defs.specs.Burst.{Burst, Struck, acts_of, burst, burst_from, count_at, ended, strikes_at}
+use Rattle.machine_defs.specs.Burst.{struck_machine, trap_of}
+use Rattle.machine_defs.specs.Devices.{Given, Taken, input_of, output_of}
+use Rattle.machine_defs.specs.Machine.{decode_of}
+use Rattle.machine_defs.specs.Pages.{fetch_word, may_write, read_word}
+use Rattle.machine_defs.proofs.BurstTurns.{turn_cases}
+use Rattle.machine_defs.specs.Turn.{Machine, Turn, executed, past_input, past_output, r, stores, turn}
+use Rattle.machine_defs.proofs.MachineCases.{past_decode, past_fetch, past_read, past_trap}
 use Rattle.turn_trace.specs.Bursts.{TracedBurst, TracedStep, behind, behind_crossing, behind_stop, behind_turn, burst_trace, finished, strike, struck_at, taken, trace_from, up_to_trap}
 use Rattle.turn_trace.specs.Retelling.{AreNumbered, Retells, acts_of_turn, counted, strikes_of, turns_of}
 use Rattle.turn_trace.specs.Turns.{traced}

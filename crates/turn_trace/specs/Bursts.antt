@@ -1,14 +1,14 @@
 use Rattle.std.specs.Prelude.{ℕ, zero, suc, ◌+◌, ◌-◌, ◌==◌, nat_le, Bool, true, false, Option, Some, None, List, []}
 use Rattle.std.specs.Prelude.{◌∷◌, ◌++◌, length, map}
-use Rattle.nook_defs.specs.declared.entries.Entry.{Entry}
-use Rattle.nook_defs.specs.declared.scenario.Fault.{Fault}
-use Rattle.nook_defs.specs.declared.machine.TrapCause.{TrapCause}
-use Rattle.nook_defs.specs.declared.machine.TrapCause.TheVariants as trap
-use Rattle.nook_defs.specs.declared.machine.BurstEnd.{BurstEnd}
-use Rattle.nook_defs.specs.declared.machine.BurstEnd.TheVariants as ends
-use Rattle.nook_defs.specs.declared.limits.TheConstants.{MOST_ACTS, MOST_TURNS}
-use Rattle.nook_defs.specs.Burst.{Struck, acts_of, strikes_at, trap_of}
-use Rattle.nook_defs.specs.Turn.{Machine, Turn, turn}
+use Rattle.nook_data.specs.declared.entries.Entry.{Entry}
+use Rattle.nook_data.specs.declared.scenario.Fault.{Fault}
+use Rattle.nook_data.specs.declared.machine.TrapCause.{TrapCause}
+use Rattle.nook_data.specs.declared.machine.TrapCause.TheVariants as trap
+use Rattle.nook_data.specs.declared.machine.BurstEnd.{BurstEnd}
+use Rattle.nook_data.specs.declared.machine.BurstEnd.TheVariants as ends
+use Rattle.nook_data.specs.declared.limits.TheConstants.{MOST_ACTS, MOST_TURNS}
+use Rattle.machine_defs.specs.Burst.{Struck, acts_of, strikes_at, trap_of}
+use Rattle.machine_defs.specs.Turn.{Machine, Turn, turn}
 use Rattle.turn_trace.specs.Turns.{traced}
 use Rattle.turn_trace.specs.declared.traced.TracedTurn.{TracedTurn}
 

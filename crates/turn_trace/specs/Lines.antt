@@ -1,14 +1,14 @@
 use Rattle.std.specs.Prelude.{ℕ, suc, ◌++◌, ◌==◌, nat_lt, not, if◌then◌else◌, Bool, true, false, Option, Some, None}
 use Rattle.std.specs.Prelude.{List, [], ◌∷◌, codes, decimal, flat_map}
-use Rattle.nook_defs.specs.declared.entries.Entry.{Entry}
-use Rattle.nook_defs.specs.declared.scenario.Fault.{Fault}
-use Rattle.nook_defs.specs.declared.scenario.FaultKind.{FaultKind}
-use Rattle.nook_defs.specs.declared.scenario.FaultKind.TheVariants as fault
-use Rattle.nook_defs.specs.declared.machine.Cpu.{Cpu}
-use Rattle.nook_defs.specs.declared.memory_map.TheConstants.{TEXT_WORDS}
-use Rattle.nook_defs.specs.Disassembler.{line_body, text_tokens}
-use Rattle.nook_defs.specs.Pages.{may_write}
-use Rattle.nook_defs.specs.ReportLines.{acts_tail, line_feed, spaced, with_number}
+use Rattle.nook_data.specs.declared.entries.Entry.{Entry}
+use Rattle.nook_data.specs.declared.scenario.Fault.{Fault}
+use Rattle.nook_data.specs.declared.scenario.FaultKind.{FaultKind}
+use Rattle.nook_data.specs.declared.scenario.FaultKind.TheVariants as fault
+use Rattle.nook_data.specs.declared.machine.Cpu.{Cpu}
+use Rattle.nook_data.specs.declared.memory_map.TheConstants.{TEXT_WORDS}
+use Rattle.asm_defs.specs.Disassembler.{line_body, text_tokens}
+use Rattle.machine_defs.specs.Pages.{may_write}
+use Rattle.report_defs.specs.ReportLines.{acts_tail, line_feed, spaced, with_number}
 use Rattle.turn_trace.specs.Bursts.{TracedStep, strike, taken}
 use Rattle.turn_trace.specs.declared.traced.TracedTurn.{TracedTurn}
 

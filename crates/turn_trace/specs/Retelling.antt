@@ -1,11 +1,11 @@
 use Rattle.std.specs.Prelude.{◌≡◌, ℕ, ◌+◌, ◌≤◌, List, [], ◌∷◌, ◌++◌, length, flat_map}
-use Rattle.nook_defs.specs.declared.machine.Act.{Act}
-use Rattle.nook_defs.specs.declared.scenario.Fault.{Fault}
-use Rattle.nook_defs.specs.declared.machine.TrapCause.TheVariants as trap
-use Rattle.nook_defs.specs.declared.machine.BurstEnd.{BurstEnd}
-use Rattle.nook_defs.specs.declared.machine.BurstEnd.TheVariants as ends
-use Rattle.nook_defs.specs.declared.limits.TheConstants.{MOST_TURNS}
-use Rattle.nook_defs.specs.Burst.{Burst}
+use Rattle.nook_data.specs.declared.machine.Act.{Act}
+use Rattle.nook_data.specs.declared.scenario.Fault.{Fault}
+use Rattle.nook_data.specs.declared.machine.TrapCause.TheVariants as trap
+use Rattle.nook_data.specs.declared.machine.BurstEnd.{BurstEnd}
+use Rattle.nook_data.specs.declared.machine.BurstEnd.TheVariants as ends
+use Rattle.nook_data.specs.declared.limits.TheConstants.{MOST_TURNS}
+use Rattle.machine_defs.specs.Burst.{Burst}
 use Rattle.turn_trace.specs.Bursts.{TracedBurst, TracedStep, strike, taken}
 use Rattle.turn_trace.specs.declared.traced.TracedTurn.{TracedTurn}
 

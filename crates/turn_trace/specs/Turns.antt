@@ -1,13 +1,13 @@
 use Rattle.std.specs.Prelude.{ℕ, ◌+◌, ◌%◌, ◌^◌, ◌==◌, if◌then◌else◌, Option, Some, None, List, slice_index}
-use Rattle.nook_defs.specs.declared.machine.Act.{Act}
-use Rattle.nook_defs.specs.declared.machine.BurstEnd.{BurstEnd}
-use Rattle.nook_defs.specs.declared.machine.Cpu.{Cpu}
-use Rattle.nook_defs.specs.declared.machine.Instr.{Instr}
-use Rattle.nook_defs.specs.declared.machine.Instr.TheVariants as instr
-use Rattle.nook_defs.specs.Burst.{acts_of}
-use Rattle.nook_defs.specs.Machine.{decode_of}
-use Rattle.nook_defs.specs.Pages.{fetch_word}
-use Rattle.nook_defs.specs.Turn.{Machine, Turn}
+use Rattle.nook_data.specs.declared.machine.Act.{Act}
+use Rattle.nook_data.specs.declared.machine.BurstEnd.{BurstEnd}
+use Rattle.nook_data.specs.declared.machine.Cpu.{Cpu}
+use Rattle.nook_data.specs.declared.machine.Instr.{Instr}
+use Rattle.nook_data.specs.declared.machine.Instr.TheVariants as instr
+use Rattle.machine_defs.specs.Burst.{acts_of}
+use Rattle.machine_defs.specs.Machine.{decode_of}
+use Rattle.machine_defs.specs.Pages.{fetch_word}
+use Rattle.machine_defs.specs.Turn.{Machine, Turn}
 use Rattle.turn_trace.specs.declared.traced.TracedTurn.{TracedTurn}
 
 -- What one turn did: what was fetched, and what is seen of its effects.

@@ -1,10 +1,10 @@
 //! The law of traces.
 
 ghost use Rattle.std.specs.Prelude.{List};
-ghost use Rattle.nook_defs.specs.Burst.{burst};
-ghost use Rattle.nook_defs.specs.Turn.{Machine};
-ghost use Rattle.nook_defs.specs.declared.entries.Entry.{Entry};
-ghost use Rattle.nook_defs.specs.declared.scenario.Fault.{Fault};
+ghost use Rattle.machine_defs.specs.Burst.{burst};
+ghost use Rattle.machine_defs.specs.Turn.{Machine};
+ghost use Rattle.nook_data.specs.declared.entries.Entry.{Entry};
+ghost use Rattle.nook_data.specs.declared.scenario.Fault.{Fault};
 ghost use Rattle.turn_trace.specs.Bursts.{burst_trace};
 ghost use Rattle.turn_trace.specs.Retelling.{Retells};
 

@@ -4,14 +4,14 @@ ghost use Rattle.std.specs.Prelude.{◌≡◌, ◌++◌, OnOk, codes};
 ghost use Rattle.turn_trace.specs.Lines.{effects_text, fault_text, fetch_text, jumped_text, kind_text, refusal_text};
 ghost use Rattle.turn_trace.specs.Lines.{register_note, register_notes, set_text, start_line, stored_text, turn_line};
 ghost use Rattle.turn_trace.specs.Lines.{unstruck_line, word_text};
-ghost use Rattle.nook_defs.specs.ReportLines.{line_feed, spaced, with_number};
+ghost use Rattle.report_defs.specs.ReportLines.{line_feed, spaced, with_number};
 
 use crate::traced::TracedTurn;
 use driver_asm::word_text;
-use nook_defs::lists::Word;
-use nook_defs::machine::Cpu;
-use nook_defs::memory::NoMemory;
-use nook_defs::scenario::{Fault, FaultKind};
+use nook_data::lists::Word;
+use nook_data::machine::Cpu;
+use nook_data::memory::NoMemory;
+use nook_data::scenario::{Fault, FaultKind};
 use report_text::{Line, push_acts_tail, push_number};
 use std::alloc::Global;
 

@@ -3,15 +3,15 @@
 ghost use Rattle.std.specs.Prelude.{◌≡◌, ◌<◌, ◌≤◌, true, IfOk, IfSome, OnOk, length};
 ghost use Rattle.driver_isa.specs.Fields.{has_registers};
 ghost use Rattle.driver_isa.specs.Turns.{machine_of};
-ghost use Rattle.nook_defs.specs.Turn.{turn as machine_turn};
+ghost use Rattle.machine_defs.specs.Turn.{turn as machine_turn};
 ghost use Rattle.turn_trace.specs.Turns.{instr_in, jumped_to, set_by, stored_by, target_of, traced, traced_of};
 ghost use Rattle.turn_trace.specs.Turns.{with_word};
 
 use driver_isa::{Bus, decode, run_turn};
-use nook_defs::journal::SpareRooms;
-use nook_defs::lists::Word;
-use nook_defs::machine::{Acts, BurstEnd, Cpu, Instr};
-use nook_defs::memory::NoMemory;
+use nook_data::journal::SpareRooms;
+use nook_data::lists::Word;
+use nook_data::machine::{Acts, BurstEnd, Cpu, Instr};
+use nook_data::memory::NoMemory;
 
 /// One turn of a burst, as it is told. A turn that traps, calls the kernel or replies shows no effect but its act.
 #[derive(Drop)]

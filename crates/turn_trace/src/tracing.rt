@@ -2,7 +2,7 @@
 
 ghost use Rattle.std.specs.Prelude.{◌≡◌, ◌++◌, false, map, IfOk, None, OnOk, Some};
 ghost use Rattle.driver_isa.specs.Turns.{machine_of};
-ghost use Rattle.nook_defs.specs.Burst.{strikes_at, struck_machine, trap_of};
+ghost use Rattle.machine_defs.specs.Burst.{strikes_at, struck_machine, trap_of};
 ghost use Rattle.turn_trace.specs.Bursts.{burst_trace, strike as struck_step, struck_at};
 ghost use Rattle.report_text.specs.Writing.{Wrote};
 ghost use Rattle.turn_trace.specs.Lines.{is_refused, step_lines};
@@ -10,12 +10,12 @@ ghost use Rattle.turn_trace.specs.Lines.{is_refused, step_lines};
 use crate::traced::take_turn;
 use crate::writing::{write_strike, write_turn};
 use driver_isa::Bus;
-use nook_defs::journal::SpareRooms;
-use nook_defs::limits::{MOST_ACTS, MOST_TURNS};
-use nook_defs::machine::{Cpu, TrapCause};
-use nook_defs::memory_map::TEXT_WORDS;
-use nook_defs::outside::Sink;
-use nook_defs::scenario::{Fault, FaultKind};
+use nook_data::journal::SpareRooms;
+use nook_data::limits::{MOST_ACTS, MOST_TURNS};
+use nook_data::machine::{Cpu, TrapCause};
+use nook_data::memory_map::TEXT_WORDS;
+use nook_data::scenario::{Fault, FaultKind};
+use nook_io::outside::Sink;
 use report_text::{Line, WriteStop};
 use std::alloc::Global;
 

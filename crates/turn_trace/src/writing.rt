@@ -2,16 +2,16 @@
 //! kept for the next.
 
 ghost use Rattle.std.specs.Prelude.{◌≡◌, ◌++◌, codes};
-ghost use Rattle.nook_defs.specs.ReportLines.{line_feed};
+ghost use Rattle.report_defs.specs.ReportLines.{line_feed};
 ghost use Rattle.report_text.specs.Writing.{Wrote};
 ghost use Rattle.turn_trace.specs.Lines.{fault_text, refusal_text, start_line, turn_line, unstruck_line};
 ghost use Rattle.turn_trace.specs.Lines.{unstruck_lines};
 
 use crate::lines::{push_start, push_strike, push_turn, push_unstruck};
 use crate::traced::TracedTurn;
-use nook_defs::machine::Cpu;
-use nook_defs::outside::Sink;
-use nook_defs::scenario::Fault;
+use nook_data::machine::Cpu;
+use nook_data::scenario::Fault;
+use nook_io::outside::Sink;
 use report_text::{Line, WriteStop, write_text};
 use std::alloc::Global;
 

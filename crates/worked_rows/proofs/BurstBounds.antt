@@ -1,13 +1,13 @@
 use Rattle.std.specs.Prelude.{◌≡◌, ℕ, zero, suc, ◌+◌, ◌-◌, ◌<◌, ◌≤◌, Option, Some, None, List, [], ◌∷◌, ◌++◌, length}
 use Rattle.std.proofs.Common.{arith, refl, length-append}
-use Rattle.nook_defs.specs.declared.machine.Act.{Act}
-use Rattle.nook_defs.specs.declared.entries.Entry.{Entry}
-use Rattle.nook_defs.specs.declared.scenario.Fault.{Fault}
-use Rattle.nook_defs.specs.declared.machine.TrapCause.{TrapCause}
-use Rattle.nook_defs.specs.declared.machine.TrapCause.TheVariants as trap
-use Rattle.nook_defs.specs.Burst.{Struck, acts_of, burst, burst_from, count_at, strikes_at}
-use Rattle.nook_defs.specs.Turn.{Machine, Turn, turn}
-use Rattle.nook_defs.proofs.BurstTurns.{turn_cases}
+use Rattle.nook_data.specs.declared.machine.Act.{Act}
+use Rattle.nook_data.specs.declared.entries.Entry.{Entry}
+use Rattle.nook_data.specs.declared.scenario.Fault.{Fault}
+use Rattle.nook_data.specs.declared.machine.TrapCause.{TrapCause}
+use Rattle.nook_data.specs.declared.machine.TrapCause.TheVariants as trap
+use Rattle.machine_defs.specs.Burst.{Struck, acts_of, burst, burst_from, count_at, strikes_at}
+use Rattle.machine_defs.specs.Turn.{Machine, Turn, turn}
+use Rattle.machine_defs.proofs.BurstTurns.{turn_cases}
 use Rattle.worked_rows.specs.MachineLaws.{IsBounded}
 
 -- one act more

@@ -1,12 +1,13 @@
 use Rattle.std.specs.Prelude.{◌≡◌, ◌<◌, ◌≤◌, ℕ, ◌+◌, ◌-◌, Bool, true, false, Some, length, slice_get, ◌&&◌, ◌||◌, nat_lt, refl}
 use Rattle.std.proofs.Math.Bool.{or_comm, and_comm}
 use Rattle.std.proofs.Common.{arith, ap, ◌∙◌}
-use Rattle.nook_defs.specs.declared.classes.Accept.TheVariants.{IoError}
-use Rattle.nook_defs.specs.declared.classes.Class.{Class}
-use Rattle.nook_defs.specs.declared.classes.Class.TheVariants.{Block, Net, Sound}
-use Rattle.nook_defs.specs.declared.calls.Op.{Op}
-use Rattle.nook_defs.specs.declared.calls.Op.TheVariants.{Read, Write, Send, Recv, Open, Play, Close, Get, Set}
-use Rattle.nook_defs.specs.Classes.{conflicts, clash, share_block, is_set, is_write, is_recv, is_of_stream, is_of_class, entry_count, entry_place, accept, blocks_of_op, first_of_op}
+use Rattle.nook_data.specs.declared.classes.Accept.TheVariants.{IoError}
+use Rattle.nook_data.specs.declared.classes.Class.{Class}
+use Rattle.nook_data.specs.declared.classes.Class.TheVariants.{Block, Net, Sound}
+use Rattle.nook_data.specs.declared.calls.Op.{Op}
+use Rattle.nook_data.specs.declared.calls.Op.TheVariants.{Read, Write, Send, Recv, Open, Play, Close, Get, Set}
+use Rattle.nook_data.specs.Classes.{conflicts, clash, share_block, is_set, is_write, is_recv, is_of_stream, is_of_class}
+use Rattle.nook_data.specs.Classes.{entry_count, entry_place, accept, blocks_of_op, first_of_op}
 use Rattle.worked_rows.specs.EntryNames.{entry_name, entry_names}
 
 clash_symmetric : (c : Class) (a b : Op) → clash c a b ≡ clash c b a

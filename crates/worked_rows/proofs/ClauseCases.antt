@@ -2,8 +2,9 @@
 use Rattle.std.proofs.Common.{◌≡◌, refl, map}
 use Rattle.std.specs.List.{AllByRecursion}
 use Rattle.worked_rows.specs.Clauses.{Case, IsJudged, clause_cases, further_cases, lossy, lost_there}
-use Rattle.nook_defs.specs.Contract.{all_clauses, break_from, first_break}
-use Rattle.nook_defs.specs.Losses.{losses}
+use Rattle.nook_data.specs.Clauses.{all_clauses}
+use Rattle.promise_defs.specs.Contract.{break_from, first_break}
+use Rattle.promise_defs.specs.Losses.{losses}
 
 pub every_clause : map (λ (c : Case). c.clause) clause_cases ≡ all_clauses
 every_clause = refl

@@ -1,6 +1,6 @@
 use Rattle.std.specs.Prelude.{◌≡◌, refl, false, Some}
-use Rattle.nook_defs.proofs.OnLiterals.{part_on_literals}
-use Rattle.nook_defs.proofs.TraceOnLiterals.{trace_on_literals}
+use Rattle.worked_rows.proofs.OnLiterals.{part_on_literals}
+use Rattle.worked_rows.proofs.TraceOnLiterals.{trace_on_literals}
 use Rattle.worked_rows.specs.Cases.{MakesRun, KeepsContract}
 use Rattle.worked_rows.specs.DiskCases.{write_and_read_part, write_and_read_threads, write_and_read_journal, write_and_read_report, write_cut_part, write_cut_threads, write_cut_journal, write_cut_report, wide_write_cut_part, wide_write_cut_threads, wide_write_cut_journal, wide_write_cut_report}
 

@@ -1,10 +1,10 @@
 use Rattle.std.specs.Prelude.{◌≡◌, refl, false, Some}
-use Rattle.nook_defs.proofs.OnLiterals.{part_on_literals}
-use Rattle.nook_defs.proofs.TraceOnLiterals.{trace_on_literals}
-use Rattle.nook_defs.specs.declared.classes.Class.TheVariants.{Block}
-use Rattle.nook_defs.specs.Contract.{first_break}
-use Rattle.nook_defs.specs.Ideal.{class_run}
-use Rattle.nook_defs.specs.Trace.{trace}
+use Rattle.worked_rows.proofs.OnLiterals.{part_on_literals}
+use Rattle.worked_rows.proofs.TraceOnLiterals.{trace_on_literals}
+use Rattle.nook_data.specs.declared.classes.Class.TheVariants.{Block}
+use Rattle.promise_defs.specs.Contract.{first_break}
+use Rattle.promise_defs.specs.Ideal.{class_run}
+use Rattle.promise_defs.specs.Trace.{trace}
 use Rattle.worked_rows.specs.Cases.{MakesRun, KeepsContract}
 use Rattle.worked_rows.specs.FailingDiskCases.{bad_block_part, bad_block_threads, bad_block_journal, bad_block_report, bad_block_later_part, bad_block_later_threads, bad_block_later_journal, bad_block_later_report, read_invented_part, read_invented_threads, read_invented_journal, read_invented_report}
 

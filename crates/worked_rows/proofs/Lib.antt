@@ -6,3 +6,6 @@ pub mod ClassLaws
 pub mod BurstBounds
 pub mod OtherClasses
 pub mod ClauseCases
+mod OnLiterals
+mod InputOnLiterals
+mod TraceOnLiterals

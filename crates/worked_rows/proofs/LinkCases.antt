@@ -1,6 +1,6 @@
 use Rattle.std.specs.Prelude.{◌≡◌, refl, false, Some}
-use Rattle.nook_defs.proofs.OnLiterals.{part_on_literals}
-use Rattle.nook_defs.proofs.TraceOnLiterals.{trace_on_literals}
+use Rattle.worked_rows.proofs.OnLiterals.{part_on_literals}
+use Rattle.worked_rows.proofs.TraceOnLiterals.{trace_on_literals}
 use Rattle.worked_rows.specs.Cases.{MakesRun, KeepsContract}
 use Rattle.worked_rows.specs.LinkCases.{send_cut_part, send_cut_threads, send_cut_journal, send_cut_report, ring_full_part, ring_full_threads, ring_full_journal, ring_full_report}
 

@@ -1,8 +1,8 @@
 use Rattle.std.specs.Prelude.{◌≡◌, ℕ, refl, true, false}
-use Rattle.nook_defs.proofs.TraceOnLiterals.{trace_on_literals}
-use Rattle.nook_defs.specs.declared.calls.Answer.TheVariants.{BadClass, Done}
-use Rattle.nook_defs.specs.declared.classes.Class.TheVariants.{Block, Net, Sound}
-use Rattle.nook_defs.specs.Ideal.{class_run}
+use Rattle.worked_rows.proofs.TraceOnLiterals.{trace_on_literals}
+use Rattle.nook_data.specs.declared.calls.Answer.TheVariants.{BadClass, Done}
+use Rattle.nook_data.specs.declared.classes.Class.TheVariants.{Block, Net, Sound}
+use Rattle.promise_defs.specs.Ideal.{class_run}
 use Rattle.worked_rows.specs.OtherClasses.{frame_arrives, frame_is_sent, sample_is_played}
 
 pub arrivals_of_a_link : (class_run Net 0 frame_arrives ≡ true) × (class_run Block 1 frame_arrives ≡ false)

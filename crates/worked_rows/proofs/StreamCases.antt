@@ -1,6 +1,6 @@
 use Rattle.std.specs.Prelude.{◌≡◌, refl, false, Some}
-use Rattle.nook_defs.proofs.OnLiterals.{part_on_literals}
-use Rattle.nook_defs.proofs.TraceOnLiterals.{trace_on_literals}
+use Rattle.worked_rows.proofs.OnLiterals.{part_on_literals}
+use Rattle.worked_rows.proofs.TraceOnLiterals.{trace_on_literals}
 use Rattle.worked_rows.specs.Cases.{MakesRun, KeepsContract}
 use Rattle.worked_rows.specs.StreamCases.{play_cut_part, play_cut_threads, play_cut_journal, play_cut_report, init_cut_part, init_cut_threads, init_cut_journal, init_cut_report}
 

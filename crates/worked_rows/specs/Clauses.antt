@@ -1,24 +1,25 @@
 use Rattle.std.specs.Prelude.{◌≡◌, ℕ, suc, true, false, List, [], ◌∷◌, ◌++◌, length, Some, None, replicate}
-use Rattle.nook_defs.specs.declared.machine.Act.{Act}
-use Rattle.nook_defs.specs.declared.machine.Act.TheVariants as act
-use Rattle.nook_defs.specs.declared.calls.Answer.{Answer}
-use Rattle.nook_defs.specs.declared.calls.Answer.TheVariants as answer
-use Rattle.nook_defs.specs.declared.classes.Class.{Class}
-use Rattle.nook_defs.specs.declared.classes.Class.TheVariants.{Block, Net, Sound}
-use Rattle.nook_defs.specs.declared.steps.End.TheVariants as end
-use Rattle.nook_defs.specs.declared.steps.Event.{Event}
-use Rattle.nook_defs.specs.declared.steps.Event.TheVariants as event
-use Rattle.nook_defs.specs.declared.verdicts.Losses.{Losses}
-use Rattle.nook_defs.specs.declared.calls.Op.{Op}
-use Rattle.nook_defs.specs.declared.calls.Op.TheVariants as op
-use Rattle.nook_defs.specs.declared.steps.Stage.{Stage}
-use Rattle.nook_defs.specs.declared.steps.Stage.TheVariants as stage
-use Rattle.nook_defs.specs.declared.clause.Clause.{Clause}
-use Rattle.nook_defs.specs.declared.clause.Clause.TheVariants.{UnaskedStore, OtherStore, UnstoredWrite, OtherRead}
-use Rattle.nook_defs.specs.declared.clause.Clause.TheVariants.{UnaskedFrame, SecondFrame, UnsentSend, OutOfOrder}
-use Rattle.nook_defs.specs.declared.clause.Clause.TheVariants.{LeftInRing, OtherSample, UnplayedPlay, UnaskedRegister}
-use Rattle.nook_defs.specs.declared.clause.Clause.TheVariants.{UnmadeSet, OtherGet, UnseenFailure}
-use Rattle.nook_defs.specs.Contract.{first_break, clause_number}
+use Rattle.nook_data.specs.declared.machine.Act.{Act}
+use Rattle.nook_data.specs.declared.machine.Act.TheVariants as act
+use Rattle.nook_data.specs.declared.calls.Answer.{Answer}
+use Rattle.nook_data.specs.declared.calls.Answer.TheVariants as answer
+use Rattle.nook_data.specs.declared.classes.Class.{Class}
+use Rattle.nook_data.specs.declared.classes.Class.TheVariants.{Block, Net, Sound}
+use Rattle.nook_data.specs.declared.steps.End.TheVariants as end
+use Rattle.nook_data.specs.declared.steps.Event.{Event}
+use Rattle.nook_data.specs.declared.steps.Event.TheVariants as event
+use Rattle.nook_data.specs.declared.verdicts.Losses.{Losses}
+use Rattle.nook_data.specs.declared.calls.Op.{Op}
+use Rattle.nook_data.specs.declared.calls.Op.TheVariants as op
+use Rattle.nook_data.specs.declared.steps.Stage.{Stage}
+use Rattle.nook_data.specs.declared.steps.Stage.TheVariants as stage
+use Rattle.nook_data.specs.declared.clause.Clause.{Clause}
+use Rattle.nook_data.specs.declared.clause.Clause.TheVariants.{UnaskedStore, OtherStore, UnstoredWrite, OtherRead}
+use Rattle.nook_data.specs.declared.clause.Clause.TheVariants.{UnaskedFrame, SecondFrame, UnsentSend, OutOfOrder}
+use Rattle.nook_data.specs.declared.clause.Clause.TheVariants.{LeftInRing, OtherSample, UnplayedPlay, UnaskedRegister}
+use Rattle.nook_data.specs.declared.clause.Clause.TheVariants.{UnmadeSet, OtherGet, UnseenFailure}
+use Rattle.promise_defs.specs.Contract.{first_break}
+use Rattle.nook_data.specs.Clauses.{clause_number}
 
 -- Worked cases of the contract: events that break a clause, and like events that keep all of them.
 

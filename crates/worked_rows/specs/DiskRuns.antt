@@ -1,9 +1,9 @@
 use Rattle.std.specs.Prelude.{ℕ, List, [], ◌∷◌, ◌++◌, replicate, codes}
-use Rattle.nook_defs.specs.declared.scenario.FaultKind.TheVariants as fault
-use Rattle.nook_defs.specs.declared.calls.Op.TheVariants as op
-use Rattle.nook_defs.specs.declared.scenario.Scenario.{Scenario}
-use Rattle.nook_defs.specs.declared.scenario.ScheduleSpec.TheVariants as schedule
-use Rattle.nook_defs.specs.References.{block_image}
+use Rattle.nook_data.specs.declared.scenario.FaultKind.TheVariants as fault
+use Rattle.nook_data.specs.declared.calls.Op.TheVariants as op
+use Rattle.nook_data.specs.declared.scenario.Scenario.{Scenario}
+use Rattle.nook_data.specs.declared.scenario.ScheduleSpec.TheVariants as schedule
+use Rattle.run_defs.specs.References.{block_image}
 use Rattle.worked_rows.specs.Scenarios.{driver, strike, disk, thread}
 
 -- Runs of disks.

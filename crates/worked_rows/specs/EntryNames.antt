@@ -1,8 +1,8 @@
 use Rattle.std.specs.Prelude.{ℕ, List, map, codes}
-use Rattle.nook_defs.specs.declared.classes.Class.{Class}
-use Rattle.nook_defs.specs.declared.calls.Op.{Op}
-use Rattle.nook_defs.specs.declared.calls.Op.TheVariants.{Read, Write, Send, Recv, Open, Play, Close, Get, Set}
-use Rattle.nook_defs.specs.Keys.{entry_keys, key_text}
+use Rattle.nook_data.specs.declared.classes.Class.{Class}
+use Rattle.nook_data.specs.declared.calls.Op.{Op}
+use Rattle.nook_data.specs.declared.calls.Op.TheVariants.{Read, Write, Send, Recv, Open, Play, Close, Get, Set}
+use Rattle.asm_defs.specs.Keys.{entry_keys, key_text}
 
 -- the name of the entry that serves an operation
 abbrev pub entry_name : Op → List ℕ

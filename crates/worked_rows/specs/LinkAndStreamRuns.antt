@@ -1,9 +1,9 @@
 use Rattle.std.specs.Prelude.{ℕ, List, [], ◌∷◌, ◌++◌, replicate, codes}
-use Rattle.nook_defs.specs.declared.scenario.FaultKind.TheVariants as fault
-use Rattle.nook_defs.specs.declared.calls.Op.TheVariants as op
-use Rattle.nook_defs.specs.declared.scenario.Scenario.{Scenario}
-use Rattle.nook_defs.specs.declared.scenario.ScheduleSpec.TheVariants as schedule
-use Rattle.nook_defs.specs.References.{net_image, sound_image}
+use Rattle.nook_data.specs.declared.scenario.FaultKind.TheVariants as fault
+use Rattle.nook_data.specs.declared.calls.Op.TheVariants as op
+use Rattle.nook_data.specs.declared.scenario.Scenario.{Scenario}
+use Rattle.nook_data.specs.declared.scenario.ScheduleSpec.TheVariants as schedule
+use Rattle.run_defs.specs.References.{net_image, sound_image}
 use Rattle.worked_rows.specs.Scenarios.{link, stream, thread}
 
 -- Runs of a link and of a stream.

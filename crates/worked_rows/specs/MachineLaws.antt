@@ -1,8 +1,8 @@
 use Rattle.std.specs.Prelude.{◌≡◌, ℕ, ◌≤◌, Bool, true, false, List, [], ◌∷◌, length}
-use Rattle.nook_defs.specs.declared.entries.Entry.{Entry}
-use Rattle.nook_defs.specs.declared.entries.Entry.TheVariants as entry
-use Rattle.nook_defs.specs.Burst.{Burst}
-use Rattle.nook_defs.specs.Pages.{may_write}
+use Rattle.nook_data.specs.declared.entries.Entry.{Entry}
+use Rattle.nook_data.specs.declared.entries.Entry.TheVariants as entry
+use Rattle.machine_defs.specs.Burst.{Burst}
+use Rattle.machine_defs.specs.Pages.{may_write}
 
 -- a burst has at most 4,096 turns and at most 64 acts
 pub record IsBounded (b : Burst) : Type 0 where

@@ -1,7 +1,7 @@
 use Rattle.std.specs.Prelude.{ℕ, List, [], ◌∷◌}
-use Rattle.nook_defs.specs.declared.calls.Answer.{Answer}
-use Rattle.nook_defs.specs.declared.calls.Op.TheVariants.{Send, Open, Play}
-use Rattle.nook_defs.specs.Trace.{Visible, called, wire, sample, arrived, answer}
+use Rattle.nook_data.specs.declared.calls.Answer.{Answer}
+use Rattle.nook_data.specs.declared.calls.Op.TheVariants.{Send, Open, Play}
+use Rattle.promise_defs.specs.Trace.{Visible, called, wire, sample, arrived, answer}
 
 -- Traces that a device of one class shows, and a device of another class never does.
 

@@ -1,22 +1,22 @@
 use Rattle.std.specs.Prelude.{ℕ, Result, Ok, Err, List, [], ◌∷◌, length, map, codes}
-use Rattle.nook_defs.specs.declared.assembler.AsmFault.{AsmFault}
-use Rattle.nook_defs.specs.declared.calls.Answer.{Answer}
-use Rattle.nook_defs.specs.declared.classes.Class.TheVariants as class
-use Rattle.nook_defs.specs.declared.scenario.Fault.{Fault}
-use Rattle.nook_defs.specs.declared.scenario.FaultKind.{FaultKind}
-use Rattle.nook_defs.specs.declared.scenario.Image.{Image}
-use Rattle.nook_defs.specs.declared.calls.Op.{Op}
-use Rattle.nook_defs.specs.declared.scenario.PartSpec.{PartSpec}
-use Rattle.nook_defs.specs.declared.scenario.Scenario.{Scenario}
-use Rattle.nook_defs.specs.declared.scenario.ThreadSpec.{ThreadSpec}
-use Rattle.nook_defs.specs.declared.input.Refusal.{Refusal}
-use Rattle.nook_defs.specs.Assembler.{assembled}
-use Rattle.nook_defs.specs.Faults.{fault_line}
-use Rattle.nook_defs.specs.Generated.{generated}
-use Rattle.nook_defs.specs.References.{block_image}
-use Rattle.nook_defs.specs.ReportText.{report_text, status_of, summary_line}
-use Rattle.nook_defs.specs.ScenarioReading.{scenario_from}
-use Rattle.nook_defs.specs.Simulation.{Simulation, Choice, begins, runs, choices_of, journals_of, answer_table}
+use Rattle.asm_defs.specs.declared.assembler.AsmFault.{AsmFault}
+use Rattle.nook_data.specs.declared.calls.Answer.{Answer}
+use Rattle.nook_data.specs.declared.classes.Class.TheVariants as class
+use Rattle.nook_data.specs.declared.scenario.Fault.{Fault}
+use Rattle.nook_data.specs.declared.scenario.FaultKind.{FaultKind}
+use Rattle.nook_data.specs.declared.scenario.Image.{Image}
+use Rattle.nook_data.specs.declared.calls.Op.{Op}
+use Rattle.nook_data.specs.declared.scenario.PartSpec.{PartSpec}
+use Rattle.nook_data.specs.declared.scenario.Scenario.{Scenario}
+use Rattle.nook_data.specs.declared.scenario.ThreadSpec.{ThreadSpec}
+use Rattle.input_defs.specs.declared.input.Refusal.{Refusal}
+use Rattle.asm_defs.specs.Assembler.{assembled}
+use Rattle.input_defs.specs.Faults.{fault_line}
+use Rattle.run_defs.specs.Generated.{generated}
+use Rattle.run_defs.specs.References.{block_image}
+use Rattle.report_defs.specs.ReportText.{report_text, status_of, summary_line}
+use Rattle.input_defs.specs.ScenarioReading.{scenario_from}
+use Rattle.run_defs.specs.Simulation.{Simulation, Choice, begins, runs, choices_of, journals_of, answer_table}
 
 -- Small scenarios, and the reports of their runs.
 

@@ -1,19 +1,19 @@
 use Rattle.std.specs.Prelude.{ℕ, List, [], ◌∷◌, ◌++◌, take, replicate, codes, Result, Ok, Err}
 use Rattle.serde_json.specs.Written.{compact_text}
-use Rattle.nook_defs.specs.Disassembler.{disassembled}
-use Rattle.nook_defs.specs.Faults.{fault_line}
-use Rattle.nook_defs.specs.ImageReading.{image_from, image_from_asm}
-use Rattle.nook_defs.specs.ImageText.{image_data, image_text}
-use Rattle.nook_defs.specs.References.{block_words}
-use Rattle.nook_defs.specs.ScenarioReading.{scenario_from}
-use Rattle.nook_defs.specs.declared.scenario.BadBlock.{BadBlock}
-use Rattle.nook_defs.specs.declared.classes.Class.TheVariants as class
-use Rattle.nook_defs.specs.declared.scenario.Image.{Image}
-use Rattle.nook_defs.specs.declared.calls.Op.TheVariants as op
-use Rattle.nook_defs.specs.declared.scenario.PartSpec.{PartSpec}
-use Rattle.nook_defs.specs.declared.scenario.Scenario.{Scenario}
-use Rattle.nook_defs.specs.declared.scenario.ScheduleSpec.TheVariants as schedule
-use Rattle.nook_defs.specs.declared.input.Refusal.{Refusal}
+use Rattle.asm_defs.specs.Disassembler.{disassembled}
+use Rattle.input_defs.specs.Faults.{fault_line}
+use Rattle.input_defs.specs.ImageReading.{image_from, image_from_asm}
+use Rattle.asm_defs.specs.ImageText.{image_data, image_text}
+use Rattle.run_defs.specs.References.{block_words}
+use Rattle.input_defs.specs.ScenarioReading.{scenario_from}
+use Rattle.nook_data.specs.declared.scenario.BadBlock.{BadBlock}
+use Rattle.nook_data.specs.declared.classes.Class.TheVariants as class
+use Rattle.nook_data.specs.declared.scenario.Image.{Image}
+use Rattle.nook_data.specs.declared.calls.Op.TheVariants as op
+use Rattle.nook_data.specs.declared.scenario.PartSpec.{PartSpec}
+use Rattle.nook_data.specs.declared.scenario.Scenario.{Scenario}
+use Rattle.nook_data.specs.declared.scenario.ScheduleSpec.TheVariants as schedule
+use Rattle.input_defs.specs.declared.input.Refusal.{Refusal}
 use Rattle.worked_rows.specs.Drivers.{failing_block_image}
 
 -- what is written: the text of what was read, or the fault's line

@@ -1,17 +1,17 @@
 use Rattle.std.specs.Prelude.{ℕ, Bool, true, false, is_none, List, [], ◌∷◌, length, replicate, codes}
-use Rattle.nook_defs.specs.declared.steps.Event.{Event}
-use Rattle.nook_defs.specs.declared.scenario.FaultKind.TheVariants as fault
-use Rattle.nook_defs.specs.declared.calls.Op.TheVariants as op
-use Rattle.nook_defs.specs.declared.scenario.PartSpec.{PartSpec}
-use Rattle.nook_defs.specs.declared.scenario.Scenario.{Scenario}
-use Rattle.nook_defs.specs.declared.scenario.ScheduleSpec.TheVariants as schedule
-use Rattle.nook_defs.specs.Contract.{first_break}
-use Rattle.nook_defs.specs.Ideal.{class_run}
-use Rattle.nook_defs.specs.Licence.{is_licensed}
-use Rattle.nook_defs.specs.References.{block_image, net_image, sound_image}
-use Rattle.nook_defs.specs.Runs.{state_of}
-use Rattle.nook_defs.specs.Simulation.{Simulation, Choice, begins, runs, choices_of, journals_of}
-use Rattle.nook_defs.specs.Trace.{trace}
+use Rattle.nook_data.specs.declared.steps.Event.{Event}
+use Rattle.nook_data.specs.declared.scenario.FaultKind.TheVariants as fault
+use Rattle.nook_data.specs.declared.calls.Op.TheVariants as op
+use Rattle.nook_data.specs.declared.scenario.PartSpec.{PartSpec}
+use Rattle.nook_data.specs.declared.scenario.Scenario.{Scenario}
+use Rattle.nook_data.specs.declared.scenario.ScheduleSpec.TheVariants as schedule
+use Rattle.promise_defs.specs.Contract.{first_break}
+use Rattle.promise_defs.specs.Ideal.{class_run}
+use Rattle.promise_defs.specs.Licence.{is_licensed}
+use Rattle.run_defs.specs.References.{block_image, net_image, sound_image}
+use Rattle.part_defs.specs.Runs.{state_of}
+use Rattle.run_defs.specs.Simulation.{Simulation, Choice, begins, runs, choices_of, journals_of}
+use Rattle.promise_defs.specs.Trace.{trace}
 use Rattle.worked_rows.specs.Scenarios.{strike, disk, link, stream, thread}
 
 -- Runs in which failures fall inside Init, inside replays, inside a write of eight blocks and inside its resubmission,

@@ -1,22 +1,22 @@
 //! Assembler texts and the images that they are, both ways, and what is wrong with the others.
-#![tactic(auto, unfolding(nook_defs::proofs::InputOnLiterals::input_on_literals))]
+#![tactic(auto, unfolding(crate::proofs::InputOnLiterals::input_on_literals))]
 
 ghost use Rattle.std.specs.Prelude.{ℕ, ◌<◌, ◌^◌, ◌≡◌, ◌∷◌, ◌++◌, [], Ok, Err, Some, codes, replicate};
-ghost use Rattle.nook_defs.specs.Views.Assembling.{no_labels};
-ghost use Rattle.nook_defs.specs.Assembler.{first_draft, draft_after, assembled};
-ghost use Rattle.nook_defs.specs.Disassembler.{disassembled};
-ghost use Rattle.nook_defs.specs.Machine.{decode_of, encode_of};
-ghost use Rattle.nook_defs.specs.Mnemonics.{mnemonic_named, mnemonic_text, fields_of, instr_with};
-ghost use Rattle.nook_defs.specs.References.{block_image, net_image, sound_image};
-ghost use Rattle.nook_defs.specs.Valid.{IsValidImage};
-ghost use Rattle.nook_defs.specs.declared.assembler.AsmKind.TheVariants as fault;
-ghost use Rattle.nook_defs.specs.declared.assembler.Mnemonic.{Mnemonic};
-ghost use Rattle.nook_defs.specs.declared.assembler.Section.TheVariants as section;
-ghost use Rattle.nook_defs.specs.declared.machine.Instr.{Instr};
+ghost use Rattle.asm_defs.specs.Views.Assembling.{no_labels};
+ghost use Rattle.asm_defs.specs.Assembler.{first_draft, draft_after, assembled};
+ghost use Rattle.asm_defs.specs.Disassembler.{disassembled};
+ghost use Rattle.machine_defs.specs.Machine.{decode_of, encode_of};
+ghost use Rattle.machine_defs.specs.Mnemonics.{mnemonic_named, mnemonic_text, fields_of, instr_with};
+ghost use Rattle.run_defs.specs.References.{block_image, net_image, sound_image};
+ghost use Rattle.nook_data.specs.Valid.{IsValidImage};
+ghost use Rattle.asm_defs.specs.declared.assembler.AsmKind.TheVariants as fault;
+ghost use Rattle.nook_data.specs.declared.machine.Mnemonic.{Mnemonic};
+ghost use Rattle.asm_defs.specs.declared.assembler.Section.TheVariants as section;
+ghost use Rattle.nook_data.specs.declared.machine.Instr.{Instr};
 ghost use Rattle.worked_rows.specs.Drivers.{block_text, failing_block_text, failing_block_image, net_text, sound_text};
 ghost use Rattle.worked_rows.specs.Texts.{asm_output, dis_output, lying_text, lying_json, lying_numbers};
 
-use nook_defs::scenario::Image;
+use nook_data::scenario::Image;
 
 /// The text of the block driver is its image.
 pub fn block_driver_assembles()
@@ -39,14 +39,14 @@ pub fn sound_driver_assembles()
 {}
 
 /// The text that is written for any valid image assembles to that image again.
-#[tactic(auto, using(nook_defs::proofs::AsmWhole::comes_back))]
+#[tactic(auto, using(asm_defs::proofs::AsmWhole::comes_back))]
 pub fn images_come_back(image: &Image)
     requires { IsValidImage image.now }
     ensures { assembled (disassembled image.now) ≡ Ok image.now }
 {}
 
 /// A word that is an instruction is the one word of that instruction.
-#[tactic(auto, using(nook_defs::proofs::AsmDecoded::encodes_back))]
+#[tactic(auto, using(asm_defs::proofs::AsmDecoded::encodes_back))]
 pub fn decoded_words_encode_back()
     ensures { (word : ℕ) (instr : Instr) → word < 2 ^ 32 → decode_of word ≡ Some instr → encode_of instr ≡ word }
 {}
@@ -137,7 +137,7 @@ pub fn too_many_words()
 
 /// Each mnemonic has a name of its own, and the instruction of a mnemonic and an instruction's fields is that
 /// instruction.
-#[tactic(auto, using(nook_defs::proofs::AsmInstrs::named_mnemonic, nook_defs::proofs::AsmInstrs::instr_of_fields))]
+#[tactic(auto, using(asm_defs::proofs::AsmInstrs::named_mnemonic, asm_defs::proofs::AsmInstrs::instr_of_fields))]
 pub fn mnemonics_are_told_apart()
     ensures named { (m : Mnemonic) → mnemonic_named (mnemonic_text m) ≡ Some m }
     ensures made { (i : Instr) → instr_with (fields_of i).mnemonic (fields_of i).a (fields_of i).b (fields_of i).imm

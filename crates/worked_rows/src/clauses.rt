@@ -1,7 +1,7 @@
 //! The clauses of the contract, and the losses of a journal.
 
-ghost use Rattle.nook_defs.specs.Contract.{all_clauses};
-ghost use Rattle.nook_defs.specs.Losses.{losses};
+ghost use Rattle.nook_data.specs.Clauses.{all_clauses};
+ghost use Rattle.promise_defs.specs.Losses.{losses};
 ghost use Rattle.std.specs.List.{AllByRecursion};
 ghost use Rattle.std.specs.Prelude.{◌≡◌, map};
 ghost use Rattle.worked_rows.specs.Clauses.{Case, IsJudged, clause_cases, further_cases, lossy, lost_there};

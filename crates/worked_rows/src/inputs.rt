@@ -1,12 +1,12 @@
 //! Scenarios and images from bytes, and the first fault of those that are wrong.
-#![tactic(auto, unfolding(nook_defs::proofs::InputOnLiterals::input_on_literals))]
+#![tactic(auto, unfolding(crate::proofs::InputOnLiterals::input_on_literals))]
 
 ghost use Rattle.std.specs.Prelude.{◌≡◌, ◌∷◌, ◌++◌, [], Ok, codes, true, false};
-ghost use Rattle.nook_defs.specs.ImageReading.{image_of, image_from};
-ghost use Rattle.nook_defs.specs.ImageText.{image_data, image_text};
-ghost use Rattle.nook_defs.specs.References.{sound_image};
-ghost use Rattle.nook_defs.specs.ScenarioReading.{scenario_from};
-ghost use Rattle.nook_defs.specs.Valid.{IsValidImage};
+ghost use Rattle.input_defs.specs.ImageReading.{image_of, image_from};
+ghost use Rattle.asm_defs.specs.ImageText.{image_data, image_text};
+ghost use Rattle.run_defs.specs.References.{sound_image};
+ghost use Rattle.input_defs.specs.ScenarioReading.{scenario_from};
+ghost use Rattle.nook_data.specs.Valid.{IsValidImage};
 ghost use Rattle.worked_rows.specs.Drivers.{failing_block_image};
 ghost use Rattle.worked_rows.specs.Texts.{
   scenario_fault,
@@ -18,7 +18,7 @@ ghost use Rattle.worked_rows.specs.Texts.{
   bad_block,
 };
 
-use nook_defs::scenario::Image;
+use nook_data::scenario::Image;
 
 /// The text of a scenario that writes a block and reads it back.
 pub fn write_and_read_is_read()
@@ -36,7 +36,7 @@ pub fn bad_block_of_version_1()
 {}
 
 /// The JSON value of any valid image is read as that image.
-#[tactic(auto, using(nook_defs::proofs::ImageBack::image_back))]
+#[tactic(auto, using(input_defs::proofs::ImageBack::image_back))]
 pub fn image_values_come_back(image: &Image)
     requires { IsValidImage image.now }
     ensures { image_of (image_data image.now) ≡ Ok image.now }

@@ -1,10 +1,10 @@
 //! Small laws of the driver machine: bursts are bounded, and what a driver may write is what the table of pages says.
 
 ghost use Rattle.std.specs.Prelude.{List};
-ghost use Rattle.nook_defs.specs.declared.entries.Entry.{Entry};
-ghost use Rattle.nook_defs.specs.declared.scenario.Fault.{Fault};
-ghost use Rattle.nook_defs.specs.Burst.{burst};
-ghost use Rattle.nook_defs.specs.Turn.{Machine};
+ghost use Rattle.nook_data.specs.declared.entries.Entry.{Entry};
+ghost use Rattle.nook_data.specs.declared.scenario.Fault.{Fault};
+ghost use Rattle.machine_defs.specs.Burst.{burst};
+ghost use Rattle.machine_defs.specs.Turn.{Machine};
 ghost use Rattle.worked_rows.specs.MachineLaws.{IsBounded, IsLentBuffer, IsPageTable};
 
 /// Whatever the machine runs, and whatever faults strike, a burst has at most 4,096 turns and at most 64 acts.

@@ -1,6 +1,6 @@
 //! Runs of each class in which failures fall where recovery is hardest: the premises of the recovery theorem hold of
 //! them.
-#![tactic(auto, unfolding(nook_defs::proofs::OnLiterals::nook_on_literals))]
+#![tactic(auto, unfolding(crate::proofs::OnLiterals::nook_on_literals))]
 
 ghost use Rattle.std.specs.Prelude.{◌≡◌};
 ghost use Rattle.worked_rows.specs.Verdicts.{failing_disk, failing_link, failing_stream, recovered, verdicts_of};

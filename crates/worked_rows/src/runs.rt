@@ -1,5 +1,5 @@
 //! Whole runs: a scenario and the text of its report.
-#![tactic(auto, unfolding(nook_defs::proofs::OnLiterals::nook_on_literals))]
+#![tactic(auto, unfolding(crate::proofs::OnLiterals::nook_on_literals))]
 
 ghost use Rattle.std.specs.Prelude.{◌≡◌, [], ◌∷◌, codes};
 ghost use Rattle.worked_rows.specs.FirstRun.{write_and_read_json, write_and_read_text};

@@ -1,13 +1,13 @@
 //! Small laws of the class tables.
 
 ghost use Rattle.std.specs.Prelude.{◌≡◌, ◌<◌, ◌+◌, ℕ, true, Some, length, slice_get};
-ghost use Rattle.nook_defs.specs.Classes.{conflicts, is_of_class, entry_count, entry_place, accept, blocks_of_op};
-ghost use Rattle.nook_defs.specs.Classes.{first_of_op};
-ghost use Rattle.nook_defs.specs.declared.classes.Accept.TheVariants.{IoError};
+ghost use Rattle.nook_data.specs.Classes.{conflicts, is_of_class, entry_count, entry_place, accept, blocks_of_op};
+ghost use Rattle.nook_data.specs.Classes.{first_of_op};
+ghost use Rattle.nook_data.specs.declared.classes.Accept.TheVariants.{IoError};
 ghost use Rattle.worked_rows.specs.EntryNames.{entry_name, entry_names};
 
-use nook_defs::calls::Op;
-use nook_defs::classes::Class;
+use nook_data::calls::Op;
+use nook_data::classes::Class;
 
 /// Two operations conflict in both orders or in none.
 #[tactic(auto, using(crate::proofs::ClassLaws::conflicts_symmetric))]

@@ -2,11 +2,11 @@
 //! contract.
 
 ghost use Rattle.std.specs.Prelude.{◌≡◌, false, Some, true};
-ghost use Rattle.nook_defs.specs.Contract.{first_break};
-ghost use Rattle.nook_defs.specs.Ideal.{class_run};
-ghost use Rattle.nook_defs.specs.Trace.{trace};
-ghost use Rattle.nook_defs.specs.declared.calls.Answer.TheVariants.{BadClass, Done};
-ghost use Rattle.nook_defs.specs.declared.classes.Class.TheVariants.{Block, Net, Sound};
+ghost use Rattle.promise_defs.specs.Contract.{first_break};
+ghost use Rattle.promise_defs.specs.Ideal.{class_run};
+ghost use Rattle.promise_defs.specs.Trace.{trace};
+ghost use Rattle.nook_data.specs.declared.calls.Answer.TheVariants.{BadClass, Done};
+ghost use Rattle.nook_data.specs.declared.classes.Class.TheVariants.{Block, Net, Sound};
 ghost use Rattle.worked_rows.specs.Cases.{MakesRun, KeepsContract};
 ghost use Rattle.worked_rows.specs.DiskCases.{write_and_read_part, write_and_read_threads, write_and_read_journal};
 ghost use Rattle.worked_rows.specs.DiskCases.{write_and_read_report, write_cut_part, write_cut_threads};

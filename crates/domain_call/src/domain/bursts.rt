@@ -1,21 +1,21 @@
 //! Bursts.
 
 ghost use Rattle.std.specs.Prelude.{◌≡◌, ◌<◌, []};
-ghost use Rattle.nook_defs.specs.Domain.{attempt_bursts, domain_burst};
+ghost use Rattle.part_defs.specs.Domain.{attempt_bursts, domain_burst};
 
 use super::Domain;
 use crate::reach::Reach;
 use driver_isa::{BurstDone, run_burst};
-use nook_defs::journal::ActLog;
-use nook_defs::limits::{CONTEXTS, MOST_BURSTS};
-use nook_defs::machine::{BurstEnd, Context};
-use nook_defs::scenario::Fault;
+use nook_data::journal::ActLog;
+use nook_data::limits::{CONTEXTS, MOST_BURSTS};
+use nook_data::machine::{BurstEnd, Context};
+use nook_data::scenario::Fault;
 
 impl Domain {
     /// One burst of a context that is Inside, up to its crossing, one burst more of its attempt. `faults` are those
     /// of this burst in rising order of `after`; `acts` is empty, with its full room. The context is at most 16, and
     /// its attempt has had fewer than 32 bursts. A free context does nothing. It takes no memory.
-    #[tactic(auto, unfolding(nook_defs::specs::Domain::domain_burst), using(part_laws::proofs::Classes::burst_keeps_class))]
+    #[tactic(auto, unfolding(part_defs::specs::Domain::domain_burst), using(part_laws::proofs::Classes::burst_keeps_class))]
     pub fn burst(&mut self, context: u8, faults: &[Fault], acts: &mut ActLog) -> BurstDone
         requires context { context < CONTEXTS }
         requires few { attempt_bursts context self.old.state < MOST_BURSTS }

@@ -2,24 +2,25 @@
 
 ghost use Rattle.std.specs.Prelude.{◌≡◌, ◌<◌, ◌≤◌, false, length, slice_index, IfSome};
 ghost use Rattle.std.specs.List.{list_any};
-ghost use Rattle.nook_defs.specs.Domain.{arguments_of, buffer_of, buffer_words, entered_domain, entry_context, left_domain, plainly_entered, result_set, three};
-ghost use Rattle.nook_defs.specs.Entries.{is_buffer_of};
+ghost use Rattle.part_defs.specs.Domain.{arguments_of, buffer_of, buffer_words, entered_domain, entry_context};
+ghost use Rattle.part_defs.specs.Domain.{left_domain, plainly_entered, result_set, three};
+ghost use Rattle.machine_defs.specs.Entries.{is_buffer_of};
 ghost use Rattle.param_wrappers.specs.Crossing.{arguments};
 
 use super::Domain;
-use nook_defs::calls::Op;
-use nook_defs::limits::CONTEXTS;
-use nook_defs::lists::{Word, Words};
-use nook_defs::machine::{Context, Cpu};
-use nook_defs::memory::Room;
-use nook_defs::memory_map::{BUFFER_WORDS, stack_end};
+use nook_data::calls::Op;
+use nook_data::limits::CONTEXTS;
+use nook_data::lists::{Word, Words};
+use nook_data::machine::{Context, Cpu};
+use nook_data::memory::Room;
+use nook_data::memory_map::{BUFFER_WORDS, stack_end};
 use param_wrappers::{Args, copy_in, copy_out};
 
 impl Domain {
     /// A context goes Inside at the entry with this place in the class's order, for an operation: its words go into
     /// the context's buffer, which is lent. The context is at most 16 and has no buffer, and the operation has at
     /// most 128 words. It takes no memory.
-    #[tactic(auto, unfolding(nook_defs::specs::Domain::entered_domain), using(crate::proofs::Loans::lent_entered))]
+    #[tactic(auto, unfolding(part_defs::specs::Domain::entered_domain), using(crate::proofs::Loans::lent_entered))]
     pub fn enter(&mut self, context: u8, place: u32, op: &Op)
         requires context { context < CONTEXTS }
         requires free { list_any (is_buffer_of context) self.old.state.entries ≡ false }
@@ -33,7 +34,7 @@ impl Domain {
 
     /// A context goes Inside at the entry with this place in the class's order, with no arguments and no buffer,
     /// for Init and for ReplayOpen. The context is at most 16. It takes no memory.
-    #[tactic(auto, unfolding(nook_defs::specs::Domain::plainly_entered))]
+    #[tactic(auto, unfolding(part_defs::specs::Domain::plainly_entered))]
     pub fn enter_plain(&mut self, context: u8, place: u32)
         requires { context < CONTEXTS }
         ensures { self.new ≡ record self.old { state = plainly_entered context place self.old.state } }
@@ -70,7 +71,7 @@ impl Domain {
     }
 
     /// Puts a word into r1 of a context that is Inside; of a free one it does nothing. The context is at most 16.
-    #[tactic(auto, unfolding(nook_defs::specs::Domain::result_set))]
+    #[tactic(auto, unfolding(part_defs::specs::Domain::result_set))]
     pub fn set_result(&mut self, context: u8, word: Word)
         requires { context < CONTEXTS }
         ensures { self.new ≡ record self.old { state = result_set context word self.old.state } }
@@ -81,7 +82,7 @@ impl Domain {
     }
 
     /// One context is free from now on, and its buffer is lent no more. The context is at most 16.
-    #[tactic(auto, unfolding(nook_defs::specs::Domain::left_domain), using(crate::proofs::Loans::lent_left))]
+    #[tactic(auto, unfolding(part_defs::specs::Domain::left_domain), using(crate::proofs::Loans::lent_left))]
     pub fn leave(&mut self, context: u8)
         requires { context < CONTEXTS }
         ensures { self.new ≡ record self.old { state = left_domain context self.old.state } }
@@ -93,7 +94,7 @@ impl Domain {
 
     /// Leaves a context as `leave` does, and brings out the first `count` words of its buffer, at most 128, in the
     /// memory of `room`, which has room for them. The context is at most 16. It takes no memory.
-    #[tactic(auto, unfolding(nook_defs::specs::Domain::left_domain), using(crate::proofs::Loans::lent_left))]
+    #[tactic(auto, unfolding(part_defs::specs::Domain::left_domain), using(crate::proofs::Loans::lent_left))]
     pub fn copy_out(&mut self, context: u8, count: u32, room: Room<Word>) -> Words
         requires context { context < CONTEXTS }
         requires few { count ≤ BUFFER_WORDS }

@@ -1,27 +1,27 @@
 //! The stages that touch a domain, and arrivals.
 
 ghost use Rattle.std.specs.Prelude.{◌≡◌, ◌≤◌, length, IfOk, OnErr, OnOk};
-ghost use Rattle.nook_defs.specs.Classes.{defaults_of};
-ghost use Rattle.nook_defs.specs.Devices.{has_room, with_arrival};
-ghost use Rattle.nook_defs.specs.Domain.{collected_domain, loaded_domain, stopped_domain};
-ghost use Rattle.nook_defs.specs.Entries.{released};
-ghost use Rattle.nook_defs.specs.Views.PageMap.{none_lent};
-ghost use Rattle.nook_defs.specs.Stages.{with_reset};
+ghost use Rattle.nook_data.specs.Classes.{defaults_of};
+ghost use Rattle.machine_defs.specs.Devices.{has_room, with_arrival};
+ghost use Rattle.part_defs.specs.Domain.{collected_domain, loaded_domain, stopped_domain};
+ghost use Rattle.machine_defs.specs.Entries.{released};
+ghost use Rattle.machine_defs.specs.Views.PageMap.{none_lent};
+ghost use Rattle.part_defs.specs.Stages.{with_reset};
 ghost use Rattle.domain_call.specs.Standing.{with_device};
 
 use super::Domain;
 use domain_pages::PageMap;
-use nook_defs::classes::Class;
-use nook_defs::entries::Released;
-use nook_defs::limits::{CONTEXTS, MOST_FRAME_WORDS};
-use nook_defs::lists::Words;
-use nook_defs::memory::NoMemory;
-use nook_defs::memory_map::{DATA_WORDS, TEXT_WORDS};
-use nook_defs::scenario::Image;
+use nook_data::classes::Class;
+use nook_data::entries::Released;
+use nook_data::limits::{CONTEXTS, MOST_FRAME_WORDS};
+use nook_data::lists::Words;
+use nook_data::memory::NoMemory;
+use nook_data::memory_map::{DATA_WORDS, TEXT_WORDS};
+use nook_data::scenario::Image;
 
 impl Domain {
     /// Every context is free from now on, and the driver is not registered.
-    #[tactic(auto, unfolding(nook_defs::specs::Domain::stopped_domain))]
+    #[tactic(auto, unfolding(part_defs::specs::Domain::stopped_domain))]
     pub fn unwind(&mut self)
         ensures { self.new ≡ record self.old { state = stopped_domain self.old.state } }
     {
@@ -31,7 +31,7 @@ impl Domain {
 
     /// Everything that the driver holds but its registration ends; what ended, in order. Where memory is wanting the
     /// domain is as before.
-    #[tactic(auto, unfolding(nook_defs::specs::Domain::collected_domain), using(crate::proofs::Loans::lent_collected))]
+    #[tactic(auto, unfolding(part_defs::specs::Domain::collected_domain), using(crate::proofs::Loans::lent_collected))]
     pub fn collect(&mut self) -> Result<Released, NoMemory>
         ensures released { IfOk result (λ ended. ended ≡ released self.old.state.entries) }
         ensures ok { OnOk result (self.new ≡ record self.old { state = collected_domain self.old.state }) }
@@ -51,7 +51,7 @@ impl Domain {
 
     /// The image is put in place: its text, its initial words, and zeros up to the kernel's objects. It has at most
     /// 2,048 words of each. Where memory is wanting the domain is as before.
-    #[tactic(auto, unfolding(nook_defs::specs::Domain::loaded_domain))]
+    #[tactic(auto, unfolding(part_defs::specs::Domain::loaded_domain))]
     pub fn load(&mut self, image: &Image) -> Result<(), NoMemory>
         requires text { length image.now.text ≤ TEXT_WORDS }
         requires initial { length image.now.initial ≤ DATA_WORDS }

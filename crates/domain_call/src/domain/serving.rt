@@ -1,19 +1,19 @@
 //! Kernel calls, and what the kernel writes.
 
 ghost use Rattle.std.specs.Prelude.{◌≡◌, ◌<◌, ◌≤◌, true, IfOk};
-ghost use Rattle.nook_defs.specs.Crossing.{without_shadow};
-ghost use Rattle.nook_defs.specs.Domain.{first_argument, noted, result_set, second_argument};
-ghost use Rattle.nook_defs.specs.Services.{checked};
+ghost use Rattle.part_defs.specs.Crossing.{without_shadow};
+ghost use Rattle.part_defs.specs.Domain.{first_argument, noted, result_set, second_argument};
+ghost use Rattle.machine_defs.specs.Services.{checked};
 ghost use Rattle.param_wrappers.specs.Crossing.{can_serve};
 ghost use Rattle.domain_call.specs.Standing.{served_in, with_served};
 
 use super::Domain;
 use kernel_services::{RxQueue, Served, serve};
-use nook_defs::limits::{CONTEXTS, MOST_FRAME_WORDS, SHADOW};
-use nook_defs::lists::Word;
-use nook_defs::machine::{BadParam, Service};
-use nook_defs::memory::Room;
-use nook_defs::memory_map::{OBJECT_WORDS, object_start};
+use nook_data::limits::{CONTEXTS, MOST_FRAME_WORDS, SHADOW};
+use nook_data::lists::Word;
+use nook_data::machine::{BadParam, Service};
+use nook_data::memory::Room;
+use nook_data::memory_map::{OBJECT_WORDS, object_start};
 use param_wrappers::check_service;
 
 impl Domain {
@@ -81,7 +81,7 @@ impl Domain {
     }
 
     /// The kernel writes a word of object 0, whose places are 0 to 63.
-    #[tactic(auto, unfolding(nook_defs::specs::Domain::noted))]
+    #[tactic(auto, unfolding(part_defs::specs::Domain::noted))]
     pub fn note(&mut self, place: u32, word: Word)
         requires { place < OBJECT_WORDS }
         ensures { self.new ≡ record self.old { state = noted place word self.old.state } }

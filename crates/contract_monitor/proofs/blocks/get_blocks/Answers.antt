@@ -1,5 +1,5 @@
 use Rattle.std.proofs.Common.{◌++◌, ◌+◌, ◌-◌, [], ap, sym, ◌∙◌, append_assoc, slice_get, unwrap_or}
-use Rattle.nook_defs.specs.Blocks.{get_blocks}
+use Rattle.promise_defs.specs.Blocks.{get_blocks}
 use Rattle.contract_monitor.proofs.OneBlock.{blocks_more}
 use Rattle.contract_monitor.proofs.blocks.get_blocks.Goals as goal
 

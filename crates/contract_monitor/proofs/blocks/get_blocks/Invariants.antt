@@ -1,5 +1,5 @@
 use Rattle.std.proofs.Common.{◌≡◌, ◌++◌, ◌+◌, ◌-◌}
-use Rattle.nook_defs.specs.Blocks.{get_blocks}
+use Rattle.promise_defs.specs.Blocks.{get_blocks}
 use Rattle.contract_monitor.proofs.blocks.get_blocks.Given as goal
 
 abbrev pub invariant-loop-i : goal.invariant-loop-i

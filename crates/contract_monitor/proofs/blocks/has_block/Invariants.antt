@@ -1,5 +1,5 @@
 use Rattle.std.proofs.Common.{◌≡◌, drop}
-use Rattle.nook_defs.specs.Blocks.{has_block}
+use Rattle.promise_defs.specs.Blocks.{has_block}
 use Rattle.contract_monitor.proofs.blocks.has_block.Given as goal
 
 abbrev pub invariant-loop-i : goal.invariant-loop-i

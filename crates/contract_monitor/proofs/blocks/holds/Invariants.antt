@@ -1,5 +1,5 @@
 use Rattle.std.proofs.Common.{◌≡◌, drop}
-use Rattle.nook_defs.specs.Blocks.{holds_from}
+use Rattle.promise_defs.specs.Blocks.{holds_from}
 use Rattle.contract_monitor.proofs.blocks.holds.Given as goal
 
 abbrev pub invariant-loop-words : goal.invariant-loop-words

@@ -1,6 +1,6 @@
 use Rattle.std.proofs.Common.{◌≡◌, ◌==◌, if◌then◌else◌, map}
-use Rattle.nook_defs.specs.Contract.{OpenCall}
-use Rattle.nook_defs.specs.Losses.{Tally}
+use Rattle.promise_defs.specs.Contract.{OpenCall}
+use Rattle.promise_defs.specs.Losses.{Tally}
 use Rattle.contract_monitor.specs.Calls.{change_to, open_change, open_of, tally_change, tally_of}
 use Rattle.contract_monitor.proofs.calls.change_calls.Given as goal
 

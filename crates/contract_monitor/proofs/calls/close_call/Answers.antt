@@ -1,7 +1,7 @@
 use Rattle.std.proofs.Common.{◌==◌, not, map, refl, ap, rules, ◌∙◌}
 use Rattle.std.proofs.lemmas.Fn.{filter_same}
-use Rattle.nook_defs.specs.Contract.{OpenCall}
-use Rattle.nook_defs.specs.Losses.{Tally}
+use Rattle.promise_defs.specs.Contract.{OpenCall}
+use Rattle.promise_defs.specs.Losses.{Tally}
 use Rattle.contract_monitor.specs.declared.calls.Call.{Call}
 use Rattle.contract_monitor.specs.Calls.{open_of, tally_of}
 use Rattle.contract_monitor.proofs.Changes.{filter_seen}

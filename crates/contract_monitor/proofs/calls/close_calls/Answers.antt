@@ -1,9 +1,9 @@
 use Rattle.std.proofs.Common.{◌==◌, ℕ, not, map, refl, ap, rules, ◌∙◌}
 use Rattle.std.specs.List.{list_any}
 use Rattle.std.proofs.lemmas.Fn.{filter_same}
-use Rattle.nook_defs.specs.declared.calls.Answer.{Answer}
-use Rattle.nook_defs.specs.Contract.{OpenCall, is_answered_in}
-use Rattle.nook_defs.specs.Losses.{Tally}
+use Rattle.nook_data.specs.declared.calls.Answer.{Answer}
+use Rattle.promise_defs.specs.Contract.{OpenCall, is_answered_in}
+use Rattle.promise_defs.specs.Losses.{Tally}
 use Rattle.contract_monitor.specs.declared.calls.Call.{Call}
 use Rattle.contract_monitor.specs.Calls.{open_of, tally_of}
 use Rattle.contract_monitor.proofs.Changes.{filter_seen}

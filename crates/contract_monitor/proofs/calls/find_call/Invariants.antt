@@ -1,7 +1,7 @@
 use Rattle.std.proofs.Common.{◌≡◌, ◌==◌, map, drop}
 use Rattle.std.specs.List.{find}
-use Rattle.nook_defs.specs.Contract.{call_of}
-use Rattle.nook_defs.specs.Losses.{Tally}
+use Rattle.promise_defs.specs.Contract.{call_of}
+use Rattle.promise_defs.specs.Losses.{Tally}
 use Rattle.contract_monitor.specs.Calls.{open_of, tally_of}
 use Rattle.contract_monitor.proofs.calls.find_call.Given as goal
 

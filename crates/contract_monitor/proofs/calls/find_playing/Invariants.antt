@@ -1,5 +1,5 @@
 use Rattle.std.proofs.Common.{◌≡◌, map, drop}
-use Rattle.nook_defs.specs.Contract.{play_inside}
+use Rattle.promise_defs.specs.Contract.{play_inside}
 use Rattle.contract_monitor.specs.Calls.{open_of}
 use Rattle.contract_monitor.proofs.calls.find_playing.Given as goal
 

@@ -1,6 +1,6 @@
 use Rattle.std.proofs.Common.{◌≡◌, ◌==◌, ℕ, drop}
 use Rattle.std.specs.List.{list_any}
-use Rattle.nook_defs.specs.declared.calls.Answer.{Answer}
+use Rattle.nook_data.specs.declared.calls.Answer.{Answer}
 use Rattle.contract_monitor.proofs.calls.is_answered.Given as goal
 
 abbrev pub invariant-loop-answer : goal.invariant-loop-answer

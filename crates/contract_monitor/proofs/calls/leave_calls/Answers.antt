@@ -1,5 +1,5 @@
 use Rattle.std.proofs.Common.{◌<◌, ◌+◌, length, map, refl, ◌∙◌, arith}
-use Rattle.nook_defs.specs.Contract.{leave_call}
+use Rattle.promise_defs.specs.Contract.{leave_call}
 use Rattle.contract_monitor.specs.Calls.{open_of, tally_of}
 use Rattle.contract_monitor.proofs.Changes.{all_changed, changed_more, length_seen, same_at, within_to}
 use Rattle.contract_monitor.proofs.calls.leave_calls.Goals as goal

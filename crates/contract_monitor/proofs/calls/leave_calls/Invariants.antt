@@ -1,5 +1,5 @@
 use Rattle.std.proofs.Common.{◌≡◌, map}
-use Rattle.nook_defs.specs.Contract.{leave_call}
+use Rattle.promise_defs.specs.Contract.{leave_call}
 use Rattle.contract_monitor.specs.Calls.{change_to, open_of, tally_of}
 use Rattle.contract_monitor.proofs.calls.leave_calls.Given as goal
 

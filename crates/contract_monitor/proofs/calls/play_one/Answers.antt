@@ -1,5 +1,5 @@
 use Rattle.std.proofs.Common.{◌<◌, ◌≡◌, ◌+◌, true, length, map, refl, sym, ap, subst, ◌∙◌, arith}
-use Rattle.nook_defs.specs.Contract.{change_first, is_playing, played_more}
+use Rattle.promise_defs.specs.Contract.{change_first, is_playing, played_more}
 use Rattle.contract_monitor.specs.Calls.{open_of, tally_of}
 use Rattle.contract_monitor.proofs.Changes.{first_at, length_seen, none_first, none_more, on_ok, same_at, same_item}
 use Rattle.contract_monitor.proofs.calls.play_one.Goals as goal

@@ -1,6 +1,6 @@
 use Rattle.std.proofs.Common.{◌≡◌, false, map, take}
 use Rattle.std.specs.List.{list_any}
-use Rattle.nook_defs.specs.Contract.{is_playing}
+use Rattle.promise_defs.specs.Contract.{is_playing}
 use Rattle.contract_monitor.specs.Calls.{open_of}
 use Rattle.contract_monitor.proofs.calls.play_one.Given as goal
 

@@ -1,6 +1,6 @@
 use Rattle.std.proofs.Common.{◌≡◌, map, drop}
 use Rattle.std.specs.List.{list_any}
-use Rattle.nook_defs.specs.Contract.{is_setting}
+use Rattle.promise_defs.specs.Contract.{is_setting}
 use Rattle.contract_monitor.specs.Calls.{open_of}
 use Rattle.contract_monitor.proofs.watching.is_asked_to_set.Given as goal
 

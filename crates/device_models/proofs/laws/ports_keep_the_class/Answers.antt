@@ -1,4 +1,4 @@
-use Rattle.nook_defs.proofs.DeviceClasses.{input_keeps_class, output_keeps_class}
+use Rattle.machine_defs.proofs.DeviceClasses.{input_keeps_class, output_keeps_class}
 use Rattle.device_models.proofs.laws.ports_keep_the_class.Goals as goal
 
 pub returns-clause-input : goal.returns-clause-input

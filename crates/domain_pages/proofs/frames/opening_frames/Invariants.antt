@@ -1,5 +1,5 @@
 use Rattle.std.proofs.Common.{◌≡◌, ◌-◌, [], ◌++◌}
-use Rattle.nook_defs.specs.Pages.{opening_memory, opening_objects}
+use Rattle.machine_defs.specs.Pages.{opening_memory, opening_objects}
 use Rattle.domain_pages.proofs.frames.opening_frames.Given as goal
 
 abbrev pub invariant-loop-object : goal.invariant-loop-object

@@ -1,5 +1,5 @@
 use Rattle.std.proofs.Common.{◌≡◌, drop}
-use Rattle.nook_defs.specs.Assembler.{all_given}
+use Rattle.asm_defs.specs.Assembler.{all_given}
 use Rattle.driver_asm.specs.Places.{behind}
 use Rattle.driver_asm.proofs.draft.all_given.Given as goal
 

@@ -1,5 +1,5 @@
 use Rattle.std.proofs.Common.{◌≡◌, drop}
-use Rattle.nook_defs.specs.AsmLines.{place_among}
+use Rattle.asm_defs.specs.AsmLines.{place_among}
 use Rattle.driver_asm.proofs.entries.place_in.Given as goal
 
 abbrev pub invariant-loop-place : goal.invariant-loop-place

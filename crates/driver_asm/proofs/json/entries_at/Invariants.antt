@@ -1,7 +1,7 @@
 use Rattle.std.proofs.Common.{◌≡◌, drop}
 use Rattle.serde_json.specs.Data.{no_members}
 use Rattle.serde_json.specs.View.{members_view}
-use Rattle.nook_defs.specs.ImageText.{entry_members}
+use Rattle.asm_defs.specs.ImageText.{entry_members}
 use Rattle.driver_asm.proofs.json.entries_at.Given as goal
 
 abbrev pub invariant-loop-entry : goal.invariant-loop-entry

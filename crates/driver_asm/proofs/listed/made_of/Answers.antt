@@ -1,7 +1,7 @@
 use Rattle.std.proofs.Common.{arith, ap}
-use Rattle.nook_defs.specs.AsmLines.{first_of}
-use Rattle.nook_defs.specs.Assembler.{at_line}
-use Rattle.nook_defs.specs.declared.assembler.Section.TheVariants as section
+use Rattle.asm_defs.specs.AsmLines.{first_of}
+use Rattle.asm_defs.specs.Assembler.{at_line}
+use Rattle.asm_defs.specs.declared.assembler.Section.TheVariants as section
 use Rattle.driver_asm.proofs.Lines.{draft_fails, draft_more}
 use Rattle.driver_asm.proofs.MadeLines.{draft_done, made_passed, makers_done, makers_more}
 use Rattle.driver_asm.proofs.listed.made_of.Goals as goal

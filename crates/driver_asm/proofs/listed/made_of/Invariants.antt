@@ -1,7 +1,7 @@
 use Rattle.std.proofs.Common.{◌≡◌, ◌+◌, ◌++◌, drop, map}
-use Rattle.nook_defs.specs.AsmLines.{first_of}
-use Rattle.nook_defs.specs.Assembler.{draft_from, first_draft}
-use Rattle.nook_defs.specs.declared.assembler.Section.TheVariants as section
+use Rattle.asm_defs.specs.AsmLines.{first_of}
+use Rattle.asm_defs.specs.Assembler.{draft_from, first_draft}
+use Rattle.asm_defs.specs.declared.assembler.Section.TheVariants as section
 use Rattle.driver_asm.specs.Listed.{makers}
 use Rattle.driver_asm.proofs.listed.made_of.Given as goal
 

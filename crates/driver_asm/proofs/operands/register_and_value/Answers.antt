@@ -1,5 +1,5 @@
 use Rattle.driver_asm.proofs.Short.{register_and_value}
-use Rattle.nook_defs.specs.AsmLines.{first_of}
+use Rattle.asm_defs.specs.AsmLines.{first_of}
 use Rattle.driver_asm.proofs.operands.register_and_value.Goals as goal
 
 pub returns-in-len2-clause-operands : goal.returns-in-len2-clause-operands

@@ -1,5 +1,5 @@
 use Rattle.driver_asm.proofs.Short.{registers_and_value}
-use Rattle.nook_defs.specs.AsmLines.{first_of}
+use Rattle.asm_defs.specs.AsmLines.{first_of}
 use Rattle.driver_asm.proofs.operands.registers_and_value.Goals as goal
 
 pub returns-in-len3-clause-operands : goal.returns-in-len3-clause-operands

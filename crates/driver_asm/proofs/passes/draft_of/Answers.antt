@@ -1,5 +1,5 @@
 use Rattle.std.proofs.Common.{arith}
-use Rattle.nook_defs.specs.AsmLines.{first_of}
+use Rattle.asm_defs.specs.AsmLines.{first_of}
 use Rattle.driver_asm.proofs.Lines.{draft_fails, draft_more, error_passed}
 use Rattle.driver_asm.proofs.passes.draft_of.Goals as goal
 

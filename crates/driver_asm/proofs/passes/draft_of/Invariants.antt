@@ -1,6 +1,6 @@
 use Rattle.std.proofs.Common.{◌≡◌, ◌+◌, drop, map}
-use Rattle.nook_defs.specs.AsmLines.{first_of}
-use Rattle.nook_defs.specs.Assembler.{draft_from, first_draft}
+use Rattle.asm_defs.specs.AsmLines.{first_of}
+use Rattle.asm_defs.specs.Assembler.{draft_from, first_draft}
 use Rattle.driver_asm.proofs.passes.draft_of.Given as goal
 
 abbrev pub invariant-loop-line : goal.invariant-loop-line

@@ -1,5 +1,5 @@
 use Rattle.std.proofs.Common.{◌≡◌, ◌+◌, ◌≤◌, ◌++◌, drop, map}
-use Rattle.nook_defs.specs.Assembler.{first_cursor, labels_from}
+use Rattle.asm_defs.specs.Assembler.{first_cursor, labels_from}
 use Rattle.driver_asm.proofs.passes.labels_of.Given as goal
 
 abbrev pub invariant-loop-line : goal.invariant-loop-line

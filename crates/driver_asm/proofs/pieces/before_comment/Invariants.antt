@@ -1,6 +1,6 @@
 use Rattle.std.proofs.Common.{◌≡◌, ◌++◌, take, drop}
 use Rattle.std.specs.Prelude.{take_while}
-use Rattle.nook_defs.specs.Views.Assembling.{is_before_comment}
+use Rattle.asm_defs.specs.Views.Assembling.{is_before_comment}
 use Rattle.driver_asm.proofs.pieces.before_comment.Given as goal
 
 abbrev pub invariant-loop-i : goal.invariant-loop-i

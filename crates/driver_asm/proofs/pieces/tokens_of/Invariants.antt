@@ -1,6 +1,6 @@
 use Rattle.std.proofs.Common.{◌≡◌, ◌++◌, drop, map}
 use Rattle.std.specs.Prelude.{filter}
-use Rattle.nook_defs.specs.AsmTokens.{is_not_empty, tokens_of}
+use Rattle.asm_defs.specs.AsmTokens.{is_not_empty, tokens_of}
 use Rattle.driver_asm.proofs.pieces.tokens_of.Given as goal
 
 abbrev pub invariant-loop-piece : goal.invariant-loop-piece

@@ -1,5 +1,5 @@
 use Rattle.std.proofs.Common.{◌≡◌, drop}
-use Rattle.nook_defs.specs.AsmLines.{has_bad_token}
+use Rattle.asm_defs.specs.AsmLines.{has_bad_token}
 use Rattle.driver_asm.proofs.statements.has_bad_token.Given as goal
 
 abbrev pub invariant-loop-token : goal.invariant-loop-token

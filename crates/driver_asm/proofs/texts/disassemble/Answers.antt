@@ -1,7 +1,7 @@
 use Rattle.std.proofs.Common.{◌≡◌, ap, ◌∙◌, rules}
-use Rattle.nook_defs.specs.Assembler.{assembled}
-use Rattle.nook_defs.specs.Disassembler.{disassembled}
-use Rattle.nook_defs.proofs.AsmWhole.{comes_back}
+use Rattle.asm_defs.specs.Assembler.{assembled}
+use Rattle.asm_defs.specs.Disassembler.{disassembled}
+use Rattle.asm_defs.proofs.AsmWhole.{comes_back}
 use Rattle.driver_asm.proofs.texts.disassemble.Goals as goal
 
 pub returns-clause-back : goal.returns-clause-back

@@ -1,6 +1,6 @@
 use Rattle.std.proofs.Common.{◌≡◌, ◌++◌, drop}
 use Rattle.std.specs.Prelude.{flat_map, string_bytes}
-use Rattle.nook_defs.specs.Disassembler.{entry_lines, line_text}
+use Rattle.asm_defs.specs.Disassembler.{entry_lines, line_text}
 use Rattle.driver_asm.proofs.texts.push_entries.Given as goal
 
 abbrev pub invariant-loop-entry : goal.invariant-loop-entry

@@ -1,6 +1,6 @@
 use Rattle.std.proofs.Common.{◌≡◌, ◌++◌, drop, map}
 use Rattle.std.specs.Prelude.{flat_map, string_bytes}
-use Rattle.nook_defs.specs.Disassembler.{line_text, word_tokens}
+use Rattle.asm_defs.specs.Disassembler.{line_text, word_tokens}
 use Rattle.driver_asm.proofs.texts.push_words.Given as goal
 
 abbrev pub invariant-loop-word : goal.invariant-loop-word

@@ -1,6 +1,6 @@
 use Rattle.std.proofs.Common.{◌≡◌, drop}
 use Rattle.std.specs.List.{list_all}
-use Rattle.nook_defs.specs.AsmTokens.{is_letter_or_digit}
+use Rattle.asm_defs.specs.AsmTokens.{is_letter_or_digit}
 use Rattle.driver_asm.proofs.tokens.are_letters_or_digits.Given as goal
 
 abbrev pub invariant-loop-byte : goal.invariant-loop-byte

@@ -1,7 +1,7 @@
 use Rattle.std.proofs.Common.{◌≡◌, true, take, drop}
 use Rattle.std.specs.Char.{is_digit}
 use Rattle.std.specs.List.{list_all}
-use Rattle.nook_defs.specs.AsmTokens.{numeral_value}
+use Rattle.asm_defs.specs.AsmTokens.{numeral_value}
 use Rattle.driver_asm.proofs.tokens.number.Given as goal
 
 abbrev pub invariant-loop-byte : goal.invariant-loop-byte

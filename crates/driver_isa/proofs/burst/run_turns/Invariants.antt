@@ -1,7 +1,7 @@
 use Rattle.std.proofs.Common.{◌≡◌, ◌<◌, ◌≤◌, ◌-◌, length}
 use Rattle.driver_isa.specs.Steps.{cpu_of}
 use Rattle.driver_isa.specs.Turns.{machine_of}
-use Rattle.nook_defs.specs.Burst.{burst_from}
+use Rattle.machine_defs.specs.Burst.{burst_from}
 use Rattle.driver_isa.proofs.burst.run_turns.Given as goal
 
 abbrev pub invariant-loop-count : goal.invariant-loop-count

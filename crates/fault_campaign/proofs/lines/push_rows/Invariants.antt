@@ -1,5 +1,5 @@
 use Rattle.std.proofs.Common.{◌≡◌, ◌+◌, ◌++◌, drop}
-use Rattle.nook_defs.specs.Campaigns.{row_lines}
+use Rattle.report_defs.specs.Campaigns.{row_lines}
 use Rattle.fault_campaign.proofs.lines.push_rows.Given as goal
 
 abbrev pub invariant-loop-row : goal.invariant-loop-row

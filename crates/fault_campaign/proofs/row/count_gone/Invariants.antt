@@ -1,5 +1,5 @@
 use Rattle.std.proofs.Common.{◌≡◌, ◌+◌, drop}
-use Rattle.nook_defs.specs.Campaigns.{gone_count}
+use Rattle.report_defs.specs.Campaigns.{gone_count}
 use Rattle.fault_campaign.proofs.row.count_gone.Given as goal
 
 abbrev pub invariant-loop-own : goal.invariant-loop-own

@@ -1,5 +1,5 @@
 use Rattle.std.proofs.Common.{◌≡◌, ◌+◌, drop}
-use Rattle.nook_defs.specs.Campaigns.{gone_in}
+use Rattle.report_defs.specs.Campaigns.{gone_in}
 use Rattle.fault_campaign.proofs.row.count_own_gone.Given as goal
 
 abbrev pub invariant-loop-told : goal.invariant-loop-told

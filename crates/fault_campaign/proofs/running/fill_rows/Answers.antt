@@ -2,7 +2,7 @@ use Rattle.std.proofs.Common.{◌+◌, arith, subst, sym, take}
 use Rattle.std.proofs.lemmas.List.{take_all}
 use Rattle.fault_campaign.specs.Placed.{IsPlaced}
 use Rattle.fault_campaign.proofs.Placings.{as_many_slots, one_more_row, zipped_at}
-use Rattle.nook_defs.specs.Campaigns.{AreRows}
+use Rattle.report_defs.specs.Campaigns.{AreRows}
 use Rattle.fault_campaign.proofs.running.fill_rows.Goals as goal
 
 pub bounds-slots-place : goal.bounds-slots-place

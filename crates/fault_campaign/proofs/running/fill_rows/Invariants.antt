@@ -1,5 +1,5 @@
 use Rattle.std.proofs.Common.{take}
-use Rattle.nook_defs.specs.Campaigns.{AreRows}
+use Rattle.report_defs.specs.Campaigns.{AreRows}
 use Rattle.fault_campaign.proofs.running.fill_rows.Given as goal
 
 abbrev pub invariant-loop-place : goal.invariant-loop-place

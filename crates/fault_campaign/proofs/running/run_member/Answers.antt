@@ -1,7 +1,7 @@
 use Rattle.std.proofs.Common.{subst, sym}
 use Rattle.fault_campaign.specs.Members.{IsBaseButStruck}
 use Rattle.fault_campaign.proofs.Struck.{member_but_struck}
-use Rattle.nook_defs.specs.Valid.{IsValidScenario}
+use Rattle.nook_data.specs.Valid.{IsValidScenario}
 use Rattle.reading_laws.proofs.Members.{member_is_valid}
 use Rattle.fault_campaign.proofs.running.run_member.Goals as goal
 

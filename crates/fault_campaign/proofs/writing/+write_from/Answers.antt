@@ -1,6 +1,6 @@
 use Rattle.std.proofs.Common.{◌++◌, ◌+◌, length}
 use Rattle.std.proofs.lemmas.Result.{err_from_is_err_and}
-use Rattle.nook_defs.specs.Campaigns.{last_line, row_lines}
+use Rattle.report_defs.specs.Campaigns.{last_line, row_lines}
 use Rattle.report_text.proofs.WroteLemmas.{both, cut}
 use Rattle.fault_campaign.proofs.Written.{counts_on, rows_apart, tail_apart, text_apart, wrote_as}
 use Rattle.fault_campaign.proofs.writing.+write_from.Goals as goal

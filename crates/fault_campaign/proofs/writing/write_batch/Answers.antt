@@ -1,6 +1,6 @@
 use Rattle.std.proofs.Common.{◌∙◌, ◌++◌, ap, subst, sym}
 use Rattle.std.proofs.lemmas.Result.{err_from_is_err_and}
-use Rattle.nook_defs.specs.Campaigns.{AreRows}
+use Rattle.report_defs.specs.Campaigns.{AreRows}
 use Rattle.fault_campaign.specs.Tallies.{tally_of}
 use Rattle.fault_campaign.proofs.Tables.{rows_once}
 use Rattle.fault_campaign.proofs.Written.{batch_lines, batch_room, wrote_as}

@@ -1,5 +1,5 @@
 use Rattle.std.proofs.Common.{[], subst, sym}
-use Rattle.nook_defs.specs.Campaigns.{AreRows}
+use Rattle.report_defs.specs.Campaigns.{AreRows}
 use Rattle.fault_campaign.proofs.writing.write_campaign.Goals as goal
 
 pub returns : goal.returns

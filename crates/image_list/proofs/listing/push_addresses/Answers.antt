@@ -1,5 +1,5 @@
 use Rattle.std.proofs.Common.{append-nil, drop, map}
-use Rattle.nook_defs.specs.Keys.{key_text}
+use Rattle.asm_defs.specs.Keys.{key_text}
 use Rattle.image_list.proofs.Rows.{no_addresses}
 use Rattle.image_list.proofs.listing.push_addresses.Goals as goal
 

@@ -1,7 +1,7 @@
 use Rattle.std.proofs.Common.{◌≡◌, ◌++◌, drop, map}
 use Rattle.std.specs.Prelude.{flat_map}
-use Rattle.nook_defs.specs.Disassembler.{line_text}
-use Rattle.nook_defs.specs.Keys.{key_text}
+use Rattle.asm_defs.specs.Disassembler.{line_text}
+use Rattle.asm_defs.specs.Keys.{key_text}
 use Rattle.image_list.specs.ListText.{named_entries}
 use Rattle.image_list.proofs.listing.push_addresses.Given as goal
 

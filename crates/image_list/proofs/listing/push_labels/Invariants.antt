@@ -1,6 +1,6 @@
 use Rattle.std.proofs.Common.{◌≡◌, ◌++◌, drop, map}
 use Rattle.std.specs.Prelude.{flat_map}
-use Rattle.nook_defs.specs.Disassembler.{line_text}
+use Rattle.asm_defs.specs.Disassembler.{line_text}
 use Rattle.image_list.specs.ListText.{label_tokens}
 use Rattle.image_list.proofs.listing.push_labels.Given as goal
 

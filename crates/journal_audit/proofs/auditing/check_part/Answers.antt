@@ -2,7 +2,7 @@
 use Rattle.std.proofs.Common.{◌≡◌, ℕ, ◌∷◌, List, Option, length, sym, ap, ◌∙◌}
 use Rattle.std.proofs.lemmas.Result.{err_from_is_err_and}
 use Rattle.run_laws.specs.Audit.{opening_section}
-use Rattle.nook_defs.specs.declared.scenario.PartSpec.{PartSpec as Spec}
+use Rattle.nook_data.specs.declared.scenario.PartSpec.{PartSpec as Spec}
 use Rattle.journal_audit.proofs.Finding.{passed}
 use Rattle.journal_audit.proofs.Sections.{past_more}
 use Rattle.journal_audit.proofs.auditing.check_part.Goals as goal

@@ -1,7 +1,7 @@
 use Rattle.std.proofs.Common.{◌≡◌, ℕ, List, ◌∷◌, Bor, Some, true, false, bytes_eq, refl, sym, ap, ◌∙◌}
 use Rattle.std.proofs.lemmas.Result.{err_from_is_err_and}
 use Rattle.run_laws.specs.Audit.{opening_section}
-use Rattle.nook_defs.specs.ReportText.{part_line}
+use Rattle.report_defs.specs.ReportText.{part_line}
 use Rattle.journal_audit.proofs.Finding.{line_fits, line_unfit, no_line_unfit, part_line_fits, part_line_unfit, stopped}
 use Rattle.journal_audit.proofs.auditing.check_part_line.Goals as goal
 use Rattle.journal_audit.specs.Found.{between, found_from, inside}

@@ -2,7 +2,7 @@
 use Rattle.std.proofs.Common.{ℕ, ◌+◌, ◌<◌, ◌≤◌, Option, List, drop, length, refl, take, arith}
 use Rattle.std.proofs.lemmas.Result.{err_from_is_err_and}
 use Rattle.run_laws.specs.Audit.{opening_audit}
-use Rattle.nook_defs.specs.declared.scenario.PartSpec.{PartSpec as Spec}
+use Rattle.nook_data.specs.declared.scenario.PartSpec.{PartSpec as Spec}
 use Rattle.journal_audit.proofs.Finding.{passed}
 use Rattle.journal_audit.proofs.Sections.{part_coming, part_past, parts_before, parts_begun, parts_past}
 use Rattle.journal_audit.proofs.auditing.check_parts.Goals as goal

@@ -1,6 +1,6 @@
 -- A line is a text where all of it was taken and nothing else.
 use Rattle.std.proofs.Common.{◌≡◌, ◌≤◌, ℕ, Option, None, Some, Err, Bool, true, false, not, is_none, is_some, nat_eq, length, refl, sym, ap, ◌∙◌, subst}
-use Rattle.nook_defs.specs.ReportText.{part_line}
+use Rattle.report_defs.specs.ReportText.{part_line}
 use Rattle.report_text.specs.Writing.{Wrote}
 use Rattle.report_text.specs.declared.write.WriteStop.TheVariants as stops
 use Rattle.journal_audit.proofs.Taken.{Held, Written, taken_all, taken_wrong, text_kept, written_kept}

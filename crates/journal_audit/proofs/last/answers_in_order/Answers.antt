@@ -1,6 +1,6 @@
 use Rattle.std.proofs.Common.{List, [], ℕ, map, slice_index_or, ap, sym, ◌∙◌}
 use Rattle.run_laws.specs.Audit.{in_script_order}
-use Rattle.nook_defs.specs.declared.calls.Answer.{Answer}
+use Rattle.nook_data.specs.declared.calls.Answer.{Answer}
 use Rattle.journal_audit.proofs.Scripts.{order_more}
 use Rattle.journal_audit.proofs.last.answers_in_order.Goals as goal
 

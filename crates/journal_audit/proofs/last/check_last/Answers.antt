@@ -1,6 +1,6 @@
 use Rattle.std.proofs.Common.{Some, ◌++◌, [], ap, sym, subst, ◌∙◌}
 use Rattle.run_laws.specs.Audit.{last_lines}
-use Rattle.nook_defs.specs.ReportText.{status_line, taps_text, threads_text}
+use Rattle.report_defs.specs.ReportText.{status_line, taps_text, threads_text}
 use Rattle.report_text.specs.Statuses.{status_number}
 use Rattle.report_text.specs.Writing.{Wrote}
 use Rattle.journal_audit.specs.Comparisons.{Comparison, held_in, untouched}

@@ -1,6 +1,6 @@
 use Rattle.std.proofs.Common.{◌≡◌, map}
 use Rattle.journal_audit.specs.Sections.{state_in}
-use Rattle.nook_defs.specs.Simulation.{answers_of_thread}
+use Rattle.run_defs.specs.Simulation.{answers_of_thread}
 use Rattle.journal_audit.proofs.section.answers_of_each.Given as goal
 
 abbrev pub invariant-loop-thread : goal.invariant-loop-thread

@@ -1,4 +1,4 @@
-use Rattle.nook_defs.specs.Services.{served}
+use Rattle.machine_defs.specs.Services.{served}
 use Rattle.kernel_services.proofs.services.serve.Goals as goal
 
 pub returns-in-NetRx-clause-served : goal.returns-in-NetRx-clause-served

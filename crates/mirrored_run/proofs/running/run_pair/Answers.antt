@@ -1,5 +1,5 @@
 use Rattle.std.proofs.Common.{◌≡◌, ◌≤◌, List, [], ◌∷◌, length, refl, subst, sym, true}
-use Rattle.nook_defs.specs.declared.scenario.ThreadSpec.{ThreadSpec}
+use Rattle.nook_data.specs.declared.scenario.ThreadSpec.{ThreadSpec}
 use Rattle.part_server.specs.Desk.{desk_spec, desk_view}
 use Rattle.mirrored_run.specs.Mirrors.{is_single, ops_of_thread}
 use Rattle.mirrored_run.specs.Serving.{HasServed}

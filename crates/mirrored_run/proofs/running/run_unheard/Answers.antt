@@ -1,5 +1,5 @@
 use Rattle.std.proofs.Common.{◌∙◌, ap, length, List}
-use Rattle.nook_defs.specs.declared.scenario.PartSpec.{PartSpec}
+use Rattle.nook_data.specs.declared.scenario.PartSpec.{PartSpec}
 use Rattle.mirrored_run.proofs.Whole.{served_two}
 use Rattle.mirrored_run.proofs.running.run_unheard.Goals as goal
 

@@ -1,6 +1,6 @@
 use Rattle.std.proofs.Common.{Err, ap}
 use Rattle.fault_campaign.proofs.Tables.{table_exists}
-use Rattle.nook_defs.specs.Campaigns.{table_text}
+use Rattle.report_defs.specs.Campaigns.{table_text}
 use Rattle.nooks.specs.declared.program.Status.TheVariants as ended
 use Rattle.nooks.proofs.Written.{says_begun, says_cut, says_written}
 use Rattle.nooks.proofs.answering.give_table.Goals as goal

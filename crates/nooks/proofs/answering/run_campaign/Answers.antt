@@ -1,4 +1,4 @@
-use Rattle.nook_defs.specs.CampaignReading.{campaign_from}
+use Rattle.input_defs.specs.CampaignReading.{campaign_from}
 use Rattle.nooks.proofs.Campaigns.{campaign_answered}
 use Rattle.nooks.proofs.Written.{refused}
 use Rattle.command_forms.specs.declared.words.Form.TheVariants as form

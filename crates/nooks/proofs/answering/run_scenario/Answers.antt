@@ -1,4 +1,4 @@
-use Rattle.nook_defs.specs.ScenarioReading.{scenario_from}
+use Rattle.input_defs.specs.ScenarioReading.{scenario_from}
 use Rattle.command_forms.specs.declared.words.Form.TheVariants as form
 use Rattle.nooks.proofs.Written.{refused, scenario_answered}
 use Rattle.nooks.proofs.answering.run_scenario.Goals as goal

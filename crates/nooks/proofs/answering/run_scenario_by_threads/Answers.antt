@@ -1,4 +1,4 @@
-use Rattle.nook_defs.specs.ScenarioReading.{scenario_from}
+use Rattle.input_defs.specs.ScenarioReading.{scenario_from}
 use Rattle.command_forms.specs.declared.words.Form.TheVariants as form
 use Rattle.nooks.proofs.Written.{refused, scenario_answered_by_threads}
 use Rattle.nooks.proofs.answering.run_scenario_by_threads.Goals as goal

@@ -1,5 +1,5 @@
 use Rattle.std.proofs.Common.{inr}
-use Rattle.nook_defs.specs.ScenarioReading.{scenario_from}
+use Rattle.input_defs.specs.ScenarioReading.{scenario_from}
 use Rattle.nooks.proofs.Audits.{too_long_handed, verdict_answers}
 use Rattle.nooks.proofs.Written.{refused}
 use Rattle.command_forms.specs.declared.words.Form.TheVariants as form

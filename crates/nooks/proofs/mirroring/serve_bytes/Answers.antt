@@ -1,4 +1,4 @@
-use Rattle.nook_defs.specs.ScenarioReading.{scenario_from}
+use Rattle.input_defs.specs.ScenarioReading.{scenario_from}
 use Rattle.std.proofs.Common.{inl}
 use Rattle.nooks.proofs.Written.{refused}
 use Rattle.command_forms.specs.declared.words.Form.TheVariants as form

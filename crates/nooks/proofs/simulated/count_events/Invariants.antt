@@ -1,5 +1,5 @@
 use Rattle.std.proofs.Common.{◌≡◌, ◌+◌, drop, map}
-use Rattle.nook_defs.specs.ReportText.{events_count}
+use Rattle.run_defs.specs.Simulation.{events_count}
 use Rattle.run_ends.specs.Journals.{events_in}
 use Rattle.nooks.proofs.simulated.count_events.Given as goal
 

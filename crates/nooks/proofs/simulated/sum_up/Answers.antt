@@ -1,6 +1,6 @@
 use Rattle.std.proofs.Common.{[]}
 use Rattle.scenario_gen.proofs.Limits.{generated_is_valid}
-use Rattle.nook_defs.specs.Generated.{generated}
+use Rattle.run_defs.specs.Generated.{generated}
 use Rattle.nooks.proofs.Reports.{few_events_in, few_parts_in, number_is_known, summary_is}
 use Rattle.nooks.proofs.simulated.sum_up.Goals as goal
 

@@ -1,5 +1,5 @@
 use Rattle.std.proofs.Common.{◌≡◌, ◌≤◌, take, count_by}
-use Rattle.nook_defs.specs.Entries.{is_heap_use}
+use Rattle.machine_defs.specs.Entries.{is_heap_use}
 use Rattle.object_tracker.proofs.heap.heap_count.Given as goal
 
 abbrev pub invariant-loop-place : goal.invariant-loop-place

@@ -1,6 +1,6 @@
 use Rattle.std.proofs.Common.{◌≡◌, drop}
 use Rattle.std.specs.List.{list_any}
-use Rattle.nook_defs.specs.Entries.{covers_some}
+use Rattle.machine_defs.specs.Entries.{covers_some}
 use Rattle.object_tracker.proofs.heap.is_free_run.Given as goal
 
 abbrev pub invariant-loop-place : goal.invariant-loop-place

@@ -1,5 +1,5 @@
 use Rattle.std.proofs.Common.{◌≡◌, ◌+◌, ◌-◌}
-use Rattle.nook_defs.specs.Entries.{lowest_run}
+use Rattle.machine_defs.specs.Entries.{lowest_run}
 use Rattle.object_tracker.proofs.heap.lowest_run.Given as goal
 
 abbrev pub invariant-loop-start : goal.invariant-loop-start

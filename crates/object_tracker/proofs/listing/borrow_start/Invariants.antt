@@ -1,5 +1,5 @@
 use Rattle.std.proofs.Common.{◌≡◌, drop}
-use Rattle.nook_defs.specs.Entries.{borrow_start}
+use Rattle.machine_defs.specs.Entries.{borrow_start}
 use Rattle.object_tracker.proofs.listing.borrow_start.Given as goal
 
 abbrev pub invariant-loop-place : goal.invariant-loop-place

@@ -1,5 +1,5 @@
 use Rattle.std.proofs.Common.{◌≡◌, take}
-use Rattle.nook_defs.specs.Entries.{released}
+use Rattle.machine_defs.specs.Entries.{released}
 use Rattle.object_tracker.proofs.listing.held.Given as goal
 
 abbrev pub invariant-loop-place : goal.invariant-loop-place

@@ -1,5 +1,5 @@
 use Rattle.std.proofs.Common.{◌≡◌, ◌++◌, take, drop}
-use Rattle.nook_defs.specs.Entries.{with_entry}
+use Rattle.machine_defs.specs.Entries.{with_entry}
 use Rattle.object_tracker.proofs.listing.place_of.Given as goal
 
 abbrev pub invariant-loop-place : goal.invariant-loop-place

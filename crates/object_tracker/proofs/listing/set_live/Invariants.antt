@@ -1,5 +1,5 @@
 use Rattle.std.proofs.Common.{◌≡◌, ◌++◌, length, take, drop}
-use Rattle.nook_defs.specs.Entries.{registered}
+use Rattle.machine_defs.specs.Entries.{registered}
 use Rattle.object_tracker.proofs.listing.set_live.Given as goal
 
 abbrev pub invariant-loop-place : goal.invariant-loop-place

@@ -1,4 +1,4 @@
-use Rattle.nook_defs.specs.Steps.{opening}
+use Rattle.part_defs.specs.Steps.{opening}
 use Rattle.part_laws.proofs.RunsDetermined.{step_named, run_more, state_more}
 use Rattle.part_laws.proofs.steps.every_run_goes_on_by_an_enabled_step.Goals as goal
 

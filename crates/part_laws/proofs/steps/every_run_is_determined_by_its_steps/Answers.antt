@@ -1,4 +1,4 @@
-use Rattle.nook_defs.specs.Steps.{opening}
+use Rattle.part_defs.specs.Steps.{opening}
 use Rattle.part_laws.proofs.RunsDetermined.{run_made, same_steps_same_run}
 use Rattle.part_laws.proofs.steps.every_run_is_determined_by_its_steps.Goals as goal
 

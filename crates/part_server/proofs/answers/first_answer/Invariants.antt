@@ -1,5 +1,5 @@
 use Rattle.std.proofs.Common.{◌≡◌, ◌+◌, drop}
-use Rattle.nook_defs.specs.Views.CallLogs.{answered_from}
+use Rattle.part_defs.specs.Views.CallLogs.{answered_from}
 use Rattle.part_server.proofs.answers.first_answer.Given as goal
 
 abbrev pub invariant-loop-place : goal.invariant-loop-place

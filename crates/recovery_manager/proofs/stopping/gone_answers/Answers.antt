@@ -1,5 +1,5 @@
 use Rattle.std.proofs.Common.{Some, ◌+◌, arith}
-use Rattle.nook_defs.specs.declared.calls.Answer.TheVariants as answer
+use Rattle.nook_data.specs.declared.calls.Answer.TheVariants as answer
 use Rattle.recovery_manager.proofs.OpenCalls.{gone_more, long_more}
 use Rattle.recovery_manager.proofs.stopping.gone_answers.Goals as goal
 

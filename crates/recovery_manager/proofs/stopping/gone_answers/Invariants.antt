@@ -1,5 +1,5 @@
 use Rattle.std.proofs.Common.{◌≡◌, ◌++◌, ◌≤◌, length, drop, vec_capacity}
-use Rattle.nook_defs.specs.Log.{gone_answers}
+use Rattle.part_defs.specs.Log.{gone_answers}
 use Rattle.recovery_manager.proofs.stopping.gone_answers.Given as goal
 
 abbrev pub invariant-loop-i : goal.invariant-loop-i

@@ -1,5 +1,5 @@
 use Rattle.std.proofs.Common.{◌+◌, ◌∙◌, arith}
-use Rattle.nook_defs.specs.declared.steps.Stage.TheVariants as stage
+use Rattle.nook_data.specs.declared.steps.Stage.TheVariants as stage
 use Rattle.shadow_proxy.specs.Table.{answer_of}
 use Rattle.recovery_manager.proofs.OpenCalls.{answered_by_front, stop_more, queue_more, long_more}
 use Rattle.recovery_manager.proofs.stopping.shadow_answers.Goals as goal

@@ -1,5 +1,5 @@
 use Rattle.std.proofs.Common.{◌≡◌, ◌++◌, ◌≤◌, length, drop, vec_capacity}
-use Rattle.nook_defs.specs.Log.{stop_answers, stop_queue}
+use Rattle.part_defs.specs.Log.{stop_answers, stop_queue}
 use Rattle.recovery_manager.proofs.stopping.shadow_answers.Given as goal
 
 abbrev pub invariant-loop-i : goal.invariant-loop-i

@@ -1,5 +1,5 @@
 use Rattle.std.proofs.Common.{◌≡◌, ◌++◌, drop}
-use Rattle.nook_defs.specs.ReportLines.{acts_tail}
+use Rattle.report_defs.specs.ReportLines.{acts_tail}
 use Rattle.report_text.proofs.pieces.push_acts_tail.Given as goal
 
 abbrev pub invariant-loop-act : goal.invariant-loop-act

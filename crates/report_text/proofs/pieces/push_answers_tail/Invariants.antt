@@ -1,5 +1,5 @@
 use Rattle.std.proofs.Common.{◌≡◌, ◌++◌, drop}
-use Rattle.nook_defs.specs.Views.Reporting.{answers_tail}
+use Rattle.report_defs.specs.Views.Reporting.{answers_tail}
 use Rattle.report_text.proofs.pieces.push_answers_tail.Given as goal
 
 abbrev pub invariant-loop-answer : goal.invariant-loop-answer

@@ -1,5 +1,5 @@
 use Rattle.std.proofs.Common.{◌≡◌, ◌++◌, drop}
-use Rattle.nook_defs.specs.Views.Reporting.{comma_words}
+use Rattle.report_defs.specs.Views.Reporting.{comma_words}
 use Rattle.report_text.proofs.pieces.push_more_words.Given as goal
 
 abbrev pub invariant-loop-word : goal.invariant-loop-word

@@ -1,5 +1,5 @@
 use Rattle.std.proofs.Common.{◌≡◌, ◌++◌, drop}
-use Rattle.nook_defs.specs.Views.Reporting.{released_tail}
+use Rattle.report_defs.specs.Views.Reporting.{released_tail}
 use Rattle.report_text.proofs.pieces.push_released_tail.Given as goal
 
 abbrev pub invariant-loop-entry : goal.invariant-loop-entry

@@ -1,5 +1,5 @@
 use Rattle.std.proofs.Common.{◌≡◌, ◌++◌, drop}
-use Rattle.nook_defs.specs.ReportText.{block_lines}
+use Rattle.report_defs.specs.ReportText.{block_lines}
 use Rattle.report_text.proofs.whole_text.push_blocks.Given as goal
 
 abbrev pub invariant-loop-words : goal.invariant-loop-words

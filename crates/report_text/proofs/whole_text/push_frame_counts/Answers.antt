@@ -1,5 +1,5 @@
 use Rattle.std.proofs.Common.{◌++◌, codes}
-use Rattle.nook_defs.specs.ReportLines.{line_feed, with_number}
+use Rattle.report_defs.specs.ReportLines.{line_feed, with_number}
 use Rattle.report_text.specs.Whole.{kept_counts}
 use Rattle.report_text.proofs.WroteLemmas.{on_ok}
 use Rattle.report_text.proofs.WholeLemmas.{piece_more}

@@ -1,6 +1,6 @@
 use Rattle.std.proofs.Common.{◌≡◌, ◌++◌, drop}
 use Rattle.std.specs.List.{flat_map}
-use Rattle.nook_defs.specs.ReportText.{wire_line}
+use Rattle.report_defs.specs.ReportText.{wire_line}
 use Rattle.report_text.proofs.whole_text.push_frames.Given as goal
 
 abbrev pub invariant-loop-act : goal.invariant-loop-act

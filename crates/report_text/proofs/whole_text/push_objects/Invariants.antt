@@ -1,5 +1,5 @@
 use Rattle.std.proofs.Common.{◌≡◌, ◌+◌, ◌++◌, drop}
-use Rattle.nook_defs.specs.Views.Reporting.{object_line}
+use Rattle.report_defs.specs.Views.Reporting.{object_line}
 use Rattle.report_text.specs.Writing.{each_text}
 use Rattle.report_text.proofs.whole_text.push_objects.Given as goal
 

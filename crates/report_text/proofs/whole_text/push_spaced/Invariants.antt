@@ -1,6 +1,6 @@
 use Rattle.std.proofs.Common.{◌≡◌, ◌++◌, drop}
 use Rattle.std.specs.List.{flat_map}
-use Rattle.nook_defs.specs.ReportLines.{spaced}
+use Rattle.report_defs.specs.ReportLines.{spaced}
 use Rattle.report_text.proofs.whole_text.push_spaced.Given as goal
 
 abbrev pub invariant-loop-word : goal.invariant-loop-word

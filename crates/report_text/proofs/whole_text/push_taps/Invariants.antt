@@ -1,5 +1,5 @@
 use Rattle.std.proofs.Common.{◌≡◌, ◌++◌, drop}
-use Rattle.nook_defs.specs.ReportText.{taps_text}
+use Rattle.report_defs.specs.ReportText.{taps_text}
 use Rattle.report_text.proofs.whole_text.push_taps.Given as goal
 
 abbrev pub invariant-loop-tap : goal.invariant-loop-tap

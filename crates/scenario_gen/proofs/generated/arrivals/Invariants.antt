@@ -1,5 +1,5 @@
 use Rattle.std.proofs.Common.{◌≡◌}
-use Rattle.nook_defs.specs.Generated.{frames_to}
+use Rattle.run_defs.specs.Generated.{frames_to}
 use Rattle.scenario_gen.proofs.generated.arrivals.Given as goal
 
 abbrev pub invariant-loop-i : goal.invariant-loop-i

@@ -1,4 +1,4 @@
-use Rattle.nook_defs.specs.Generated.{generated}
+use Rattle.run_defs.specs.Generated.{generated}
 use Rattle.scenario_gen.proofs.Limits.{generated_is_valid}
 use Rattle.scenario_gen.proofs.generated.generate.Goals as goal
 

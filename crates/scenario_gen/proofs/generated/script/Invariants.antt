@@ -1,5 +1,5 @@
 use Rattle.std.proofs.Common.{◌≡◌}
-use Rattle.nook_defs.specs.Generated.{ops_to}
+use Rattle.run_defs.specs.Generated.{ops_to}
 use Rattle.scenario_gen.proofs.generated.script.Given as goal
 
 abbrev pub invariant-loop-place : goal.invariant-loop-place

@@ -1,6 +1,6 @@
 use Rattle.std.proofs.Common.{◌≡◌, drop}
 use Rattle.std.specs.Prelude.{nat_lt}
-use Rattle.nook_defs.specs.Campaigns.{ops_count}
+use Rattle.nook_data.specs.Members.{ops_count}
 use Rattle.scenario_read.proofs.campaign.has_many_ops.Given as goal
 
 abbrev pub invariant-loop-thread : goal.invariant-loop-thread

@@ -1,6 +1,6 @@
 use Rattle.std.proofs.Common.{◌≡◌, drop}
 use Rattle.std.specs.List.{list_all}
-use Rattle.nook_defs.specs.Views.Readings.{is_hex_digit}
+use Rattle.input_defs.specs.Views.Readings.{is_hex_digit}
 use Rattle.scenario_read.proofs.image.are_hex_digits.Given as goal
 
 abbrev pub invariant-loop-digit : goal.invariant-loop-digit

@@ -1,6 +1,6 @@
 use Rattle.std.proofs.Common.{◌≡◌, [], drop}
 use Rattle.serde_json.specs.View.{view}
-use Rattle.nook_defs.specs.ImageReading.{places_from}
+use Rattle.input_defs.specs.ImageReading.{places_from}
 use Rattle.scenario_read.proofs.image.places_of.Given as goal
 
 abbrev pub invariant-loop-key : goal.invariant-loop-key

@@ -1,6 +1,6 @@
 use Rattle.std.proofs.Common.{◌≡◌, ◌++◌, drop}
 use Rattle.std.specs.Prelude.{flat_map, string_bytes}
-use Rattle.nook_defs.specs.Faults.{step_text}
+use Rattle.input_defs.specs.Faults.{step_text}
 use Rattle.scenario_read.proofs.line.push_steps.Given as goal
 
 abbrev pub invariant-loop-step : goal.invariant-loop-step

@@ -1,6 +1,6 @@
 use Rattle.std.proofs.Common.{◌≡◌, [], drop}
 use Rattle.serde_json.specs.View.{items_view}
-use Rattle.nook_defs.specs.Reading.{items_from}
+use Rattle.input_defs.specs.Reading.{items_from}
 use Rattle.scenario_read.proofs.lists.read_items.Given as goal
 
 abbrev pub invariant-loop-value : goal.invariant-loop-value

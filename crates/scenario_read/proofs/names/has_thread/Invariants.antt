@@ -1,6 +1,6 @@
 use Rattle.std.proofs.Common.{◌≡◌, drop}
-use Rattle.nook_defs.specs.PartReading.{is_among}
-use Rattle.nook_defs.specs.ScenarioReading.{thread_names}
+use Rattle.nook_data.specs.Names.{is_among}
+use Rattle.nook_data.specs.Valid.{thread_names}
 use Rattle.scenario_read.proofs.names.has_thread.Given as goal
 
 abbrev pub invariant-loop-thread : goal.invariant-loop-thread

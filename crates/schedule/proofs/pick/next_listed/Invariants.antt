@@ -1,5 +1,5 @@
 use Rattle.std.proofs.Common.{◌≡◌, drop}
-use Rattle.nook_defs.specs.Schedules.{listed_pick}
+use Rattle.run_defs.specs.Schedules.{listed_pick}
 use Rattle.schedule.proofs.pick.next_listed.Given as goal
 
 abbrev pub invariant-loop-i : goal.invariant-loop-i

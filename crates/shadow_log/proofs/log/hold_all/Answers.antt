@@ -1,5 +1,5 @@
 use Rattle.std.proofs.lemmas.List.Edits.{map_over_more}
-use Rattle.nook_defs.specs.Log.{held_call}
+use Rattle.part_defs.specs.Log.{held_call}
 use Rattle.shadow_log.proofs.log.hold_all.Goals as goal
 
 pub loop-entry-preserved : goal.loop-entry-preserved

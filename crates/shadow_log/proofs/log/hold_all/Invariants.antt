@@ -1,5 +1,5 @@
 use Rattle.std.proofs.Common.{◌≡◌, ◌++◌, map, take, drop}
-use Rattle.nook_defs.specs.Log.{held_call}
+use Rattle.part_defs.specs.Log.{held_call}
 use Rattle.shadow_log.proofs.log.hold_all.Given as goal
 
 abbrev pub invariant-loop-entry : goal.invariant-loop-entry

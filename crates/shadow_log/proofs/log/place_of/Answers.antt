@@ -1,7 +1,7 @@
 use Rattle.std.proofs.Common.{rules, tests}
 use Rattle.std.proofs.lemmas.Iterator.{YieldsList-from_slice}
 use Rattle.std.proofs.lemmas.Iterator.Search.{position_from_yields_List}
-use Rattle.nook_defs.specs.Log.{is_call}
+use Rattle.part_defs.specs.Log.{is_call}
 use Rattle.shadow_log.proofs.Numbers.{place_is}
 use Rattle.shadow_log.proofs.log.place_of.Goals as goal
 

@@ -1,5 +1,5 @@
 use Rattle.std.proofs.Common.{◌≡◌, ◌++◌, drop, take}
-use Rattle.nook_defs.specs.Simulation.{threads_after}
+use Rattle.run_defs.specs.Simulation.{threads_after}
 use Rattle.sim_run.specs.Able.{AreAbleUpTo}
 use Rattle.sim_run.proofs.simulating.hear_all.Given as goal
 

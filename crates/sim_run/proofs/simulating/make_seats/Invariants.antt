@@ -1,5 +1,5 @@
 use Rattle.std.proofs.Common.{◌≡◌, map, take}
-use Rattle.nook_defs.specs.Simulation.{opening_part}
+use Rattle.run_defs.specs.Simulation.{opening_part}
 use Rattle.sim_run.proofs.simulating.make_seats.Given as goal
 
 abbrev pub invariant-loop-spec : goal.invariant-loop-spec

@@ -1,5 +1,5 @@
 use Rattle.std.proofs.Common.{◌≡◌, map}
-use Rattle.nook_defs.specs.Simulation.{answers_of_thread}
+use Rattle.run_defs.specs.Simulation.{answers_of_thread}
 use Rattle.sim_run.proofs.simulating.take_answers.Given as goal
 
 abbrev pub invariant-loop-thread : goal.invariant-loop-thread

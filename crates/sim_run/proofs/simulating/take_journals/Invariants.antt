@@ -1,5 +1,5 @@
 use Rattle.std.proofs.Common.{◌≡◌, map}
-use Rattle.nook_defs.specs.Simulation.{journal_of}
+use Rattle.run_defs.specs.Simulation.{journal_of}
 use Rattle.run_ends.specs.Journals.{events_in}
 use Rattle.sim_run.proofs.simulating.take_journals.Given as goal
 

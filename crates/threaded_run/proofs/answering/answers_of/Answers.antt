@@ -1,7 +1,7 @@
 use Rattle.std.proofs.Common.{refl, ◌∙◌, ap, ◌+◌, ◌++◌, List, [], ◌∷◌, ℕ, drop}
 use Rattle.std.specs.Vec.Iter.{into_iter_items, into_iter_len}
-use Rattle.nook_defs.specs.declared.calls.Answer.{Answer}
-use Rattle.nook_defs.specs.declared.calls.Op.{Op}
+use Rattle.nook_data.specs.declared.calls.Answer.{Answer}
+use Rattle.nook_data.specs.declared.calls.Op.{Op}
 use Rattle.threaded_run.proofs.Answered.{in_none, zipped_more, zipped_none}
 use Rattle.threaded_run.specs.Leaving.{answers_in}
 use Rattle.threaded_run.specs.Threaded.{answers_by}

@@ -1,5 +1,5 @@
 use Rattle.std.proofs.Common.{◌≡◌, subst}
-use Rattle.nook_defs.specs.Runs.{IsRun, state_of}
+use Rattle.part_defs.specs.Runs.{IsRun, state_of}
 use Rattle.part_server.specs.Desk.{desk_spec, desk_view}
 use Rattle.threaded_run.proofs.Closed.{left_of}
 use Rattle.threaded_run.proofs.closing.leave.Goals as goal

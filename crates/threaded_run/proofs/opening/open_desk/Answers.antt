@@ -1,7 +1,7 @@
 use Rattle.std.proofs.Common.{◌≡◌, ◌∙◌, IfOk, ap, subst}
 use Rattle.part_laws.proofs.DeviceStays.{opening_spec}
-use Rattle.nook_defs.specs.declared.scenario.PartSpec.{PartSpec}
-use Rattle.nook_defs.specs.Runs.{PartRun}
+use Rattle.nook_data.specs.declared.scenario.PartSpec.{PartSpec}
+use Rattle.part_defs.specs.Runs.{PartRun}
 use Rattle.part_server.specs.Desk.{desk_spec}
 use Rattle.threaded_run.proofs.opening.open_desk.Goals as goal
 

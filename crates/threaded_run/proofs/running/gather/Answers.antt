@@ -1,5 +1,5 @@
 use Rattle.std.proofs.Common.{◌∙◌, ap, List, map}
-use Rattle.nook_defs.specs.declared.scenario.ThreadSpec.{ThreadSpec}
+use Rattle.nook_data.specs.declared.scenario.ThreadSpec.{ThreadSpec}
 use Rattle.part_server.specs.Desk.{desk_spec, desk_view}
 use Rattle.threaded_run.proofs.Threading.{made_by_threads}
 use Rattle.threaded_run.specs.Leaving.{answers_in}

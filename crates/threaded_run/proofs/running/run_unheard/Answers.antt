@@ -2,9 +2,9 @@ use Rattle.std.proofs.Common.{◌≡◌, ◌∙◌, ap, length, ◌++◌, map, s
 use Rattle.std.specs.Prelude.{All}
 use Rattle.std.proofs.lemmas.List.{length-map}
 use Rattle.app_threads.specs.Workers.{AreArrivals, AreSeats}
-use Rattle.nook_defs.specs.declared.scenario.PartSpec.{PartSpec}
+use Rattle.nook_data.specs.declared.scenario.PartSpec.{PartSpec}
 use Rattle.part_server.specs.Desk.{IsDeskSeat, desk_spec, desk_view}
-use Rattle.nook_defs.specs.Valid.{IsValidPart}
+use Rattle.nook_data.specs.Valid.{IsValidPart}
 use Rattle.threaded_run.proofs.Closed.{lent_whole}
 use Rattle.threaded_run.proofs.Refusing.{only_for_memory}
 use Rattle.threaded_run.proofs.Working.{arrivals_fit, gathered, left_alone, scripts_fit}

@@ -1,6 +1,6 @@
 use Rattle.std.proofs.Common.{◌≡◌, Option, None, arith, ◌∙◌, sym}
 use Rattle.std.proofs.lemmas.Result.{err_from_is_err_and}
-use Rattle.nook_defs.specs.Burst.{trap_of}
+use Rattle.machine_defs.specs.Burst.{trap_of}
 use Rattle.turn_trace.proofs.Going.{none_of, still_cut, strike_cut, strikes_more, strikes_on}
 use Rattle.turn_trace.proofs.tracing.strike_due.Goals as goal
 

@@ -1,6 +1,6 @@
 use Rattle.std.proofs.Common.{◌≡◌, length}
 use Rattle.driver_isa.specs.Turns.{machine_of}
-use Rattle.nook_defs.specs.Burst.{strikes_at}
+use Rattle.machine_defs.specs.Burst.{strikes_at}
 use Rattle.report_text.proofs.WroteLemmas.{Progress}
 use Rattle.turn_trace.proofs.Going.{strike_lines_at}
 use Rattle.turn_trace.proofs.tracing.strike_due.Given as goal

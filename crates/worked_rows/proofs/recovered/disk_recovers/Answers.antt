@@ -1,5 +1,5 @@
 use Rattle.std.proofs.Common.{refl}
-use Rattle.nook_defs.proofs.OnLiterals.{nook_on_literals}
+use Rattle.worked_rows.proofs.OnLiterals.{nook_on_literals}
 use Rattle.worked_rows.proofs.recovered.disk_recovers.Goals as goal
 
 pub returns : goal.returns

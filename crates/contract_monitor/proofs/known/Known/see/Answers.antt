@@ -1,5 +1,5 @@
 use Rattle.std.proofs.Common.{ap, ◌∙◌}
-use Rattle.nook_defs.specs.Answers.{one_answer}
+use Rattle.nook_data.specs.Answers.{one_answer}
 use Rattle.contract_monitor.specs.Keeping.{kept_burst}
 use Rattle.contract_monitor.proofs.Bursts.{burst_after, none_answered}
 use Rattle.contract_monitor.proofs.known.Known.see.Goals as goal

@@ -1,6 +1,6 @@
 use Rattle.std.proofs.Common.{◌≡◌, take, map}
 use Rattle.std.specs.List.{fold}
-use Rattle.nook_defs.specs.Contract.{acts}
+use Rattle.promise_defs.specs.Contract.{acts}
 use Rattle.contract_monitor.specs.Judging.{first_broken}
 use Rattle.contract_monitor.specs.Keeping.{kept_act}
 use Rattle.contract_monitor.proofs.known.Known.see_acts.Given as goal

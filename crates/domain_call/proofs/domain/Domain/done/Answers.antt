@@ -1,5 +1,5 @@
 use Rattle.std.proofs.Common.{◌∙◌, ap}
-use Rattle.nook_defs.specs.Views.PageMap.{lent_contexts}
+use Rattle.machine_defs.specs.Views.PageMap.{lent_contexts}
 use Rattle.domain_call.proofs.Loans.{lent_served}
 use Rattle.domain_call.proofs.domain.Domain.done.Goals as goal
 

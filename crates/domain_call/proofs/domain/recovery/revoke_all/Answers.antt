@@ -1,5 +1,5 @@
 use Rattle.std.proofs.Common.{◌∙◌, ◌+◌, false, slice_set, arith, ap}
-use Rattle.nook_defs.specs.Views.PageMap.{PageMap}
+use Rattle.machine_defs.specs.Views.PageMap.{PageMap}
 use Rattle.domain_call.proofs.Loans.{ended_more, all_ended}
 use Rattle.domain_call.proofs.domain.recovery.revoke_all.Goals as goal
 

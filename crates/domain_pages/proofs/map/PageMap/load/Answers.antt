@@ -1,6 +1,6 @@
 use Rattle.std.proofs.Common.{◌∙◌, length, ap}
 use Rattle.std.specs.Vec.{with_items}
-use Rattle.nook_defs.proofs.Padded.{length-padded_words}
+use Rattle.machine_defs.proofs.Padded.{length-padded_words}
 use Rattle.domain_pages.proofs.Shown.{framed_opening}
 use Rattle.domain_pages.proofs.Texts.{pages_with, text_loaded, text_opening}
 use Rattle.domain_pages.proofs.map.PageMap.load.Goals as goal

@@ -1,5 +1,5 @@
 use Rattle.std.proofs.Common.{◌≡◌, drop}
-use Rattle.nook_defs.specs.AsmLines.{first_of}
+use Rattle.asm_defs.specs.AsmLines.{first_of}
 use Rattle.driver_asm.proofs.labels.LabelTable.is_other_line.Given as goal
 
 abbrev pub invariant-loop-label : goal.invariant-loop-label

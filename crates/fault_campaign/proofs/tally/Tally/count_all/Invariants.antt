@@ -1,6 +1,6 @@
 use Rattle.std.proofs.Common.{◌≡◌, ◌++◌, List, take}
 use Rattle.fault_campaign.specs.Tallies.{tally_of}
-use Rattle.nook_defs.specs.declared.campaign.MemberRow.{MemberRow}
+use Rattle.nook_data.specs.declared.campaign.MemberRow.{MemberRow}
 use Rattle.fault_campaign.proofs.tally.Tally.count_all.Given as goal
 
 abbrev pub invariant-loop-row : goal.invariant-loop-row

@@ -1,5 +1,5 @@
 use Rattle.std.proofs.Common.{◌≡◌, List, [], ℕ, map, take, slice_index_or}
-use Rattle.nook_defs.specs.declared.calls.Answer.{Answer}
+use Rattle.nook_data.specs.declared.calls.Answer.{Answer}
 use Rattle.journal_audit.proofs.last.Given.new.Given as goal
 
 abbrev pub invariant-loop-section : goal.invariant-loop-section

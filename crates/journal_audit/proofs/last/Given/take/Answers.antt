@@ -1,6 +1,6 @@
 use Rattle.std.proofs.Common.{◌<◌, ap, ◌∙◌, sym, List, [], ℕ, length, get_or, set, Bor, arith}
 use Rattle.std.proofs.lemmas.List.{get_or-map, map-set}
-use Rattle.nook_defs.specs.declared.calls.Answer.{Answer}
+use Rattle.nook_data.specs.declared.calls.Answer.{Answer}
 use Rattle.journal_audit.proofs.last.Given.take.Goals as goal
 
 pub returns : goal.returns

@@ -1,5 +1,5 @@
 use Rattle.std.proofs.Common.{refl}
-use Rattle.nook_defs.specs.ReportText.{has_break, has_given_up}
+use Rattle.report_defs.specs.ReportText.{has_break, has_given_up}
 use Rattle.request_taps.specs.Bus.{told_all}
 use Rattle.journal_audit.proofs.tally.Tally.new.Goals as goal
 

@@ -1,5 +1,5 @@
 use Rattle.std.proofs.Common.{◌<◌, ◌^◌}
-use Rattle.nook_defs.specs.Runs.{PartRun}
+use Rattle.part_defs.specs.Runs.{PartRun}
 use Rattle.part_core.proofs.Kept.{sound}
 use Rattle.part_core.proofs.part.Part.bursts.Goals as goal
 

@@ -1,5 +1,5 @@
 use Rattle.std.proofs.Common.{◌≡◌, drop}
-use Rattle.nook_defs.specs.Runs.{next_of_calls}
+use Rattle.part_defs.specs.Runs.{next_of_calls}
 use Rattle.part_core.proofs.state.State.next_of_calls.Given as goal
 
 abbrev pub invariant-loop-entry : goal.invariant-loop-entry

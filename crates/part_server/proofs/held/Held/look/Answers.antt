@@ -1,5 +1,5 @@
 use Rattle.std.proofs.Common.{sym, ◌∙◌, ap}
-use Rattle.nook_defs.specs.Runs.{PartRun}
+use Rattle.part_defs.specs.Runs.{PartRun}
 use Rattle.part_server.proofs.Steps.{look_answers, look_gives, look_place}
 use Rattle.part_server.proofs.held.Held.look.Goals as goal
 

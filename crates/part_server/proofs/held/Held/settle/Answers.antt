@@ -1,5 +1,5 @@
 use Rattle.std.proofs.Common.{◌≡◌, Some, sym, ◌∙◌, subst}
-use Rattle.nook_defs.specs.Runs.{PartRun, next_any}
+use Rattle.part_defs.specs.Runs.{PartRun, next_any}
 use Rattle.part_server.proofs.Steps.{settle_gives}
 use Rattle.part_server.proofs.held.Held.settle.Goals as goal
 

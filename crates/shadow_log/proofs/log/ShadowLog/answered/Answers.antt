@@ -1,6 +1,6 @@
 use Rattle.std.proofs.Common.{rules, not}
 use Rattle.std.proofs.lemmas.Fn.{filter_same}
-use Rattle.nook_defs.specs.Log.{is_call}
+use Rattle.part_defs.specs.Log.{is_call}
 use Rattle.shadow_log.proofs.Numbers.{numbered_filter}
 use Rattle.shadow_log.proofs.Changes.{answered_is}
 use Rattle.shadow_log.proofs.log.ShadowLog.answered.Goals as goal

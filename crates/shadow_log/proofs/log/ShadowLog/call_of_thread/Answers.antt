@@ -1,7 +1,7 @@
 use Rattle.std.proofs.Common.{rules, tests}
 use Rattle.std.proofs.lemmas.Iterator.{YieldsList-from_slice}
 use Rattle.std.proofs.lemmas.Iterator.Search.{find_from_yields_List}
-use Rattle.nook_defs.proofs.Cases.{is_of_thread}
+use Rattle.part_defs.proofs.PartCases.{is_of_thread}
 use Rattle.shadow_log.proofs.Numbers.{lent_open}
 use Rattle.shadow_log.proofs.log.ShadowLog.call_of_thread.Goals as goal
 

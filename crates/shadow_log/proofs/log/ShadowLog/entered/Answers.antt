@@ -1,5 +1,5 @@
 use Rattle.std.proofs.Common.{refl}
-use Rattle.nook_defs.proofs.Cases.{entered_call}
+use Rattle.part_defs.proofs.PartCases.{entered_call}
 use Rattle.shadow_log.specs.Places.{IsPlace}
 use Rattle.shadow_log.proofs.Numbers.{numbered_set}
 use Rattle.shadow_log.proofs.Changes.{entered_at, entered_nowhere}

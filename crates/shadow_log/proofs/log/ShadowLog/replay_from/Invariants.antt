@@ -1,5 +1,5 @@
 use Rattle.std.proofs.Common.{◌≡◌, ◌-◌}
-use Rattle.nook_defs.specs.Log.{next_replay}
+use Rattle.part_defs.specs.Log.{next_replay}
 use Rattle.shadow_log.proofs.log.ShadowLog.replay_from.Given as goal
 
 abbrev pub invariant-loop-key : goal.invariant-loop-key

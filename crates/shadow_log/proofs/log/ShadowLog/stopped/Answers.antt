@@ -2,7 +2,7 @@ use Rattle.std.proofs.Common.{rules, ◌≡◌, map, filter, length, ap, ◌∙�
 use Rattle.std.specs.Vec.{with_items}
 use Rattle.std.proofs.lemmas.List.{with_items_is, length-map}
 use Rattle.std.proofs.lemmas.Fn.{filter_same}
-use Rattle.nook_defs.specs.Log.{held_call}
+use Rattle.part_defs.specs.Log.{held_call}
 use Rattle.shadow_log.specs.Stopped.{is_unanswered}
 use Rattle.shadow_log.proofs.Changes.{numbered_stop, after_answers_is}
 use Rattle.shadow_log.proofs.log.ShadowLog.stopped.Goals as goal

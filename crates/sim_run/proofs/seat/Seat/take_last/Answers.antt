@@ -1,5 +1,5 @@
 use Rattle.std.proofs.Common.{◌∙◌, ap}
-use Rattle.nook_defs.specs.Simulation.{RunningPart}
+use Rattle.run_defs.specs.Simulation.{RunningPart}
 use Rattle.sim_run.proofs.Seeking.{last_shown}
 use Rattle.sim_run.proofs.seat.Seat.take_last.Goals as goal
 

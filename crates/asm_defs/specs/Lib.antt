@@ -1,0 +1,9 @@
+pub mod Types
+pub mod Views
+pub mod Keys
+pub mod Results
+pub mod AsmTokens
+pub mod AsmLines
+pub mod Assembler
+pub mod Disassembler
+pub mod ImageText

@@ -1,0 +1,130 @@
+//! The keys of the formats' objects with their texts, and the entries of each class: the one table that whatever reads
+//! or writes them uses.
+
+ghost use Rattle.std.specs.Prelude.{◌≡◌, length};
+ghost use Rattle.nook_data.specs.Classes.{entry_count};
+ghost use Rattle.asm_defs.specs.Keys.{entry_keys, key_text};
+
+use nook_data::classes::Class;
+
+/// A key of an object of the formats.
+#[derive(Clone, Copy, PartialEq, Eq)]
+pub enum Key {
+    Address,
+    After,
+    Arrivals,
+    Asm,
+    Bad,
+    Base,
+    Block,
+    Blocks,
+    Burst,
+    Class,
+    Close,
+    Count,
+    Data,
+    Driver,
+    Entries,
+    Faults,
+    First,
+    Frame,
+    Get,
+    Image,
+    Init,
+    Key,
+    Kind,
+    Limit,
+    Name,
+    Op,
+    Open,
+    Ops,
+    Part,
+    Parts,
+    Picks,
+    Play,
+    Poll,
+    Read,
+    Register,
+    Samples,
+    Schedule,
+    Send,
+    Set,
+    Start,
+    Text,
+    Threads,
+    Value,
+    Version,
+    Write,
+}
+
+/// The text of a key.
+pub fn key_text(key: Key) -> &'static str
+    ensures { result.now ≡ key_text key }
+{
+    match key {
+        Key::Address => "address",
+        Key::After => "after",
+        Key::Arrivals => "arrivals",
+        Key::Asm => "asm",
+        Key::Bad => "bad",
+        Key::Base => "base",
+        Key::Block => "block",
+        Key::Blocks => "blocks",
+        Key::Burst => "burst",
+        Key::Class => "class",
+        Key::Close => "close",
+        Key::Count => "count",
+        Key::Data => "data",
+        Key::Driver => "driver",
+        Key::Entries => "entries",
+        Key::Faults => "faults",
+        Key::First => "first",
+        Key::Frame => "frame",
+        Key::Get => "get",
+        Key::Image => "image",
+        Key::Init => "init",
+        Key::Key => "key",
+        Key::Kind => "kind",
+        Key::Limit => "limit",
+        Key::Name => "name",
+        Key::Op => "op",
+        Key::Open => "open",
+        Key::Ops => "ops",
+        Key::Part => "part",
+        Key::Parts => "parts",
+        Key::Picks => "picks",
+        Key::Play => "play",
+        Key::Poll => "poll",
+        Key::Read => "read",
+        Key::Register => "register",
+        Key::Samples => "samples",
+        Key::Schedule => "schedule",
+        Key::Send => "send",
+        Key::Set => "set",
+        Key::Start => "start",
+        Key::Text => "text",
+        Key::Threads => "threads",
+        Key::Value => "value",
+        Key::Version => "version",
+        Key::Write => "write",
+    }
+}
+
+/// The entries of a class, in the class's order.
+pub fn entry_keys(class: Class) -> &'static [Key]
+    ensures entries { result.now ≡ entry_keys class }
+    ensures count { length result.now ≡ entry_count class }
+{
+    match class {
+        Class::Block => &[Key::Init, Key::Read, Key::Write, Key::Get, Key::Set],
+        Class::Net => &[Key::Init, Key::Send, Key::Poll, Key::Get, Key::Set],
+        Class::Sound => &[
+            Key::Init,
+            Key::Open,
+            Key::Play,
+            Key::Close,
+            Key::Get,
+            Key::Set,
+        ],
+    }
+}

@@ -1,0 +1,4 @@
+pub mod BurstTurns
+pub mod DeviceClasses
+pub mod Padded
+pub mod MachineCases

@@ -1,0 +1,10 @@
+pub mod Views
+pub mod Machine
+pub mod Mnemonics
+pub mod Pages
+pub mod Turn
+pub mod Burst
+pub mod BurstFaults
+pub mod Devices
+pub mod Entries
+pub mod Services

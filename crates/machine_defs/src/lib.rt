@@ -1,0 +1,2 @@
+//! Definitions of the driver machine: instructions, pages, devices, what a driver holds, and the kernel's services.
+#![tactic(auto)]

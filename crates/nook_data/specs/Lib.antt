@@ -1,0 +1,12 @@
+pub mod Types
+pub mod Views
+pub mod Names
+pub mod Classes
+pub mod ClassNames
+pub mod Clauses
+pub mod Answers
+pub mod Frames
+pub mod Layout
+pub mod Places
+pub mod Valid
+pub mod Members

@@ -1,0 +1,23 @@
+use Rattle.std.specs.Prelude.{◌^◌, ◌<◌, ℕ, ◌-◌, ◌<◌, ◌≤◌, List, length}
+use Rattle.nook_data.specs.declared.limits.TheConstants.{MOST_FRAME_WORDS}
+use Rattle.nook_data.specs.declared.memory_map.TheConstants.{TEXT_WORDS}
+use Rattle.nook_data.specs.Types.{Op}
+use Rattle.nook_data.specs.Valid.{AreWords, IsValidOp}
+
+-- Names for limits of single things, by which the laws of what is read and written speak of them.
+
+-- a place in the text
+abbrev pub IsTextPlace : ℕ → Type 0
+IsTextPlace place = place ≤ TEXT_WORDS - 1
+
+-- 1 to 64 words
+abbrev pub IsValidFrame : List ℕ → Type 0
+IsValidFrame frame = (1 ≤ length frame) × AreWords MOST_FRAME_WORDS frame
+
+-- a script's step, on one of so many parts
+abbrev pub IsValidStep : ℕ → ℕ × Op → Type 0
+IsValidStep parts step = (step.0 < parts) × IsValidOp step.1
+
+-- a number of 16 bits
+abbrev pub IsPick : ℕ → Type 0
+IsPick pick = pick < 2 ^ 16

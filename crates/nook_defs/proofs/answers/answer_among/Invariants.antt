@@ -1,6 +1,0 @@
-use Rattle.std.proofs.Common.{◌≡◌, drop}
-use Rattle.nook_defs.specs.Runs.{answer_among}
-use Rattle.nook_defs.proofs.answers.answer_among.Given as goal
-
-abbrev pub invariant-loop-this : goal.invariant-loop-this
-invariant-loop-this l = answer_among l.call (drop l.this-index l.answers) ≡ answer_among l.call l.answers

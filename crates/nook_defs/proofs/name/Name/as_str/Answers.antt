@@ -1,5 +1,0 @@
-use Rattle.nook_defs.proofs.NameText.{name_utf8}
-use Rattle.nook_defs.proofs.name.Name.as_str.Goals as goal
-
-pub unreachable-requires : goal.unreachable-requires
-unreachable-requires c = c.in-Err.ensures.cases.0 (name_utf8 _ c.self.invariant.1)

@@ -1,0 +1,105 @@
+//! The traits of the outside: where bytes come from and go to, what holds a worker back, who listens, and where
+//! the shadow takes received frames from.
+//!
+//! A source and a sink each have a count of their faults, which never falls: so what fails is told apart from
+//! what claims to fail. A count that stands at the end of its type, 2^64 - 1, may come with a fault as it is.
+
+ghost use Rattle.std.specs.Prelude.{◌≡◌, ◌<◌, ◌≤◌, ℕ, List, Option, length};
+ghost use Rattle.std.specs.Io.{ReadsAtMost, WritesAtMost};
+ghost use Rattle.std.specs.Io.KnownBytes.{ReadConsumes, WriteAppends};
+ghost use Rattle.nook_io.specs.Views.Causes.{HasCause, HasWriteCause};
+ghost use Rattle.nook_data.specs.Frames.{tail_of};
+ghost use Rattle.nook_io.specs.Listening.{Listening, heard};
+ghost use Rattle.nook_data.specs.Frames.{front_of};
+
+use nook_data::lists::Words;
+use nook_data::steps::Event;
+
+/// A read or a write failed.
+#[derive(Clone, Copy, Debug, PartialEq, Eq)]
+pub struct Failed;
+
+/// Where input comes from.
+pub trait Source {
+    // the bytes that are left, where the source tells them, and its count of faults
+    ghost left: { Self → Option (List ℕ) };
+
+    ghost count: { Self → ℕ };
+
+    /// Gives the next bytes, at most as many as the buffer has place for. None at all come only at the end of
+    /// input. `Failed` comes only where the count of faults rose, and takes no bytes.
+    fn read(&mut self, buf: &mut [u8]) -> Result<usize, Failed>
+        requires { 0 < length buf.old }
+        ensures bound { ReadsAtMost result buf.new }
+        ensures bytes { ReadConsumes (left self.old) (left self.new) result buf.new }
+        ensures cause { HasCause (count self.old) (count self.new) result };
+
+    /// The number of faults so far.
+    fn faults(&self) -> u64
+        ensures { result ≡ count self.now };
+}
+
+/// Where output goes.
+pub trait Sink {
+    // the bytes that it holds, where the sink tells them, and its count of faults
+    ghost held: { Self → Option (List ℕ) };
+
+    ghost count: { Self → ℕ };
+
+    /// Takes bytes from the front of the piece and says how many. `Ok(0)` and `Failed` come only where the
+    /// count of faults rose, and take nothing.
+    fn write(&mut self, piece: &[u8]) -> Result<usize, Failed>
+        requires { 0 < length piece.now }
+        ensures bound { WritesAtMost result piece.now }
+        ensures bytes { WriteAppends (held self.old) (held self.new) result piece.now }
+        ensures cause { HasWriteCause (count self.old) (count self.new) result };
+
+    /// The number of faults so far.
+    fn faults(&self) -> u64
+        ensures { result ≡ count self.now };
+}
+
+/// What may hold a worker back.
+pub trait Gate: Sync {
+    /// A thread's worker calls it once before each operation, with the operation's place in the script,
+    /// counted from 0, and outside every turn. It may wait.
+    fn pass(&self, thread: u8, place: u32);
+}
+
+/// Who hears the events of a run.
+pub trait Listener: Drop {
+    ghost listening: { Self → Listening };
+
+    /// A bit for each part that it hears, part 0 the lowest.
+    fn part_mask(&self) -> u8
+        ensures { result ≡ (listening self.now).part_mask };
+
+    /// A bit for each kind of event that it hears.
+    fn kind_mask(&self) -> u8
+        ensures { result ≡ (listening self.now).kind_mask };
+
+    /// The total at which it has heard enough.
+    fn limit(&self) -> u64
+        ensures { result ≡ (listening self.now).limit };
+
+    /// How many events it has heard.
+    fn total(&self) -> u64
+        ensures { result ≡ (listening self.now).total };
+
+    /// Hears an event of a part: the total rises by one exactly where the part's bit and a bit of the event's
+    /// kinds are in the masks.
+    fn hear(&mut self, part: u8, event: &Event)
+        requires { (listening self.old).total < (listening self.old).limit }
+        ensures { listening self.new ≡ heard part event.now (listening self.old) };
+}
+
+/// The kernel's receive queue, as the shadow takes from it.
+pub trait RxFront {
+    // the frames that wait, the oldest first
+    ghost frames: { Self → List (List ℕ) };
+
+    /// Takes the oldest frame, where one waits. It takes no memory.
+    fn take_front(&mut self) -> Option<Words>
+        ensures taken { result ≡ front_of (frames self.old) }
+        ensures left { frames self.new ≡ tail_of (frames self.old) };
+}

@@ -1,0 +1,9 @@
+pub mod Views
+pub mod State
+pub mod Log
+pub mod Calls
+pub mod Domain
+pub mod Crossing
+pub mod Stages
+pub mod Steps
+pub mod Runs

@@ -1,0 +1,2 @@
+//! Definitions of a part: its log, its domain, its stages, its steps and its runs.
+#![tactic(auto)]

@@ -1,0 +1,2 @@
+pub mod PromiseCases
+pub mod PromiseChanges

@@ -1,0 +1,4 @@
+pub mod Views
+pub mod ReportLines
+pub mod ReportText
+pub mod Campaigns

@@ -1,0 +1,2 @@
+pub mod ChoicesInOrder
+pub mod RunChanges

@@ -1,0 +1,4 @@
+pub mod Schedules
+pub mod Simulation
+pub mod References
+pub mod Generated

@@ -1,0 +1,2 @@
+//! Definitions of whole runs: the schedule, the simulation of a scenario, and the generated scenarios.
+#![tactic(auto)]

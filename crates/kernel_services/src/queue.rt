@@ -8,7 +8,7 @@ ghost use Rattle.kernel_services.specs.Outcome.{with_frame};
 use nook_data::limits::MOST_QUEUED_FRAMES;
 use nook_data::lists::Words;
 use nook_data::memory::NoMemory;
-use nook_io::outside::RxFront;
+use nook_data::rx_front::RxFront;
 use std::alloc::Global;
 use std::collections::VecDeque;
 use std::marker::Model;

@@ -20,6 +20,7 @@ pub mod memory_map;
 pub mod mirror;
 pub mod name;
 pub mod ring;
+pub mod rx_front;
 pub mod scenario;
 pub mod steps;
 pub mod verdicts;

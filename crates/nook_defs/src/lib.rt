@@ -6,6 +6,6 @@ pub use asm_defs::{assembler, keys};
 pub use input_defs::input;
 pub use nook_data::{
     answers, calls, campaign, classes, clause, desks, devices, entries, journal, limits, lists,
-    machine, memory, memory_map, mirror, name, ring, scenario, steps, verdicts,
+    machine, memory, memory_map, mirror, name, ring, rx_front, scenario, steps, verdicts,
 };
 pub use nook_io::{listeners, outside, standard_streams, streams_in_memory, whole};

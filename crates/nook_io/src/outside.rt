@@ -1,5 +1,4 @@
-//! The traits of the outside: where bytes come from and go to, what holds a worker back, who listens, and where
-//! the shadow takes received frames from.
+//! The traits of the outside: where bytes come from and go to, what holds a worker back, and who listens.
 //!
 //! A source and a sink each have a count of their faults, which never falls: so what fails is told apart from
 //! what claims to fail. A count that stands at the end of its type, 2^64 - 1, may come with a fault as it is.
@@ -8,11 +7,8 @@ ghost use Rattle.std.specs.Prelude.{◌≡◌, ◌<◌, ◌≤◌, ℕ, List, Op
 ghost use Rattle.std.specs.Io.{ReadsAtMost, WritesAtMost};
 ghost use Rattle.std.specs.Io.KnownBytes.{ReadConsumes, WriteAppends};
 ghost use Rattle.nook_io.specs.Views.Causes.{HasCause, HasWriteCause};
-ghost use Rattle.nook_data.specs.Frames.{tail_of};
 ghost use Rattle.nook_io.specs.Listening.{Listening, heard};
-ghost use Rattle.nook_data.specs.Frames.{front_of};
 
-use nook_data::lists::Words;
 use nook_data::steps::Event;
 
 /// A read or a write failed.
@@ -91,15 +87,4 @@ pub trait Listener: Drop {
     fn hear(&mut self, part: u8, event: &Event)
         requires { (listening self.old).total < (listening self.old).limit }
         ensures { listening self.new ≡ heard part event.now (listening self.old) };
-}
-
-/// The kernel's receive queue, as the shadow takes from it.
-pub trait RxFront {
-    // the frames that wait, the oldest first
-    ghost frames: { Self → List (List ℕ) };
-
-    /// Takes the oldest frame, where one waits. It takes no memory.
-    fn take_front(&mut self) -> Option<Words>
-        ensures taken { result ≡ front_of (frames self.old) }
-        ensures left { frames self.new ≡ tail_of (frames self.old) };
 }

@@ -11,8 +11,8 @@ use crate::state::State;
 use nook_data::calls::{Answer, Op};
 use nook_data::classes::{Admit, Class, ClassState};
 use nook_data::lists::Words;
+use nook_data::rx_front::RxFront;
 use nook_data::steps::Event;
-use nook_io::outside::RxFront;
 
 impl State {
     /// A thread's Held call is answered by its class, or goes Inside with its parameters copied from the log. It takes

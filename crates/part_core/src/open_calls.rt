@@ -13,7 +13,7 @@ use nook_data::calls::{Answer, CallAnswers, CallEntry, Op};
 use nook_data::classes::Class;
 use nook_data::lists::Word;
 use nook_data::memory::NoMemory;
-use nook_io::outside::RxFront;
+use nook_data::rx_front::RxFront;
 use shadow_log::ShadowLog;
 use std::alloc::Global;
 use std::marker::Model;

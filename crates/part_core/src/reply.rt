@@ -18,8 +18,8 @@ use nook_data::calls::{Answer, CallEntry, Op};
 use nook_data::classes::{Accept, Class};
 use nook_data::limits::{BLOCK_WORDS, CONTEXTS, SHADOW};
 use nook_data::lists::Words;
+use nook_data::rx_front::RxFront;
 use nook_data::steps::{End, FailCause, Mode, Stage};
-use nook_io::outside::RxFront;
 
 impl State {
     /// A reply to the shadow, or to an application's call.

@@ -7,8 +7,8 @@ ghost use Rattle.shadow_proxy.specs.Table.{answer_of};
 
 use nook_data::calls::{Answer, CallAnswers};
 use nook_data::memory::{NoMemory, Room};
+use nook_data::rx_front::RxFront;
 use nook_data::steps::Stage;
-use nook_io::outside::RxFront;
 use shadow_log::ShadowLog;
 use shadow_proxy::{Proxy, front_for, proxy};
 use std::alloc::Global;

@@ -8,8 +8,8 @@ ghost use Rattle.shadow_proxy.specs.Table.{answer_of, queue_of};
 use crate::decision::Proxy;
 use nook_data::calls::{Answer, Op};
 use nook_data::lists::Words;
+use nook_data::rx_front::RxFront;
 use nook_data::steps::Stage;
-use nook_io::outside::RxFront;
 use shadow_log::ShadowLog;
 
 /// The shadow's table. `front` is the frame that the caller took from the kernel's queue for a Recv. It takes

@@ -2,3 +2,5 @@ pub mod BurstTurns
 pub mod DeviceClasses
 pub mod Padded
 pub mod MachineCases
+pub mod BurstKeeps
+pub mod BurstClasses

@@ -30,7 +30,7 @@ use Rattle.mirrored_run.specs.Mirrors.{IsMirrorRun, is_mirror, mirror_status}
 use Rattle.report_text.specs.Mirrored.{mirror_report_text}
 use Rattle.sim_run.specs.Published.{published}
 use Rattle.threaded_run.specs.Threaded.{AreAnswered, IsThreaded, in_parts}
-use Rattle.part_laws.specs.Headline.{AreSafe}
+use Rattle.headline_laws.specs.Headline.{AreSafe}
 use Rattle.image_list.specs.ListText.{list_text}
 use Rattle.burst_trace.specs.Text.{IsTraceText}
 use Rattle.scenario_write.specs.ScenarioText.{scenario_line}

@@ -6,7 +6,7 @@ use Rattle.nook_data.specs.declared.mirror.MirrorAnswer.{MirrorAnswer}
 use Rattle.nook_data.specs.declared.scenario.Scenario.{Scenario}
 use Rattle.mirrored_run.specs.Mirrors.{IsMirrorRun, mirror_status}
 use Rattle.nook_io.specs.Listening.{tap_result}
-use Rattle.part_laws.specs.Headline.{AreSafe}
+use Rattle.headline_laws.specs.Headline.{AreSafe}
 use Rattle.report_text.specs.Whole.{IsReport}
 use Rattle.report_text.specs.declared.report.Run.{Run}
 use Rattle.report_text.specs.declared.whole_report.Report.{Report}

@@ -10,7 +10,7 @@ use Rattle.nook_data.specs.declared.calls.Op.TheVariants as op
 use Rattle.nook_data.specs.Classes.{check_op, is_block_length, static_check}
 use Rattle.part_defs.specs.State.{PartState}
 use Rattle.part_core.specs.Answering.{answer_at_once, answer_by}
-use Rattle.part_laws.proofs.BurstKeeps.{split}
+use Rattle.machine_defs.proofs.BurstKeeps.{split}
 
 no_answer : {X : Type 0} {x : X} {G : Type 0} → Some x ≡ None → G
 no_answer h = cc

@@ -14,7 +14,7 @@ use Rattle.part_defs.specs.Log.{call_of_thread, queue_after}
 use Rattle.part_defs.specs.State.{PartState}
 use Rattle.part_core.specs.Crossings.{crossed_to}
 use Rattle.part_core.specs.declared.crossing.Outcome.{Outcome}
-use Rattle.part_laws.proofs.BurstKeeps.{split}
+use Rattle.machine_defs.proofs.BurstKeeps.{split}
 
 -- a crossing that answers a call
 abbrev crossed_with : ℕ → Answer → PartState → Crossed

@@ -20,7 +20,7 @@ use Rattle.machine_defs.proofs.MachineCases.{kind_input, past_decode, past_fetch
 use Rattle.machine_defs.specs.Machine.{decode_of}
 use Rattle.machine_defs.specs.Pages.{may_write, read_word, fetch_word}
 use Rattle.machine_defs.specs.Turn.{Machine, Turn, turn, executed, past_input, past_output, stores, r}
-use Rattle.part_laws.proofs.BurstKeeps.{split, every_fault, burst_keeps}
+use Rattle.machine_defs.proofs.BurstKeeps.{split, every_fault, burst_keeps}
 use Rattle.part_laws.specs.ActsOn.{Dev, dev_of, act_on, acts_on, Fits, ActsFit, Tells}
 
 -- a turn's act, if it does one, tells what the device is after it

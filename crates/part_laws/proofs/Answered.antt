@@ -39,7 +39,7 @@ use Rattle.part_defs.specs.Stages.{replays_set, replays_open, resumes, stage_don
 use Rattle.part_defs.specs.State.{PartState}
 use Rattle.part_defs.specs.Steps.{stepped, opening, burst_stepped, served_number, after_arrival}
 use Rattle.machine_defs.specs.BurstFaults.{faults_of_burst}
-use Rattle.part_laws.proofs.BurstKeeps.{split}
+use Rattle.machine_defs.proofs.BurstKeeps.{split}
 use Rattle.part_laws.proofs.Counts.{crossed_counted}
 use Rattle.part_laws.proofs.RunBound.{opening_tied}
 use Rattle.part_laws.proofs.StepsFit.{fit_after, opening_fit}

@@ -18,7 +18,7 @@ use Rattle.machine_defs.specs.Machine.{decode_of}
 use Rattle.machine_defs.specs.Pages.{may_write, read_word, fetch_word}
 use Rattle.part_defs.specs.State.{DomainState}
 use Rattle.machine_defs.specs.Turn.{Machine, turn, executed, past_input, past_output, stores, r}
-use Rattle.part_laws.proofs.BurstKeeps.{split, every_fault, burst_keeps}
+use Rattle.machine_defs.proofs.BurstKeeps.{split, every_fault, burst_keeps}
 use Rattle.part_laws.specs.BurstLaws.{IsIsolatedBurst}
 
 -- memory after a turn: as it was, or with one word that the driver may write

@@ -52,7 +52,7 @@ use Rattle.part_defs.specs.Stages.{replays_set, replays_open, resumes, stage_don
 use Rattle.part_defs.specs.State.{PartState}
 use Rattle.part_defs.specs.Steps.{enabled, is_running, is_ready, is_inside, burst_stepped, after_arrival, stepped}
 use Rattle.machine_defs.specs.BurstFaults.{faults_of_burst}
-use Rattle.part_laws.proofs.BurstKeeps.{split}
+use Rattle.machine_defs.proofs.BurstKeeps.{split}
 use Rattle.part_laws.proofs.CrossingFit.{found_fits}
 use Rattle.part_laws.proofs.RunBound.{opening_tied, run_tied, count_more}
 use Rattle.part_laws.proofs.RunsDetermined.{found_thread, step_named}

@@ -26,7 +26,7 @@ use Rattle.promise_defs.proofs.PromiseCases.{is_done_answer, is_set_call}
 use Rattle.part_defs.specs.Log.{call_of_thread, after_acknowledging, after_answering}
 use Rattle.machine_defs.specs.Services.{Served, checked, served}
 use Rattle.part_defs.specs.State.{DomainState, CallLog, PartState}
-use Rattle.part_laws.proofs.BurstKeeps.{split}
+use Rattle.machine_defs.proofs.BurstKeeps.{split}
 use Rattle.part_laws.proofs.DomainFit.{DomainKept, left_kept, result_kept, noted_fit, noted_set_fit, noted_elsewhere, noted_there, noted_set_elsewhere, noted_set_told, noted_set_kernel, config_length}
 use Rattle.part_laws.proofs.EntriesFit.{filter_fits}
 use Rattle.part_laws.proofs.Objects.{SameObjects, nothing_changed, object_stays, failures_told}

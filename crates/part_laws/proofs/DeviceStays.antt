@@ -46,9 +46,9 @@ use Rattle.part_defs.specs.Stages.{replays_set, replays_open, resumes, stage_don
 use Rattle.part_defs.specs.State.{DomainState, PartState}
 use Rattle.part_defs.specs.Steps.{opening, burst_stepped, after_arrival, stepped}
 use Rattle.machine_defs.specs.BurstFaults.{faults_of_burst}
-use Rattle.part_laws.proofs.BurstKeeps.{split}
+use Rattle.machine_defs.proofs.BurstKeeps.{split}
 use Rattle.part_laws.proofs.Counts.{step_counted}
-use Rattle.part_laws.proofs.Classes.{burst_keeps_class}
+use Rattle.machine_defs.proofs.BurstClasses.{burst_keeps_class}
 
 -- devices
 

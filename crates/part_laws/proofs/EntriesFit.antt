@@ -8,7 +8,7 @@ use Rattle.machine_defs.specs.Entries.{is_heap_at, is_buffer_of, is_heap_use, lo
 use Rattle.machine_defs.specs.Entries.{borrow_start, with_live, registered, collected, released, without_heap}
 use Rattle.machine_defs.specs.Entries.{without_borrow, without_buffer}
 use Rattle.machine_defs.proofs.MachineCases.{start_of_borrow}
-use Rattle.part_laws.proofs.BurstKeeps.{split}
+use Rattle.machine_defs.proofs.BurstKeeps.{split}
 use Rattle.part_laws.specs.Fit.{IsFitEntry, IsOrdered}
 
 -- What the entry list keeps.

@@ -5,7 +5,7 @@ use Rattle.nook_data.specs.declared.calls.CallEntry.{CallEntry}
 use Rattle.part_defs.specs.Log.{is_call, call_of_thread}
 use Rattle.part_defs.proofs.PartCases.{change_entry, entered_call, is_of_thread}
 use Rattle.part_defs.specs.Steps.{is_inside}
-use Rattle.part_laws.proofs.BurstKeeps.{split}
+use Rattle.machine_defs.proofs.BurstKeeps.{split}
 use Rattle.part_laws.proofs.TiedCalls.{found_above, without_call}
 use Rattle.part_laws.specs.Tied.{IsRising}
 

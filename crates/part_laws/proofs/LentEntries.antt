@@ -10,7 +10,7 @@ use Rattle.nook_data.specs.declared.machine.Service.TheVariants as service
 use Rattle.machine_defs.specs.Entries.{comes_before, with_entry, is_buffer_of, is_registration, with_live, registered}
 use Rattle.machine_defs.specs.Entries.{collected, free_start, borrow_start, without_buffer}
 use Rattle.machine_defs.specs.Services.{served, alloc_served, borrow_served, give_back_served}
-use Rattle.part_laws.proofs.BurstKeeps.{split}
+use Rattle.machine_defs.proofs.BurstKeeps.{split}
 
 -- What a change of the entry list leaves lent.
 

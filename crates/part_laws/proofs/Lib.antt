@@ -1,4 +1,3 @@
-pub mod BurstKeeps
 pub mod BurstIsolation
 pub mod ActsTell
 pub mod Words
@@ -57,12 +56,10 @@ pub mod Counting
 pub mod Lost
 pub mod Judged
 pub mod ReadAloud
-pub mod Safe
 pub mod Answered
 pub mod LentEntries
 pub mod InsideCalls
 pub mod StepLoans
-pub mod Classes
 pub mod DeviceStays
 pub mod PartFacts
 pub mod CallNumbers

@@ -18,7 +18,7 @@ use Rattle.machine_defs.proofs.MachineCases.{is_code_at}
 use Rattle.machine_defs.specs.Pages.{may_write, is_lent, object_words, with_words, padded_words, loaded_memory}
 use Rattle.nook_data.specs.Layout.{object_start, buffer_start}
 use Rattle.machine_defs.specs.Turn.{Machine}
-use Rattle.part_laws.proofs.BurstKeeps.{split}
+use Rattle.machine_defs.proofs.BurstKeeps.{split}
 use Rattle.part_laws.proofs.BurstIsolation.{changes_only_allowed, burst_keeps_length}
 use Rattle.part_laws.proofs.Words.{same_range, length-with_words, with_words_below, with_words_above, with_words_there, take-set}
 use Rattle.machine_defs.proofs.Padded.{length-padded_words}

@@ -20,7 +20,7 @@ use Rattle.part_defs.proofs.PartCases.{bursts_of, is_of_thread}
 use Rattle.part_defs.specs.Stages.{stage_due}
 use Rattle.part_defs.specs.State.{PartState}
 use Rattle.part_defs.specs.Steps.{enabled, is_running, is_inside}
-use Rattle.part_laws.proofs.BurstKeeps.{split}
+use Rattle.machine_defs.proofs.BurstKeeps.{split}
 use Rattle.part_laws.proofs.Counts.{burst_low}
 use Rattle.part_laws.proofs.CrossingFit.{found_fits}
 use Rattle.part_laws.proofs.Objects.{FitsBuffer, op_fits_buffer, set_key}

@@ -11,7 +11,7 @@ use Rattle.part_defs.specs.Log.{opening_log}
 use Rattle.part_defs.specs.Runs.{step_of, event_of, state_after, state_from, IsRunFrom, IsRun}
 use Rattle.part_defs.specs.State.{PartState}
 use Rattle.part_defs.specs.Steps.{opening, stepped}
-use Rattle.part_laws.proofs.BurstKeeps.{split}
+use Rattle.machine_defs.proofs.BurstKeeps.{split}
 use Rattle.part_laws.proofs.StepsFit.{fit_after, opening_fit}
 use Rattle.part_laws.proofs.TiedBursts.{step_tied}
 use Rattle.part_laws.proofs.TiedCalls.{AreThreads}

@@ -17,7 +17,7 @@ use Rattle.part_defs.specs.Stages.{stage_due}
 use Rattle.part_defs.specs.State.{PartState}
 use Rattle.part_defs.specs.Steps.{opening, enabled, is_running, is_driven, is_ready, is_inside}
 use Rattle.part_defs.proofs.NextSteps.{next_for_case, next_for_none}
-use Rattle.part_laws.proofs.BurstKeeps.{split}
+use Rattle.machine_defs.proofs.BurstKeeps.{split}
 use Rattle.part_laws.proofs.RunBound.{run_tied}
 use Rattle.part_laws.proofs.StepsFit.{run_fit}
 use Rattle.part_laws.proofs.TiedSteps.{threads_of_fit}

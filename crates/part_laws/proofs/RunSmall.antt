@@ -4,7 +4,7 @@ use Rattle.std.proofs.lemmas.List.Sums.{count_by-le-length}
 use Rattle.nook_data.specs.declared.steps.Event.{Event}
 use Rattle.nook_data.specs.declared.scenario.PartSpec.{PartSpec}
 use Rattle.part_defs.specs.Runs.{IsRun, state_of}
-use Rattle.part_laws.proofs.BurstKeeps.{split}
+use Rattle.machine_defs.proofs.BurstKeeps.{split}
 use Rattle.part_laws.proofs.Counts.{run_measured}
 use Rattle.part_laws.proofs.RunBound.{run_bound}
 use Rattle.part_laws.specs.Bound.{passing_below, threads_of, calls_of, failures_of, arrivals_of, bursts_of_journal, is_burst, is_invoke_of, IsMeasured}

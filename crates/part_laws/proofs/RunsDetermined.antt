@@ -19,7 +19,7 @@ use Rattle.part_defs.specs.Stages.{is_given_up, stops, gives_up_part, collects, 
 use Rattle.part_defs.specs.Stages.{replays_open, resumes, stage_done, stage_due, stage_stepped}
 use Rattle.part_defs.specs.State.{PartState}
 use Rattle.part_defs.specs.Steps.{enabled, burst_stepped, after_arrival, stepped}
-use Rattle.part_laws.proofs.BurstKeeps.{split}
+use Rattle.machine_defs.proofs.BurstKeeps.{split}
 use Rattle.part_laws.specs.Determined.{events_made, state_made}
 
 -- A run is determined by its steps.

@@ -15,7 +15,7 @@ use Rattle.machine_defs.specs.Pages.{object_words, with_words}
 use Rattle.nook_data.specs.Layout.{object_start}
 use Rattle.machine_defs.specs.Services.{needs, checked, checked_frame, is_frame_length, tested_length, Served, served}
 use Rattle.machine_defs.specs.Services.{alloc_served, borrow_served, give_back_served, frame_served, plainly_served}
-use Rattle.part_laws.proofs.BurstKeeps.{split}
+use Rattle.machine_defs.proofs.BurstKeeps.{split}
 use Rattle.part_laws.proofs.EntriesFit.{with_entry_fits, filter_fits, registered_fits, with_entry_ordered, registered_ordered, without_heap_ordered, without_borrow_ordered, free_start_within, IsBorrowedAt, borrowed_at}
 use Rattle.part_laws.proofs.Objects.{SameObjects, object_stays, words_put, object_taken, other_object_stays}
 use Rattle.part_laws.proofs.Words.{length-slice_range, length-with_words}

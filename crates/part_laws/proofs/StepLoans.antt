@@ -47,7 +47,7 @@ use Rattle.part_defs.specs.State.{DomainState, PartState}
 use Rattle.part_defs.specs.Steps.{opening, enabled, is_running, is_ready, is_inside, can_enter, can_burst}
 use Rattle.part_defs.specs.Steps.{burst_stepped, after_arrival, stepped}
 use Rattle.machine_defs.specs.BurstFaults.{faults_of_burst}
-use Rattle.part_laws.proofs.BurstKeeps.{split}
+use Rattle.machine_defs.proofs.BurstKeeps.{split}
 use Rattle.part_laws.proofs.DomainFit.{burst_kept}
 use Rattle.part_laws.proofs.RunBound.{opening_tied}
 use Rattle.part_laws.proofs.RunsDetermined.{found_thread}

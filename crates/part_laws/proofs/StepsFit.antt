@@ -37,7 +37,7 @@ use Rattle.part_defs.specs.Steps.{opening, enabled, can_invoke, burst_stepped, a
 use Rattle.machine_defs.specs.BurstFaults.{faults_of_burst}
 use Rattle.part_defs.specs.Log.{opening_log}
 use Rattle.part_laws.proofs.BurstIsolation.{domain_within}
-use Rattle.part_laws.proofs.BurstKeeps.{split}
+use Rattle.machine_defs.proofs.BurstKeeps.{split}
 use Rattle.part_laws.proofs.CrossingFit.{unmoved, quiet, CrossKept, crossed_kept, found_fits}
 use Rattle.part_laws.proofs.DomainFit.{DomainKept, entered_kept, plainly_kept, stopped_kept, collected_kept, loaded_kept, BurstKept, burst_kept, opening_domain_fit, opening_told}
 use Rattle.part_laws.proofs.EntriesFit.{filter_fits, collect_leaves, IsCollected}

@@ -26,7 +26,7 @@ use Rattle.part_defs.specs.State.{DomainState, PartState}
 use Rattle.part_defs.specs.Steps.{enabled, is_running, is_driven, is_inside, can_burst, can_stage, burst_stepped}
 use Rattle.part_defs.specs.Steps.{stepped}
 use Rattle.machine_defs.specs.BurstFaults.{faults_of_burst}
-use Rattle.part_laws.proofs.BurstKeeps.{split}
+use Rattle.machine_defs.proofs.BurstKeeps.{split}
 use Rattle.part_laws.proofs.EntriesFit.{filter_fits}
 use Rattle.part_laws.proofs.RunsDetermined.{found_thread}
 use Rattle.part_laws.proofs.StepsFit.{all_map}

@@ -7,7 +7,7 @@ use Rattle.nook_data.specs.declared.machine.Context.{Context}
 use Rattle.part_defs.specs.Domain.{context_of}
 use Rattle.part_defs.specs.Log.{is_call, call_of_thread, held_call}
 use Rattle.part_defs.proofs.PartCases.{bursts_of, change_entry, is_of_thread, new_entry, no_context}
-use Rattle.part_laws.proofs.BurstKeeps.{split}
+use Rattle.machine_defs.proofs.BurstKeeps.{split}
 use Rattle.part_laws.specs.Tied.{IsRising, AreApart}
 
 -- Open calls and contexts: what a change of one of them leaves of the others.

@@ -27,7 +27,7 @@ use Rattle.part_defs.proofs.PartCases.{bursts_of, no_context, replay_stream, rep
 use Rattle.machine_defs.specs.Services.{Served, checked, served}
 use Rattle.part_defs.specs.Stages.{mode_after}
 use Rattle.part_defs.specs.State.{DomainState, CallLog, PartState}
-use Rattle.part_laws.proofs.BurstKeeps.{split}
+use Rattle.machine_defs.proofs.BurstKeeps.{split}
 use Rattle.part_laws.proofs.EntriesFit.{filter_fits}
 use Rattle.part_laws.proofs.TiedCalls.{context_set_same, context_set_other, SameBut, set_same_but, rising_filter, apart_filter, one_removed, without_call, inside_left, call_left, calls_left, AreThreads, same_calls_left, one_less, removed_left}
 use Rattle.part_laws.specs.Tied.{IsRising, AreApart, GoesOn, is_stop, IsAwayCall, IsRunningCall, IsTiedCall, is_driving_stage, is_driving, IsDriven, IsFitStage, IsFitMode, IsTied}

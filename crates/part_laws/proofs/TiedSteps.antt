@@ -21,7 +21,7 @@ use Rattle.part_defs.specs.Log.{is_blocked}
 use Rattle.part_defs.proofs.PartCases.{change_entry, entered_by, entered_call, invoked_by, new_entry}
 use Rattle.part_defs.specs.State.{DomainState, PartState}
 use Rattle.part_defs.specs.Steps.{is_running, is_ready, can_invoke, can_enter, after_arrival}
-use Rattle.part_laws.proofs.BurstKeeps.{split}
+use Rattle.machine_defs.proofs.BurstKeeps.{split}
 use Rattle.part_laws.proofs.EntriesFit.{filter_fits}
 use Rattle.part_laws.proofs.RunsDetermined.{found_thread}
 use Rattle.part_laws.proofs.StepsFit.{all_push, all_map}

@@ -15,6 +15,5 @@ pub mod Facts
 pub mod Moves
 pub mod Balance
 pub mod Recovery
-pub mod Headline
 pub mod Answered
 pub mod Loans

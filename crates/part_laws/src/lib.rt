@@ -7,7 +7,6 @@
 pub mod bounds;
 pub mod bursts;
 pub mod devices;
-pub mod headline;
 pub mod loans;
 pub mod recovery;
 pub mod steps;

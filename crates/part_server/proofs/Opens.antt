@@ -20,7 +20,7 @@ use Rattle.part_defs.specs.State.{PartState}
 use Rattle.part_defs.specs.Steps.{enabled, opening}
 use Rattle.nook_data.specs.Valid.{IsValidPart}
 use Rattle.desk_like.specs.Desks.{HasOpen}
-use Rattle.part_laws.proofs.BurstKeeps.{split}
+use Rattle.machine_defs.proofs.BurstKeeps.{split}
 use Rattle.part_laws.proofs.RunBound.{run_tied, opening_tied}
 use Rattle.part_laws.proofs.RunsDetermined.{step_named}
 use Rattle.part_laws.proofs.StepsFit.{fit_after, opening_fit, run_fit}

@@ -51,7 +51,7 @@ use Rattle.part_defs.specs.State.{PartState}
 use Rattle.part_defs.specs.Steps.{opening, stepped, burst_stepped, after_arrival}
 use Rattle.machine_defs.specs.BurstFaults.{faults_of_burst}
 use Rattle.part_laws.proofs.PartFacts.{open_read_count}
-use Rattle.part_laws.proofs.BurstKeeps.{split}
+use Rattle.machine_defs.proofs.BurstKeeps.{split}
 use Rattle.part_laws.proofs.Served.{queue_stays}
 use Rattle.part_laws.proofs.StepsFit.{fit_after, opening_fit}
 use Rattle.part_laws.proofs.ValidFits.{valid_fits}

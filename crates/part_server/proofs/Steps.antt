@@ -33,7 +33,7 @@ use Rattle.part_core.specs.Turning.{IsStepped}
 use Rattle.part_core.specs.declared.part.StepDone.{StepDone}
 use Rattle.part_core.specs.declared.part.StepRefused.{StepRefused}
 use Rattle.part_core.specs.declared.part.StepRefused.TheVariants as refusal
-use Rattle.part_laws.proofs.BurstKeeps.{split}
+use Rattle.machine_defs.proofs.BurstKeeps.{split}
 use Rattle.part_laws.proofs.Counts.{run_measured}
 use Rattle.part_laws.proofs.RunBound.{run_tied}
 use Rattle.part_laws.proofs.RunsDetermined.{step_named}

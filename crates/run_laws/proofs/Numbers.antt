@@ -38,7 +38,7 @@ use Rattle.part_defs.specs.State.{PartState}
 use Rattle.part_defs.specs.Steps.{enabled, stepped, burst_stepped, served_number, after_arrival}
 use Rattle.machine_defs.specs.BurstFaults.{faults_of_burst}
 use Rattle.part_laws.proofs.Answered.{AnswersCall, Shows, crossed_shows, no_call, none_below, shadow_says}
-use Rattle.part_laws.proofs.BurstKeeps.{split}
+use Rattle.machine_defs.proofs.BurstKeeps.{split}
 use Rattle.part_laws.specs.Tied.{IsRising, AreApart, IsTied}
 use Rattle.nook_data.proofs.Options.{none_is_some, same_inside}
 

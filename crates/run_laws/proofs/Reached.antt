@@ -26,7 +26,7 @@ use Rattle.part_defs.specs.State.{PartState}
 use Rattle.part_defs.specs.Steps.{enabled, opening}
 use Rattle.nook_data.specs.Valid.{IsValidPart, IsValidScenario, IsValidThread}
 use Rattle.nook_data.specs.Views.Limits.{IsValidStep}
-use Rattle.part_laws.proofs.BurstKeeps.{split}
+use Rattle.machine_defs.proofs.BurstKeeps.{split}
 use Rattle.part_laws.proofs.Counts.{step_counted}
 use Rattle.part_laws.proofs.Places.{from_map, get_set, length_map}
 use Rattle.part_laws.proofs.RunBound.{opening_tied}

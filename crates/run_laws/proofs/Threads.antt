@@ -15,7 +15,7 @@ use Rattle.run_defs.specs.Simulation.{RunningPart, ThreadState, Waiting, started
 use Rattle.run_defs.specs.Simulation.{part_after}
 use Rattle.run_defs.proofs.RunChanges.{settled_by, settled}
 use Rattle.part_defs.specs.Steps.{enabled}
-use Rattle.part_laws.proofs.BurstKeeps.{split}
+use Rattle.machine_defs.proofs.BurstKeeps.{split}
 use Rattle.part_laws.proofs.Places.{get_set, map_push}
 use Rattle.part_laws.proofs.RunsDetermined.{step_named}
 use Rattle.part_laws.specs.Tied.{IsTied}

@@ -14,7 +14,7 @@ use Rattle.run_defs.proofs.ChoicesInOrder.{choices_in_order}
 use Rattle.part_defs.specs.State.{PartState}
 use Rattle.part_defs.specs.Steps.{enabled}
 use Rattle.part_defs.proofs.NextSteps.{next_for_case}
-use Rattle.part_laws.proofs.BurstKeeps.{split}
+use Rattle.machine_defs.proofs.BurstKeeps.{split}
 use Rattle.sim_run.specs.Actors.{choice_by, invocation_of, choice_when, choice_of_thread, step_of_seat, choice_of_seat, choice_at, named_if, actors_of_seat, actors_of_seats, actor_of_thread, actors_of_threads}
 use Rattle.sim_run.specs.Reached.{MayTake, IsOpenChoice}
 

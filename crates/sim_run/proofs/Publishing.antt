@@ -10,7 +10,7 @@ use Rattle.part_defs.specs.Runs.{event_of}
 use Rattle.run_defs.specs.Simulation.{Choice, RunningPart, Simulation, begins, choices_of, journal_of, journals_of}
 use Rattle.run_defs.specs.Simulation.{opening_part, runs, part_after, taken}
 use Rattle.nook_io.specs.Listening.{heard_events}
-use Rattle.part_laws.proofs.BurstKeeps.{split}
+use Rattle.machine_defs.proofs.BurstKeeps.{split}
 use Rattle.part_laws.proofs.Places.{get_set_other}
 use Rattle.sim_run.proofs.Choosing.{choices_open}
 use Rattle.sim_run.proofs.Reaching.{IsPicked, picked_one, runs_front}

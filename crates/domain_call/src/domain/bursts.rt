@@ -15,7 +15,7 @@ impl Domain {
     /// One burst of a context that is Inside, up to its crossing, one burst more of its attempt. `faults` are those
     /// of this burst in rising order of `after`; `acts` is empty, with its full room. The context is at most 16, and
     /// its attempt has had fewer than 32 bursts. A free context does nothing. It takes no memory.
-    #[tactic(auto, unfolding(part_defs::specs::Domain::domain_burst), using(part_laws::proofs::Classes::burst_keeps_class))]
+    #[tactic(auto, unfolding(part_defs::specs::Domain::domain_burst), using(machine_defs::proofs::BurstClasses::burst_keeps_class))]
     pub fn burst(&mut self, context: u8, faults: &[Fault], acts: &mut ActLog) -> BurstDone
         requires context { context < CONTEXTS }
         requires few { attempt_bursts context self.old.state < MOST_BURSTS }

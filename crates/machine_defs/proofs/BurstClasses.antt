@@ -17,7 +17,7 @@ use Rattle.machine_defs.specs.Pages.{may_write, read_word, fetch_word}
 use Rattle.machine_defs.specs.Views.Ports.{class_of, class_of_kind, device_after, device_given, device_of}
 use Rattle.machine_defs.specs.Turn.{Machine, Turn, turn, executed, past_input, past_output, stores, r}
 use Rattle.machine_defs.proofs.DeviceClasses.{input_keeps_class, output_keeps_class}
-use Rattle.part_laws.proofs.BurstKeeps.{split, every_fault, burst_keeps}
+use Rattle.machine_defs.proofs.BurstKeeps.{split, every_fault, burst_keeps}
 
 -- a turn
 

@@ -8,7 +8,7 @@ use Rattle.part_laws.proofs.RunBound.{run_bound}
 use Rattle.part_laws.proofs.StepsFit.{run_collecting, run_isolated}
 use Rattle.part_laws.proofs.ValidFits.{valid_fits}
 use Rattle.part_laws.specs.Fit.{IsFitSpec}
-use Rattle.part_laws.specs.Headline.{IsSafe, IsTransparent}
+use Rattle.headline_laws.specs.Headline.{IsSafe, IsTransparent}
 use Rattle.part_laws.specs.Recovery.{IsKeptRun}
 
 -- The laws of parts joined to one.

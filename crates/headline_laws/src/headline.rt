@@ -4,7 +4,7 @@ ghost use Rattle.part_defs.specs.Runs.{IsRun};
 ghost use Rattle.nook_data.specs.Valid.{IsValidPart};
 ghost use Rattle.nook_data.specs.declared.steps.Event.{Event};
 ghost use Rattle.nook_data.specs.declared.scenario.PartSpec.{PartSpec};
-ghost use Rattle.part_laws.specs.Headline.{IsSafe};
+ghost use Rattle.headline_laws.specs.Headline.{IsSafe};
 ghost use Rattle.std.specs.Prelude.{List};
 
 /// Whatever a part's driver executes and in whatever order its steps fall: each burst writes only where the driver may

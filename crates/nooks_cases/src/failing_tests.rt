@@ -75,7 +75,10 @@ fn check_writes<R: Threads + Wait + Sync + Abort>(
             nothing,
         };
         let (status, written) = outcome(rt, alloc, form, input, failing, Vec::new(alloc))?;
-        assert!(rt; whole.starts_with(written.as_str()), "{form} at write {write}");
+        assert!(rt;
+            whole.starts_with(written.as_str()),
+            "{form} at write {write}"
+        );
         if status == Status::Done {
             assert_eq!(rt; written.len(), whole.len(), "of {form}");
             return Ok(());
@@ -136,7 +139,8 @@ fn listeners_are_dropped_at_their_limits(rt: HostRuntime) -> Result<(), Fail> {
         listeners.push(Box::new(alloc, listener)?)?;
     }
     let (_, written) = outcome(&rt, alloc, "run", SCENARIO, at_read(0), listeners)?;
-    let lines = "tap 0 total 3 dropped\ntap 1 total 1 dropped\ntap 2 total 3 kept\ntap 3 total 0 dropped\nstatus 0\n";
+    let lines =
+        "tap 0 total 3 dropped\ntap 1 total 1 dropped\ntap 2 total 3 kept\ntap 3 total 0 dropped\nstatus 0\n";
     assert!(rt; written.as_str().ends_with(lines));
     Ok(())
 }

@@ -1,10 +1,12 @@
 //! Inputs of the program. Each disk has one driver of two words, which serves every call by a reply alone.
 
 /// A disk, and a thread that asks it for a register.
-pub const SCENARIO: &str = r#"{"version":1,"parts":[{"name":"d0","class":"block","blocks":1,"driver":{"asm":".class block\n.entry init 0\n.entry read 1\n.entry write 1\n.entry get 1\n.entry set 1\nKCALL 3\nRET r0\n"}}],"threads":[{"name":"t0","ops":[{"part":0,"op":"get","key":0}]}]}"#;
+pub const SCENARIO: &str =
+    r#"{"version":1,"parts":[{"name":"d0","class":"block","blocks":1,"driver":{"asm":".class block\n.entry init 0\n.entry read 1\n.entry write 1\n.entry get 1\n.entry set 1\nKCALL 3\nRET r0\n"}}],"threads":[{"name":"t0","ops":[{"part":0,"op":"get","key":0}]}]}"#;
 
 /// The disk, and two threads with two such calls and with three.
-pub const TWO_THREADS: &str = r#"{"version":1,"parts":[{"name":"d0","class":"block","blocks":1,"driver":{"asm":".class block\n.entry init 0\n.entry read 1\n.entry write 1\n.entry get 1\n.entry set 1\nKCALL 3\nRET r0\n"}}],"threads":[{"name":"t0","ops":[{"part":0,"op":"get","key":0},{"part":0,"op":"get","key":0}]},{"name":"t1","ops":[{"part":0,"op":"get","key":0},{"part":0,"op":"get","key":0},{"part":0,"op":"get","key":0}]}]}"#;
+pub const TWO_THREADS: &str =
+    r#"{"version":1,"parts":[{"name":"d0","class":"block","blocks":1,"driver":{"asm":".class block\n.entry init 0\n.entry read 1\n.entry write 1\n.entry get 1\n.entry set 1\nKCALL 3\nRET r0\n"}}],"threads":[{"name":"t0","ops":[{"part":0,"op":"get","key":0},{"part":0,"op":"get","key":0}]},{"name":"t1","ops":[{"part":0,"op":"get","key":0},{"part":0,"op":"get","key":0},{"part":0,"op":"get","key":0}]}]}"#;
 
 /// The length of the scenario, the scenario, and its report.
 pub const REPORT: &str = r#"253
@@ -29,10 +31,12 @@ status 0
 "#;
 
 /// A campaign over the scenario, with one fault.
-pub const CAMPAIGN: &str = r#"{"base":{"version":1,"parts":[{"name":"d0","class":"block","blocks":1,"driver":{"asm":".class block\n.entry init 0\n.entry read 1\n.entry write 1\n.entry get 1\n.entry set 1\nKCALL 3\nRET r0\n"}}],"threads":[{"name":"t0","ops":[{"part":0,"op":"get","key":0}]}]},"part":0,"faults":[{"burst":3,"after":0,"kind":"trap"}]}"#;
+pub const CAMPAIGN: &str =
+    r#"{"base":{"version":1,"parts":[{"name":"d0","class":"block","blocks":1,"driver":{"asm":".class block\n.entry init 0\n.entry read 1\n.entry write 1\n.entry get 1\n.entry set 1\nKCALL 3\nRET r0\n"}}],"threads":[{"name":"t0","ops":[{"part":0,"op":"get","key":0}]}]},"part":0,"faults":[{"burst":3,"after":0,"kind":"trap"}]}"#;
 
 /// A mirror of two such disks, and a thread that reads it.
-pub const MIRROR: &str = r#"{"version":1,"parts":[{"name":"d0","class":"block","blocks":1,"driver":{"asm":".class block\n.entry init 0\n.entry read 1\n.entry write 1\n.entry get 1\n.entry set 1\nKCALL 3\nRET r0\n"}},{"name":"d1","class":"block","blocks":1,"driver":{"asm":".class block\n.entry init 0\n.entry read 1\n.entry write 1\n.entry get 1\n.entry set 1\nKCALL 3\nRET r0\n"}}],"threads":[{"name":"t0","ops":[{"part":0,"op":"read","first":0,"count":1}]}]}"#;
+pub const MIRROR: &str =
+    r#"{"version":1,"parts":[{"name":"d0","class":"block","blocks":1,"driver":{"asm":".class block\n.entry init 0\n.entry read 1\n.entry write 1\n.entry get 1\n.entry set 1\nKCALL 3\nRET r0\n"}},{"name":"d1","class":"block","blocks":1,"driver":{"asm":".class block\n.entry init 0\n.entry read 1\n.entry write 1\n.entry get 1\n.entry set 1\nKCALL 3\nRET r0\n"}}],"threads":[{"name":"t0","ops":[{"part":0,"op":"read","first":0,"count":1}]}]}"#;
 
 /// The driver's text.
 pub const TEXT: &str = r#".class block
@@ -46,5 +50,6 @@ RET r0
 "#;
 
 /// The driver's image.
-pub const IMAGE: &str = r#"{"class":"block","data":[],"entries":{"get":1,"init":0,"read":1,"set":1,"write":1},"text":["16000003","17000000"]}
+pub const IMAGE: &str =
+    r#"{"class":"block","data":[],"entries":{"get":1,"init":0,"read":1,"set":1,"write":1},"text":["16000003","17000000"]}
 "#;

@@ -102,6 +102,9 @@ fn listeners_are_called_and_dropped(rt: HostRuntime) -> Result<(), Fail> {
         assert_eq!(rt; bus.detach(1), Some(3));
     }
     let told = bus.totals(alloc)?;
-    assert_eq!(rt; told.as_slice(), [(3, false), (3, false), (0, false)].as_slice());
+    assert_eq!(rt;
+        told.as_slice(),
+        [(3, false), (3, false), (0, false)].as_slice()
+    );
     Ok(())
 }

@@ -1,5 +1,7 @@
 //! A trace whose sink fails.
 
+ghost use Rattle.nook_defs.specs.Valid.{IsValidScenario};
+
 use nook_defs::lists::Words;
 use nook_defs::scenario::Scenario;
 use nook_defs::streams_in_memory::ListSink;
@@ -10,28 +12,36 @@ use std::alloc::Global;
 use std::test::Fail;
 use turn_trace::trace_burst;
 
-ghost use Rattle.nook_defs.specs.Valid.{IsValidScenario};
-
 /// A disk whose driver counts its turns in a register.
-const COUNTS: &str = r#"{"version":1,"parts":[{"name":"d0","class":"block","blocks":4,"driver":{"asm":
+const COUNTS: &str =
+    r#"{"version":1,"parts":[{"name":"d0","class":"block","blocks":4,"driver":{"asm":
 ".class block\n.entry init 0\n.entry read 0\n.entry write 0\n.entry get 0\n.entry set 0\nADDI r1 r1 1\nADDI r1 r1 1\nADDI r1 r1 1\nADDI r1 r1 1\nADDI r1 r1 1\nRET r0\n"
 }}],"threads":[]}"#;
 
 /// The turns that were taken, as the driver and as its counter have them, and the lines that were written, if the write of
 /// this number fails.
-fn turns_and_lines(alloc: Global, scenario: &Scenario, failing: u32) -> Result<[u32; 3], Fail>
+fn turns_and_lines(
+    alloc: Global,
+    scenario: &Scenario,
+    failing: u32,
+) -> Result<(u32, u32, usize), Fail>
     requires { IsValidScenario scenario.now }
 {
     let found = run_to_burst(alloc, scenario, 0, 1)?.ok_or("no burst")?;
     let mut cpu = found.domain.inside(16).ok_or("no context")?.cpu;
     let mut bus = found.domain.detach();
-    let mut sink = ListSink::new(alloc, 1000, Words::from_vec(vec![in alloc; failing]?), false)?;
+    let mut sink = ListSink::new(
+        alloc,
+        1000,
+        Words::from_vec(vec![in alloc; failing]?),
+        false,
+    )?;
     match trace_burst(alloc, &mut cpu, &mut bus, &[], &mut sink) {
         Err(WriteStop::Fault) => {}
         _ => return Err(Fail::from("another end")),
     }
     let text = std::str::from_utf8(sink.bytes()).ok().ok_or("text")?;
-    Ok([cpu.registers[1], cpu.counter, text.lines().count() as u32])
+    Ok((cpu.registers[1], cpu.counter, text.lines().count()))
 }
 
 /// The line of a turn is written before the next is taken: if the write of one fails, no turn after it was taken.
@@ -42,7 +52,7 @@ fn a_line_is_written_before_the_next_turn(rt: HostRuntime) -> Result<(), Fail> {
     };
     for number in 1..6_u32 {
         let found = turns_and_lines(rt.alloc(), &scenario, number)?;
-        assert_eq!(rt; found.as_slice(), [number, number, number - 1].as_slice());
+        assert_eq!(rt; found, (number, number, number as usize - 1));
     }
     Ok(())
 }

@@ -91,7 +91,12 @@ fn alternate<R: Wait + Abort + Clock>(
 
 #[test]
 fn two_threads_alternate(rt: HostRuntime) -> Result<(), Fail> {
-    let (turn, mut seat) = Turn::new(rt.alloc(), Numbers { items: Vec::new(rt.alloc()) })?;
+    let (turn, mut seat) = Turn::new(
+        rt.alloc(),
+        Numbers {
+            items: Vec::new(rt.alloc()),
+        },
+    )?;
     let other = turn.split(&mut seat);
     let ((saw, mut seat), (other_saw, other)) = thread::join(
         &rt,

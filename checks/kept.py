@@ -114,6 +114,18 @@ def check_fronts(tally: Tally, program: str) -> None:
             tally.same(name, (ended.status, ended.out), (3, f"fault {line}\n".encode()))
 
 
+# Words that are of no form, beside those of checks/statuses.
+NO_FORMS = [["list", "me"], ["gen", "257", "scenario"], ["gen", "1", "report"], ["--help", "me"], ["run", "run"]]
+
+
+def check_usage(tally: Tally, program: str) -> None:
+    """Other words give the line that every word of no form gives."""
+    line = run(program, ["walk"]).out
+    for words in NO_FORMS:
+        ended = run(program, words)
+        tally.same(" ".join(words), (ended.status, ended.out), (2, line))
+
+
 def check_generated(tally: Tally, program: str) -> None:
     """The generated scenario of 12 runs as the one that bench/run makes of the same size."""
     given = run(program, ["gen", "12", "scenario"]).out
@@ -167,5 +179,6 @@ def check_kept(tally: Tally, program: str, plain: str | None) -> None:
     check_texts(tally, program)
     check_inputs(tally, program)
     check_fronts(tally, program)
+    check_usage(tally, program)
     check_generated(tally, program)
     check_campaigns(tally, program)

@@ -7,11 +7,16 @@ use part_core::{Part, StepRefused};
 use scenario_gen::generate;
 use std::test::Fail;
 
-/// A read past the end of the disk, which is answered at once.
-const READ: Op = Op::Read {
-    first: 99,
-    count: 1,
-};
+/// The invocation of a read past the end of the disk, which is answered at once.
+fn invocation() -> Step {
+    Step::Invoke {
+        thread: 0,
+        op: Op::Read {
+            first: 99,
+            count: 1,
+        },
+    }
+}
 
 #[test]
 fn a_part_takes_its_calls_and_no_more(rt: HostRuntime) -> Result<(), Fail> {
@@ -21,20 +26,12 @@ fn a_part_takes_its_calls_and_no_more(rt: HostRuntime) -> Result<(), Fail> {
     };
     let mut part = Part::new(rt.alloc(), disk.copy(rt.alloc())?)?;
     for _ in 0..100_000 {
-        let taken = part.step(Step::Invoke {
-            thread: 0,
-            op: READ,
-        });
-        assert!(rt; taken.is_ok());
+        assert!(rt; part.step(invocation()).is_ok());
     }
     assert_eq!(rt;
         (part.calls(), part.answered_at(100_000)),
         (100_000, Some(100_000))
     );
-    let refused = part.step(Step::Invoke {
-        thread: 0,
-        op: READ,
-    });
-    assert!(rt; refused == Err(StepRefused::NotEnabled));
+    assert!(rt; part.step(invocation()) == Err(StepRefused::NotEnabled));
     Ok(())
 }

@@ -20,7 +20,11 @@ const COUNTS: &str =
 
 /// The turns that were taken, as the driver and as its counter have them, and the lines that were written, if the write of
 /// this number fails.
-fn turns_and_lines(alloc: Global, scenario: &Scenario, failing: u32) -> Result<[u32; 3], Fail>
+fn turns_and_lines(
+    alloc: Global,
+    scenario: &Scenario,
+    failing: u32,
+) -> Result<(u32, u32, usize), Fail>
     requires { IsValidScenario scenario.now }
 {
     let found = run_to_burst(alloc, scenario, 0, 1)?.ok_or("no burst")?;
@@ -37,7 +41,7 @@ fn turns_and_lines(alloc: Global, scenario: &Scenario, failing: u32) -> Result<[
         _ => return Err(Fail::from("another end")),
     }
     let text = std::str::from_utf8(sink.bytes()).ok().ok_or("text")?;
-    Ok([cpu.registers[1], cpu.counter, text.lines().count() as u32])
+    Ok((cpu.registers[1], cpu.counter, text.lines().count()))
 }
 
 /// The line of a turn is written before the next is taken: if the write of one fails, no turn after it was taken.
@@ -48,7 +52,7 @@ fn a_line_is_written_before_the_next_turn(rt: HostRuntime) -> Result<(), Fail> {
     };
     for number in 1..6_u32 {
         let found = turns_and_lines(rt.alloc(), &scenario, number)?;
-        assert_eq!(rt; found.as_slice(), [number, number, number - 1].as_slice());
+        assert_eq!(rt; found, (number, number, number as usize - 1));
     }
     Ok(())
 }

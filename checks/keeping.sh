@@ -38,7 +38,10 @@ build() {
 keep() {
     local kind="$1" kept="$top/out/$1" sum
     mkdir -p "$kept" && exec 9> "$kept/lock" || return 1
-    has flock && flock 9
+    if has flock && ! flock --nonblock 9; then
+        echo "$(basename "$0"): waiting for another call, which builds the program" >&2
+        flock 9
+    fi
     if ! is_kept "$kind"; then
         sum="$(sum_of "$kind")"
         rm -f "$kept/sum" "$kept"/nooks*

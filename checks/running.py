@@ -1,5 +1,7 @@
 """What the scripts of this folder share: runs of a program, the tally of what passed, and the plain program."""
 
+from __future__ import annotations
+
 import importlib.machinery
 import importlib.util
 import json
@@ -7,11 +9,15 @@ import os
 import shutil
 import subprocess
 import sys
+from collections.abc import Sequence
 from dataclasses import dataclass
+from typing import Any, NoReturn
 
 TOP = os.path.dirname(os.path.dirname(os.path.abspath(__file__)))
 EXAMPLES = os.path.join(TOP, "examples")
 BUILT = os.path.join(TOP, "crates/nooks_main/out/nooks_main")
+UNPROVED = os.path.join(TOP, "out/unproved/nooks")
+PLAIN = os.path.join(TOP, "out/plain/nooks")
 
 # A run that takes longer than this many seconds counts as one that hangs.
 PATIENCE = 60
@@ -29,11 +35,11 @@ class Ended:
 class Tally:
     """Counts what passed and what failed, and prints a line for each failure."""
 
-    def __init__(self):
+    def __init__(self) -> None:
         self.passed = 0
         self.failed = 0
 
-    def check(self, name, holds, why=""):
+    def check(self, name: str, holds: bool, why: object = "") -> bool:
         if holds:
             self.passed += 1
         else:
@@ -41,17 +47,17 @@ class Tally:
             print(f"{name}: {why}", flush=True)
         return holds
 
-    def same(self, name, found, wanted):
+    def same(self, name: str, found: object, wanted: object) -> bool:
         """Counts whether two values are the same, and tells the first place where they differ."""
         return self.check(name, found == wanted, difference(found, wanted))
 
-    def end(self):
+    def end(self) -> NoReturn:
         """Prints the last line and ends the script."""
         print(f"{self.passed} passed, {self.failed} failed", flush=True)
         sys.exit(1 if self.failed else 0)
 
 
-def difference(found, wanted):
+def difference(found: object, wanted: object) -> str:
     """A short line that tells where two values differ."""
     if not (isinstance(found, bytes) and isinstance(wanted, bytes)):
         return f"{found!r}, and {wanted!r} is wanted"
@@ -63,7 +69,7 @@ def difference(found, wanted):
     return f"{len(here)} lines, and {len(there)} are wanted"
 
 
-def run(program, words, given=b"", **how):
+def run(program: str, words: Sequence[str | bytes], given: bytes = b"", **how: Any) -> Ended:
     """Runs a program on words and bytes of input; `how` may name another stdin, another stdout and more of Popen's."""
     if "stdin" not in how:
         how["input"] = given
@@ -75,50 +81,58 @@ def run(program, words, given=b"", **how):
     return Ended(ended.returncode, ended.stdout or b"", ended.stderr)
 
 
-def generated(size):
+def generated(size: int) -> bytes:
     """The generated scenario of a size, as the timing script makes it."""
     loader = importlib.machinery.SourceFileLoader("bench_run", os.path.join(TOP, "bench/run"))
-    module = importlib.util.module_from_spec(importlib.util.spec_from_loader("bench_run", loader))
+    spec = importlib.util.spec_from_loader("bench_run", loader)
+    assert spec is not None
+    module = importlib.util.module_from_spec(spec)
     loader.exec_module(module)
     return json.dumps(module.generated(size)).encode()
 
 
-def handed(scenario, report):
+def handed(scenario: bytes, report: bytes) -> bytes:
     """The input of `audit`: the scenario's length, a line feed, the scenario, and the report."""
     return b"%d\n" % len(scenario) + scenario + report
 
 
-def program_from(words):
-    """The program whose path is the only word, or the built one where there is no word."""
+def program_from(words: Sequence[str]) -> str:
+    """The program whose path is the only word, or the proved one if there is no word."""
     if len(words) > 1:
         sys.exit("usage: one path of a built program, or none")
     return there(words[0] if words else BUILT)
 
 
-def there(program):
-    """The whole path of a program that can be run; it is a mistake of the caller where it cannot."""
+def there(program: str) -> str:
+    """The whole path of a program that can be run; it is a mistake of the caller if it cannot."""
     if not os.access(program, os.X_OK):
-        sys.exit(f"{program} is not there: ./nooks builds it at its first run, and so does rt ci")
+        sys.exit(f"{program} is not there: ./nooks and rt ci build the proved program, ./nooks-unproved {UNPROVED}, ./nooks-plain {PLAIN}")
     return os.path.abspath(program)
 
 
-def example(name):
+def is_plain(program: str) -> bool:
+    """Whether a program says that it is the plain one."""
+    return b"plain" in run(program, ["--version"]).out
+
+
+def example(name: str) -> bytes:
     """The bytes of a file of examples/."""
     with open(os.path.join(EXAMPLES, name), "rb") as file:
         return file.read()
 
 
-def document(name):
+def document(name: str) -> list[str]:
     """The lines of a document, by its path from the top."""
     with open(os.path.join(TOP, name), encoding="utf-8") as file:
         return file.read().split("\n")
 
 
-def build_plain(folder):
-    """Builds the plain program of bench/plain into a folder; None where there is no rustc."""
+def find_plain() -> str | None:
+    """The plain program, which ./nooks-plain builds if its sources changed; None if there is no rustc."""
     if shutil.which("rustc") is None:
         return None
-    target = os.path.join(folder, "plain")
-    source = os.path.join(TOP, "bench/plain/main.rs")
-    subprocess.run(["rustc", "--edition", "2021", "-O", "-o", target, source], check=True)
-    return target
+    # With no words it only writes its usage line, after it was built.
+    ended = subprocess.run([os.path.join(TOP, "nooks-plain")], stdin=subprocess.DEVNULL, capture_output=True, check=False)
+    if not os.access(PLAIN, os.X_OK):
+        sys.exit(f"./nooks-plain built no {PLAIN}: {ended.stderr.decode(errors='replace')}")
+    return PLAIN

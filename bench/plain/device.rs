@@ -14,18 +14,21 @@ const RING_FRAMES: usize = 16;
 
 type Block = [u32; BLOCK_WORDS];
 
+#[derive(Clone)]
 pub struct Device {
     class: Class,
     registers: [u32; 4],
     kind: Kind,
 }
 
+#[derive(Clone)]
 enum Kind {
     Disk(Disk),
     Net(Box<Net>),
     Sound,
 }
 
+#[derive(Clone)]
 struct Disk {
     medium: Vec<Block>,
     /// The commands that each block had, and how many it takes before it fails.
@@ -37,6 +40,7 @@ struct Disk {
     status: u32,
 }
 
+#[derive(Clone)]
 struct Net {
     length: u32,
     buffer: [u32; LONGEST_FRAME],

@@ -26,25 +26,22 @@ struct Side<'s> {
     present: bool,
 }
 
-/// Why a mirror does not serve a scenario, if it does not.
-pub fn refusal(scenario: &Scenario) -> Option<&'static str> {
+/// Whether a mirror serves a scenario: two disks with as many blocks, and at most one thread, which reads and writes part 0.
+pub fn serves(scenario: &Scenario) -> bool {
     let [left, right] = scenario.parts.as_slice() else {
-        return Some("a mirror has two parts");
+        return false;
     };
-    if left.class != Class::Block || right.class != Class::Block || left.blocks != right.blocks {
-        return Some("a mirror has two disks with as many blocks");
-    }
-    if scenario.threads.len() > 1 {
-        return Some("a mirror has one thread");
-    }
     let mut operations = scenario
         .threads
         .iter()
         .flat_map(|thread| &thread.operations);
-    let is_served = |(part, operation): &(usize, Operation)| {
-        *part == 0 && matches!(operation, Operation::Read { .. } | Operation::Write { .. })
-    };
-    (!operations.all(is_served)).then_some("the thread of a mirror reads and writes part 0")
+    left.class == Class::Block
+        && right.class == Class::Block
+        && left.blocks == right.blocks
+        && scenario.threads.len() <= 1
+        && operations.all(|(part, operation)| {
+            *part == 0 && matches!(operation, Operation::Read { .. } | Operation::Write { .. })
+        })
 }
 
 /// Serves the operations of a scenario that a mirror serves, one after the other. Then both parts take the steps that they

@@ -53,6 +53,16 @@ pub enum Step {
     Stage,
 }
 
+/// What a burst finds, and the faults that may strike it.
+pub struct Before<'s> {
+    pub burst: u32,
+    pub call: u32,
+    pub cpu: Cpu,
+    pub memory: Box<Memory>,
+    pub device: Device,
+    pub faults: &'s [Fault],
+}
+
 pub struct Part<'s> {
     spec: &'s PartSpec,
     memory: Box<Memory>,
@@ -162,6 +172,24 @@ impl<'s> Part<'s> {
         }
     }
 
+    /// The number of the burst that would be the next.
+    pub fn next_burst(&self) -> u32 {
+        self.bursts + 1
+    }
+
+    /// What the next burst finds, if it is one of this context.
+    pub fn before_burst(&self, context: usize) -> Before<'s> {
+        let running = self.contexts[context].as_ref();
+        Before {
+            burst: self.next_burst(),
+            call: self.call_of(context),
+            cpu: running.expect("the context is inside").cpu.clone(),
+            memory: self.memory.clone(),
+            device: self.device.clone(),
+            faults: faults_of(&self.spec.faults, self.next_burst()),
+        }
+    }
+
     pub fn take(&mut self, step: Step) {
         let event = match step {
             Step::Enter { thread } => self.enter(thread),
@@ -257,6 +285,15 @@ impl<'s> Part<'s> {
         }
     }
 
+    /// The call that a context serves, 0 for the shadow's own.
+    fn call_of(&self, context: usize) -> u32 {
+        if context == SHADOW {
+            0
+        } else {
+            self.calls[self.place_of(context as u8)].number
+        }
+    }
+
     fn place_of(&self, thread: u8) -> usize {
         self.calls
             .iter()
@@ -312,11 +349,7 @@ impl<'s> Part<'s> {
         let arguments = (running.cpu.registers[1], running.cpu.registers[2]);
         let mut burst = Burst {
             context,
-            call: if context == SHADOW {
-                0
-            } else {
-                self.calls[self.place_of(context as u8)].number
-            },
+            call: self.call_of(context),
             burst: self.bursts,
             turns,
             end: End::Trap,

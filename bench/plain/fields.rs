@@ -8,6 +8,9 @@ use std::ops::RangeInclusive;
 /// The range of a machine word.
 pub const WORD: RangeInclusive<u64> = 0..=u32::MAX as u64;
 
+/// The kinds of an object: the name of each, and the keys that it has.
+pub type Rows = &'static [(&'static str, &'static [&'static str])];
+
 /// The fields of an object. If a key comes twice, the last one counts.
 pub struct Object<'v> {
     fields: &'v [(Cow<'v, str>, Value<'v>)],
@@ -36,6 +39,19 @@ impl<'v> Object<'v> {
         } else {
             Refusal::here(Cause::UnknownKey)
         }
+    }
+
+    /// The name at a key, which decides which keys the object has. Each row has a name and its keys.
+    pub fn kind(&self, key: &str, rows: Rows) -> Read<&'static str> {
+        let (name, keys) = self.required(key, |value| {
+            let name = text(value)?;
+            match rows.iter().find(|row| row.0 == name) {
+                Some(row) => Ok(row),
+                None => Refusal::here(Cause::WrongKind),
+            }
+        })?;
+        self.expect_keys(keys)?;
+        Ok(name)
     }
 
     pub fn has(&self, key: &str) -> bool {

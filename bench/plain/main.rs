@@ -88,7 +88,7 @@ fn main() -> ExitCode {
 
 /// Writes what the words ask for, and returns the status.
 fn answer(form: Option<Form>) -> Result<u8, Stop> {
-    // Not the buffered standard output of the library, which takes writes to a closed file for done.
+    // The library's own standard output takes writes to one that cannot be written for done.
     let mut out = BufWriter::new(File::from(io::stdout().as_fd().try_clone_to_owned()?));
     let status = match form {
         Some(form) => match serve::serve(form, &mut out) {

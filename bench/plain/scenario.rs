@@ -2,7 +2,7 @@
 
 use crate::assembler::assemble;
 use crate::class::Class;
-use crate::fields::{each, items, number, some_items, text, word, Object};
+use crate::fields::{each, items, number, some_items, text, word, Object, Rows};
 use crate::image::{self, read_class, Image};
 use crate::journal::Words;
 use crate::json::Value;
@@ -127,36 +127,23 @@ fn read_name<'n>(value: &Value, mut earlier: impl Iterator<Item = &'n str>) -> R
     }
 }
 
-/// The name that decides which other keys an object has. It is one of those given.
-fn read_tag<'n>(value: &Value, names: &[&'n str]) -> Read<&'n str> {
-    let tag = text(value)?;
-    match names.iter().find(|name| **name == tag) {
-        Some(name) => Ok(name),
-        None => Refusal::here(Cause::WrongKind),
-    }
-}
+const ORDERS: Rows = &[
+    ("round_robin", &["kind"]),
+    ("drawn", &["kind", "start"]),
+    ("listed", &["kind", "picks"]),
+];
 
 fn read_order(value: &Value) -> Read<Order> {
     let fields = Object::any(value)?;
-    let kinds = ["round_robin", "drawn", "listed"];
-    match fields.required("kind", |value| read_tag(value, &kinds))? {
-        "drawn" => {
-            fields.expect_keys(&["kind", "start"])?;
-            Ok(Order::Drawn {
-                start: fields.number("start", 0..=u64::MAX)?,
-            })
-        }
-        "listed" => {
-            fields.expect_keys(&["kind", "picks"])?;
-            Ok(Order::Listed {
-                picks: fields.required("picks", |value| each(items(value, 65_536)?, read_pick))?,
-            })
-        }
-        _ => {
-            fields.expect_keys(&["kind"])?;
-            Ok(Order::RoundRobin)
-        }
-    }
+    Ok(match fields.kind("kind", ORDERS)? {
+        "drawn" => Order::Drawn {
+            start: fields.number("start", 0..=u64::MAX)?,
+        },
+        "listed" => Order::Listed {
+            picks: fields.required("picks", |value| each(items(value, 65_536)?, read_pick))?,
+        },
+        _ => Order::RoundRobin,
+    })
 }
 
 fn read_pick(value: &Value) -> Read<u16> {
@@ -236,16 +223,17 @@ fn read_assembler(text: &[u8]) -> Read<Image> {
     }
 }
 
+const FAULTS: Rows = &[
+    ("trap", &["burst", "after", "kind"]),
+    ("hang", &["burst", "after", "kind"]),
+    ("poke", &["burst", "after", "kind", "address", "value"]),
+    ("code", &["burst", "after", "kind", "address", "value"]),
+    ("reg", &["burst", "after", "kind", "register", "value"]),
+];
+
 pub fn read_fault(value: &Value) -> Read<Fault> {
     let fields = Object::any(value)?;
-    let kinds = ["trap", "hang", "poke", "code", "reg"];
-    let kind = fields.required("kind", |value| read_tag(value, &kinds))?;
-    let own: &[&str] = match kind {
-        "poke" | "code" => &["address", "value"],
-        "reg" => &["register", "value"],
-        _ => &[],
-    };
-    fields.expect_keys(&[&["burst", "after", "kind"], own].concat())?;
+    let kind = fields.kind("kind", FAULTS)?;
     Ok(Fault {
         burst: fields.number("burst", 1..=u64::from(u32::MAX))? as u32,
         after: fields.number("after", 0..=4_095)? as u32,
@@ -284,26 +272,21 @@ fn read_thread<'n>(
     })
 }
 
-/// The operations, and the keys that each has after `part` and `op`.
-const OPERATIONS: [(&str, &[&str]); 9] = [
-    ("read", &["first", "count"]),
-    ("write", &["first", "data"]),
-    ("send", &["frame"]),
-    ("recv", &[]),
-    ("open", &[]),
-    ("play", &["samples"]),
-    ("close", &[]),
-    ("get", &["key"]),
-    ("set", &["key", "value"]),
+const OPERATIONS: Rows = &[
+    ("read", &["part", "op", "first", "count"]),
+    ("write", &["part", "op", "first", "data"]),
+    ("send", &["part", "op", "frame"]),
+    ("recv", &["part", "op"]),
+    ("open", &["part", "op"]),
+    ("play", &["part", "op", "samples"]),
+    ("close", &["part", "op"]),
+    ("get", &["part", "op", "key"]),
+    ("set", &["part", "op", "key", "value"]),
 ];
 
 fn read_operation(value: &Value, parts: usize) -> Read<(usize, Operation)> {
     let fields = Object::any(value)?;
-    let names = OPERATIONS.map(|(name, _)| name);
-    let name = fields.required("op", |value| read_tag(value, &names))?;
-    let own = OPERATIONS.iter().find(|row| row.0 == name);
-    let own = own.map_or(&[][..], |row| row.1);
-    fields.expect_keys(&[&["part", "op"], own].concat())?;
+    let name = fields.kind("op", OPERATIONS)?;
     let part = fields.number("part", 0..=parts as u64 - 1)?;
     Ok((part as usize, read_asked(name, &fields)?))
 }

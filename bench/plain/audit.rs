@@ -1,6 +1,6 @@
 //! Audits: whether a printed report is one of a scenario's.
 //!
-//! Each part is made anew and takes the steps that the report's lines name, in whatever order they come. Each line is
+//! A new part takes the steps that the report's lines name, in whatever order they come. Each line is
 //! compared with the one that its step makes, and the lines after the events with those that follow from the journals.
 
 use crate::contract::judge;

@@ -54,7 +54,7 @@ impl<'t> Parser<'t> {
         }
     }
 
-    /// Steps over a byte where it stands next.
+    /// Steps over a byte if it is the next one.
     fn eat(&mut self, byte: u8) -> bool {
         let there = self.peek() == Some(byte);
         self.place += usize::from(there);
@@ -214,7 +214,7 @@ impl<'t> Parser<'t> {
         Ok(made)
     }
 
-    /// A character by its number, or by two numbers where the first is half of a pair.
+    /// A character by its number, or by two numbers if the first is half of a pair.
     fn unicode(&mut self) -> Result<char, NotJson> {
         let mut units = vec![self.unit()?];
         if (0xd800..0xdc00).contains(&units[0]) {

@@ -7,14 +7,14 @@ use crate::part::Part;
 use crate::scenario::Scenario;
 use crate::simulation::{Heard, Run};
 
-/// What the mirror tells its thread.
+/// What the mirror answers its thread.
 pub enum Told {
     /// What a side, or the check of the operation, answers.
     Answer(Answer),
     BothLost,
 }
 
-/// The mirror's run. The threads' answers in it are none: the mirror's stand beside it.
+/// The mirror's run. It has no answers of threads: the mirror's are in `told`.
 pub struct Mirrored<'s> {
     pub run: Run<'s>,
     pub told: Vec<Told>,
@@ -74,7 +74,7 @@ pub fn simulate(scenario: &Scenario) -> Mirrored<'_> {
     }
 }
 
-/// 7 where a driver broke its class's contract, else 1 where both sides were lost, else 0.
+/// 7 if a driver broke its class's contract, else 1 if both sides were lost, else 0.
 pub fn status(mirrored: &Mirrored) -> u8 {
     match mirrored.run.status(&mirrored.run.verdicts()) {
         7 => 7,
@@ -111,7 +111,7 @@ fn read<'s>(sides: &mut [Side<'s>], operation: &'s Operation) -> Told {
     failed.map_or(Told::BothLost, Told::Answer)
 }
 
-/// Asks both sides. Those that did it stay; where none did, the first whose medium failed stays.
+/// Asks both sides. Those that did it stay; if none did, the first whose medium failed stays.
 fn write<'s>(sides: &mut [Side<'s>], operation: &'s Operation) -> Told {
     let answers: Vec<Option<Answer>> = sides
         .iter_mut()
@@ -146,7 +146,7 @@ impl<'s> Side<'s> {
         }
     }
 
-    /// Takes the next step, and tells whether there was one.
+    /// Takes the next step, and returns whether there was one.
     fn step(&mut self) -> bool {
         let next = self.part.next_recovery().or_else(|| self.part.next_for(0));
         let has_step = next.is_some();
@@ -156,7 +156,7 @@ impl<'s> Side<'s> {
         has_step
     }
 
-    /// The part behind its last step.
+    /// The part after its last step.
     fn settled(mut self) -> Part<'s> {
         while self.step() {}
         self.part

@@ -47,7 +47,7 @@ impl Operation {
         }
     }
 
-    /// The class whose operation it is, None where it is of every class.
+    /// The class whose operation it is, None if it is of every class.
     fn class(&self) -> Option<Class> {
         match self {
             Read { .. } | Write { .. } => Some(Class::Block),

@@ -17,10 +17,10 @@ const MOST_BURSTS: u32 = 32;
 const QUEUE_FRAMES: usize = 64;
 const LONGEST_FRAME: u32 = 64;
 
-/// Where the kernel writes the count of failures in its own object, behind the configuration.
+/// The word of the kernel's own object that has the count of failures, after the configuration.
 const FAILURES_WORD: usize = 4;
 
-/// A reply of so much and i tells that the block at i of a read or write failed.
+/// A reply of this number and i means that block i of a read or write failed.
 const BLOCK_FAILED: u32 = 256;
 
 #[derive(Clone, Copy, PartialEq, Eq)]
@@ -236,7 +236,7 @@ impl<'s> Part<'s> {
         });
     }
 
-    /// What the shadow answers in the driver's place, None where the call is held.
+    /// What the shadow answers in the driver's place, None if the call is held.
     fn shadow_answer(&mut self, thread: u8, operation: &Operation, stage: Stage) -> Option<Answer> {
         match operation {
             Operation::Get { key } => Some(Answer::Value(self.record[*key as usize])),
@@ -367,7 +367,7 @@ impl<'s> Part<'s> {
         Event::Burst(burst)
     }
 
-    /// Does what a crossing asks, and notes it as the burst's end. The answer of the context's call, where it has one now.
+    /// Does what a crossing asks, and notes it as the burst's end. Returns the answer of the context's call, if it has one now.
     fn cross(
         &mut self,
         context: usize,
@@ -422,7 +422,7 @@ impl<'s> Part<'s> {
         }
     }
 
-    /// Serves a kernel call, or tells the smallest argument that is wrong, 0 for the service itself.
+    /// Serves a kernel call, or returns the smallest argument that is wrong, 0 for the service itself.
     fn serve(&mut self, service: u32, first: u32, second: u32) -> Result<Served, u32> {
         let plain = |result| Served {
             result,
@@ -467,7 +467,7 @@ impl<'s> Part<'s> {
         }
     }
 
-    /// A driver hands a frame up, which is lost where the queue is full.
+    /// A driver hands a frame up, which is lost if the queue is full.
     fn hand_up(&mut self, start: u32, length: u32) -> Result<Served, u32> {
         if self.spec.class != Class::Net {
             return Err(0);
@@ -570,7 +570,7 @@ impl<'s> Part<'s> {
         self.mode = Mode::Recovering(Stage::Stop);
     }
 
-    /// Makes the stage behind the given one the current stage.
+    /// Makes the stage after the given one the current stage.
     fn go_on(&mut self, stage: Stage) {
         let next = match stage {
             Stage::Stop => Stage::Collect,
@@ -587,7 +587,7 @@ impl<'s> Part<'s> {
         };
     }
 
-    /// The first replay from a key on, or what comes behind the replays.
+    /// The first replay from a key on, or what comes after the replays.
     fn replay_from(&self, key: u32) -> Stage {
         let defaults = self.spec.class.defaults();
         let changed = (key..4).find(|key| self.record[*key as usize] != defaults[*key as usize]);

@@ -25,7 +25,7 @@ impl Run<'_> {
             .collect()
     }
 
-    /// 7 where a driver broke its class's contract, else 1 where a part was given up, else 0.
+    /// 7 if a driver broke its class's contract, else 1 if a part was given up, else 0.
     pub fn status(&self, verdicts: &[Verdict]) -> u8 {
         if verdicts.iter().any(|verdict| verdict.broken.is_some()) {
             7
@@ -66,7 +66,7 @@ struct Thread<'s> {
 }
 
 impl Thread<'_> {
-    /// The place of its next operation, where it has one and no open call.
+    /// The index of its next operation, if it has one and no open call.
     fn next_operation(&self) -> Option<usize> {
         let place = self.answers.len();
         (self.waits_for.is_none() && place < self.spec.operations.len()).then_some(place)

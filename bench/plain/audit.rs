@@ -1,7 +1,7 @@
 //! Audits: whether a printed report is one of a scenario's.
 //!
-//! A new part takes the steps that the report's lines name, in whatever order they come. Each line is
-//! compared with the one that its step makes, and the lines after the events with those that follow from the journals.
+//! A new part takes the steps that the report's lines name, in whatever order they come. Each line is compared with the
+//! one that its step makes, and the lines after the events with those that follow from the journals.
 
 use crate::contract::judge;
 use crate::form::decimal;

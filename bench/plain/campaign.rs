@@ -18,8 +18,8 @@ const MOST_OPERATIONS: usize = 64;
 const MOST_OWN_FAULTS: usize = 63;
 
 pub struct Campaign<'v> {
-    /// The base as it was written: scenarios count the users of their words without atomics, so each worker reads one of
-    /// its own.
+    /// The base as it was written: scenarios count the users of their words without atomics, so each worker reads one
+    /// of its own.
     base: &'v Value<'v>,
     part: usize,
     faults: Vec<Fault>,

@@ -245,7 +245,7 @@ impl<'s> Monitor<'s> {
             Act::Played { sample, .. } => self.see_played(number, *sample),
             Act::Register { key, value } => {
                 if self.registers[*key as usize] != *value {
-                    let is_set = |call: &Call| matches!(call.operation, Operation::Set { key: own, value: wanted } if own == key && wanted == value);
+                    let is_set = |call: &Call| call.operation.sets(*key, *value);
                     let asked = self.replay == Some((*key, *value)) || self.inside().any(is_set);
                     self.check(12, asked);
                 }

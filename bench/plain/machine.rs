@@ -153,7 +153,7 @@ impl Cpu {
                     at = immediate;
                     continue;
                 }
-                // Nothing, but else the compiler has a conditional move give the counter, for which the next fetch waits.
+                // Nothing, but without it the compiler makes the counter by a conditional move, and the next fetch waits.
                 BEQ | BNE | BLT => black_box(()),
                 JAL if b == 0 => {
                     r[a] = at + 1;

@@ -26,7 +26,7 @@ struct Side<'s> {
     present: bool,
 }
 
-/// Whether a mirror serves a scenario: two disks with as many blocks, and at most one thread, which reads and writes part 0.
+/// Whether a mirror serves a scenario: two disks of one size, and at most one thread, which reads and writes part 0.
 pub fn serves(scenario: &Scenario) -> bool {
     let [left, right] = scenario.parts.as_slice() else {
         return false;
@@ -44,8 +44,8 @@ pub fn serves(scenario: &Scenario) -> bool {
         })
 }
 
-/// Serves the operations of a scenario that a mirror serves, one after the other. Then both parts take the steps that they
-/// have left.
+/// Serves the operations of a scenario that a mirror serves, one after the other. Then both parts take the steps that
+/// they have left.
 pub fn simulate(scenario: &Scenario) -> Mirrored<'_> {
     let new_side = |spec| Side {
         part: Part::new(spec),

@@ -1,5 +1,5 @@
-//! Whether the parts' journals are together one run: whether their events can be put into one order in which each thread
-//! invokes an operation only after the answer to the one before it, on whatever part.
+//! Whether the parts' journals are together one run: whether their events can be put into one order in which each
+//! thread invokes an operation only after the answer to the one before it, on whatever part.
 
 use crate::scenario::Scenario;
 

@@ -77,6 +77,11 @@ impl Operation {
         }
     }
 
+    /// Whether it sets a register to a value.
+    pub fn sets(&self, key: u32, value: u32) -> bool {
+        matches!(self, Set { key: own, value: wanted } if *own == key && *wanted == value)
+    }
+
     /// Whether two operations of one class must not be with the driver together.
     pub fn conflicts_with(&self, other: &Operation) -> bool {
         match (self, other) {

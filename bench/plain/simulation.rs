@@ -141,7 +141,7 @@ impl<'s> Simulation<'s> {
         schedule.pick(actors, |actor| self.can_go(actor))
     }
 
-    /// The step that an actor takes next, if it is neither an invocation nor an arrival, and the part that it is one of.
+    /// The step that an actor takes next, and its part. None if it is an invocation or an arrival.
     fn step_of(&self, actor: usize) -> Option<(usize, Step)> {
         match self.threads.get(actor) {
             Some(thread) => {

@@ -1,5 +1,6 @@
-//! Runs by threads: each thread of the scenario is a thread of its own, and so is each part. A thread hands its operations
-//! to the parts one by one and waits for each answer. So the order of a part's steps depends on when its calls come.
+//! Runs by threads: each thread of the scenario is a thread of its own, and so is each part. A thread hands its
+//! operations to the parts one by one and waits for each answer. So the order of a part's steps depends on when its
+//! calls come.
 
 use crate::contract::judge;
 use crate::journal::Words;

@@ -9,7 +9,7 @@ use crate::scenario::{Fault, FaultKind};
 use std::fmt::{self, Display, Formatter};
 use std::io::{self, Write};
 
-/// Writes the trace of the next burst of a part, which runs in this context. Each line is written as soon as it is made.
+/// Writes the trace of a part's next burst, which runs in this context. Each line is written as soon as it is made.
 pub fn write(index: usize, mut part: Part, context: usize, out: &mut impl Write) -> io::Result<()> {
     let mut before = part.before_burst(context);
     let (name, burst, call) = (&part.spec().name, before.burst, before.call);

@@ -153,7 +153,7 @@ impl Cpu {
                     at = immediate;
                     continue;
                 }
-                // Nothing, but without it the compiler makes the counter by a conditional move, and the next fetch waits.
+                // Without this the compiler has a conditional move give the counter, and the next fetch waits for it.
                 BEQ | BNE | BLT => black_box(()),
                 JAL if b == 0 => {
                     r[a] = at + 1;

@@ -367,8 +367,8 @@ impl<'s> Part<'s> {
         Event::Burst(burst)
     }
 
-    /// Does what a crossing asks, and notes it as the burst's end. Returns the answer to the context's call, if there is
-    /// one now.
+    /// Does what a crossing asks, and notes it as the burst's end. Returns the answer to the context's call, if there
+    /// is one now.
     fn cross(
         &mut self,
         context: usize,

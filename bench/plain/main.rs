@@ -109,7 +109,7 @@ fn refuse(refusal: &Refusal, out: &mut impl Write) -> io::Result<u8> {
     writeln!(out, "{refusal}")?;
     out.flush()?;
     if !io::stdout().is_terminal() {
-        eprintln!("nooks: {refusal}");
+        say(&format!("nooks: {refusal}\n"));
     }
     Ok(3)
 }
@@ -122,7 +122,11 @@ fn report_stop(stop: Stop) -> u8 {
         Stop::WriteFault => (5, texts::WRITE_FAILED),
         Stop::NoMemory => (NO_MEMORY_STATUS, texts::NO_MEMORY),
     };
-    // If standard error fails too, nobody is left to hear of it.
-    let _said = io::stderr().write_all(line.as_bytes());
+    say(line);
     status
+}
+
+/// Writes a line to standard error. If that fails too, nobody is left to hear of it.
+fn say(line: &str) {
+    let _said = io::stderr().write_all(line.as_bytes());
 }

@@ -389,11 +389,7 @@ impl<'s> Part<'s> {
             }
             Crossing::Pause => {
                 *end = End::Pause;
-                if is_last {
-                    Err(Failure::TooManyCrossings)
-                } else {
-                    Ok(None)
-                }
+                expect_more(is_last).map(|()| None)
             }
             Crossing::KernelCall(service) => {
                 *end = End::Service {
@@ -402,16 +398,13 @@ impl<'s> Part<'s> {
                     second,
                     served: None,
                 };
-                if is_last {
-                    return Err(Failure::TooManyCrossings);
-                }
+                expect_more(is_last)?;
                 let served = self
                     .serve(service, first, second)
                     .map_err(|argument| Failure::BadParameter { service, argument })?;
-                let running = self.contexts[context]
-                    .as_mut()
-                    .expect("the context is inside");
-                running.cpu.registers[1] = served.result;
+                if let Some(running) = &mut self.contexts[context] {
+                    running.cpu.registers[1] = served.result;
+                }
                 *end = End::Service {
                     service,
                     first,
@@ -450,22 +443,21 @@ impl<'s> Part<'s> {
                 }
                 Ok(plain(start.unwrap_or(0)))
             }
-            5 if !self.tracker.is_borrowed(first) => Err(1),
-            5 => {
-                let start = self
-                    .tracker
-                    .give_back(first)
-                    .expect("the object is borrowed");
-                self.memory.copy_back(first, start);
-                Ok(Served {
-                    result: 0,
-                    moved: Some(self.memory.slice(start, OBJECT_WORDS).into()),
-                })
-            }
+            5 => self.give_back(first),
             6 => self.hand_up(first, second),
             7 | 8 => Ok(plain(0)),
             _ => Err(0),
         }
+    }
+
+    /// A driver gives the copy of an object back.
+    fn give_back(&mut self, object: u32) -> Result<Served, u32> {
+        let start = self.tracker.give_back(object).ok_or(1_u32)?;
+        self.memory.copy_back(object, start);
+        Ok(Served {
+            result: 0,
+            moved: Some(self.memory.slice(start, OBJECT_WORDS).into()),
+        })
     }
 
     /// A driver hands a frame up, which is lost if the queue is full.
@@ -676,6 +668,15 @@ impl<'s> Part<'s> {
             _ => self.go_on(Stage::Collect),
         }
         self.tracker.collect()
+    }
+}
+
+/// The last burst of an attempt has to end it.
+fn expect_more(is_last: bool) -> Result<(), Failure> {
+    if is_last {
+        Err(Failure::TooManyCrossings)
+    } else {
+        Ok(())
     }
 }
 

@@ -83,9 +83,9 @@ impl Tracker {
         start
     }
 
-    /// The address of the copy that is given back.
+    /// The address of the copy that is given back, None if the object is not borrowed.
     pub fn give_back(&mut self, object: u32) -> Option<u32> {
-        let start = self.borrowed[object as usize].take()?;
+        let start = self.borrowed.get_mut(object as usize)?.take()?;
         self.runs.remove(&start);
         Some(start)
     }

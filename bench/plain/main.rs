@@ -1,9 +1,13 @@
 //! The simulator of driver domains as an ordinary Rust program, with nothing proved. It has every form of words of the
-//! proved program, writes the same bytes and ends with the same status: so it takes the proved program's place if the
+//! proved program, writes the same bytes and ends with the same status. So it takes the proved program's place if the
 //! Rattle toolchain is missing, and the checks and the benchmark compare the two. It is written from the documents and
 //! shares no code with the proved program.
 //!
 //! `rustc --edition 2021 -O bench/plain/main.rs` builds it, with the standard library alone.
+//!
+//! It is known to differ in three ways. `--version` says that nothing is proved. An audit asks for one order of the
+//! events of all parts, and the proved program for an order in each part. Standard input or output that is closed from
+//! the start is an empty file here, as in every Rust program, and cannot be read or written there.
 
 mod allocator;
 mod assembler;

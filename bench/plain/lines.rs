@@ -78,14 +78,9 @@ impl Display for Event<'_> {
 
 impl Display for Burst {
     fn fmt(&self, f: &mut Formatter) -> fmt::Result {
-        write!(
-            f,
-            "burst x{} c{} b{} {}",
-            self.context,
-            self.call,
-            self.burst,
-            Outcome(self)
-        )
+        let (context, call, burst) = (self.context, self.call, self.burst);
+        write!(f, "burst x{context} c{call} b{burst} ")?;
+        Outcome(self).fmt(f)
     }
 }
 

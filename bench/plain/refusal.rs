@@ -89,6 +89,7 @@ pub trait Within {
 }
 
 impl<T> Within for Read<T> {
+    #[inline]
     fn within(self, step: impl Display) -> Read<T> {
         self.map_err(|mut refusal| {
             refusal.steps.push(step.to_string());

@@ -6,15 +6,18 @@
 use crate::contract::judge;
 use crate::form::decimal;
 use crate::input;
-use crate::journal::Answer;
+use crate::journal::{Answer, Words};
 use crate::one_order::{self, Mark};
+use crate::operation::Operation;
 use crate::part::{Part, Step};
 use crate::refusal::{Cause, Read, Refusal};
 use crate::report::{write_ends, write_head, write_last, write_threads};
-use crate::scenario::{PartSpec, Scenario};
+use crate::scenario::{Scenario, ThreadSpec};
 use crate::simulation::{Heard, Run};
 use std::collections::VecDeque;
 use std::fmt::Write as _;
+use std::slice::Iter;
+use std::vec::IntoIter;
 
 /// The longest input.
 pub const LONGEST: usize = 16_777_216;
@@ -96,8 +99,8 @@ impl<'r> Lines<'r> {
 /// Goes through a report, and returns what each part's events did to the threads.
 fn check(scenario: &Scenario, lines: &mut Lines) -> Result<Vec<Vec<Mark>>, NoFit> {
     let mut sections = Vec::new();
-    for (index, spec) in scenario.parts.iter().enumerate() {
-        let mut section = Section::new(scenario, index, spec);
+    for index in 0..scenario.parts.len() {
+        let mut section = Section::new(scenario, index);
         section.check(lines)?;
         sections.push(section);
     }
@@ -106,11 +109,9 @@ fn check(scenario: &Scenario, lines: &mut Lines) -> Result<Vec<Vec<Mark>>, NoFit
     let mut parts = Vec::new();
     let mut marks = Vec::new();
     for section in sections {
-        section
-            .part
-            .journal()
-            .iter()
-            .for_each(|event| heard.hear(event));
+        for event in section.part.journal() {
+            heard.hear(event);
+        }
         parts.push(section.part);
         marks.push(section.marks);
     }
@@ -154,41 +155,36 @@ fn text(write: impl FnOnce(&mut Vec<u8>) -> std::io::Result<()>) -> Vec<u8> {
 }
 
 /// A thread's operations on one part.
-#[derive(Default)]
-struct Script {
-    /// Their places in the thread's script.
-    operations: Vec<usize>,
-    invoked: usize,
-    answered: usize,
+struct Script<'s> {
+    /// Those that are not invoked yet.
+    operations: IntoIter<&'s Operation>,
+    is_waiting: bool,
     answers: VecDeque<Answer>,
 }
 
 /// A part, and how far its events have come.
 struct Section<'s> {
-    scenario: &'s Scenario,
     index: usize,
     part: Part<'s>,
-    scripts: Vec<Script>,
-    arrived: usize,
+    scripts: Vec<Script<'s>>,
+    /// Those that have not arrived yet.
+    frames: Iter<'s, Words>,
     marks: Vec<Mark>,
 }
 
 impl<'s> Section<'s> {
-    fn new(scenario: &'s Scenario, index: usize, spec: &'s PartSpec) -> Section<'s> {
-        let script = |thread: &'s crate::scenario::ThreadSpec| {
-            let operations = thread.operations.iter().enumerate();
-            let own = operations.filter(|(_, (part, _))| *part == index);
-            Script {
-                operations: own.map(|(place, _)| place).collect(),
-                ..Script::default()
-            }
+    fn new(scenario: &'s Scenario, index: usize) -> Section<'s> {
+        let spec = &scenario.parts[index];
+        let script = |thread: &'s ThreadSpec| Script {
+            operations: thread.operations_on(index).into_iter(),
+            is_waiting: false,
+            answers: VecDeque::new(),
         };
         Section {
-            scenario,
             index,
             part: Part::new(spec),
             scripts: scenario.threads.iter().map(script).collect(),
-            arrived: 0,
+            frames: spec.arrivals.iter(),
             marks: Vec::new(),
         }
     }
@@ -220,48 +216,40 @@ impl<'s> Section<'s> {
     fn follow(&mut self, line: &[u8]) -> Result<Option<u8>, NoFit> {
         let line = std::str::from_utf8(line).map_err(|_| NoFit)?;
         let words: Vec<&str> = line.splitn(5, ' ').collect();
-        match words[..] {
+        let part = &mut self.part;
+        let step = match words[..] {
             [_, "invoke", _, thread, ..] => return self.invoke(numbered(thread, 't')?).map(Some),
+            [_, "arrive", ..] => {
+                part.arrive(self.frames.next().ok_or(NoFit)?);
+                return Ok(None);
+            }
             [_, "enter", _, context, ..] => {
-                let thread = numbered(context, 'x')?;
-                match self.part.next_for(thread) {
-                    Some(step @ Step::Enter { .. }) => self.part.take(step),
-                    _ => return Err(NoFit),
-                }
+                let step = part.next_for(numbered(context, 'x')?);
+                step.filter(|step| matches!(step, Step::Enter { .. }))
             }
             [_, "burst", context, ..] => {
                 let context = numbered(context, 'x')?;
-                let of_thread = self.part.next_for(context);
-                match of_thread.or_else(|| self.part.next_recovery()) {
-                    Some(step @ Step::Burst { context: own }) if own == usize::from(context) => {
-                        self.part.take(step)
-                    }
-                    _ => return Err(NoFit),
-                }
+                let step = part.next_for(context).or_else(|| part.next_recovery());
+                step.filter(|step| step.is_burst_of(context.into()))
             }
-            [_, "stage", ..] => match self.part.next_recovery() {
-                Some(step @ Step::Stage) => self.part.take(step),
-                _ => return Err(NoFit),
-            },
-            [_, "arrive", ..] => {
-                let frames = &self.part.spec().arrivals;
-                self.part.arrive(frames.get(self.arrived).ok_or(NoFit)?);
-                self.arrived += 1;
+            [_, "stage", ..] => {
+                let step = part.next_recovery();
+                step.filter(|step| matches!(step, Step::Stage))
             }
-            _ => return Err(NoFit),
-        }
+            _ => None,
+        };
+        part.take(step.ok_or(NoFit)?);
         Ok(None)
     }
 
     /// Invokes a thread's next operation on this part.
     fn invoke(&mut self, thread: u8) -> Result<u8, NoFit> {
         let script = self.scripts.get_mut(usize::from(thread)).ok_or(NoFit)?;
-        if script.invoked > script.answered {
+        if script.is_waiting {
             return Err(NoFit);
         }
-        let place = *script.operations.get(script.invoked).ok_or(NoFit)?;
-        script.invoked += 1;
-        let (_, operation) = &self.scenario.threads[usize::from(thread)].operations[place];
+        let operation = script.operations.next().ok_or(NoFit)?;
+        script.is_waiting = true;
         self.part.invoke(thread, operation);
         Ok(thread)
     }
@@ -271,7 +259,7 @@ impl<'s> Section<'s> {
         let mut answered = Vec::new();
         for (thread, answer) in self.part.take_answers() {
             let script = &mut self.scripts[usize::from(thread)];
-            script.answered += 1;
+            script.is_waiting = false;
             script.answers.push_back(answer);
             answered.push(thread);
         }
@@ -286,10 +274,10 @@ impl<'s> Section<'s> {
 
     /// Whether no step is left, every operation is answered and every frame has arrived.
     fn is_over(&self) -> bool {
-        let is_done = |script: &Script| script.answered == script.operations.len();
+        let is_done = |script: &Script| !script.is_waiting && script.operations.len() == 0;
         self.part.next_recovery().is_none()
             && self.scripts.iter().all(is_done)
-            && self.arrived == self.part.spec().arrivals.len()
+            && self.frames.len() == 0
     }
 }
 

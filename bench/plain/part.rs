@@ -53,6 +53,12 @@ pub enum Step {
     Stage,
 }
 
+impl Step {
+    pub fn is_burst_of(self, context: usize) -> bool {
+        matches!(self, Step::Burst { context: own } if own == context)
+    }
+}
+
 /// What a burst finds, and the faults that may strike it.
 pub struct Before<'s> {
     pub burst: u32,

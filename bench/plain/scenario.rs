@@ -68,6 +68,15 @@ pub struct ThreadSpec {
     pub operations: Vec<(usize, Operation)>,
 }
 
+impl ThreadSpec {
+    /// The operations on a part, in order.
+    pub fn operations_on(&self, part: usize) -> Vec<&Operation> {
+        let operations = self.operations.iter();
+        let own = operations.filter(|(own, _)| *own == part);
+        own.map(|(_, operation)| operation).collect()
+    }
+}
+
 /// What may stand in a scenario. Version 2 has bad blocks.
 #[derive(Clone, Copy, PartialEq, Eq)]
 enum Version {

@@ -17,6 +17,7 @@ use std::panic::resume_unwind;
 use std::slice::Iter;
 use std::sync::mpsc::{channel, Receiver, Sender};
 use std::thread::{Builder, Scope, ScopedJoinHandle};
+use std::vec::IntoIter;
 
 /// What a part is asked for, with the sender that hears when it is done.
 enum Request {
@@ -149,7 +150,7 @@ fn own(value: &Value, index: usize, requests: &Receiver<Request>) -> Section {
 struct Owner<'s> {
     part: Part<'s>,
     /// Of each thread, the operations on this part that are to come.
-    scripts: Vec<VecDeque<&'s Operation>>,
+    scripts: Vec<IntoIter<&'s Operation>>,
     frames: Iter<'s, Words>,
     /// Who waits for the answer to each thread's call.
     waiting: Vec<Option<Sender<()>>>,
@@ -159,11 +160,7 @@ struct Owner<'s> {
 impl<'s> Owner<'s> {
     fn new(scenario: &'s Scenario, index: usize) -> Owner<'s> {
         let spec = &scenario.parts[index];
-        let script = |thread: &'s ThreadSpec| {
-            let operations = thread.operations.iter();
-            let own = operations.filter(|(part, _)| *part == index);
-            own.map(|(_, operation)| operation).collect()
-        };
+        let script = |thread: &'s ThreadSpec| thread.operations_on(index).into_iter();
         Owner {
             part: Part::new(spec),
             scripts: scenario.threads.iter().map(script).collect(),
@@ -177,7 +174,7 @@ impl<'s> Owner<'s> {
         match request {
             Request::Call { thread, done } => {
                 let index = usize::from(thread);
-                let operation = self.scripts[index].pop_front();
+                let operation = self.scripts[index].next();
                 self.waiting[index] = Some(done);
                 self.part
                     .invoke(thread, operation.expect("the script has an operation"));

@@ -1,242 +1,357 @@
 //! Drivers as assembler text.
+//!
+//! The first pass reads each line and gives each label its address, the second puts the words together.
 
 use crate::class::Class;
+use crate::image::Image;
 use crate::instructions::{encode, Form, TABLE};
 use crate::memory::{DATA_START, DATA_WORDS, TEXT_WORDS};
-use crate::scenario::Image;
+use crate::refusal::{TextFault, TextFaultKind};
+use crate::tokens::{lines, tokens, Token};
 use std::collections::HashMap;
 
-/// Reads a driver's text, or tells which line is wrong and why.
-pub fn assemble(text: &str) -> Result<Image, String> {
-    let mut assembler = Assembler::default();
-    for (place, line) in text.lines().enumerate() {
-        assembler
-            .line(line, place + 1)
-            .map_err(|reason| format!("line {}: {reason}", place + 1))?;
+use TextFaultKind::*;
+
+/// What a text is assembled to.
+pub struct Assembled<'t> {
+    pub image: Image,
+    /// The line of each word, counted from 1.
+    pub text_lines: Vec<usize>,
+    pub data_lines: Vec<usize>,
+    /// Each label with its address, in the order of the definitions.
+    pub labels: Vec<(&'t str, u32)>,
+}
+
+/// Assembles a driver's text, or returns its first fault.
+pub fn assemble(text: &[u8]) -> Result<Assembled<'_>, TextFault> {
+    let mut reading = Reading::default();
+    for (index, line) in lines(text).enumerate() {
+        reading.line(line, index + 1);
     }
-    assembler.finish()
+    let mut draft = Draft::new(&reading);
+    for line in &reading.lines {
+        draft.line(line).map_err(|kind| TextFault {
+            kind,
+            line: line.number,
+        })?;
+    }
+    draft.finish(&reading)
 }
 
 #[derive(Clone, Copy)]
-enum Value<'t> {
+enum Operand<'t> {
     Number(u64),
     Label(&'t str),
 }
 
-/// A word but for its immediate, or for all of it, which may be a label that comes later.
-struct Unfinished<'t> {
-    line: usize,
-    base: u32,
-    value: Value<'t>,
-    greatest: u64,
+#[derive(Clone, Copy)]
+enum Statement<'t> {
+    None,
+    Class(Class),
+    /// An entry by its index in the class.
+    Entry(usize, Operand<'t>),
+    Section {
+        is_data: bool,
+    },
+    Word(Operand<'t>),
+    /// An instruction but for its immediate.
+    Instruction(u32, Operand<'t>),
 }
 
-#[derive(Default)]
-struct Assembler<'t> {
-    class: Option<Class>,
-    entries: Vec<Option<Unfinished<'t>>>,
-    labels: HashMap<&'t str, u32>,
-    text: Vec<Unfinished<'t>>,
-    data: Vec<Unfinished<'t>>,
+struct Line<'t> {
+    number: usize,
+    statement: Statement<'t>,
     in_data: bool,
+    /// Whether it defines a label that an earlier line defines.
+    is_double: bool,
+    /// The first fault that the line has by itself.
+    fault: Option<TextFaultKind>,
 }
 
-impl<'t> Assembler<'t> {
-    fn line(&mut self, line: &'t str, number: usize) -> Result<(), String> {
-        let code = line.split(';').next().unwrap_or("");
-        let mut tokens = code
-            .split([' ', '\t', '\r', ','])
-            .filter(|token| !token.is_empty())
-            .peekable();
-        if let Some(label) = tokens.peek().and_then(|token| token.strip_suffix(':')) {
-            self.define(label)?;
-            tokens.next();
-        }
-        let Some(word) = tokens.next() else {
-            return Ok(());
+/// The first pass.
+#[derive(Default)]
+struct Reading<'t> {
+    class: Option<Class>,
+    in_data: bool,
+    text_words: u32,
+    data_words: u32,
+    labels: Vec<(&'t str, u32)>,
+    addresses: HashMap<&'t str, u32>,
+    /// The lines that are not blank. No line after one with a fault matters but for its labels.
+    lines: Vec<Line<'t>>,
+    is_faulty: bool,
+    line_count: usize,
+}
+
+impl<'t> Reading<'t> {
+    fn line(&mut self, line: &'t [u8], number: usize) {
+        self.line_count = number;
+        let tokens: Vec<Token> = tokens(line).collect();
+        let (label, rest) = match tokens.split_first() {
+            None => return,
+            Some((Token::Definition(label), rest)) => (Some(*label), rest),
+            Some(_) => (None, &tokens[..]),
         };
-        let operands: Vec<&str> = tokens.collect();
-        match word.strip_prefix('.') {
-            Some(directive) => self.directive(directive, &operands, number),
-            None => self.instruction(word, &operands, number),
+        let in_data = self.in_data;
+        let is_register = label.is_some_and(|label| register(label).is_some());
+        let is_double = label.is_some_and(|label| !is_register && !self.define(label));
+        let statement = statement(rest, self.class, in_data);
+        let fault = [
+            tokens.contains(&Token::Bad).then_some(BadToken),
+            statement.err(),
+            is_register.then_some(WrongOperands),
+        ];
+        let fault = fault.into_iter().flatten().min();
+        let statement = statement.unwrap_or(Statement::None);
+        if fault.is_none() {
+            self.follow(statement);
         }
+        if !self.is_faulty {
+            self.lines.push(Line {
+                number,
+                statement,
+                in_data,
+                is_double,
+                fault,
+            });
+        }
+        self.is_faulty |= fault.is_some();
     }
 
-    fn define(&mut self, label: &'t str) -> Result<(), String> {
-        if !is_name(label) || register(label).is_some() {
-            return Err(format!("{label} is no name of a label"));
+    /// Defines a label, unless it is defined already.
+    fn define(&mut self, label: &'t str) -> bool {
+        let is_new = !self.addresses.contains_key(label);
+        if is_new {
+            let address = if self.in_data {
+                DATA_START + self.data_words
+            } else {
+                self.text_words
+            };
+            self.addresses.insert(label, address);
+            self.labels.push((label, address));
         }
-        let place = if self.in_data {
-            DATA_START + self.data.len() as u32
-        } else {
-            self.text.len() as u32
-        };
-        match self.labels.insert(label, place) {
-            None => Ok(()),
-            Some(_) => Err(format!("{label} is defined twice")),
-        }
+        is_new
     }
 
-    fn directive(&mut self, name: &str, operands: &[&'t str], line: usize) -> Result<(), String> {
-        match (name, operands) {
-            ("text", []) => self.in_data = false,
-            ("data", []) => self.in_data = true,
-            ("class", [class]) if self.class.is_none() => {
-                let class = Class::from_name(class).ok_or("no such class")?;
-                self.class = Some(class);
-                self.entries = class.entries().iter().map(|_| None).collect();
-            }
-            ("entry", [entry, value]) => {
-                let class = self.class.ok_or("an entry before the class")?;
-                let place = class
-                    .entries()
-                    .iter()
-                    .position(|own| own.name() == *entry)
-                    .ok_or("no such entry")?;
-                let value = Unfinished {
-                    line,
-                    base: 0,
-                    value: operand(value)?,
-                    greatest: u64::from(TEXT_WORDS) - 1,
-                };
-                if self.entries[place].replace(value).is_some() {
-                    return Err("the entry comes twice".to_string());
-                }
-            }
-            ("word", [value]) => {
-                let word = Unfinished {
-                    line,
-                    base: 0,
-                    value: operand(value)?,
-                    greatest: u64::from(u32::MAX),
-                };
-                let (section, most) = if self.in_data {
-                    (&mut self.data, DATA_WORDS)
-                } else {
-                    (&mut self.text, TEXT_WORDS)
-                };
-                add(section, word, most)?;
-            }
-            _ => return Err(format!("wrong directive or operands: .{name}")),
+    fn follow(&mut self, statement: Statement) {
+        match statement {
+            Statement::None | Statement::Entry(..) => {}
+            Statement::Class(class) => self.class = self.class.or(Some(class)),
+            Statement::Section { is_data } => self.in_data = is_data,
+            Statement::Word(_) if self.in_data => self.data_words += 1,
+            Statement::Word(_) | Statement::Instruction(..) => self.text_words += 1,
         }
+    }
+}
+
+/// What stands after the definition of a line.
+fn statement<'t>(
+    tokens: &[Token<'t>],
+    class: Option<Class>,
+    in_data: bool,
+) -> Result<Statement<'t>, TextFaultKind> {
+    match tokens.split_first() {
+        None => Ok(Statement::None),
+        Some((Token::Name(name), operands)) => instruction(name, operands, in_data),
+        Some((Token::Directive(name), operands)) => directive(name, operands, class),
+        Some(_) => Err(WrongOperands),
+    }
+}
+
+fn instruction<'t>(
+    name: &str,
+    operands: &[Token<'t>],
+    in_data: bool,
+) -> Result<Statement<'t>, TextFaultKind> {
+    let row = TABLE.iter().find(|row| row.0 == name);
+    let (_, code, form) = row.ok_or(UnknownName)?;
+    if in_data {
+        return Err(WrongOperands);
+    }
+    let none = Operand::Number(0);
+    let (a, b, value) = match (form, operands) {
+        (Form::None, []) => (0, 0, none),
+        (Form::A, [a]) => (register_of(a)?, 0, none),
+        (Form::Immediate, [value]) => (0, 0, operand(value)?),
+        (Form::AImmediate, [a, value]) => (register_of(a)?, 0, operand(value)?),
+        (Form::AB, [a, b]) => (register_of(a)?, register_of(b)?, none),
+        (Form::ABImmediate, [a, b, value]) => (register_of(a)?, register_of(b)?, operand(value)?),
+        _ => return Err(WrongOperands),
+    };
+    Ok(Statement::Instruction(encode(*code, a, b, 0), value))
+}
+
+fn directive<'t>(
+    name: &str,
+    operands: &[Token<'t>],
+    class: Option<Class>,
+) -> Result<Statement<'t>, TextFaultKind> {
+    match (name, operands) {
+        ("text", []) => Ok(Statement::Section { is_data: false }),
+        ("data", []) => Ok(Statement::Section { is_data: true }),
+        ("word", [value]) => Ok(Statement::Word(operand(value)?)),
+        // A name that is unknown is the fault even if there are too few or too many operands.
+        ("class", [Token::Name(name), rest @ ..]) => {
+            let class = Class::from_name(name).ok_or(UnknownName)?;
+            expect_none(rest)?;
+            Ok(Statement::Class(class))
+        }
+        ("entry", [Token::Name(name), rest @ ..]) => {
+            let entries = class.ok_or(WrongOperands)?.entries();
+            let index = entries.iter().position(|entry| entry.name() == *name);
+            let index = index.ok_or(UnknownName)?;
+            match rest {
+                [value] => Ok(Statement::Entry(index, operand(value)?)),
+                _ => Err(WrongOperands),
+            }
+        }
+        _ => Err(WrongOperands),
+    }
+}
+
+fn expect_none(operands: &[Token]) -> Result<(), TextFaultKind> {
+    if operands.is_empty() {
         Ok(())
-    }
-
-    fn instruction(&mut self, name: &str, operands: &[&'t str], line: usize) -> Result<(), String> {
-        let (_, code, form) = TABLE
-            .iter()
-            .find(|row| row.0 == name)
-            .ok_or_else(|| format!("no instruction {name}"))?;
-        if self.in_data {
-            return Err("an instruction among the data".to_string());
-        }
-        let (a, b, value) = match (form, operands) {
-            (Form::None, []) => (0, 0, Value::Number(0)),
-            (Form::A, [a]) => (expect_register(a)?, 0, Value::Number(0)),
-            (Form::Immediate, [value]) => (0, 0, operand(value)?),
-            (Form::AImmediate, [a, value]) => (expect_register(a)?, 0, operand(value)?),
-            (Form::AB, [a, b]) => (expect_register(a)?, expect_register(b)?, Value::Number(0)),
-            (Form::ABImmediate, [a, b, value]) => {
-                (expect_register(a)?, expect_register(b)?, operand(value)?)
-            }
-            _ => return Err(format!("wrong operands of {name}")),
-        };
-        let word = Unfinished {
-            line,
-            base: encode(*code, a, b, 0),
-            value,
-            greatest: u64::from(u16::MAX),
-        };
-        add(&mut self.text, word, TEXT_WORDS)
-    }
-
-    fn finish(self) -> Result<Image, String> {
-        let class = self.class.ok_or("a driver without a class")?;
-        let entries: Option<Vec<&Unfinished>> = self.entries.iter().map(Option::as_ref).collect();
-        let entries = entries.ok_or("an entry is missing")?;
-        Ok(Image {
-            class,
-            entries: entries
-                .into_iter()
-                .map(|entry| self.finished(entry))
-                .collect::<Result<_, _>>()?,
-            text: self
-                .text
-                .iter()
-                .map(|word| self.finished(word))
-                .collect::<Result<_, _>>()?,
-            data: self
-                .data
-                .iter()
-                .map(|word| self.finished(word))
-                .collect::<Result<_, _>>()?,
-        })
-    }
-
-    fn finished(&self, word: &Unfinished) -> Result<u32, String> {
-        let value = match word.value {
-            Value::Number(number) => number,
-            Value::Label(label) => {
-                let place = self
-                    .labels
-                    .get(label)
-                    .ok_or_else(|| format!("line {}: no label {label}", word.line))?;
-                u64::from(*place)
-            }
-        };
-        if value > word.greatest {
-            return Err(format!("line {}: {value} is too large", word.line));
-        }
-        Ok(word.base | value as u32)
+    } else {
+        Err(WrongOperands)
     }
 }
 
-fn add<'t>(
-    section: &mut Vec<Unfinished<'t>>,
-    word: Unfinished<'t>,
-    most: u32,
-) -> Result<(), String> {
-    if section.len() as u32 == most {
-        return Err("too many words".to_string());
+fn register(name: &str) -> Option<u32> {
+    match name.strip_prefix('r')?.as_bytes() {
+        [digit @ b'0'..=b'9'] => Some(u32::from(digit - b'0')),
+        [b'1', digit @ b'0'..=b'5'] => Some(10 + u32::from(digit - b'0')),
+        _ => None,
     }
-    section.push(word);
-    Ok(())
 }
 
-fn is_name(token: &str) -> bool {
-    let bytes = token.as_bytes();
-    bytes.len() <= 32
-        && bytes
-            .first()
-            .is_some_and(|first| first.is_ascii_alphabetic() || *first == b'_')
-        && bytes
-            .iter()
-            .all(|byte| byte.is_ascii_alphanumeric() || *byte == b'_')
-}
-
-fn register(token: &str) -> Option<u32> {
-    let digits = token.strip_prefix('r')?;
-    (0..16).find(|number: &u32| number.to_string() == digits)
-}
-
-fn expect_register(token: &str) -> Result<u32, String> {
-    register(token).ok_or_else(|| format!("{token} is no register"))
+fn register_of(token: &Token) -> Result<u32, TextFaultKind> {
+    match token {
+        Token::Name(name) => register(name).ok_or(WrongOperands),
+        _ => Err(WrongOperands),
+    }
 }
 
 /// A number or a label.
-fn operand(token: &str) -> Result<Value<'_>, String> {
-    if is_name(token) && register(token).is_none() {
-        return Ok(Value::Label(token));
+fn operand<'t>(token: &Token<'t>) -> Result<Operand<'t>, TextFaultKind> {
+    match token {
+        Token::Number(number) => Ok(Operand::Number(*number)),
+        Token::Name(name) if register(name).is_none() => Ok(Operand::Label(name)),
+        _ => Err(WrongOperands),
     }
-    let (digits, radix) = match token.strip_prefix("0x") {
-        Some(digits) => (digits, 16),
-        None => (token, 10),
-    };
-    if digits.is_empty() || !digits.chars().all(|digit| digit.is_digit(radix)) {
-        return Err(format!("{token} is neither a number nor a label"));
+}
+
+/// The second pass.
+struct Draft<'r, 't> {
+    addresses: &'r HashMap<&'t str, u32>,
+    class: Option<Class>,
+    entries: Vec<Option<u32>>,
+    text: Section,
+    data: Section,
+}
+
+#[derive(Default)]
+struct Section {
+    words: Vec<u32>,
+    lines: Vec<usize>,
+}
+
+impl<'r, 't> Draft<'r, 't> {
+    fn new(reading: &'r Reading<'t>) -> Draft<'r, 't> {
+        Draft {
+            addresses: &reading.addresses,
+            class: None,
+            entries: Vec::new(),
+            text: Section::default(),
+            data: Section::default(),
+        }
     }
-    // What is larger than every number here is too large anyway.
-    Ok(Value::Number(
-        u64::from_str_radix(digits, radix).unwrap_or(u64::MAX),
-    ))
+
+    /// Takes a line in, or returns the first of its faults.
+    fn line(&mut self, line: &Line) -> Result<(), TextFaultKind> {
+        let taken = match line.statement {
+            Statement::None | Statement::Section { .. } => Ok(()),
+            Statement::Class(class) => self.set_class(class),
+            Statement::Entry(index, value) => self.set_entry(index, value),
+            Statement::Word(value) => self.add(line, 0, value, u32::MAX.into()),
+            Statement::Instruction(base, value) => self.add(line, base, value, u16::MAX.into()),
+        };
+        let double = line.is_double.then_some(DoubleLabel);
+        let faults = [line.fault, taken.err(), double];
+        faults.into_iter().flatten().min().map_or(Ok(()), Err)
+    }
+
+    fn set_class(&mut self, class: Class) -> Result<(), TextFaultKind> {
+        if self.class.is_some() {
+            return Err(DoubleLabel);
+        }
+        self.class = Some(class);
+        self.entries = vec![None; class.entries().len()];
+        Ok(())
+    }
+
+    fn set_entry(&mut self, index: usize, value: Operand) -> Result<(), TextFaultKind> {
+        let address = self.resolve(value, u64::from(TEXT_WORDS) - 1);
+        let double = self.entries[index].is_some().then_some(DoubleLabel);
+        match [address.err(), double].into_iter().flatten().min() {
+            Some(fault) => Err(fault),
+            None => {
+                self.entries[index] = address.ok();
+                Ok(())
+            }
+        }
+    }
+
+    fn add(
+        &mut self,
+        line: &Line,
+        base: u32,
+        value: Operand,
+        greatest: u64,
+    ) -> Result<(), TextFaultKind> {
+        let value = self.resolve(value, greatest)?;
+        let (section, most, fault) = if line.in_data {
+            (&mut self.data, DATA_WORDS, DataTooLong)
+        } else {
+            (&mut self.text, TEXT_WORDS, TextTooLong)
+        };
+        if section.words.len() as u32 == most {
+            return Err(fault);
+        }
+        section.words.push(base | value);
+        section.lines.push(line.number);
+        Ok(())
+    }
+
+    fn resolve(&self, value: Operand, greatest: u64) -> Result<u32, TextFaultKind> {
+        let value = match value {
+            Operand::Number(number) => number,
+            Operand::Label(label) => u64::from(*self.addresses.get(label).ok_or(MissingLabel)?),
+        };
+        if value <= greatest {
+            Ok(value as u32)
+        } else {
+            Err(NumberRange)
+        }
+    }
+
+    fn finish(self, reading: &Reading<'t>) -> Result<Assembled<'t>, TextFault> {
+        let missing = TextFault {
+            kind: MissingEntry,
+            line: reading.line_count + 1,
+        };
+        let class = self.class.ok_or(missing)?;
+        let entries: Option<Vec<u32>> = self.entries.into_iter().collect();
+        Ok(Assembled {
+            image: Image {
+                class,
+                entries: entries.ok_or(missing)?,
+                text: self.text.words,
+                data: self.data.words,
+            },
+            text_lines: self.text.lines,
+            data_lines: self.data.lines,
+            labels: reading.labels.clone(),
+        })
+    }
 }

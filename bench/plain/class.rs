@@ -7,7 +7,7 @@ pub enum Class {
     Sound,
 }
 
-/// The entries of a driver. Which of them a class has, and in what order, [`Class::entries`] tells.
+/// The entries of a driver. [`Class::entries`] lists those of a class, in order.
 #[derive(Clone, Copy, PartialEq, Eq, Debug)]
 pub enum Entry {
     Init,

@@ -135,16 +135,18 @@ impl<'s> Monitor<'s> {
             }
             Event::Burst(burst) => self.see_burst(burst),
             Event::Stage { stage, answers, .. } => self.see_stage(*stage, answers),
-            Event::Arrive { kept, .. } => {
-                self.losses.arrived += 1;
-                if *kept {
-                    self.ring += 1;
-                } else {
-                    self.losses.full_ring += 1;
-                }
-            }
+            Event::Arrive { kept, .. } => self.see_arrival(*kept),
         }
         self.broken.take()
+    }
+
+    fn see_arrival(&mut self, kept: bool) {
+        self.losses.arrived += 1;
+        if kept {
+            self.ring += 1;
+        } else {
+            self.losses.full_ring += 1;
+        }
     }
 
     fn call(&mut self, number: u32) -> Option<&mut Call<'s>> {
@@ -245,7 +247,7 @@ impl<'s> Monitor<'s> {
             Act::Played { sample, .. } => self.see_played(number, *sample),
             Act::Register { key, value } => {
                 if self.registers[*key as usize] != *value {
-                    let is_set = |call: &Call| matches!(call.operation, Operation::Set { key: own, value: wanted } if own == key && wanted == value);
+                    let is_set = |call: &Call| call.operation.sets(*key, *value);
                     let asked = self.replay == Some((*key, *value)) || self.inside().any(is_set);
                     self.check(12, asked);
                 }

@@ -14,18 +14,21 @@ const RING_FRAMES: usize = 16;
 
 type Block = [u32; BLOCK_WORDS];
 
+#[derive(Clone)]
 pub struct Device {
     class: Class,
     registers: [u32; 4],
     kind: Kind,
 }
 
+#[derive(Clone)]
 enum Kind {
     Disk(Disk),
     Net(Box<Net>),
     Sound,
 }
 
+#[derive(Clone)]
 struct Disk {
     medium: Vec<Block>,
     /// The commands that each block had, and how many it takes before it fails.
@@ -37,6 +40,7 @@ struct Disk {
     status: u32,
 }
 
+#[derive(Clone)]
 struct Net {
     length: u32,
     buffer: [u32; LONGEST_FRAME],
@@ -76,7 +80,7 @@ impl Device {
         }
     }
 
-    /// A frame comes in, and is lost where the ring is full.
+    /// A frame comes in, and is lost if the ring is full.
     pub fn arrive(&mut self, frame: Words) -> bool {
         match &mut self.kind {
             Kind::Net(net) if net.ring.len() < RING_FRAMES => {
@@ -87,7 +91,7 @@ impl Device {
         }
     }
 
-    /// The word at a port, None where it cannot be read.
+    /// The word at a port, None if it cannot be read.
     pub fn input(&mut self, port: u32) -> Option<u32> {
         match (&mut self.kind, port) {
             (_, FIRST_REGISTER..12) => Some(self.registers[(port - FIRST_REGISTER) as usize]),
@@ -101,7 +105,7 @@ impl Device {
         }
     }
 
-    /// Gives a word to a port, and tells whether that can be written.
+    /// Gives a word to a port, and returns whether that can be written.
     pub fn output(&mut self, port: u32, word: u32, acts: &mut Vec<Act>) -> bool {
         match (&mut self.kind, port) {
             (_, FIRST_REGISTER..12) => {
@@ -232,7 +236,7 @@ impl Net {
         }
     }
 
-    /// The next word of the ring's head, 0 behind its end.
+    /// The next word of the ring's head, 0 after its end.
     fn next_received(&mut self) -> u32 {
         match self.ring.front().and_then(|head| head.get(self.received)) {
             Some(word) => {

@@ -1,6 +1,8 @@
 //! The driver machine's instructions: an operation code in the word's first byte, then registers a and b in four bits
 //! each, then an immediate of sixteen bits.
 
+use std::fmt::{self, Display, Formatter};
+
 pub const LI: u32 = 0x01;
 pub const LUI: u32 = 0x02;
 pub const MOV: u32 = 0x03;
@@ -66,4 +68,65 @@ pub const TABLE: [(&str, u32, Form); 24] = [
 
 pub fn encode(code: u32, a: u32, b: u32, immediate: u32) -> u32 {
     code << 24 | a << 20 | b << 16 | immediate
+}
+
+/// A word that is taken apart.
+pub struct Fields {
+    pub code: u32,
+    pub a: usize,
+    pub b: usize,
+    pub immediate: u32,
+}
+
+impl Fields {
+    pub fn of(word: u32) -> Fields {
+        Fields {
+            code: word >> 24,
+            a: (word >> 20 & 15) as usize,
+            b: (word >> 16 & 15) as usize,
+            immediate: word & 0xffff,
+        }
+    }
+}
+
+/// The row of the instruction that a word is, None if it is none.
+fn row_of(word: u32) -> Option<&'static (&'static str, u32, Form)> {
+    let Fields {
+        code,
+        a,
+        b,
+        immediate,
+    } = Fields::of(word);
+    let row = TABLE.iter().find(|row| row.1 == code)?;
+    let is_one = match row.2 {
+        Form::None => a == 0 && b == 0 && immediate == 0,
+        Form::A => b == 0 && immediate == 0,
+        Form::Immediate => a == 0 && b == 0,
+        Form::AImmediate => b == 0,
+        Form::AB => immediate == 0,
+        Form::ABImmediate => true,
+    };
+    is_one.then_some(row)
+}
+
+/// A word of text as assembler, `.word` and its value if it is no instruction.
+pub struct Instruction(pub u32);
+
+impl Display for Instruction {
+    fn fmt(&self, f: &mut Formatter) -> fmt::Result {
+        let Some((name, _, form)) = row_of(self.0) else {
+            return write!(f, ".word {}", self.0);
+        };
+        let Fields {
+            a, b, immediate, ..
+        } = Fields::of(self.0);
+        match form {
+            Form::None => f.write_str(name),
+            Form::A => write!(f, "{name} r{a}"),
+            Form::Immediate => write!(f, "{name} {immediate}"),
+            Form::AImmediate => write!(f, "{name} r{a} {immediate}"),
+            Form::AB => write!(f, "{name} r{a} r{b}"),
+            Form::ABImmediate => write!(f, "{name} r{a} r{b} {immediate}"),
+        }
+    }
 }

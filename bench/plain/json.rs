@@ -1,5 +1,6 @@
 //! A reader of JSON.
 
+use crate::refusal::{Cause, Read, Refusal};
 use std::borrow::Cow;
 
 /// How deep lists and objects may stand in each other.
@@ -17,13 +18,23 @@ pub enum Value<'t> {
 }
 
 /// Reads a text that is one value.
-pub fn parse(text: &str) -> Result<Value<'_>, String> {
+pub fn read(input: &[u8]) -> Read<Value<'_>> {
+    match std::str::from_utf8(input).ok().map(parse) {
+        Some(Ok(value)) => Ok(value),
+        _ => Refusal::here(Cause::NotJson),
+    }
+}
+
+/// The text is no JSON.
+struct NotJson;
+
+fn parse(text: &str) -> Result<Value<'_>, NotJson> {
     let mut parser = Parser { text, place: 0 };
     let value = parser.value(0)?;
     parser.skip_space();
     match parser.peek() {
         None => Ok(value),
-        Some(_) => Err(parser.wrong()),
+        Some(_) => Err(NotJson),
     }
 }
 
@@ -33,10 +44,6 @@ struct Parser<'t> {
 }
 
 impl<'t> Parser<'t> {
-    fn wrong(&self) -> String {
-        format!("no JSON at byte {}", self.place)
-    }
-
     fn peek(&self) -> Option<u8> {
         self.text.as_bytes().get(self.place).copied()
     }
@@ -47,22 +54,22 @@ impl<'t> Parser<'t> {
         }
     }
 
-    /// Steps over a byte where it stands next.
+    /// Steps over a byte if it is the next one.
     fn eat(&mut self, byte: u8) -> bool {
         let there = self.peek() == Some(byte);
         self.place += usize::from(there);
         there
     }
 
-    fn expect(&mut self, byte: u8) -> Result<(), String> {
+    fn expect(&mut self, byte: u8) -> Result<(), NotJson> {
         if self.eat(byte) {
             Ok(())
         } else {
-            Err(self.wrong())
+            Err(NotJson)
         }
     }
 
-    fn value(&mut self, depth: usize) -> Result<Value<'t>, String> {
+    fn value(&mut self, depth: usize) -> Result<Value<'t>, NotJson> {
         self.skip_space();
         match self.peek() {
             Some(b'{') if depth < DEEPEST => self.object(depth + 1),
@@ -72,19 +79,19 @@ impl<'t> Parser<'t> {
             Some(b't') => self.word("true", Value::Bool),
             Some(b'f') => self.word("false", Value::Bool),
             Some(b'-' | b'0'..=b'9') => self.number(),
-            _ => Err(self.wrong()),
+            _ => Err(NotJson),
         }
     }
 
-    fn word(&mut self, word: &str, value: Value<'t>) -> Result<Value<'t>, String> {
+    fn word(&mut self, word: &str, value: Value<'t>) -> Result<Value<'t>, NotJson> {
         if !self.text[self.place..].starts_with(word) {
-            return Err(self.wrong());
+            return Err(NotJson);
         }
         self.place += word.len();
         Ok(value)
     }
 
-    fn list(&mut self, depth: usize) -> Result<Value<'t>, String> {
+    fn list(&mut self, depth: usize) -> Result<Value<'t>, NotJson> {
         self.place += 1;
         let mut items = Vec::new();
         self.skip_space();
@@ -101,7 +108,7 @@ impl<'t> Parser<'t> {
         }
     }
 
-    fn object(&mut self, depth: usize) -> Result<Value<'t>, String> {
+    fn object(&mut self, depth: usize) -> Result<Value<'t>, NotJson> {
         self.place += 1;
         let mut fields = Vec::new();
         self.skip_space();
@@ -123,19 +130,19 @@ impl<'t> Parser<'t> {
     }
 
     /// Steps over the digits that stand next, of which there is one at least.
-    fn digits(&mut self) -> Result<(), String> {
+    fn digits(&mut self) -> Result<(), NotJson> {
         let start = self.place;
         while matches!(self.peek(), Some(b'0'..=b'9')) {
             self.place += 1;
         }
         if self.place == start {
-            Err(self.wrong())
+            Err(NotJson)
         } else {
             Ok(())
         }
     }
 
-    fn number(&mut self) -> Result<Value<'t>, String> {
+    fn number(&mut self) -> Result<Value<'t>, NotJson> {
         let start = self.place;
         self.eat(b'-');
         if !self.eat(b'0') {
@@ -150,12 +157,12 @@ impl<'t> Parser<'t> {
         }
         let text = &self.text[start..self.place];
         if text.parse::<f64>().is_ok_and(f64::is_infinite) {
-            return Err(self.wrong());
+            return Err(NotJson);
         }
         Ok(text.parse().map_or(Value::OtherNumber, Value::Whole))
     }
 
-    fn string(&mut self) -> Result<Cow<'t, str>, String> {
+    fn string(&mut self) -> Result<Cow<'t, str>, NotJson> {
         self.expect(b'"')?;
         let start = self.place;
         self.skip_plain();
@@ -171,7 +178,7 @@ impl<'t> Parser<'t> {
                     return Ok(Cow::Owned(made));
                 }
                 Some(b'\\') => made.push(self.escape()?),
-                _ => return Err(self.wrong()),
+                _ => return Err(NotJson),
             }
             let start = self.place;
             self.skip_plain();
@@ -189,7 +196,7 @@ impl<'t> Parser<'t> {
         }
     }
 
-    fn escape(&mut self) -> Result<char, String> {
+    fn escape(&mut self) -> Result<char, NotJson> {
         let letter = self.text.as_bytes().get(self.place + 1).copied();
         let made = match letter {
             Some(b'"') => '"',
@@ -201,14 +208,14 @@ impl<'t> Parser<'t> {
             Some(b'r') => '\r',
             Some(b't') => '\t',
             Some(b'u') => return self.unicode(),
-            _ => return Err(self.wrong()),
+            _ => return Err(NotJson),
         };
         self.place += 2;
         Ok(made)
     }
 
-    /// A character by its number, or by two numbers where the first is half of a pair.
-    fn unicode(&mut self) -> Result<char, String> {
+    /// A character by its number, or by two numbers if the first is half of a pair.
+    fn unicode(&mut self) -> Result<char, NotJson> {
         let mut units = vec![self.unit()?];
         if (0xd800..0xdc00).contains(&units[0]) {
             units.push(self.unit()?);
@@ -216,11 +223,11 @@ impl<'t> Parser<'t> {
         String::from_utf16(&units)
             .ok()
             .and_then(|text| text.chars().next())
-            .ok_or_else(|| self.wrong())
+            .ok_or(NotJson)
     }
 
     /// `\u` and four hexadecimal digits.
-    fn unit(&mut self) -> Result<u16, String> {
+    fn unit(&mut self) -> Result<u16, NotJson> {
         let digits = self
             .text
             .get(self.place..self.place + 6)
@@ -229,6 +236,6 @@ impl<'t> Parser<'t> {
             .filter(|digits| digits.bytes().all(|byte| byte.is_ascii_hexdigit()))
             .and_then(|digits| u16::from_str_radix(digits, 16).ok());
         self.place += 6;
-        unit.ok_or_else(|| self.wrong())
+        unit.ok_or(NotJson)
     }
 }

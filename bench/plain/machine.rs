@@ -8,9 +8,10 @@ use crate::scenario::{Fault, FaultKind};
 use std::hint::black_box;
 
 /// The turns and the acts of a burst.
-const MOST_TURNS: u32 = 4_096;
+pub const MOST_TURNS: u32 = 4_096;
 const MOST_ACTS: usize = 64;
 
+#[derive(Clone)]
 pub struct Cpu {
     pub counter: u32,
     pub registers: [u32; 16],
@@ -46,18 +47,41 @@ pub fn run_burst(cpu: &mut Cpu, bus: &mut Bus, faults: &[Fault]) -> (u32, Crossi
         if let Some(crossing) = crossing {
             return (done, crossing);
         }
-        match fault.kind {
-            FaultKind::Trap => return (done, Trap::Injected.into()),
-            FaultKind::Hang => return (MOST_TURNS, Trap::Hang.into()),
-            FaultKind::Poke { address, value } => {
-                bus.memory.write(address, value);
-            }
-            FaultKind::Code { address, value } => bus.memory.patch(address, value),
-            FaultKind::Register { register, value } => cpu.registers[register] = value,
+        match strike(fault.kind, cpu, bus.memory) {
+            Strike::Ended(Trap::Hang) => return (MOST_TURNS, Trap::Hang.into()),
+            Strike::Ended(trap) => return (done, trap.into()),
+            Strike::Done | Strike::Refused => {}
         }
     }
     let (turns, crossing) = cpu.run(MOST_TURNS - done, bus);
     (done + turns, crossing.unwrap_or(Trap::Hang.into()))
+}
+
+/// What became of a fault that struck.
+pub enum Strike {
+    Done,
+    /// Nothing was changed.
+    Refused,
+    /// The burst ends here.
+    Ended(Trap),
+}
+
+pub fn strike(kind: FaultKind, cpu: &mut Cpu, memory: &mut Memory) -> Strike {
+    let is_done = match kind {
+        FaultKind::Trap => return Strike::Ended(Trap::Injected),
+        FaultKind::Hang => return Strike::Ended(Trap::Hang),
+        FaultKind::Poke { address, value } => memory.write(address, value),
+        FaultKind::Code { address, value } => memory.patch(address, value),
+        FaultKind::Register { register, value } => {
+            cpu.registers[register] = value;
+            true
+        }
+    };
+    if is_done {
+        Strike::Done
+    } else {
+        Strike::Refused
+    }
 }
 
 impl Cpu {
@@ -67,8 +91,8 @@ impl Cpu {
         Cpu { counter, registers }
     }
 
-    /// Does turns up to a crossing, but no more than so many. Their number, and the crossing.
-    fn run(&mut self, most: u32, bus: &mut Bus) -> (u32, Option<Crossing>) {
+    /// Does turns up to a crossing, but at most this many. Their number, and the crossing.
+    pub fn run(&mut self, most: u32, bus: &mut Bus) -> (u32, Option<Crossing>) {
         let Bus {
             memory,
             device,
@@ -129,7 +153,7 @@ impl Cpu {
                     at = immediate;
                     continue;
                 }
-                // Nothing, but else the compiler has a conditional move give the counter, for which the next fetch waits.
+                // Without this the compiler has a conditional move give the counter, and the next fetch waits for it.
                 BEQ | BNE | BLT => black_box(()),
                 JAL if b == 0 => {
                     r[a] = at + 1;

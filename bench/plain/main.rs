@@ -1,116 +1,136 @@
-//! The simulator of driver domains as an ordinary Rust program, with nothing proved: what the proved program's time and
-//! memory are measured against. `plain run` reads a scenario from standard input and writes its report, `plain campaign`
-//! a campaign and its table, `plain mirror` a scenario of two disks, which it simulates as one.
+//! The simulator of driver domains as an ordinary Rust program, with nothing proved. It has every form of words of the
+//! proved program, writes the same bytes and ends with the same status. So it takes the proved program's place if the
+//! Rattle toolchain is missing, and the checks and the benchmark compare the two. It is written from the documents and
+//! shares no code with the proved program.
+//!
+//! `rustc --edition 2021 -O bench/plain/main.rs` builds it, with the standard library alone.
+//!
+//! It is known to differ in three ways. `--version` says that nothing is proved. An audit asks for one order of the
+//! events of all parts, and the proved program for an order in each part. Standard input or output that is closed from
+//! the start is an empty file here, as in every Rust program, and cannot be read or written there.
 
+mod allocator;
 mod assembler;
+mod audit;
 mod campaign;
 mod class;
 mod contract;
 mod device;
+mod fields;
+mod form;
+mod generated;
+mod image;
+mod input;
 mod instructions;
 mod journal;
 mod json;
+mod lines;
+mod listing;
 mod machine;
 mod memory;
 mod mirror;
+mod one_order;
 mod operation;
 mod part;
+mod refusal;
 mod report;
 mod scenario;
+mod scenario_text;
 mod schedule;
+mod serve;
 mod simulation;
+mod summary;
+mod texts;
+mod threads;
+mod tokens;
+mod trace;
 mod tracker;
 
-use std::io::{self, BufWriter, Read, Write};
+use allocator::{Allocator, NO_MEMORY_STATUS};
+use form::Form;
+use refusal::Refusal;
+use std::env;
+use std::ffi::OsString;
+use std::fs::File;
+use std::io::{self, BufWriter, IsTerminal, Write};
+use std::os::fd::AsFd;
 use std::process::ExitCode;
 
-const LONGEST_INPUT: u64 = 1_048_576;
+#[global_allocator]
+static ALLOCATOR: Allocator = Allocator;
 
 /// Why there is no whole output.
-enum Stop {
-    BadInput(String),
-    WriteFault(io::Error),
+pub enum Stop {
+    Refused(Box<Refusal>),
+    ReadFault,
+    WriteFault,
+    NoMemory,
 }
 
-impl From<String> for Stop {
-    fn from(reason: String) -> Stop {
-        Stop::BadInput(reason)
+impl From<Box<Refusal>> for Stop {
+    fn from(refusal: Box<Refusal>) -> Stop {
+        Stop::Refused(refusal)
     }
 }
 
+/// Only the output is written by functions that return errors of this type.
 impl From<io::Error> for Stop {
-    fn from(error: io::Error) -> Stop {
-        Stop::WriteFault(error)
+    fn from(_: io::Error) -> Stop {
+        Stop::WriteFault
     }
 }
 
 fn main() -> ExitCode {
-    let words: Vec<String> = std::env::args().skip(1).collect();
-    let form = match words.as_slice() {
-        [word] if word == "run" => run,
-        [word] if word == "campaign" => run_campaign,
-        [word] if word == "mirror" => run_mirror,
-        _ => {
-            eprintln!("usage: plain run | campaign | mirror");
-            return ExitCode::from(2);
+    let words: Option<Vec<String>> = env::args_os()
+        .skip(1)
+        .map(|word| OsString::into_string(word).ok())
+        .collect();
+    let words = words.unwrap_or_default();
+    let words: Vec<&str> = words.iter().map(String::as_str).collect();
+    ExitCode::from(answer(Form::of(&words)).unwrap_or_else(report_stop))
+}
+
+/// Writes what the words ask for, and returns the status.
+fn answer(form: Option<Form>) -> Result<u8, Stop> {
+    // The library's own standard output takes writes to one that cannot be written for done.
+    let mut out = BufWriter::new(File::from(io::stdout().as_fd().try_clone_to_owned()?));
+    let status = match form {
+        Some(form) => match serve::serve(form, &mut out) {
+            Err(Stop::Refused(refusal)) => refuse(&refusal, &mut out)?,
+            status => status?,
+        },
+        None => {
+            out.write_all(texts::USAGE.as_bytes())?;
+            2
         }
     };
-    match form() {
-        Ok(status) => ExitCode::from(status),
-        Err(Stop::BadInput(reason)) => {
-            eprintln!("plain: {reason}");
-            ExitCode::from(3)
-        }
-        Err(Stop::WriteFault(error)) => {
-            eprintln!("plain: {error}");
-            ExitCode::from(5)
-        }
-    }
-}
-
-fn read_input() -> Result<String, String> {
-    let mut text = String::new();
-    io::stdin()
-        .lock()
-        .take(LONGEST_INPUT + 1)
-        .read_to_string(&mut text)
-        .map_err(|error| error.to_string())?;
-    if text.len() as u64 > LONGEST_INPUT {
-        return Err("the input is too long".to_string());
-    }
-    Ok(text)
-}
-
-/// Reads a scenario, simulates it, writes its report and gives its status.
-fn run() -> Result<u8, Stop> {
-    let scenario = scenario::read(&read_input()?)?;
-    let run = simulation::simulate(&scenario);
-    let mut out = BufWriter::new(io::stdout().lock());
-    let status = report::write(&scenario, &run, &mut out)?;
     out.flush()?;
     Ok(status)
 }
 
-/// Reads a scenario of two disks, simulates them as one and writes the report.
-fn run_mirror() -> Result<u8, Stop> {
-    let scenario = scenario::read(&read_input()?)?;
-    if let Some(reason) = mirror::refusal(&scenario) {
-        return Err(reason.to_string().into());
-    }
-    let mirrored = mirror::simulate(&scenario);
-    let mut out = BufWriter::new(io::stdout().lock());
-    let status = report::write_mirrored(&scenario, &mirrored, &mut out)?;
+/// Writes the line of a refused input. Standard error has it too, so that a redirection does not hide it.
+fn refuse(refusal: &Refusal, out: &mut impl Write) -> io::Result<u8> {
+    writeln!(out, "{refusal}")?;
     out.flush()?;
-    Ok(status)
+    if !io::stdout().is_terminal() {
+        say(&format!("nooks: {refusal}\n"));
+    }
+    Ok(3)
 }
 
-/// Reads a campaign, runs its members and writes its table.
-fn run_campaign() -> Result<u8, Stop> {
-    let text = read_input()?;
-    let value = json::parse(&text)?;
-    let campaign = campaign::read(&value)?;
-    let mut out = BufWriter::new(io::stdout().lock());
-    campaign::write(&campaign.run(), &mut out)?;
-    out.flush()?;
-    Ok(0)
+/// Says on standard error what went wrong outside the program, and returns the status.
+fn report_stop(stop: Stop) -> u8 {
+    let (status, line) = match stop {
+        Stop::Refused(_) => unreachable!("a refusal is written as output"),
+        Stop::ReadFault => (4, texts::READ_FAILED),
+        Stop::WriteFault => (5, texts::WRITE_FAILED),
+        Stop::NoMemory => (NO_MEMORY_STATUS, texts::NO_MEMORY),
+    };
+    say(line);
+    status
+}
+
+/// Writes a line to standard error. If that fails too, nobody is left to hear of it.
+fn say(line: &str) {
+    let _said = io::stderr().write_all(line.as_bytes());
 }

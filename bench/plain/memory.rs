@@ -1,6 +1,6 @@
 //! A part's memory: the driver's text, data, stacks and buffers, then the kernel's objects.
 
-use crate::scenario::Image;
+use crate::image::Image;
 
 pub const CONTEXTS: usize = 17;
 pub const TEXT_WORDS: u32 = 2_048;
@@ -15,6 +15,7 @@ const STACKS: u32 = 4_096;
 const BUFFERS: u32 = 5_184;
 const KERNEL: u32 = 7_360;
 
+#[derive(Clone)]
 pub struct Memory {
     words: [u32; WORDS],
     /// Whether the buffer of a context is lent for writing.
@@ -50,7 +51,7 @@ impl Memory {
         self.words.get(address as usize).copied()
     }
 
-    /// Writes for the driver, and tells whether it may.
+    /// Writes for the driver, and returns whether it may.
     pub fn write(&mut self, address: u32, word: u32) -> bool {
         let may = match address {
             DATA_START..BUFFERS => true,
@@ -63,11 +64,13 @@ impl Memory {
         may
     }
 
-    /// Changes a word of the text.
-    pub fn patch(&mut self, address: u32, word: u32) {
-        if address < TEXT_WORDS {
+    /// Changes a word of the text, and returns whether the address is one of the text.
+    pub fn patch(&mut self, address: u32, word: u32) -> bool {
+        let is_text = address < TEXT_WORDS;
+        if is_text {
             self.words[address as usize] = word;
         }
+        is_text
     }
 
     pub fn stack_end(context: usize) -> u32 {

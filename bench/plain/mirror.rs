@@ -7,14 +7,14 @@ use crate::part::Part;
 use crate::scenario::Scenario;
 use crate::simulation::{Heard, Run};
 
-/// What the mirror tells its thread.
+/// What the mirror answers its thread.
 pub enum Told {
     /// What a side, or the check of the operation, answers.
     Answer(Answer),
     BothLost,
 }
 
-/// The mirror's run. The threads' answers in it are none: the mirror's stand beside it.
+/// The mirror's run. It has no answers of threads: the mirror's are in `told`.
 pub struct Mirrored<'s> {
     pub run: Run<'s>,
     pub told: Vec<Told>,
@@ -26,29 +26,26 @@ struct Side<'s> {
     present: bool,
 }
 
-/// Why a mirror does not serve a scenario, if it does not.
-pub fn refusal(scenario: &Scenario) -> Option<&'static str> {
+/// Whether a mirror serves a scenario: two disks of one size, and at most one thread, which reads and writes part 0.
+pub fn serves(scenario: &Scenario) -> bool {
     let [left, right] = scenario.parts.as_slice() else {
-        return Some("a mirror has two parts");
+        return false;
     };
-    if left.class != Class::Block || right.class != Class::Block || left.blocks != right.blocks {
-        return Some("a mirror has two disks with as many blocks");
-    }
-    if scenario.threads.len() > 1 {
-        return Some("a mirror has one thread");
-    }
     let mut operations = scenario
         .threads
         .iter()
         .flat_map(|thread| &thread.operations);
-    let is_served = |(part, operation): &(usize, Operation)| {
-        *part == 0 && matches!(operation, Operation::Read { .. } | Operation::Write { .. })
-    };
-    (!operations.all(is_served)).then_some("the thread of a mirror reads and writes part 0")
+    left.class == Class::Block
+        && right.class == Class::Block
+        && left.blocks == right.blocks
+        && scenario.threads.len() <= 1
+        && operations.all(|(part, operation)| {
+            *part == 0 && matches!(operation, Operation::Read { .. } | Operation::Write { .. })
+        })
 }
 
-/// Serves the operations of a scenario that a mirror serves, one after the other. Then both parts take the steps that they
-/// have left.
+/// Serves the operations of a scenario that a mirror serves, one after the other. Then both parts take the steps that
+/// they have left.
 pub fn simulate(scenario: &Scenario) -> Mirrored<'_> {
     let new_side = |spec| Side {
         part: Part::new(spec),
@@ -77,7 +74,7 @@ pub fn simulate(scenario: &Scenario) -> Mirrored<'_> {
     }
 }
 
-/// 7 where a driver broke its class's contract, else 1 where both sides were lost, else 0.
+/// 7 if a driver broke its class's contract, else 1 if both sides were lost, else 0.
 pub fn status(mirrored: &Mirrored) -> u8 {
     match mirrored.run.status(&mirrored.run.verdicts()) {
         7 => 7,
@@ -114,7 +111,7 @@ fn read<'s>(sides: &mut [Side<'s>], operation: &'s Operation) -> Told {
     failed.map_or(Told::BothLost, Told::Answer)
 }
 
-/// Asks both sides. Those that did it stay; where none did, the first whose medium failed stays.
+/// Asks both sides. Those that did it stay; if none did, the first whose medium failed stays.
 fn write<'s>(sides: &mut [Side<'s>], operation: &'s Operation) -> Told {
     let answers: Vec<Option<Answer>> = sides
         .iter_mut()
@@ -149,7 +146,7 @@ impl<'s> Side<'s> {
         }
     }
 
-    /// Takes the next step, and tells whether there was one.
+    /// Takes the next step, and returns whether there was one.
     fn step(&mut self) -> bool {
         let next = self.part.next_recovery().or_else(|| self.part.next_for(0));
         let has_step = next.is_some();
@@ -159,7 +156,7 @@ impl<'s> Side<'s> {
         has_step
     }
 
-    /// The part behind its last step.
+    /// The part after its last step.
     fn settled(mut self) -> Part<'s> {
         while self.step() {}
         self.part

@@ -47,7 +47,7 @@ impl Operation {
         }
     }
 
-    /// The class whose operation it is, None where it is of every class.
+    /// The class whose operation it is, None if it is of every class.
     fn class(&self) -> Option<Class> {
         match self {
             Read { .. } | Write { .. } => Some(Class::Block),
@@ -75,6 +75,11 @@ impl Operation {
                 .nth(block.checked_sub(*first)? as usize),
             _ => None,
         }
+    }
+
+    /// Whether it sets a register to a value.
+    pub fn sets(&self, key: u32, value: u32) -> bool {
+        matches!(self, Set { key: own, value: wanted } if *own == key && *wanted == value)
     }
 
     /// Whether two operations of one class must not be with the driver together.

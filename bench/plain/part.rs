@@ -17,10 +17,10 @@ const MOST_BURSTS: u32 = 32;
 const QUEUE_FRAMES: usize = 64;
 const LONGEST_FRAME: u32 = 64;
 
-/// Where the kernel writes the count of failures in its own object, behind the configuration.
+/// The word of the kernel's own object that has the count of failures, after the configuration.
 const FAILURES_WORD: usize = 4;
 
-/// A reply of so much and i tells that the block at i of a read or write failed.
+/// A reply of this number and i means that block i of a read or write failed.
 const BLOCK_FAILED: u32 = 256;
 
 #[derive(Clone, Copy, PartialEq, Eq)]
@@ -51,6 +51,22 @@ pub enum Step {
     Enter { thread: u8 },
     Burst { context: usize },
     Stage,
+}
+
+impl Step {
+    pub fn is_burst_of(self, context: usize) -> bool {
+        matches!(self, Step::Burst { context: own } if own == context)
+    }
+}
+
+/// What a burst finds, and the faults that may strike it.
+pub struct Before<'s> {
+    pub burst: u32,
+    pub call: u32,
+    pub cpu: Cpu,
+    pub memory: Box<Memory>,
+    pub device: Device,
+    pub faults: &'s [Fault],
 }
 
 pub struct Part<'s> {
@@ -162,6 +178,24 @@ impl<'s> Part<'s> {
         }
     }
 
+    /// The number of the burst that would be the next.
+    pub fn next_burst(&self) -> u32 {
+        self.bursts + 1
+    }
+
+    /// What the next burst finds, if it is one of this context.
+    pub fn before_burst(&self, context: usize) -> Before<'s> {
+        let running = self.contexts[context].as_ref();
+        Before {
+            burst: self.next_burst(),
+            call: self.call_of(context),
+            cpu: running.expect("the context is inside").cpu.clone(),
+            memory: self.memory.clone(),
+            device: self.device.clone(),
+            faults: faults_of(&self.spec.faults, self.next_burst()),
+        }
+    }
+
     pub fn take(&mut self, step: Step) {
         let event = match step {
             Step::Enter { thread } => self.enter(thread),
@@ -208,7 +242,7 @@ impl<'s> Part<'s> {
         });
     }
 
-    /// What the shadow answers in the driver's place, None where the call is held.
+    /// What the shadow answers in the driver's place, None if the call is held.
     fn shadow_answer(&mut self, thread: u8, operation: &Operation, stage: Stage) -> Option<Answer> {
         match operation {
             Operation::Get { key } => Some(Answer::Value(self.record[*key as usize])),
@@ -254,6 +288,15 @@ impl<'s> Part<'s> {
             thread,
             attempt,
             answer,
+        }
+    }
+
+    /// The call that a context serves, 0 for the shadow's own.
+    fn call_of(&self, context: usize) -> u32 {
+        if context == SHADOW {
+            0
+        } else {
+            self.calls[self.place_of(context as u8)].number
         }
     }
 
@@ -312,11 +355,7 @@ impl<'s> Part<'s> {
         let arguments = (running.cpu.registers[1], running.cpu.registers[2]);
         let mut burst = Burst {
             context,
-            call: if context == SHADOW {
-                0
-            } else {
-                self.calls[self.place_of(context as u8)].number
-            },
+            call: self.call_of(context),
             burst: self.bursts,
             turns,
             end: End::Trap,
@@ -334,7 +373,8 @@ impl<'s> Part<'s> {
         Event::Burst(burst)
     }
 
-    /// Does what a crossing asks, and notes it as the burst's end. The answer of the context's call, where it has one now.
+    /// Does what a crossing asks, and notes it as the burst's end. Returns the answer to the context's call, if there
+    /// is one now.
     fn cross(
         &mut self,
         context: usize,
@@ -355,11 +395,7 @@ impl<'s> Part<'s> {
             }
             Crossing::Pause => {
                 *end = End::Pause;
-                if is_last {
-                    Err(Failure::TooManyCrossings)
-                } else {
-                    Ok(None)
-                }
+                expect_more(is_last).map(|()| None)
             }
             Crossing::KernelCall(service) => {
                 *end = End::Service {
@@ -368,16 +404,13 @@ impl<'s> Part<'s> {
                     second,
                     served: None,
                 };
-                if is_last {
-                    return Err(Failure::TooManyCrossings);
-                }
+                expect_more(is_last)?;
                 let served = self
                     .serve(service, first, second)
                     .map_err(|argument| Failure::BadParameter { service, argument })?;
-                let running = self.contexts[context]
-                    .as_mut()
-                    .expect("the context is inside");
-                running.cpu.registers[1] = served.result;
+                if let Some(running) = &mut self.contexts[context] {
+                    running.cpu.registers[1] = served.result;
+                }
                 *end = End::Service {
                     service,
                     first,
@@ -389,7 +422,7 @@ impl<'s> Part<'s> {
         }
     }
 
-    /// Serves a kernel call, or tells the smallest argument that is wrong, 0 for the service itself.
+    /// Serves a kernel call, or returns the smallest argument that is wrong, 0 for the service itself.
     fn serve(&mut self, service: u32, first: u32, second: u32) -> Result<Served, u32> {
         let plain = |result| Served {
             result,
@@ -416,25 +449,24 @@ impl<'s> Part<'s> {
                 }
                 Ok(plain(start.unwrap_or(0)))
             }
-            5 if !self.tracker.is_borrowed(first) => Err(1),
-            5 => {
-                let start = self
-                    .tracker
-                    .give_back(first)
-                    .expect("the object is borrowed");
-                self.memory.copy_back(first, start);
-                Ok(Served {
-                    result: 0,
-                    moved: Some(self.memory.slice(start, OBJECT_WORDS).into()),
-                })
-            }
+            5 => self.give_back(first),
             6 => self.hand_up(first, second),
             7 | 8 => Ok(plain(0)),
             _ => Err(0),
         }
     }
 
-    /// A driver hands a frame up, which is lost where the queue is full.
+    /// A driver gives the copy of an object back.
+    fn give_back(&mut self, object: u32) -> Result<Served, u32> {
+        let start = self.tracker.give_back(object).ok_or(1_u32)?;
+        self.memory.copy_back(object, start);
+        Ok(Served {
+            result: 0,
+            moved: Some(self.memory.slice(start, OBJECT_WORDS).into()),
+        })
+    }
+
+    /// A driver hands a frame up, which is lost if the queue is full.
     fn hand_up(&mut self, start: u32, length: u32) -> Result<Served, u32> {
         if self.spec.class != Class::Net {
             return Err(0);
@@ -537,7 +569,7 @@ impl<'s> Part<'s> {
         self.mode = Mode::Recovering(Stage::Stop);
     }
 
-    /// Makes the stage behind the given one the current stage.
+    /// Makes the stage after the given one the current stage.
     fn go_on(&mut self, stage: Stage) {
         let next = match stage {
             Stage::Stop => Stage::Collect,
@@ -554,7 +586,7 @@ impl<'s> Part<'s> {
         };
     }
 
-    /// The first replay from a key on, or what comes behind the replays.
+    /// The first replay from a key on, or what comes after the replays.
     fn replay_from(&self, key: u32) -> Stage {
         let defaults = self.spec.class.defaults();
         let changed = (key..4).find(|key| self.record[*key as usize] != defaults[*key as usize]);
@@ -642,6 +674,15 @@ impl<'s> Part<'s> {
             _ => self.go_on(Stage::Collect),
         }
         self.tracker.collect()
+    }
+}
+
+/// The last burst of an attempt has to end it.
+fn expect_more(is_last: bool) -> Result<(), Failure> {
+    if is_last {
+        Err(Failure::TooManyCrossings)
+    } else {
+        Ok(())
     }
 }
 

@@ -2,11 +2,12 @@
 
 use crate::assembler::assemble;
 use crate::class::Class;
+use crate::fields::{each, items, number, some_items, text, word, Object, Rows};
+use crate::image::{self, read_class, Image};
 use crate::journal::Words;
-use crate::json::{self, Value};
-use crate::memory::{DATA_WORDS, TEXT_WORDS};
+use crate::json::Value;
 use crate::operation::Operation;
-use std::ops::RangeInclusive;
+use crate::refusal::{Cause, Read, Refusal, Within};
 
 pub struct Scenario {
     pub order: Order,
@@ -14,10 +15,16 @@ pub struct Scenario {
     pub threads: Vec<ThreadSpec>,
 }
 
+#[derive(Default)]
 pub enum Order {
+    #[default]
     RoundRobin,
-    Drawn { start: u64 },
-    Listed { picks: Vec<u16> },
+    Drawn {
+        start: u64,
+    },
+    Listed {
+        picks: Vec<u16>,
+    },
 }
 
 pub struct PartSpec {
@@ -32,22 +39,13 @@ pub struct PartSpec {
     pub arrivals: Vec<Words>,
 }
 
-/// A block that fails behind so many commands.
+/// A block that fails after this many commands.
 pub struct BadBlock {
     pub block: u32,
     pub after: u32,
 }
 
-/// A driver's program.
-pub struct Image {
-    pub class: Class,
-    /// In the order of the class's entries.
-    pub entries: Vec<u32>,
-    pub text: Vec<u32>,
-    pub data: Vec<u32>,
-}
-
-/// What strikes a burst behind so many turns.
+/// What strikes a burst after this many turns.
 #[derive(Clone, Copy)]
 pub struct Fault {
     pub burst: u32,
@@ -70,42 +68,31 @@ pub struct ThreadSpec {
     pub operations: Vec<(usize, Operation)>,
 }
 
-pub type Read<T> = Result<T, String>;
-
-const WORDS: RangeInclusive<u64> = 0..=u32::MAX as u64;
-
-pub fn read(text: &str) -> Read<Scenario> {
-    read_scenario(&json::parse(text)?)
+impl ThreadSpec {
+    /// The operations on a part, in order.
+    pub fn operations_on(&self, part: usize) -> Vec<&Operation> {
+        let operations = self.operations.iter();
+        let own = operations.filter(|(own, _)| *own == part);
+        own.map(|(_, operation)| operation).collect()
+    }
 }
 
-pub fn read_scenario(value: &Value) -> Read<Scenario> {
-    let root = Object::new(
-        value,
-        "the scenario",
-        &["version", "schedule", "parts", "threads"],
-    )?;
-    let version = root.number("version", 1..=2)?;
-    let order = root
-        .optional("schedule")
-        .map_or(Ok(Order::RoundRobin), read_order)?;
-    let mut parts = Vec::new();
-    for part in root.list("parts", 1..=8)? {
-        let part = read_part(part, version)?;
-        check_name(
-            &part.name,
-            parts.iter().map(|earlier: &PartSpec| &earlier.name),
-        )?;
-        parts.push(part);
-    }
-    let mut threads = Vec::new();
-    for thread in root.list("threads", 0..=16)? {
-        let thread = read_thread(thread, parts.len())?;
-        check_name(
-            &thread.name,
-            threads.iter().map(|earlier: &ThreadSpec| &earlier.name),
-        )?;
-        threads.push(thread);
-    }
+/// What may stand in a scenario. Version 2 has bad blocks.
+#[derive(Clone, Copy, PartialEq, Eq)]
+enum Version {
+    One,
+    Two,
+}
+
+pub fn read(value: &Value) -> Read<Scenario> {
+    let root = Object::with_keys(value, &["version", "schedule", "parts", "threads"])?;
+    let version = match root.number("version", 1..=2)? {
+        1 => Version::One,
+        _ => Version::Two,
+    };
+    let order = root.optional("schedule", read_order)?;
+    let parts = root.required("parts", |value| read_parts(value, version))?;
+    let threads = root.required("threads", |value| read_threads(value, parts.len()))?;
     Ok(Scenario {
         order,
         parts,
@@ -113,160 +100,149 @@ pub fn read_scenario(value: &Value) -> Read<Scenario> {
     })
 }
 
-fn check_name<'n>(name: &str, mut earlier: impl Iterator<Item = &'n String>) -> Read<()> {
+fn read_parts(value: &Value, version: Version) -> Read<Vec<PartSpec>> {
+    let mut parts: Vec<PartSpec> = Vec::new();
+    for (index, part) in some_items(value, 8)?.iter().enumerate() {
+        let names = parts.iter().map(|earlier| earlier.name.as_str());
+        let part = read_part(part, version, names).within(index)?;
+        parts.push(part);
+    }
+    Ok(parts)
+}
+
+fn read_threads(value: &Value, parts: usize) -> Read<Vec<ThreadSpec>> {
+    let mut threads: Vec<ThreadSpec> = Vec::new();
+    for (index, thread) in items(value, 16)?.iter().enumerate() {
+        let names = threads.iter().map(|earlier| earlier.name.as_str());
+        let thread = read_thread(thread, parts, names).within(index)?;
+        threads.push(thread);
+    }
+    Ok(threads)
+}
+
+/// A name that no earlier part or thread has.
+fn read_name<'n>(value: &Value, mut earlier: impl Iterator<Item = &'n str>) -> Read<String> {
+    let name = text(value)?;
     let is_name = (1..=16).contains(&name.len())
         && name
             .bytes()
             .all(|byte| matches!(byte, b'a'..=b'z' | b'0'..=b'9' | b'_'));
-    if is_name && earlier.all(|other| other != name) {
-        Ok(())
+    if !is_name {
+        Refusal::here(Cause::WrongKind)
+    } else if earlier.any(|other| other == name) {
+        Refusal::here(Cause::DoubleName)
     } else {
-        Err(format!("{name:?} is no name, or comes twice"))
+        Ok(name.to_string())
     }
 }
 
+const ORDERS: Rows = &[
+    ("round_robin", &["kind"]),
+    ("drawn", &["kind", "start"]),
+    ("listed", &["kind", "picks"]),
+];
+
 fn read_order(value: &Value) -> Read<Order> {
-    Ok(match tag(value, "kind")? {
-        "drawn" => {
-            let fields = Object::new(value, "the schedule", &["kind", "start"])?;
-            Order::Drawn {
-                start: fields.number("start", 0..=u64::MAX)?,
-            }
-        }
-        "listed" => {
-            let fields = Object::new(value, "the schedule", &["kind", "picks"])?;
-            let picks = fields.list("picks", 0..=65_536)?.iter();
-            Order::Listed {
-                picks: picks
-                    .map(|pick| Ok(whole(pick, 0..=65_535)? as u16))
-                    .collect::<Read<_>>()?,
-            }
-        }
-        "round_robin" => {
-            Object::new(value, "the schedule", &["kind"])?;
-            Order::RoundRobin
-        }
-        _ => return Err("no such schedule".to_string()),
+    let fields = Object::any(value)?;
+    Ok(match fields.kind("kind", ORDERS)? {
+        "drawn" => Order::Drawn {
+            start: fields.number("start", 0..=u64::MAX)?,
+        },
+        "listed" => Order::Listed {
+            picks: fields.required("picks", |value| each(items(value, 65_536)?, read_pick))?,
+        },
+        _ => Order::RoundRobin,
     })
 }
 
-fn read_part(value: &Value, version: u64) -> Read<PartSpec> {
-    let class = Class::from_name(tag(value, "class")?).ok_or("no such class")?;
+fn read_pick(value: &Value) -> Read<u16> {
+    Ok(number(value, 0..=65_535)? as u16)
+}
+
+fn read_part<'n>(
+    value: &Value,
+    version: Version,
+    earlier: impl Iterator<Item = &'n str>,
+) -> Read<PartSpec> {
+    let fields = Object::any(value)?;
+    let class = fields.required("class", read_class)?;
     let own: &[&str] = match class {
-        Class::Block if version == 2 => &["blocks", "bad"],
+        Class::Block if version == Version::Two => &["blocks", "bad"],
         Class::Block => &["blocks"],
         Class::Net => &["arrivals"],
         Class::Sound => &[],
     };
-    let fields = Object::new(
-        value,
-        "a part",
-        &[&["name", "class", "limit", "driver", "faults"], own].concat(),
-    )?;
-    let blocks = if class == Class::Block {
-        fields.number("blocks", 1..=256)?
-    } else {
-        0
+    fields.expect_keys(&[&["name", "class", "limit", "driver", "faults"], own].concat())?;
+    let name = fields.required("name", |value| read_name(value, earlier))?;
+    let blocks = match class {
+        Class::Block => fields.number("blocks", 1..=256)?,
+        _ => 0,
     };
-    let mut faults = fields
-        .optional_list("faults", 64)?
-        .iter()
-        .map(read_fault)
-        .collect::<Read<Vec<_>>>()?;
+    let bad = fields.optional("bad", |value| {
+        each(items(value, 64)?, |bad| read_bad(bad, blocks))
+    })?;
+    let limit = fields.optional("limit", |value| number(value, 0..=16))?;
+    let image = fields.required("driver", |value| read_driver(value, class))?;
+    let mut faults: Vec<Fault> =
+        fields.optional("faults", |value| each(items(value, 64)?, read_fault))?;
     faults.sort_by_key(|fault| (fault.burst, fault.after));
+    let arrivals = fields.optional("arrivals", |value| each(items(value, 256)?, read_frame))?;
     Ok(PartSpec {
-        name: fields.text("name")?.to_string(),
+        name,
         class,
         blocks: blocks as u32,
-        bad: fields
-            .optional_list("bad", 64)?
-            .iter()
-            .map(|bad| read_bad(bad, blocks))
-            .collect::<Read<_>>()?,
-        limit: fields
-            .optional("limit")
-            .map_or(Ok(0), |limit| whole(limit, 0..=16))? as u32,
-        image: read_driver(fields.required("driver")?, class)?,
+        bad,
+        limit: limit as u32,
+        image,
         faults,
-        arrivals: fields
-            .optional_list("arrivals", 256)?
-            .iter()
-            .map(|frame| words(frame, 1..=64))
-            .collect::<Read<_>>()?,
+        arrivals,
     })
 }
 
 fn read_bad(value: &Value, blocks: u64) -> Read<BadBlock> {
-    let fields = Object::new(value, "a bad block", &["block", "after"])?;
+    let fields = Object::with_keys(value, &["block", "after"])?;
     Ok(BadBlock {
         block: fields.number("block", 0..=blocks - 1)? as u32,
         after: fields.word("after")?,
     })
 }
 
+fn read_frame(value: &Value) -> Read<Words> {
+    each(some_items(value, 64)?, word)
+}
+
 fn read_driver(value: &Value, class: Class) -> Read<Image> {
-    let fields = Object::new(value, "a driver", &["image", "asm"])?;
-    let image = match (fields.optional("image"), fields.optional("asm")) {
-        (Some(image), None) => read_image(image)?,
-        (None, Some(Value::Text(text))) => assemble(text)?,
-        _ => return Err("a driver has an image or a text".to_string()),
+    let fields = Object::with_keys(value, &["image", "asm"])?;
+    let image = match (fields.has("image"), fields.has("asm")) {
+        (true, true) => return Refusal::here(Cause::UnknownKey),
+        (false, true) => fields.required("asm", |value| read_assembler(text(value)?.as_bytes()))?,
+        _ => fields.required("image", image::read)?,
     };
     if image.class == class {
         Ok(image)
     } else {
-        Err("the driver is of another class than its part".to_string())
+        Refusal::here(Cause::BadImage)
     }
 }
 
-fn read_image(value: &Value) -> Read<Image> {
-    let fields = Object::new(value, "an image", &["class", "data", "entries", "text"])?;
-    let class = Class::from_name(fields.text("class")?).ok_or("no such class")?;
-    let names: Vec<&str> = class.entries().iter().map(|entry| entry.name()).collect();
-    let entries = Object::new(fields.required("entries")?, "the entries", &names)?;
-    let last = u64::from(TEXT_WORDS) - 1;
-    Ok(Image {
-        class,
-        entries: names
-            .iter()
-            .map(|name| Ok(entries.number(name, 0..=last)? as u32))
-            .collect::<Read<_>>()?,
-        text: fields
-            .list("text", 0..=TEXT_WORDS as usize)?
-            .iter()
-            .map(hexadecimal)
-            .collect::<Read<_>>()?,
-        data: fields
-            .list("data", 0..=DATA_WORDS as usize)?
-            .iter()
-            .map(hexadecimal)
-            .collect::<Read<_>>()?,
-    })
-}
-
-/// A word as eight hexadecimal digits.
-fn hexadecimal(value: &Value) -> Read<u32> {
-    match value {
-        Value::Text(digits)
-            if digits.len() == 8 && digits.bytes().all(|digit| digit.is_ascii_hexdigit()) =>
-        {
-            u32::from_str_radix(digits, 16).map_err(|error| error.to_string())
-        }
-        _ => Err("a word has eight hexadecimal digits".to_string()),
+fn read_assembler(text: &[u8]) -> Read<Image> {
+    match assemble(text) {
+        Ok(assembled) => Ok(assembled.image),
+        Err(fault) => Refusal::here(Cause::BadAssembler(fault)),
     }
 }
+
+const FAULTS: Rows = &[
+    ("trap", &["burst", "after", "kind"]),
+    ("hang", &["burst", "after", "kind"]),
+    ("poke", &["burst", "after", "kind", "address", "value"]),
+    ("code", &["burst", "after", "kind", "address", "value"]),
+    ("reg", &["burst", "after", "kind", "register", "value"]),
+];
 
 pub fn read_fault(value: &Value) -> Read<Fault> {
-    let kind = tag(value, "kind")?;
-    let own: &[&str] = match kind {
-        "poke" | "code" => &["address", "value"],
-        "reg" => &["register", "value"],
-        _ => &[],
-    };
-    let fields = Object::new(
-        value,
-        "a fault",
-        &[&["burst", "after", "kind"], own].concat(),
-    )?;
+    let fields = Object::any(value)?;
+    let kind = fields.kind("kind", FAULTS)?;
     Ok(Fault {
         burst: fields.number("burst", 1..=u64::from(u32::MAX))? as u32,
         after: fields.number("after", 0..=4_095)? as u32,
@@ -281,168 +257,75 @@ pub fn read_fault(value: &Value) -> Read<Fault> {
                 address: fields.word("address")?,
                 value: fields.word("value")?,
             },
-            "reg" => FaultKind::Register {
+            _ => FaultKind::Register {
                 register: fields.number("register", 0..=15)? as usize,
                 value: fields.word("value")?,
             },
-            _ => return Err("no such fault".to_string()),
         },
     })
 }
 
-fn read_thread(value: &Value, parts: usize) -> Read<ThreadSpec> {
-    let fields = Object::new(value, "a thread", &["name", "ops"])?;
-    let operations = fields.list("ops", 0..=256)?.iter();
+fn read_thread<'n>(
+    value: &Value,
+    parts: usize,
+    earlier: impl Iterator<Item = &'n str>,
+) -> Read<ThreadSpec> {
+    let fields = Object::with_keys(value, &["name", "ops"])?;
     Ok(ThreadSpec {
-        name: fields.text("name")?.to_string(),
-        operations: operations
-            .map(|operation| read_operation(operation, parts))
-            .collect::<Read<_>>()?,
+        name: fields.required("name", |value| read_name(value, earlier))?,
+        operations: fields.required("ops", |value| {
+            each(items(value, 256)?, |operation| {
+                read_operation(operation, parts)
+            })
+        })?,
     })
 }
 
+const OPERATIONS: Rows = &[
+    ("read", &["part", "op", "first", "count"]),
+    ("write", &["part", "op", "first", "data"]),
+    ("send", &["part", "op", "frame"]),
+    ("recv", &["part", "op"]),
+    ("open", &["part", "op"]),
+    ("play", &["part", "op", "samples"]),
+    ("close", &["part", "op"]),
+    ("get", &["part", "op", "key"]),
+    ("set", &["part", "op", "key", "value"]),
+];
+
 fn read_operation(value: &Value, parts: usize) -> Read<(usize, Operation)> {
-    let name = tag(value, "op")?;
-    let keys: &[&str] = match name {
-        "read" => &["part", "op", "first", "count"],
-        "write" => &["part", "op", "first", "data"],
-        "send" => &["part", "op", "frame"],
-        "play" => &["part", "op", "samples"],
-        "get" => &["part", "op", "key"],
-        "set" => &["part", "op", "key", "value"],
-        _ => &["part", "op"],
-    };
-    let fields = Object::new(value, "an operation", keys)?;
-    let list = |key| words(fields.required(key)?, 0..=256);
-    let operation = match name {
+    let fields = Object::any(value)?;
+    let name = fields.kind("op", OPERATIONS)?;
+    let part = fields.number("part", 0..=parts as u64 - 1)?;
+    Ok((part as usize, read_asked(name, &fields)?))
+}
+
+fn read_asked(name: &str, fields: &Object) -> Read<Operation> {
+    let words = |key| fields.required(key, |value| each(items(value, 256)?, word));
+    Ok(match name {
         "read" => Operation::Read {
             first: fields.word("first")?,
             count: fields.word("count")?,
         },
         "write" => Operation::Write {
             first: fields.word("first")?,
-            data: list("data")?,
+            data: words("data")?,
         },
         "send" => Operation::Send {
-            frame: list("frame")?,
+            frame: words("frame")?,
         },
         "recv" => Operation::Receive,
         "open" => Operation::Open,
         "play" => Operation::Play {
-            samples: list("samples")?,
+            samples: words("samples")?,
         },
         "close" => Operation::Close,
         "get" => Operation::Get {
             key: fields.word("key")?,
         },
-        "set" => Operation::Set {
+        _ => Operation::Set {
             key: fields.word("key")?,
             value: fields.word("value")?,
         },
-        _ => return Err("no such operation".to_string()),
-    };
-    Ok((
-        fields.number("part", 0..=parts as u64 - 1)? as usize,
-        operation,
-    ))
-}
-
-/// The name that decides which other keys an object has.
-fn tag<'v>(value: &'v Value, key: &str) -> Read<&'v str> {
-    match value {
-        Value::Object(fields) => Object {
-            what: "an object",
-            fields,
-        }
-        .text(key),
-        _ => Err("an object is wanted".to_string()),
-    }
-}
-
-fn whole(value: &Value, range: RangeInclusive<u64>) -> Read<u64> {
-    match value {
-        Value::Whole(number) if range.contains(number) => Ok(*number),
-        _ => Err(format!(
-            "a number from {} to {} is wanted",
-            range.start(),
-            range.end()
-        )),
-    }
-}
-
-fn words(value: &Value, length: RangeInclusive<usize>) -> Read<Words> {
-    match value {
-        Value::List(items) if length.contains(&items.len()) => items
-            .iter()
-            .map(|item| Ok(whole(item, WORDS)? as u32))
-            .collect(),
-        _ => Err(format!(
-            "a list of {} to {} words is wanted",
-            length.start(),
-            length.end()
-        )),
-    }
-}
-
-/// The fields of an object, of which the last counts where a key comes twice.
-pub struct Object<'v> {
-    what: &'v str,
-    fields: &'v [(std::borrow::Cow<'v, str>, Value<'v>)],
-}
-
-impl<'v> Object<'v> {
-    pub fn new(value: &'v Value, what: &'v str, keys: &[&str]) -> Read<Object<'v>> {
-        let Value::Object(fields) = value else {
-            return Err(format!("{what} is no object"));
-        };
-        match fields.iter().find(|(key, _)| !keys.contains(&key.as_ref())) {
-            Some((key, _)) => Err(format!("{what} has no key {key:?}")),
-            None => Ok(Object { what, fields }),
-        }
-    }
-
-    fn optional(&self, key: &str) -> Option<&'v Value<'v>> {
-        self.fields
-            .iter()
-            .rfind(|(own, _)| own == key)
-            .map(|(_, value)| value)
-    }
-
-    pub fn required(&self, key: &str) -> Read<&'v Value<'v>> {
-        self.optional(key)
-            .ok_or_else(|| format!("{}: {key} is missing", self.what))
-    }
-
-    pub fn number(&self, key: &str, range: RangeInclusive<u64>) -> Read<u64> {
-        whole(self.required(key)?, range)
-            .map_err(|reason| format!("{}, {key}: {reason}", self.what))
-    }
-
-    fn word(&self, key: &str) -> Read<u32> {
-        Ok(self.number(key, WORDS)? as u32)
-    }
-
-    fn text(&self, key: &str) -> Read<&'v str> {
-        match self.required(key)? {
-            Value::Text(text) => Ok(text),
-            _ => Err(format!("{}: {key} is no text", self.what)),
-        }
-    }
-
-    pub fn list(&self, key: &str, length: RangeInclusive<usize>) -> Read<&'v [Value<'v>]> {
-        match self.required(key)? {
-            Value::List(items) if length.contains(&items.len()) => Ok(items),
-            _ => Err(format!(
-                "{}: {key} is no list, or has too few or too many items",
-                self.what
-            )),
-        }
-    }
-
-    fn optional_list(&self, key: &str, most: usize) -> Read<&'v [Value<'v>]> {
-        match self.optional(key) {
-            Some(_) => self.list(key, 0..=most),
-            None => Ok(&[]),
-        }
-    }
+    })
 }

@@ -19,7 +19,7 @@ impl<'s> Schedule<'s> {
         }
     }
 
-    /// The actor that goes next among so many, of which some can. None where none can.
+    /// The actor that goes next, of this many. None if none can go.
     pub fn pick(&mut self, actors: usize, can_go: impl Fn(usize) -> bool) -> Option<usize> {
         match self {
             Schedule::RoundRobin { cursor } => {

@@ -1,10 +1,10 @@
 //! Whole runs: actors take the steps of the parts in the order of a schedule.
 //!
-//! Each thread is an actor. Behind the threads each part has two, its recovery and its arrivals.
+//! Each thread is an actor. After the threads come two for each part, its recovery and its arrivals.
 
 use crate::contract::{judge, Verdict};
 use crate::journal::{Answer, Event};
-use crate::part::Part;
+use crate::part::{Part, Step};
 use crate::scenario::{Scenario, ThreadSpec};
 use crate::schedule::Schedule;
 
@@ -25,7 +25,7 @@ impl Run<'_> {
             .collect()
     }
 
-    /// 7 where a driver broke its class's contract, else 1 where a part was given up, else 0.
+    /// 7 if a driver broke its class's contract, else 1 if a part was given up, else 0.
     pub fn status(&self, verdicts: &[Verdict]) -> u8 {
         if verdicts.iter().any(|verdict| verdict.broken.is_some()) {
             7
@@ -43,6 +43,12 @@ pub struct Heard {
 }
 
 impl Heard {
+    pub fn add(&mut self, other: &Heard) {
+        self.failures += other.failures;
+        self.bursts += other.bursts;
+        self.answers += other.answers;
+    }
+
     pub fn hear(&mut self, event: &Event) {
         if let Event::Burst(burst) = event {
             self.bursts += 1;
@@ -60,7 +66,7 @@ struct Thread<'s> {
 }
 
 impl Thread<'_> {
-    /// The place of its next operation, where it has one and no open call.
+    /// The index of its next operation, if it has one and no open call.
     fn next_operation(&self) -> Option<usize> {
         let place = self.answers.len();
         (self.waits_for.is_none() && place < self.spec.operations.len()).then_some(place)
@@ -77,21 +83,9 @@ struct Simulation<'s> {
 }
 
 pub fn simulate(scenario: &Scenario) -> Run<'_> {
-    let new_thread = |spec| Thread {
-        spec,
-        waits_for: None,
-        answers: Vec::new(),
-    };
-    let mut simulation = Simulation {
-        scenario,
-        parts: scenario.parts.iter().map(Part::new).collect(),
-        threads: scenario.threads.iter().map(new_thread).collect(),
-        arrived: vec![0; scenario.parts.len()],
-        heard: Heard::default(),
-    };
-    let actors = simulation.threads.len() + 2 * simulation.parts.len();
+    let mut simulation = Simulation::new(scenario);
     let mut schedule = Schedule::new(&scenario.order);
-    while let Some(actor) = schedule.pick(actors, |actor| simulation.can_go(actor)) {
+    while let Some(actor) = simulation.pick(&mut schedule) {
         let part = simulation.go(actor);
         simulation.note(part);
     }
@@ -106,7 +100,61 @@ pub fn simulate(scenario: &Scenario) -> Run<'_> {
     }
 }
 
-impl Simulation<'_> {
+/// Simulates up to a burst of a part. Returns the part before that burst, and the context of the burst.
+pub fn run_up_to(scenario: &Scenario, part: usize, burst: u32) -> Option<(Part<'_>, usize)> {
+    let mut simulation = Simulation::new(scenario);
+    let mut schedule = Schedule::new(&scenario.order);
+    while let Some(actor) = simulation.pick(&mut schedule) {
+        match simulation.step_of(actor) {
+            Some((own, Step::Burst { context }))
+                if own == part && simulation.parts[part].next_burst() == burst =>
+            {
+                return Some((simulation.parts.swap_remove(part), context));
+            }
+            _ => {}
+        }
+        let part = simulation.go(actor);
+        simulation.note(part);
+    }
+    None
+}
+
+impl<'s> Simulation<'s> {
+    fn new(scenario: &'s Scenario) -> Simulation<'s> {
+        let new_thread = |spec| Thread {
+            spec,
+            waits_for: None,
+            answers: Vec::new(),
+        };
+        Simulation {
+            scenario,
+            parts: scenario.parts.iter().map(Part::new).collect(),
+            threads: scenario.threads.iter().map(new_thread).collect(),
+            arrived: vec![0; scenario.parts.len()],
+            heard: Heard::default(),
+        }
+    }
+
+    /// The actor that goes next, None if the run is over.
+    fn pick(&self, schedule: &mut Schedule) -> Option<usize> {
+        let actors = self.threads.len() + 2 * self.parts.len();
+        schedule.pick(actors, |actor| self.can_go(actor))
+    }
+
+    /// The step that an actor takes next, and its part. None if it is an invocation or an arrival.
+    fn step_of(&self, actor: usize) -> Option<(usize, Step)> {
+        match self.threads.get(actor) {
+            Some(thread) => {
+                let part = thread.waits_for?;
+                Some((part, self.parts[part].next_for(actor as u8)?))
+            }
+            None => match self.part_of(actor) {
+                (part, false) => Some((part, self.parts[part].next_recovery()?)),
+                (_, true) => None,
+            },
+        }
+    }
+
     fn can_go(&self, actor: usize) -> bool {
         match self.threads.get(actor) {
             Some(thread) => match thread.waits_for {
@@ -124,7 +172,7 @@ impl Simulation<'_> {
         }
     }
 
-    /// The part of an actor behind the threads, and whether it hands in the arrivals.
+    /// The part of an actor that is no thread, and whether it hands in the arrivals.
     fn part_of(&self, actor: usize) -> (usize, bool) {
         let behind = actor - self.threads.len();
         (behind / 2, behind % 2 == 1)

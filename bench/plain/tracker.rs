@@ -6,14 +6,14 @@ use std::collections::BTreeMap;
 
 const HEAP_END: u32 = DATA_START + DATA_WORDS;
 
-/// How many runs of the heap may stand together.
+/// How many runs of the heap may be taken at once.
 const MOST_RUNS: usize = 64;
 
 pub struct Tracker {
     heap_start: u32,
     /// The runs of the heap that are taken, by their starts.
     runs: BTreeMap<u32, Run>,
-    /// Where the copy of each borrowed object lies.
+    /// The address of each borrowed object's copy.
     borrowed: [Option<u32>; OBJECTS as usize],
     /// The buffers that are lent, and whether for writing.
     buffers: [Option<bool>; CONTEXTS],
@@ -83,9 +83,9 @@ impl Tracker {
         start
     }
 
-    /// Where the copy was that is given back.
+    /// The address of the copy that is given back, None if the object is not borrowed.
     pub fn give_back(&mut self, object: u32) -> Option<u32> {
-        let start = self.borrowed[object as usize].take()?;
+        let start = self.borrowed.get_mut(object as usize)?.take()?;
         self.runs.remove(&start);
         Some(start)
     }

@@ -1,0 +1,36 @@
+//! What a run comes to.
+
+use crate::contract::Losses;
+use crate::journal::Answer;
+use crate::simulation::Run;
+
+pub struct Summary {
+    pub status: u8,
+    pub events: usize,
+    pub failures: u64,
+    /// The operations that were answered `gone`.
+    pub gone: usize,
+    /// What the applications lost.
+    pub lost: u64,
+}
+
+impl Summary {
+    pub fn new(run: &Run) -> Summary {
+        let verdicts = run.verdicts();
+        let answers = run.answers.iter().flatten();
+        let lost = |losses: &Losses| losses.sends + losses.samples + losses.busy;
+        Summary {
+            status: run.status(&verdicts),
+            events: run.parts.iter().map(|part| part.journal().len()).sum(),
+            failures: run
+                .parts
+                .iter()
+                .map(|part| u64::from(part.failures()))
+                .sum(),
+            gone: answers
+                .filter(|(_, answer)| matches!(answer, Answer::Gone(_)))
+                .count(),
+            lost: verdicts.iter().map(|verdict| lost(&verdict.losses)).sum(),
+        }
+    }
+}

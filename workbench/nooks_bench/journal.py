@@ -3,7 +3,6 @@ go on later. The first line says what the sweep is of; each other one has the ou
 
 from __future__ import annotations
 
-import hashlib
 import json
 import os
 from dataclasses import dataclass, field
@@ -29,6 +28,8 @@ KEYS = {
 
 def digest(value: Any) -> str:
     """A number that tells values apart."""
+    import hashlib
+
     return hashlib.sha256(json.dumps(value, sort_keys=True).encode()).hexdigest()
 
 

@@ -244,8 +244,8 @@ def own_outcome(report: Report, base: Report) -> Outcome:
 
 
 def plain_cause(cause: str) -> str:
-    """A cause without the address, so that equal ones fold."""
-    return re.sub(r"^(trap (?:foreign_write|bad_read)) \d+$", r"\1", cause)
+    """A cause without the address or the status, so that equal ones fold."""
+    return re.sub(r"^(trap (?:foreign_write|bad_read)|bad_reply) \d+$", r"\1", cause)
 
 
 def judge_of(base: Report, scenario: Scenario, part: int) -> Judge:

@@ -67,6 +67,13 @@ class Journal:
     def open(self, heading: dict[str, Any], resume: bool) -> None:
         """Opens the file: a new one, or with `resume` one that goes on."""
         try:
+            self.begin(heading, resume)
+        except Mistake:
+            self.close()
+            raise
+
+    def begin(self, heading: dict[str, Any], resume: bool) -> None:
+        try:
             exists = os.path.exists(self.path) and os.path.getsize(self.path) > 0
             if exists and not resume:
                 raise Mistake(f"{self.path} is there already: --resume goes on with it")

@@ -159,10 +159,8 @@ def bases_of(args: argparse.Namespace, base: Scenario) -> list[Scenario]:
     return [with_schedule(base, {"kind": "drawn", "start": args.seed + each}) for each in range(args.schedules)]
 
 
-def journal_of(args: argparse.Namespace, sweep: Sweep, base: Scenario) -> None:
+def open_journal(args: argparse.Namespace, sweep: Sweep, base: Scenario) -> None:
     """Opens the journal, and takes what it has."""
-    if not args.journal:
-        return
     choice = {**vars(sweep.selection), "schedules": args.schedules}
     faults = [plan.faults for plan in sweep.plans]
     version = sweep.program.version() or "no version"
@@ -188,10 +186,13 @@ def sweep_of(args: argparse.Namespace) -> Sweep:
     first = plans[0].report if args.schedules is None else parse_report(program.report(base))
     sweep = Sweep(program, selection, how, plans, first)
     sweep.known = [None for plan in plans for _ in plan.faults]
-    journal_of(args, sweep, base)
-    sweep.run()
-    if sweep.journal:
-        sweep.journal.close()
+    if args.journal:
+        open_journal(args, sweep, base)
+    try:
+        sweep.run()
+    finally:
+        if sweep.journal:
+            sweep.journal.close()
     return sweep
 
 

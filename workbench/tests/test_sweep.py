@@ -16,10 +16,18 @@ def numbers(text: str, line: str) -> int:
     return sum(int(found) for found in re.findall(rf"(?m)^{line}", text))
 
 
+def lost_kinds(text: str) -> dict[str, int]:
+    frames = [rf"frames .* {word} (\d+)" for word in ("reset", "full_ring", "full_queue")]
+    return {
+        "sends": numbers(text, r"losses sends (\d+)"),
+        "samples": numbers(text, r"losses samples (\d+)"),
+        "busy": numbers(text, r"losses .* busy (\d+)"),
+        "frames": sum(numbers(text, form) for form in frames),
+    }
+
+
 def lost(text: str) -> int:
-    forms = [r"losses sends (\d+)", r"losses samples (\d+)", r"losses .* busy (\d+)"]
-    forms += [rf"frames .* {word} (\d+)" for word in ("reset", "full_ring", "full_queue")]
-    return sum(numbers(text, form) for form in forms)
+    return sum(lost_kinds(text).values())
 
 
 def answers(text: str) -> str:
@@ -67,6 +75,8 @@ class Sweeps(unittest.TestCase):
             for entry in run["faults"]:
                 member = program().report(with_faults(run["base"], found["part"], [entry["fault"]]))
                 self.assertEqual(entry["outcome"], expected(base, member, entry["fault"], limits), entry)
+                before, after = lost_kinds(base), lost_kinds(member)
+                self.assertEqual(entry["losses"], {kind: after[kind] - before[kind] for kind in before}, entry)
         names = [entry["outcome"] for run in found["runs"] for entry in run["faults"]]
         self.assertEqual(found["outcomes"], {name: names.count(name) for name in found["outcomes"]})
         self.assertEqual(sum(row["count"] for row in found["rows"]), len(names))

@@ -26,8 +26,9 @@ def lost_kinds(text: str) -> dict[str, int]:
     }
 
 
-def lost(text: str) -> int:
-    return sum(lost_kinds(text).values())
+def lost_more(base: str, member: str) -> bool:
+    before, after = lost_kinds(base), lost_kinds(member)
+    return any(after[kind] > before[kind] for kind in before)
 
 
 def answers(text: str) -> str:
@@ -54,7 +55,7 @@ def expected(base: str, member: str, fault: dict, limits: list[int]) -> str:
     causes = [burst_line(text, fault["burst"]).partition(" ! ")[2] for text in (base, member)]
     stopped = causes[1] and (fault["kind"] in ("trap", "hang") or causes[0] != causes[1])
     if sum(failures) > numbers(base, r"failures (\d+)") or stopped:
-        return "recovered with losses" if lost(member) > lost(base) else "recovered, nothing lost"
+        return "recovered with losses" if lost_more(base, member) else "recovered, nothing lost"
     left = [re.sub(r"(?m)^\d+ (invoke|enter|burst|stage|arrive) .*\n", "", each) for each in (base, member)]
     return "struck, no trace" if left[0] == left[1] else "answers changed, contract kept"
 

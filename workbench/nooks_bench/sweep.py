@@ -15,7 +15,7 @@ from .faults import GREATEST, RANGES, Selection, add_selection, check_range, sel
 from .journal import Journal, heading_of
 from .messages import say
 from .model import Entry, Swept
-from .outcomes import OUTCOMES, SAME, SHORT_NAMES, Outcome, judge_of, own_outcome, place_of, row_of
+from .outcomes import OUTCOMES, SAME, SHORT_NAMES, Outcome, bursts_of, judge_of, own_outcome, place_of, row_of
 from .plans import Plan, batches_of, plans_of
 from .pool import processors
 from .probe import Probe, instructions
@@ -107,13 +107,17 @@ class Sweep:
     def entries(self, number: int) -> list[Entry]:
         """The faults of a base of which the outcome is known."""
         plan = self.plans[number]
-        judge = judge_of(plan.report, plan.base, self.selection.part)
+        bursts = bursts_of(plan.report, self.selection.part)
+        places: dict[int, str] = {}
         entries: list[Entry] = []
-        for fault, outcome in zip(plan.faults, self.known[plan.first :]):
+        for fault, outcome in zip(plan.faults, self.known[plan.first : plan.first + len(plan.faults)]):
+            burst = fault["burst"]
+            if burst not in places:
+                event, is_alone = bursts.get(burst), len(self.plans) == 1
+                places[burst] = place_of(event, plan.report, self.selection.part, is_alone)
             if outcome is not None:
-                place = place_of(judge.burst(fault), plan.report, self.selection.part, len(self.plans) == 1)
-                text = self.texts.get((number, fault["burst"], fault["after"]), "")
-                entries.append(Entry(fault, outcome.name, outcome.cause, place, text, outcome.losses))
+                text = self.texts.get((number, burst, fault["after"]), "")
+                entries.append(Entry(fault, outcome.name, outcome.cause, places[burst], text, outcome.losses))
         return entries
 
     def runs(self) -> list[Swept]:

@@ -15,8 +15,8 @@ from .program import Mistake
 # A batch that a cluster runs: large enough that its way there and back does not count.
 CLUSTER_BATCH = 400
 
-# A batch on this machine has at most so many faults, and takes about so many seconds at most: what an interruption
-# loses is the batches that are begun.
+# The most faults of a batch on this machine, and about the most seconds that it may take: what an interruption loses is
+# the batches that are begun.
 MOST_LOCAL = 256
 LONGEST_LOCAL = 1.0
 

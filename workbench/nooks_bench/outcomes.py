@@ -1,5 +1,5 @@
-"""What became of a fault, against the run without it: told from a campaign's row where that says it all, else from the
-member's own report."""
+"""What became of a fault, against the run without it: by a campaign's row if that has all of it, else by the member's
+own report."""
 
 from __future__ import annotations
 
@@ -154,8 +154,8 @@ class Judge:
         return self.bursts.get(fault["burst"])
 
     def strikes(self, fault: Fault) -> bool:
-        """Up to a fault its run is the base's, so it strikes where the base's burst has that turn. Of a burst that one
-        of the part's own hangs ended the report does not tell the turns: it says 4096."""
+        """Up to a fault its run is the base's, so it strikes if the base's burst has that turn. Of a burst that one of
+        the part's own hangs ended the report does not have the turns: it says 4096."""
         event = self.burst(fault)
         if event is None:
             return False
@@ -197,7 +197,7 @@ class Judge:
         return Outcome(CHANGED, changed, more) if changed else Outcome(NO_TRACE)
 
     def cause(self, fault: Fault, report: Report) -> str:
-        """Why the struck driver failed: in the burst itself, or later where it failed more often than in the base."""
+        """Why the struck driver failed: in the burst itself, or later if it failed more often than in the base."""
         ours, theirs = report.parts[self.part], self.base.parts[self.part]
         struck = [event for event in ours.bursts() if event.burst == fault["burst"] and event.failed]
         base = self.burst(fault)

@@ -1,16 +1,17 @@
-"""What happens at a turn of a burst, asked of the program by runs with faults of the workbench's own: where the counter
-stands, and which turns are acts on the device."""
+"""What happens at a turn of a burst, asked of the program by runs with faults of the workbench's own: which instruction
+comes next, and which turns are acts on the device."""
 
 from __future__ import annotations
 
-from concurrent.futures import ProcessPoolExecutor
+import functools
 from dataclasses import dataclass, field
 
+from .pool import each_done
 from .program import Program
 from .report import Event, parse_report
-from .scenario import MOST_FAULTS, Scenario, with_faults
+from .scenario import MOST_FAULTS, Fault, Scenario, with_faults
 
-# A word that stops the driver and tells where it stands: IN r0 from a port that no device has, the address behind
+# A word that stops the driver and names its own address: IN r0 from a port that no device has, the address added to
 # this number. So the trap `bad_port` names the address.
 TELLTALE = 0x14000000
 FIRST_PORT = 0x8000
@@ -18,24 +19,28 @@ FIRST_PORT = 0x8000
 
 @dataclass
 class Probe:
-    """Asks about one part of one scenario. `listing` has the instructions of the part's driver by address."""
+    """Asks about one part of one scenario."""
 
     program: Program
     scenario: Scenario
     part: int
-    listing: list[str]
     near: int = 0
     counts: dict[tuple[int, int], int] = field(default_factory=dict)
 
-    def burst_under(self, burst: int, faults: list[dict[str, int | str]]) -> Event | None:
+    @functools.cached_property
+    def listing(self) -> list[str]:
+        """The instructions of the part's driver by address."""
+        return self.program.listing(self.scenario["parts"][self.part]["driver"])
+
+    def burst_under(self, burst: int, faults: list[Fault]) -> Event | None:
         """The event of a burst in the run with some faults more."""
         text = self.program.report(with_faults(self.scenario, self.part, faults))
         found = [event for event in parse_report(text).parts[self.part].bursts() if event.burst == burst]
         return found[0] if found else None
 
     def address(self, burst: int, after: int) -> int | None:
-        """The address of the instruction that a burst comes to behind so many turns; None where it is none of the
-        image's. Every word of the text is made one that tells its address, as many at a time as there may be faults."""
+        """The address of the instruction that a burst comes to after some turns; None if it is none of the image's.
+        Every word of the text is made one that names its address, as many at a time as there may be faults."""
         room = MOST_FAULTS - len(self.scenario["parts"][self.part].get("faults", []))
         if room <= 0:
             return None
@@ -54,12 +59,12 @@ class Probe:
         return None
 
     def instruction(self, burst: int, after: int) -> str:
-        """The address and the instruction there; empty where it is not known."""
+        """The address and the instruction there; empty if it is not known."""
         address = self.address(burst, after)
         return "" if address is None else f"{address}: {self.listing[address]}"
 
     def acts_before(self, burst: int, after: int) -> int:
-        """How many acts a burst has made behind so many turns: those that a trap there leaves."""
+        """How many acts a burst has made after some turns: those that a trap there leaves."""
         if (burst, after) not in self.counts:
             event = self.burst_under(burst, [{"burst": burst, "after": after, "kind": "trap"}])
             self.counts[burst, after] = len(event.acts) if event else 0
@@ -80,21 +85,24 @@ class Probe:
         return found
 
 
-def probe_of(program: Program, scenario: Scenario, part: int) -> Probe:
-    return Probe(program, scenario, part, program.listing(scenario["parts"][part]["driver"]))
+@dataclass(frozen=True)
+class Piece:
+    """Some places, each a burst and the turns before it, with whom to ask about them."""
+
+    probe: Probe
+    places: list[tuple[int, int]]
 
 
-def instructions_of(probe: Probe, places: list[tuple[int, int]]) -> list[str]:
-    return [probe.instruction(*place) for place in places]
+def instructions_of(piece: Piece) -> list[str]:
+    return [piece.probe.instruction(*place) for place in piece.places]
 
 
 def instructions(probe: Probe, places: list[tuple[int, int]], jobs: int) -> dict[tuple[int, int], str]:
-    """The instructions at some places, each a burst and the turns before it. They are asked for in pieces, so that one
-    begins its search near where the one before it ended."""
+    """The instructions at some places. They are asked for in pieces, so that one begins its search near where the one
+    before it ended."""
     size = max(8, -(-len(places) // jobs))
-    pieces = [places[at : at + size] for at in range(0, len(places), size)]
-    if len(pieces) < 2:
-        return dict(zip(places, instructions_of(probe, places)))
-    with ProcessPoolExecutor(jobs) as pool:
-        found = list(pool.map(instructions_of, [probe] * len(pieces), pieces))
-    return {place: text for piece, texts in zip(pieces, found) for place, text in zip(piece, texts)}
+    pieces = [Piece(probe, places[at : at + size]) for at in range(0, len(places), size)]
+    found: dict[tuple[int, int], str] = {}
+    for number, texts in each_done(instructions_of, pieces, jobs):
+        found.update(zip(pieces[number].places, texts))
+    return found

@@ -30,6 +30,7 @@ def parser() -> argparse.ArgumentParser:
 def main(words: list[str] | None = None) -> int:
     """Runs one subcommand; a mistake is one line on standard error, with status 2."""
     args = parser().parse_args(words)
+    args.words = sys.argv[1:] if words is None else words
     try:
         return args.run(args)
     except Mistake as mistake:

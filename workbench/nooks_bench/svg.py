@@ -32,7 +32,7 @@ class Canvas:
     def reach(self, x: float, y: float) -> None:
         self.width, self.height = max(self.width, x), max(self.height, y)
 
-    def add(self, tag: str, title: str = "", inner: str = "", **attributes: object) -> None:
+    def add(self, tag: str, title: str = "", inner: str = "", /, **attributes: object) -> None:
         """An element; a title is what is shown under the pointer."""
         told = told_of(attributes)
         body = (f"<title>{escape(title)}</title>" if title else "") + escape(inner)
@@ -74,10 +74,11 @@ class Canvas:
         )
         return f"url(#{name})"
 
-    def text(self, title: str) -> str:
-        """The whole drawing."""
+    def text(self, title: str, scale: float = 1.0) -> str:
+        """The whole drawing; the scale makes all of it larger, the letters too."""
         wide, high = shown(self.width + 12), shown(self.height + 12)
-        size = f'width="{wide}" height="{high}" viewBox="0 0 {wide} {high}"'
+        sizes = [shown((side + 12) * scale) for side in (self.width, self.height)]
+        size = f'width="{sizes[0]}" height="{sizes[1]}" viewBox="0 0 {wide} {high}"'
         head = f'<svg xmlns="http://www.w3.org/2000/svg" {size} style="{FONT}">'
         ground = f'<rect width="{wide}" height="{high}" fill="{WHITE}"/>'
         definitions = f"<defs>{''.join(self.definitions)}</defs>" if self.definitions else ""

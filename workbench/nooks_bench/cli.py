@@ -5,10 +5,10 @@ from __future__ import annotations
 import argparse
 import sys
 
-from . import build, explain, map, replay, shrink, sweep, timeline
+from . import build, explain, heatmap, replay, shrink, sweep, timeline, trace
 from .program import BUILT, Mistake
 
-MODULES = (build, sweep, map, timeline, explain, replay, shrink)
+MODULES = (build, sweep, heatmap, timeline, explain, trace, replay, shrink)
 
 ABOUT = """A workbench around the proved program nooks. Each subcommand has its own --help; docs/WORKBENCH.md
 walks through a question. The program is that of --program, of the environment's NOOKS, or the repository's

@@ -4,116 +4,103 @@ from __future__ import annotations
 
 import argparse
 import json
-import sys
-from dataclasses import dataclass, field
 from typing import Any
 
-from .map_svg import drawing
-from .outcomes import OUTCOMES
-from .program import Mistake
-from .scenario import Fault
+from .heatmap_rows import fold_rows, groups_of
+from .heatmap_svg import MNEMONICS, NO_STRIP, STRIPS, Look, drawing
+from .picture import add_picture_options, check_picture_options, command_text, hash_of, put_picture, room_of, scale_of
+from .picture import version_of
+from .program import Mistake, Program, find_program
 from .source import read_text
-from .sweep import Swept, add_sweep_options, swept
+from .strip import Strips, fill_instructions, strips_of, writes_traces
+from .sweep import add_sweep_options, scenario_of, swept
 
-ABOUT = """Draws a sweep as an SVG: a row for each burst (and each other thing that strikes there), a column for
-each turn, a cell coloured by what became of the fault. The pointer over a cell tells the fault, the outcome and
-the instruction there. The options are those of sweep; with --from, the sweep is one that `sweep --json`
-wrote."""
+ABOUT = """Draws a sweep as an SVG: for each burst a row for each thing that strikes there, a column for each turn, and
+over them a strip of the burst's instructions, in which those that act on the device are marked. A cell has the colour
+of what became of the fault; the number in it is the clause that was broken, or how much was lost. Rows that look the
+same are one. The pointer over a cell says the fault, the outcome and the instruction. The options are those of sweep;
+with --from, the sweep is one that `sweep --json` wrote, and the program is asked for the strip alone."""
 
+DEFAULT_WIDTH = 1500
 
-@dataclass
-class Cell:
-    """What became of the faults of one row and turn: the worst of them, and a line for each."""
-
-    outcome: str
-    told: list[str] = field(default_factory=list)
-
-    def take(self, outcome: str, text: str) -> None:
-        self.told.append(text)
-        if OUTCOMES.index(outcome) > OUTCOMES.index(self.outcome):
-            self.outcome = outcome
+Runs = list[dict[str, Any]]
 
 
-@dataclass
-class Line:
-    """A row of the map: a burst, under a schedule, and what strikes there."""
-
-    burst: int
-    place: str
-    strikes: str
-    cells: dict[int, Cell] = field(default_factory=dict)
-
-
-def strikes_text(fault: Fault) -> str:
-    """What strikes, without where."""
-    if fault["kind"] == "reg":
-        return f"reg r{fault['register']} = {fault['value']}"
-    if fault["kind"] in ("poke", "code"):
-        return f"{fault['kind']} {fault['address']} = {fault['value']}"
-    return fault["kind"]
-
-
-def lines_of(faults: list[dict[str, Any]], front: str, together: bool) -> list[Line]:
-    """The rows of one run's faults, by burst; drawn faults of a burst stand together."""
-    rows: dict[tuple[int, str], Line] = {}
-    for entry in faults:
-        fault = entry["fault"]
-        strikes = "" if together else strikes_text(fault)
-        row = rows.setdefault((fault["burst"], strikes), Line(fault["burst"], front + entry["place"], strikes))
-        cause = f": {entry['cause']}" if entry["cause"] else ""
-        at = f"\nat {entry['instruction']}" if entry["instruction"] else ""
-        cell = row.cells.setdefault(fault["after"], Cell(entry["outcome"]))
-        cell.take(entry["outcome"], f"{json.dumps(fault)}\n{entry['outcome']}{cause}{at}")
-    return [rows[key] for key in sorted(rows, key=lambda key: key[0])]
-
-
-def map_of(runs: list[dict[str, Any]], together: bool, title: str) -> str:
-    """The SVG of the runs of a sweep, as its JSON has them."""
-    lines: list[Line] = []
-    for run in runs:
-        front = ""
-        if len(runs) > 1:
-            front = f"start {run['base']['schedule']['start']}: "
-        lines.extend(lines_of(run["faults"], front, together))
-    if not lines:
-        raise Mistake("there is no fault in this sweep")
-    return drawing(lines, title)
-
-
-def json_runs(runs: list[Swept]) -> list[dict[str, Any]]:
-    return [{"base": run.base, "faults": [vars(each) for each in run.entries]} for run in runs]
-
-
-def runs_of(args: argparse.Namespace) -> list[dict[str, Any]]:
-    """The runs of the sweep that is drawn."""
-    if args.from_ is None and args.file is None:
-        raise Mistake("a scenario is wanted, or --from")
-    if args.from_ is None:
-        args.instructions = not args.no_instructions
-        return json_runs(swept(args))
+def read_runs(file: str) -> tuple[Runs, int]:
+    """The runs of a file that `sweep --json` wrote, and the struck part."""
     try:
-        runs = json.loads(read_text(args.from_))["runs"]
+        whole = json.loads(read_text(file))
+        runs: Runs = whole["runs"]
         named = [part["name"] for run in runs for part in run["base"]["parts"]]
-        whole = [run["faults"] for run in runs]
+        faults = [fault for run in runs for fault in run["faults"]]
+        part = int(whole.get("part", 0))
     except (ValueError, KeyError, TypeError) as error:
-        raise Mistake(f"{args.from_} is nothing that `sweep --json` wrote") from error
-    if not named or not whole:
-        raise Mistake(f"{args.from_} has no runs")
-    return runs
+        raise Mistake(f"{file} is nothing that `sweep --json` wrote") from error
+    if not named or not faults:
+        raise Mistake(f"{file} has no runs with faults")
+    return runs, part
+
+
+def program_of(args: argparse.Namespace) -> Program | None:
+    """The program that is asked for strips; with --from there need not be one."""
+    try:
+        return find_program(args.program)
+    except Mistake:
+        if args.from_ is None:
+            raise
+        return None
+
+
+def made_runs(args: argparse.Namespace, program: Program) -> Runs:
+    """The runs of the sweep that the options name. The instructions come from traces if the program writes these, and
+    else from runs with faults of the workbench's own."""
+    args.instructions = False
+    if not args.no_instructions and not writes_traces(program, scenario_of(program, args.file), args.part):
+        args.instructions = True
+    return [run.as_json() for run in swept(args)]
+
+
+def picture_of(args: argparse.Namespace) -> str:
+    """The SVG of the sweep that the options name."""
+    program = program_of(args)
+    if args.from_ is not None:
+        runs, part = read_runs(args.from_)
+    elif args.file is not None and program:
+        runs, part = made_runs(args, program), args.part
+    else:
+        raise Mistake("a scenario is wanted, or --from")
+    strips: Strips = {}
+    if not args.no_instructions:
+        strips = strips_of(program, runs, part)
+        fill_instructions(runs, strips)
+    groups = groups_of(runs, args.random is not None or args.together)
+    if not groups:
+        raise Mistake("there is no fault in this sweep")
+    if not args.no_fold:
+        groups = [fold_rows(group) for group in groups]
+    names = ", ".join(part["name"] for part in runs[0]["base"]["parts"])
+    told = [command_text(args), f"{version_of(program)}; scenario {hash_of(runs[0]['base'])}"]
+    strip = NO_STRIP if args.no_instructions else args.strip
+    look = Look(room_of(args, DEFAULT_WIDTH), args.wrap, strip)
+    return drawing(groups, strips, look, args.title or f"Faults of {names}", told, scale_of(args))
 
 
 def run(args: argparse.Namespace) -> int:
-    runs = runs_of(args)
-    names = ", ".join(part["name"] for part in runs[0]["base"]["parts"])
-    sys.stdout.write(map_of(runs, args.random is not None or args.together, args.title or f"Faults of {names}"))
+    check_picture_options(args)
+    put_picture(picture_of(args), args)
     return 0
 
 
-def add_to(commands: argparse._SubParsersAction) -> None:
+def add_to(commands: argparse._SubParsersAction[argparse.ArgumentParser]) -> None:
     parser = commands.add_parser("map", help="a sweep as an SVG", description=ABOUT)
     add_sweep_options(parser, needed=False)
-    parser.add_argument("--from", dest="from_", metavar="SWEEP", help="the JSON of a sweep; no run is made")
+    parser.add_argument("--from", dest="from_", metavar="SWEEP", help="the JSON of a sweep; it is not run again")
     parser.add_argument("--title", metavar="TEXT", help="the text over the map")
     parser.add_argument("--together", action="store_true", help="one row a burst; a cell shows the worst of its faults")
-    parser.add_argument("--no-instructions", action="store_true", help="do not ask for the instructions")
+    parser.add_argument("--no-fold", action="store_true", help="a row for each thing that strikes, also if some look the same")
+    about = "what the strip over the cells shows of each instruction (default mnemonics)"
+    parser.add_argument("--strip", choices=STRIPS, default=MNEMONICS, help=about)
+    parser.add_argument("--no-instructions", action="store_true", help="do not ask for the instructions: no strip")
+    wide = f"the width in pixels (default {DEFAULT_WIDTH})"
+    add_picture_options(parser, wide, "N turns side by side, the next ones below (default: as many as fit)")
     parser.set_defaults(run=run)

@@ -1,106 +1,300 @@
-"""A map as an SVG."""
+"""A map as an SVG. Each burst has its own turns, a strip of its instructions over them, and its rows below."""
 
 from __future__ import annotations
 
-from typing import TYPE_CHECKING
+import math
+from dataclasses import dataclass
 
+from .heatmap_rows import Cell, Group, Line
 from .outcomes import BROKEN, CHANGED, GIVEN_UP, LOSSES, MISSED, NO_TRACE, OUTCOMES, RECOVERED
-from .svg import BLACK, BLUE, GREY, ORANGE, PALE, PURPLE, SKY, WHITE, YELLOW, Canvas, text_width
+from .picture import caption
+from .strip import Step, Strip, Strips
+from .svg import BLACK, BLUE, GREEN, GREY, ORANGE, PALE, PURPLE, SKY, WHITE, YELLOW, Canvas, text_width
+from .times import ACTS
+from .words import CLAUSES
 
-if TYPE_CHECKING:
-    from .map import Line
+ROW = 14
+STRIP_LETTERS = 7.5
+RULER = 12
+ACT_ROW = 12
+WIDEST_CELL, READABLE_CELL, NARROWEST_CELL = 12, 8, 3
+# A burst goes on in at most this many rows before its cells get narrower.
+MOST_ROWS = 4
 
-WIDEST = 1300
-CELL = 12
-ROW = 17
-THIN = 11
-TOP = 74
+# How much of an instruction a strip shows.
+MNEMONICS, INSTRUCTIONS, COLOURS, NO_STRIP = "mnemonics", "instructions", "colours", "none"
+STRIPS = (MNEMONICS, INSTRUCTIONS, COLOURS, NO_STRIP)
 
-# What is worse is darker; the worst are striped too.
-PLAIN = {MISSED: WHITE, NO_TRACE: PALE, CHANGED: YELLOW, RECOVERED: SKY, LOSSES: ORANGE, GIVEN_UP: BLUE, BROKEN: BLACK}
+# What is worse is darker.
+FILLS = {MISSED: WHITE, NO_TRACE: PALE, CHANGED: YELLOW, RECOVERED: SKY, LOSSES: ORANGE, GIVEN_UP: BLUE, BROKEN: BLACK}
+# Losses from the least to the most, and the colour of a number on them.
+SHADES = (("#fbe0a8", BLACK), ("#f3b942", BLACK), ("#cf8600", BLACK), ("#955b00", WHITE), ("#5f3900", WHITE))
+# Hatches that tell clauses apart if a number does not fit.
+HATCHES = (BLACK, "#ffffff", "#f0e442", "#56b4e9", "#e69f00", "#cc79a7")
+
+# What an instruction is about, by the background of its place in the strip.
+KINDS = {**dict.fromkeys(("IN", "OUT"), "#cfe6f5"), **dict.fromkeys(("KCALL", "RET", "FAULT"), "#f6d9c6"),
+         **dict.fromkeys(("JMP", "BEQ", "BNE", "BLT", "JAL", "JR"), "#e3e3e3"),
+         **dict.fromkeys(("LD", "ST"), "#dff0e8")}
 
 
-def fills(canvas: Canvas) -> dict[str, str]:
-    """The fill of each outcome."""
-    found = dict(PLAIN)
-    found[LOSSES] = canvas.stripes("losses", ORANGE, WHITE)
-    found[GIVEN_UP] = canvas.stripes("given_up", BLUE, PURPLE)
-    return found
+@dataclass(frozen=True)
+class Look:
+    """How a map is drawn: its width in units, the turns of a row if they are named, and the kind of strip."""
+
+    width: float
+    wrap: int | None
+    strip: str
 
 
 class Map:
-    """Draws the rows of a map."""
+    """Draws the groups of a map."""
 
-    def __init__(self, lines: list[Line]) -> None:
-        self.lines = lines
+    def __init__(self, groups: list[Group], strips: Strips, look: Look) -> None:
+        self.groups = groups
+        self.strips = strips if look.strip != NO_STRIP else {}
+        self.look = look
         self.canvas = Canvas()
-        self.fills = fills(self.canvas)
-        turns = 1 + max(turn for line in lines for turn in line.cells)
-        self.turns = turns
-        self.cell = float(max(3, min(CELL, WIDEST // turns)))
-        self.thin = len({line.strikes for line in lines}) > 1
-        self.left = 14 + max(self.label_width(line) for line in lines)
-        self.y = float(TOP)
+        self.y = 12.0
+        self.left = 20 + max(self.label_width(group) for group in groups)
+        self.per_row, self.cell = self.sizes(look.width - self.left - 12)
+        amounts = [cell.lost for cell in self.cells() if cell.outcome == LOSSES]
+        self.amounts = sorted(set(amounts))
+        self.shades = [self.shade_fill(place) for place in range(len(SHADES))]
+        self.clauses = sorted({cell.clause for cell in self.cells() if cell.clause})
+        self.hatched = {clause: self.hatch(place) for place, clause in enumerate(self.clauses)}
+        self.given_up = self.canvas.stripes("given_up", BLUE, PURPLE)
 
-    def label_width(self, line: Line) -> float:
-        extra = text_width(line.strikes, 9) + 14 if self.thin else 0
-        return text_width(line.place, 11) + extra
+    def cells(self) -> list[Cell]:
+        return [cell for group in self.groups for line in group.lines for cell in line.cells.values()]
+
+    def label_width(self, group: Group) -> float:
+        names = [text_width(line.strikes, 9) for line in group.lines]
+        return max(text_width(group.place, 10), *names)
+
+    def sizes(self, room: float) -> tuple[int, float]:
+        """How many turns stand side by side, and how wide a cell is."""
+        turns = max(group.turns for group in self.groups)
+        if self.look.wrap:
+            per_row = min(self.look.wrap, turns)
+            return per_row, float(max(NARROWEST_CELL, min(WIDEST_CELL, room / per_row)))
+        rows = min(max(1, math.ceil(turns * WIDEST_CELL / room)), MOST_ROWS)
+        rows = max(rows, math.ceil(turns * NARROWEST_CELL / room))
+        per_row = math.ceil(turns / rows)
+        return per_row, float(max(NARROWEST_CELL, min(WIDEST_CELL, room / per_row)))
+
+    @property
+    def readable(self) -> bool:
+        """Whether a number and a mnemonic fit into the width of a cell."""
+        return self.cell >= READABLE_CELL
+
+    # Fills.
+
+    def shade_fill(self, place: int) -> str:
+        """A shade of losses, striped where no number says how much."""
+        return SHADES[place][0] if self.readable else self.canvas.stripes(f"losses{place}", SHADES[place][0], WHITE)
+
+    def hatch(self, place: int) -> str:
+        """The fill of a clause: black, with a hatch of its own where no number tells it."""
+        if self.readable or place == 0:
+            return BLACK
+        return self.canvas.stripes(f"clause{place}", BLACK, HATCHES[place % len(HATCHES)], 4 + 2 * (place % 3))
+
+    def shade(self, lost: int) -> int:
+        """The place of an amount among the shades."""
+        most = self.amounts[-1] if self.amounts else 0
+        return 1 if most <= 0 or len(self.amounts) == 1 else round((len(SHADES) - 1) * max(lost, 0) / most)
+
+    def fill(self, cell: Cell) -> str:
+        if cell.outcome == LOSSES:
+            return self.shades[self.shade(cell.lost)]
+        if cell.outcome == BROKEN:
+            return self.hatched.get(cell.clause, BLACK)
+        return self.given_up if cell.outcome == GIVEN_UP else FILLS[cell.outcome]
+
+    def number(self, cell: Cell) -> tuple[str, str]:
+        """What stands in a cell, and its colour: the clause, or how much was lost."""
+        if cell.outcome == BROKEN and cell.clause:
+            return str(cell.clause), WHITE
+        if cell.outcome == LOSSES and cell.lost > 0:
+            return str(cell.lost), SHADES[self.shade(cell.lost)][1]
+        return "", BLACK
+
+    # The legend.
 
     def legend(self, title: str) -> None:
         """The outcomes that there are, with their numbers."""
-        cells = [cell.outcome for line in self.lines for cell in line.cells.values()]
-        self.canvas.words(12, 20, title, 14, font_weight="bold")
-        x = 12.0
+        self.canvas.words(12, self.y + 8, title, 14, font_weight="bold")
+        self.y += 20
+        cells = self.cells()
+        entries: list[tuple[str, str, str]] = []
         for name in OUTCOMES:
-            if name in cells:
-                self.canvas.box(x, 32, 18, 12, self.fills[name], stroke=GREY, stroke_width=0.6)
-                text = f"{name} ({cells.count(name)})"
-                self.canvas.words(x + 23, 42, text)
-                x += 42 + text_width(text, 11)
+            count = sum(cell.outcome == name for cell in cells)
+            if count and name == LOSSES:
+                entries += self.loss_entries(cells, count)
+            elif count and name == BROKEN:
+                entries += self.clause_entries(cells)
+            elif count:
+                entries.append((self.given_up if name == GIVEN_UP else FILLS[name], "", f"{name} ({count})"))
+        self.flow(entries)
+        acts = {step.letter for strip in self.strips.values() for step in strip.values() if step.letter}
+        if acts:
+            named = ", ".join(f"{letter} {name}" for name, letter in ACTS.items() if letter in acts)
+            self.act(21, self.y + 1, "?".replace("?", sorted(acts)[0]), "")
+            self.canvas.words(35, self.y + 10, f"the instruction that acts on the device: {named}", 11)
+            self.y += 20
+        self.y += 4
 
-    def ruler(self) -> None:
+    def loss_entries(self, cells: list[Cell], count: int) -> list[tuple[str, str, str]]:
+        """Losses, with the least and the most of them."""
+        if not self.amounts or self.amounts[-1] <= 0:
+            return [(self.shades[1], "", f"{LOSSES} ({count})")]
+        least, most = self.amounts[0], self.amounts[-1]
+        if least == most:
+            return [(self.shades[self.shade(most)], str(most), f"{LOSSES}: {most} ({count})")]
+        return [(self.shades[self.shade(least)], str(least), ""), (self.shades[self.shade(most)], str(most),
+                f"{LOSSES}: from {least} to {most} ({count})")]
+
+    def clause_entries(self, cells: list[Cell]) -> list[tuple[str, str, str]]:
+        found: list[tuple[str, str, str]] = []
+        for clause in self.clauses:
+            count = sum(cell.clause == clause for cell in cells)
+            number = str(clause) if self.readable else ""
+            found.append((self.hatched[clause], number, f"{BROKEN}, clause {clause}: {CLAUSES[clause]} ({count})"))
+        return found
+
+    def flow(self, entries: list[tuple[str, str, str]]) -> None:
+        """Entries of the legend beside each other, on as many lines as they need."""
+        x = 12.0
+        for fill, number, text in entries:
+            wide = 42 + text_width(text, 11) if text else 22
+            if x + wide > self.look.width and x > 12:
+                x, self.y = 12.0, self.y + 18
+            self.canvas.box(x, self.y, 18, 12, fill, stroke=GREY, stroke_width=0.6)
+            if number:
+                ink = WHITE if fill == BLACK else next((ink for shade, ink in SHADES if shade == fill), BLACK)
+                self.canvas.words(x + 9, self.y + 9.5, number, 9, ink, text_anchor="middle")
+            self.canvas.words(x + 23, self.y + 10, text)
+            x += wide
+        self.y += 20
+
+    # Groups.
+
+    def group(self, group: Group) -> None:
+        """The rows of a burst, in pieces that stand one below the other."""
+        strip = self.strips.get((group.run, group.burst), {})
+        for first in range(0, group.turns, self.per_row):
+            last = min(first + self.per_row, group.turns) - 1
+            again = f" (from turn {first} on)" if first else ""
+            self.piece(group, strip, first, last, again)
+            self.y += 4
+        self.y += 6
+
+    def piece(self, group: Group, strip: Strip, first: int, last: int, again: str) -> None:
+        """Some turns of a burst: their numbers, the strip, and the rows."""
+        steps = {turn: strip[turn] for turn in range(first, last + 1) if turn in strip}
+        has_rows = any(line.strikes for line in group.lines)
+        self.ruler(first, last)
+        tops = {turn for turn, step in steps.items() if step.acts}
+        top = self.y
+        if tops:
+            for turn in tops:
+                self.act(self.x(turn, first) + self.cell / 2, self.y, steps[turn].letter, step_title(turn, steps[turn]))
+            self.y += ACT_ROW
+        self.strip(steps, first)
+        label = group.place + again
+        if has_rows:
+            self.canvas.words(10, self.y - 3, label, 10)
+        for line in group.lines:
+            if not has_rows:
+                self.canvas.words(10, self.y + ROW - 4, label, 10)
+            self.line(line, first, last)
+        for turn in tops:
+            x = self.x(turn + 1, first)
+            self.canvas.line(x, top + ACT_ROW, x, self.y, WHITE, stroke_width=2.2)
+            self.canvas.line(x, top + ACT_ROW, x, self.y, GREEN, step_title(turn, steps[turn]), stroke_width=1.2)
+
+    def x(self, turn: int, first: int) -> float:
+        return self.left + (turn - first) * self.cell
+
+    def ruler(self, first: int, last: int) -> None:
         """The turns that come before the fault."""
         every = next((each for each in (1, 2, 5, 10, 20, 50, 100, 200, 500) if each * self.cell >= 26), 1000)
-        self.canvas.words(self.left - 8, self.y - 6, "turns before the fault", 9, GREY, text_anchor="end")
-        for turn in range(0, self.turns, every):
-            x = self.left + turn * self.cell + self.cell / 2
-            self.canvas.words(x, self.y - 6, str(turn), 9, GREY, text_anchor="middle")
-            self.canvas.line(x, self.y - 4, x, self.y - 1, GREY, stroke_width=0.6)
+        self.canvas.words(self.left - 6, self.y + 8, "turns before the fault", 7.5, GREY, text_anchor="end")
+        for turn in range(first, last + 1):
+            if turn % every == 0:
+                x = self.x(turn, first) + self.cell / 2
+                self.canvas.words(x, self.y + 8, str(turn), 8.5, GREY, text_anchor="middle")
+                self.canvas.line(x, self.y + 10, x, self.y + RULER, GREY, stroke_width=0.6)
+        self.y += RULER
 
-    def row(self, line: Line, named: bool) -> None:
-        """One row: its label where it is the first of its burst, and its cells."""
-        high = THIN if self.thin else ROW - 3
-        if named:
-            self.canvas.words(10, self.y + high - 1.5, line.place, 11)
-        if self.thin:
-            self.canvas.words(self.left - 8, self.y + high - 2, line.strikes, 9, GREY, text_anchor="end")
-        wide = self.span(line)
+    def act(self, x: float, y: float, letter: str, title: str) -> None:
+        """The letter of an act."""
+        wide = max(min(self.cell, 11), 7)
+        self.canvas.box(x - wide / 2, y, wide, 11, WHITE, title, stroke=GREEN, stroke_width=1, rx=2)
+        self.canvas.words(x, y + 8.5, letter, 8.5, BLACK, title, text_anchor="middle")
+
+    def strip_height(self) -> float:
+        """How high a strip is, by the longest text in it."""
+        texts = [self.strip_text(step) for strip in self.strips.values() for step in strip.values()]
+        longest = max((len(text) for text in texts), default=0)
+        return 6 + longest * STRIP_LETTERS * 0.62 if longest else 6
+
+    def strip_text(self, step: Step) -> str:
+        if not self.readable or self.look.strip == COLOURS:
+            return ""
+        return step.mnemonic if self.look.strip == MNEMONICS else step.words
+
+    def strip(self, steps: Strip, first: int) -> None:
+        """The instructions that come after the fault."""
+        if not steps:
+            return
+        high = self.strip_height()
         self.canvas.group(stroke=GREY, stroke_width=0.3)
-        for turn, cell in sorted(line.cells.items()):
-            x = self.left + turn * self.cell
-            self.canvas.box(x, self.y, wide, high, self.fills[cell.outcome], "\n\n".join(cell.told))
+        for turn, step in steps.items():
+            fill = KINDS.get(step.mnemonic, WHITE)
+            self.canvas.box(self.x(turn, first), self.y, self.cell, high, fill, step_title(turn, step))
         self.canvas.end_group()
-        self.y += high + (0 if self.thin else 3)
+        for turn, step in steps.items():
+            text = self.strip_text(step)
+            if text:
+                x, y = self.x(turn, first) + self.cell / 2 + STRIP_LETTERS / 3, self.y + high - 3
+                self.canvas.words(x, y, text, STRIP_LETTERS, BLACK, step_title(turn, step), transform=f"rotate(-90 {x:.1f} {y:.1f})")
+        self.y += high
 
-    def span(self, line: Line) -> float:
-        """How wide a cell is: a sweep over each Kth turn leaves no gaps."""
-        turns = sorted(line.cells)
-        gaps = [after - before for before, after in zip(turns, turns[1:])]
-        return self.cell * (gaps[0] if gaps and len(set(gaps)) == 1 else 1)
+    def line(self, line: Line, first: int, last: int) -> None:
+        """One row: what strikes, and its cells."""
+        if line.strikes:
+            self.canvas.words(self.left - 6, self.y + ROW - 4, line.strikes, 9, GREY, text_anchor="end")
+        wide = line.span()
+        shown = [(turn, cell) for turn, cell in sorted(line.cells.items()) if turn + wide > first and turn <= last]
+        self.canvas.group(stroke=GREY, stroke_width=0.3)
+        for turn, cell in shown:
+            begin, end = max(turn, first), min(turn + wide, last + 1)
+            title = "\n\n".join(cell.told)
+            self.canvas.box(self.x(begin, first), self.y, (end - begin) * self.cell, ROW, self.fill(cell), title)
+        self.canvas.end_group()
+        for turn, cell in shown:
+            text, ink = self.number(cell)
+            room = self.cell * (min(turn + wide, last + 1) - max(turn, first))
+            if text and self.readable and text_width(text, 8) <= room + 1:
+                middle = self.x(max(turn, first), first) + room / 2
+                self.canvas.words(middle, self.y + 10.2, text, 8, ink, text_anchor="middle", pointer_events="none")
+        self.y += ROW
 
-    def draw(self, title: str) -> str:
-        self.legend(title)
-        self.ruler()
-        before = None
-        for line in self.lines:
-            named = (line.place, line.burst) != before
-            if named and before is not None and self.thin:
-                self.y += 6
-            self.row(line, named)
-            before = (line.place, line.burst)
-        return self.canvas.text(title)
+
+def step_title(turn: int, step: Step) -> str:
+    """What the pointer over a step is told."""
+    acts = f"\n{step.acts[0]}" if step.acts else ""
+    source = f"\n{step.source}" if step.source else ""
+    return f"after {turn}: {step.instruction}{source}{acts}"
 
 
-def drawing(lines: list[Line], title: str) -> str:
-    """The SVG of some rows."""
-    return Map(lines).draw(title)
+def drawing(groups: list[Group], strips: Strips, look: Look, title: str, told: list[str], scale: float) -> str:
+    """The SVG of some groups, with a caption."""
+    made = Map(groups, strips, look)
+    made.legend(title)
+    for group in groups:
+        made.group(group)
+    caption(made.canvas, told)
+    return made.canvas.text(title, scale)

@@ -78,8 +78,7 @@ def hash_of(value: Any) -> str:
 
 def version_of(program: Program | None) -> str:
     """The versions of the workbench and, if there is one, of the program."""
-    ended = program.ask(["--version"], "") if program else None
-    told = ended.out.split("\n")[0] if ended and ended.status == 0 else ""
+    told = program.version() if program else None
     return f"nooks-bench {__version__}" + (f", {told}" if told else "")
 
 

@@ -17,17 +17,26 @@ CLAUSE = re.compile(r"clause (\d+)")
 LONGEST_LABEL = 46
 
 
+def clause_of(outcome: str, cause: str) -> int:
+    """The clause that was broken, 0 for none."""
+    found = CLAUSE.match(cause) if outcome == BROKEN else None
+    return int(found[1]) if found else 0
+
+
 @dataclass
 class Cell:
-    """What became of the faults of one row and turn: the worst of them, how much was lost, and a text for each."""
+    """What became of the faults of one row and turn: the worst of them, how much was lost, and a text for each.
+    `kinds` has the outcome and the clause of every fault."""
 
     outcome: str
     cause: str = ""
     lost: int = 0
     told: list[str] = field(default_factory=list)
+    kinds: list[tuple[str, int]] = field(default_factory=list)
 
     def take(self, outcome: str, cause: str, lost: int, text: str) -> None:
         self.told.append(text)
+        self.kinds.append((outcome, clause_of(outcome, cause)))
         worse = OUTCOMES.index(outcome) > OUTCOMES.index(self.outcome)
         if worse or (outcome == self.outcome and lost > self.lost) or len(self.told) == 1:
             self.outcome, self.cause, self.lost = outcome, cause, lost
@@ -35,8 +44,7 @@ class Cell:
     @property
     def clause(self) -> int:
         """The clause that was broken, 0 for none."""
-        found = CLAUSE.match(self.cause) if self.outcome == BROKEN else None
-        return int(found[1]) if found else 0
+        return clause_of(self.outcome, self.cause)
 
     @property
     def look(self) -> tuple[str, int, int]:
@@ -152,7 +160,8 @@ def merged(lines: list[Line]) -> Line:
     for turn, cell in first.cells.items():
         others = len(lines) - 1
         told = [*cell.told, f"and {others} faults more that look the same" if others > 1 else "and 1 fault more that looks the same"]
-        row.cells[turn] = Cell(cell.outcome, cell.cause, cell.lost, told)
+        kinds = [kind for line in lines for kind in line.cells[turn].kinds]
+        row.cells[turn] = Cell(cell.outcome, cell.cause, cell.lost, told, kinds)
     return row
 
 

@@ -3,6 +3,7 @@
 from __future__ import annotations
 
 import math
+from collections import Counter
 from dataclasses import dataclass
 
 from .heatmap_rows import Cell, Group, Line
@@ -20,6 +21,9 @@ ACT_ROW = 12
 WIDEST_CELL, READABLE_CELL, NARROWEST_CELL = 12, 8, 3
 # A burst goes on in at most this many rows before its cells get narrower.
 MOST_ROWS = 4
+
+# Behind the place of a burst whose turns go on in a further row.
+AGAIN = ", on"
 
 # How much of an instruction a strip shows.
 MNEMONICS, INSTRUCTIONS, COLOURS, NO_STRIP = "mnemonics", "instructions", "colours", "none"
@@ -56,12 +60,14 @@ class Map:
         self.look = look
         self.canvas = Canvas()
         self.y = 12.0
+        self.labelled = len({line.strikes for group in groups for line in group.lines}) > 1
         self.left = 20 + max(self.label_width(group) for group in groups)
-        self.per_row, self.cell = self.sizes(look.width - self.left - 12)
+        self.fit, self.cell = self.sizes(look.width - self.left - 12)
         amounts = [cell.lost for cell in self.cells() if cell.outcome == LOSSES]
         self.amounts = sorted(set(amounts))
         self.shades = [self.shade_fill(place) for place in range(len(SHADES))]
-        self.clauses = sorted({cell.clause for cell in self.cells() if cell.clause})
+        self.counts = Counter(kind for cell in self.cells() for kind in cell.kinds)
+        self.clauses = sorted(clause for name, clause in self.counts if name == BROKEN)
         self.hatched = {clause: self.hatch(place) for place, clause in enumerate(self.clauses)}
         self.given_up = self.canvas.stripes("given_up", BLUE, PURPLE)
 
@@ -69,19 +75,26 @@ class Map:
         return [cell for group in self.groups for line in group.lines for cell in line.cells.values()]
 
     def label_width(self, group: Group) -> float:
-        names = [text_width(line.strikes, 9) for line in group.lines]
-        return max(text_width(group.place, 10), *names)
+        names = [text_width(line.strikes, 9) for line in group.lines] if self.labelled else []
+        again = AGAIN if self.look.wrap or group.turns > MOST_ROWS * WIDEST_CELL else ""
+        return max([text_width(group.place + again, 10), *names])
 
     def sizes(self, room: float) -> tuple[int, float]:
-        """How many turns stand side by side, and how wide a cell is."""
+        """How many turns fit side by side, and how wide a cell is."""
         turns = max(group.turns for group in self.groups)
         if self.look.wrap:
-            per_row = min(self.look.wrap, turns)
-            return per_row, float(max(NARROWEST_CELL, min(WIDEST_CELL, room / per_row)))
+            fit = min(self.look.wrap, turns)
+            return fit, float(max(NARROWEST_CELL, min(WIDEST_CELL, room / fit)))
         rows = min(max(1, math.ceil(turns * WIDEST_CELL / room)), MOST_ROWS)
         rows = max(rows, math.ceil(turns * NARROWEST_CELL / room))
-        per_row = math.ceil(turns / rows)
-        return per_row, float(max(NARROWEST_CELL, min(WIDEST_CELL, room / per_row)))
+        cell = max(NARROWEST_CELL, min(WIDEST_CELL, room / math.ceil(turns / rows)))
+        return max(int(room / cell), 1), float(cell)
+
+    def per_row(self, group: Group) -> int:
+        """How many turns of a burst stand side by side: its rows are of one length, but for --wrap."""
+        if self.look.wrap:
+            return self.fit
+        return math.ceil(group.turns / math.ceil(group.turns / self.fit))
 
     @property
     def readable(self) -> bool:
@@ -123,29 +136,31 @@ class Map:
     # The legend.
 
     def legend(self, title: str) -> None:
-        """The outcomes that there are, with their numbers."""
+        """The outcomes that there are, each with how many faults had it."""
         self.canvas.words(12, self.y + 8, title, 14, font_weight="bold")
         self.y += 20
-        cells = self.cells()
         entries: list[tuple[str, str, str]] = []
         for name in OUTCOMES:
-            count = sum(cell.outcome == name for cell in cells)
+            count = self.counts[name, 0]
             if count and name == LOSSES:
-                entries += self.loss_entries(cells, count)
-            elif count and name == BROKEN:
-                entries += self.clause_entries(cells)
+                entries += self.loss_entries(count)
+            elif name == BROKEN:
+                entries += [self.clause_entry(clause) for clause in self.clauses]
             elif count:
                 entries.append((self.given_up if name == GIVEN_UP else FILLS[name], "", f"{name} ({count})"))
         self.flow(entries)
         acts = {step.letter for strip in self.strips.values() for step in strip.values() if step.letter}
         if acts:
             named = ", ".join(f"{letter} {name}" for name, letter in ACTS.items() if letter in acts)
-            self.act(21, self.y + 1, "?".replace("?", sorted(acts)[0]), "")
-            self.canvas.words(35, self.y + 10, f"the instruction that acts on the device: {named}", 11)
-            self.y += 20
-        self.y += 4
+            self.act(21, self.y, sorted(acts)[0], "")
+            self.canvas.words(35, self.y + 9, f"the instruction that acts on the device: {named}", 11)
+            self.y += 18
+        axis = "across: the turns of the burst before the fault"
+        strip = "; over the cells the instruction that comes next" if self.strips else ""
+        self.canvas.words(12, self.y + 8, axis + strip, 9, GREY)
+        self.y += 18
 
-    def loss_entries(self, cells: list[Cell], count: int) -> list[tuple[str, str, str]]:
+    def loss_entries(self, count: int) -> list[tuple[str, str, str]]:
         """Losses, with the least and the most of them."""
         if not self.amounts or self.amounts[-1] <= 0:
             return [(self.shades[1], "", f"{LOSSES} ({count})")]
@@ -155,13 +170,10 @@ class Map:
         return [(self.shades[self.shade(least)], str(least), ""), (self.shades[self.shade(most)], str(most),
                 f"{LOSSES}: from {least} to {most} ({count})")]
 
-    def clause_entries(self, cells: list[Cell]) -> list[tuple[str, str, str]]:
-        found: list[tuple[str, str, str]] = []
-        for clause in self.clauses:
-            count = sum(cell.clause == clause for cell in cells)
-            number = str(clause) if self.readable else ""
-            found.append((self.hatched[clause], number, f"{BROKEN}, clause {clause}: {CLAUSES[clause]} ({count})"))
-        return found
+    def clause_entry(self, clause: int) -> tuple[str, str, str]:
+        number = str(clause) if self.readable and clause else ""
+        words = f", clause {clause}: {CLAUSES[clause]}" if clause else ""
+        return self.hatched[clause], number, f"{BROKEN}{words} ({self.counts[BROKEN, clause]})"
 
     def flow(self, entries: list[tuple[str, str, str]]) -> None:
         """Entries of the legend beside each other, on as many lines as they need."""
@@ -183,17 +195,16 @@ class Map:
     def group(self, group: Group) -> None:
         """The rows of a burst, in pieces that stand one below the other."""
         strip = self.strips.get((group.run, group.burst), {})
-        for first in range(0, group.turns, self.per_row):
-            last = min(first + self.per_row, group.turns) - 1
-            again = f" (from turn {first} on)" if first else ""
-            self.piece(group, strip, first, last, again)
+        step = self.per_row(group)
+        for first in range(0, group.turns, step):
+            last = min(first + step, group.turns) - 1
+            self.piece(group, strip, first, last)
             self.y += 4
         self.y += 6
 
-    def piece(self, group: Group, strip: Strip, first: int, last: int, again: str) -> None:
+    def piece(self, group: Group, strip: Strip, first: int, last: int) -> None:
         """Some turns of a burst: their numbers, the strip, and the rows."""
         steps = {turn: strip[turn] for turn in range(first, last + 1) if turn in strip}
-        has_rows = any(line.strikes for line in group.lines)
         self.ruler(first, last)
         tops = {turn for turn, step in steps.items() if step.acts}
         top = self.y
@@ -202,11 +213,11 @@ class Map:
                 self.act(self.x(turn, first) + self.cell / 2, self.y, steps[turn].letter, step_title(turn, steps[turn]))
             self.y += ACT_ROW
         self.strip(steps, first)
-        label = group.place + again
-        if has_rows:
+        label = group.place + (AGAIN if first else "")
+        if self.labelled:
             self.canvas.words(10, self.y - 3, label, 10)
         for line in group.lines:
-            if not has_rows:
+            if not self.labelled:
                 self.canvas.words(10, self.y + ROW - 4, label, 10)
             self.line(line, first, last)
         for turn in tops:
@@ -220,7 +231,6 @@ class Map:
     def ruler(self, first: int, last: int) -> None:
         """The turns that come before the fault."""
         every = next((each for each in (1, 2, 5, 10, 20, 50, 100, 200, 500) if each * self.cell >= 26), 1000)
-        self.canvas.words(self.left - 6, self.y + 8, "turns before the fault", 7.5, GREY, text_anchor="end")
         for turn in range(first, last + 1):
             if turn % every == 0:
                 x = self.x(turn, first) + self.cell / 2
@@ -264,7 +274,7 @@ class Map:
 
     def line(self, line: Line, first: int, last: int) -> None:
         """One row: what strikes, and its cells."""
-        if line.strikes:
+        if self.labelled:
             self.canvas.words(self.left - 6, self.y + ROW - 4, line.strikes, 9, GREY, text_anchor="end")
         wide = line.span()
         shown = [(turn, cell) for turn, cell in sorted(line.cells.items()) if turn + wide > first and turn <= last]

@@ -12,12 +12,15 @@ ORANGE, RED, PURPLE = "#e69f00", "#d55e00", "#cc79a7"
 WHITE = "#ffffff"
 
 FONT = "font-family:'DejaVu Sans','Helvetica',sans-serif"
+# How wide letters are in the first of these fonts, as parts of its size; the others are no wider.
 LETTER = 0.62
+WIDTHS = {**dict.fromkeys("ijl|'", 0.3), **dict.fromkeys("fIt.,:;()[]/ -", 0.4), **dict.fromkeys("mwMW", 0.97),
+          **dict.fromkeys("ABCDGHNOQRUVXYZ=+<>", 0.76)}
 
 
 def text_width(text: str, size: float) -> float:
     """About how wide a text is; the fonts differ."""
-    return len(text) * size * LETTER
+    return sum(WIDTHS.get(letter, LETTER) for letter in text) * size
 
 
 @dataclass

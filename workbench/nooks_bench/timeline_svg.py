@@ -233,8 +233,8 @@ class Drawing:
         self.y += 14
 
     def stage_text(self, stage: str) -> str:
-        """A stage by its name if the longest of the common names fits into an event, else by its letter."""
-        fits = text_width(max("collect", stage, key=len), STAGE_SIZE) <= self.step + 2
+        """A stage by its name if that and the common names fit into an event, else by its letter."""
+        fits = all(text_width(name, STAGE_SIZE) <= self.step for name in ("collect", "resume", stage))
         return stage if fits else STAGES[stage]
 
     def modes(self, times: PartTimes) -> None:

@@ -90,7 +90,9 @@ def effect(turn: Turn, kind: str) -> str:
     elif mnemonic == "RET":
         told.append(f"replies {turn.value(0)}")
     elif mnemonic in COMPARED:
-        told.append(f"{turn.value(0)} {COMPARED[mnemonic]} {turn.value(1)}?" + ("" if turn.goto is not None else " no"))
+        told.append(("" if turn.goto is not None else "not ") + f"{turn.value(0)} {COMPARED[mnemonic]} {turn.value(1)}")
+    elif mnemonic in ("LD", "ST") and not turn.register and not turn.stored:
+        told.append(refused_text(turn))
     elif turn.register:
         told.append(f"r{turn.register[0]} = {turn.register[1]}")
     if turn.stored:
@@ -98,6 +100,25 @@ def effect(turn: Turn, kind: str) -> str:
     if turn.goto is not None:
         told.append(f"goto {turn.goto}")
     return ", ".join(told) + "".join(f" | {short(act)}" for act in turn.acts)
+
+
+def refused_text(turn: Turn) -> str:
+    """A load or a store that stopped the driver."""
+    address = (turn.value(1) + int(turn.operands[2])) % 2**32
+    return f"would store {turn.value(0)} at {address}" if turn.mnemonic == "ST" else f"would load from {address}"
+
+
+def strike_text(text: str) -> str:
+    """A fault of a trace in words."""
+    kind, *words = text.split(" ")
+    refused = ", refused: nothing is changed" if words[-1:] == ["refused"] else ""
+    if kind == "reg":
+        return f"r{words[0]} = {words[1]}"
+    if kind == "poke":
+        return f"[{words[0]}] = {words[1]}{refused}"
+    if kind == "code":
+        return f"the text at {words[0]} = {words[1]}{refused}"
+    return kind
 
 
 def out_text(turn: Turn, kind: str) -> str:
@@ -127,7 +148,7 @@ def rows_of(trace: Trace, source: Source, kind: str) -> list[tuple[str, str]]:
     rows: list[tuple[str, str]] = []
     for item in trace.items:
         if isinstance(item, Struck):
-            rows.append((f"--- fault strikes: {item.text}", ""))
+            rows.append((f"  -- fault strikes after {item.after}: {strike_text(item.text)}", ""))
             continue
         rows.extend(("", f"      {name}:") for name in source.shown_names(item.address))
         rows.append((f"{item.number:4}  {item.address:4}  {item.instruction:16}  {effect(item, kind)}".rstrip(),

@@ -8,8 +8,7 @@ from typing import Any
 
 from .heatmap_rows import fold_rows, groups_of
 from .heatmap_svg import MNEMONICS, NO_STRIP, STRIPS, Look, drawing
-from .picture import add_picture_options, check_picture_options, command_text, hash_of, put_picture, room_of, scale_of
-from .picture import version_of
+from .picture import add_picture_options, caption_lines, check_picture_options, hash_of, put_picture, room_of, scale_of
 from .program import Mistake, Program, find_program
 from .source import read_text
 from .strip import Strips, fill_instructions, strips_of, writes_traces
@@ -79,7 +78,7 @@ def picture_of(args: argparse.Namespace) -> str:
     if not args.no_fold:
         groups = [fold_rows(group) for group in groups]
     names = ", ".join(part["name"] for part in runs[0]["base"]["parts"])
-    told = [command_text(args), f"{version_of(program)}; scenario {hash_of(runs[0]['base'])}"]
+    told = caption_lines(args, program, f"scenario {hash_of(runs[0]['base'])}")
     strip = NO_STRIP if args.no_instructions else args.strip
     look = Look(room_of(args, DEFAULT_WIDTH), args.wrap, strip)
     return drawing(groups, strips, look, args.title or f"Faults of {names}", told, scale_of(args))

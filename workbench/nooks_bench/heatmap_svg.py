@@ -51,6 +51,14 @@ class Look:
     strip: str
 
 
+@dataclass(frozen=True)
+class Entry:
+    """An entry of the legend: boxes with the number in each, and what they mean."""
+
+    boxes: tuple[tuple[str, str], ...]
+    text: str
+
+
 class Map:
     """Draws the groups of a map."""
 
@@ -139,56 +147,64 @@ class Map:
         """The outcomes that there are, each with how many faults had it."""
         self.canvas.words(12, self.y + 8, title, 14, font_weight="bold")
         self.y += 20
-        entries: list[tuple[str, str, str]] = []
+        entries: list[Entry] = []
         for name in OUTCOMES:
             count = self.counts[name, 0]
             if count and name == LOSSES:
-                entries += self.loss_entries(count)
+                entries.append(self.loss_entry(count))
             elif name == BROKEN:
                 entries += [self.clause_entry(clause) for clause in self.clauses]
             elif count:
-                entries.append((self.given_up if name == GIVEN_UP else FILLS[name], "", f"{name} ({count})"))
+                entries.append(Entry(((self.given_up if name == GIVEN_UP else FILLS[name], ""),), f"{name} ({count})"))
         self.flow(entries)
         acts = {step.letter for strip in self.strips.values() for step in strip.values() if step.letter}
         if acts:
             named = ", ".join(f"{letter} {name}" for name, letter in ACTS.items() if letter in acts)
             self.act(21, self.y, sorted(acts)[0], "")
-            self.canvas.words(35, self.y + 9, f"the instruction that acts on the device: {named}", 11)
-            self.y += 18
-        axis = "across: the turns of the burst before the fault"
+            self.text(35, f"the instruction that acts on the device: {named}", 11, BLACK)
         strip = "; over the cells the instruction that comes next" if self.strips else ""
-        self.canvas.words(12, self.y + 8, axis + strip, 9, GREY)
-        self.y += 18
+        self.text(12, "across: the turns of the burst before the fault" + strip, 9, GREY)
+        self.y += 4
 
-    def loss_entries(self, count: int) -> list[tuple[str, str, str]]:
+    def text(self, x: float, text: str, size: float, fill: str) -> None:
+        """Words of the legend, in as many lines as they need."""
+        self.y += self.canvas.lines(x, self.y + 9, text, self.look.width - x - 12, size, fill) + 4
+
+    def loss_entry(self, count: int) -> Entry:
         """Losses, with the least and the most of them."""
         if not self.amounts or self.amounts[-1] <= 0:
-            return [(self.shades[1], "", f"{LOSSES} ({count})")]
-        least, most = self.amounts[0], self.amounts[-1]
-        if least == most:
-            return [(self.shades[self.shade(most)], str(most), f"{LOSSES}: {most} ({count})")]
-        return [(self.shades[self.shade(least)], str(least), ""), (self.shades[self.shade(most)], str(most),
-                f"{LOSSES}: from {least} to {most} ({count})")]
+            return Entry(((self.shades[1], ""),), f"{LOSSES} ({count})")
+        ends = sorted({self.amounts[0], self.amounts[-1]})
+        boxes = tuple((self.shades[self.shade(amount)], str(amount)) for amount in ends)
+        amounts = f"{ends[0]}" if len(ends) == 1 else f"from {ends[0]} to {ends[1]}"
+        return Entry(boxes, f"{LOSSES}: {amounts} ({count})")
 
-    def clause_entry(self, clause: int) -> tuple[str, str, str]:
+    def clause_entry(self, clause: int) -> Entry:
         number = str(clause) if self.readable and clause else ""
         words = f", clause {clause}: {CLAUSES[clause]}" if clause else ""
-        return self.hatched[clause], number, f"{BROKEN}{words} ({self.counts[BROKEN, clause]})"
+        return Entry(((self.hatched[clause], number),), f"{BROKEN}{words} ({self.counts[BROKEN, clause]})")
 
-    def flow(self, entries: list[tuple[str, str, str]]) -> None:
+    def flow(self, entries: list[Entry]) -> None:
         """Entries of the legend beside each other, on as many lines as they need."""
         x = 12.0
-        for fill, number, text in entries:
-            wide = 42 + text_width(text, 11) if text else 22
+        for entry in entries:
+            front = 22.0 * len(entry.boxes)
+            wide = front + 20 + text_width(entry.text, 11)
             if x + wide > self.look.width and x > 12:
                 x, self.y = 12.0, self.y + 18
-            self.canvas.box(x, self.y, 18, 12, fill, stroke=GREY, stroke_width=0.6)
-            if number:
-                ink = WHITE if fill == BLACK else next((ink for shade, ink in SHADES if shade == fill), BLACK)
-                self.canvas.words(x + 9, self.y + 9.5, number, 9, ink, text_anchor="middle")
-            self.canvas.words(x + 23, self.y + 10, text)
+            for place, (fill, number) in enumerate(entry.boxes):
+                self.swatch(x + 22 * place, fill, number)
+            high = self.canvas.lines(x + front + 1, self.y + 10, entry.text, self.look.width - x - front - 12)
+            self.y += high - 14
             x += wide
         self.y += 20
+
+    def swatch(self, x: float, fill: str, number: str) -> None:
+        """A box of the legend, with the number that a cell of this look has."""
+        self.canvas.box(x, self.y, 18, 12, fill, stroke=GREY, stroke_width=0.6)
+        ink = WHITE if fill == BLACK else next((ink for shade, ink in SHADES if shade == fill), BLACK)
+        if number and self.readable:
+            self.canvas.words(x + 9, self.y + 9.5, number, 9, ink, text_anchor="middle")
 
     # Groups.
 
@@ -306,5 +322,5 @@ def drawing(groups: list[Group], strips: Strips, look: Look, title: str, told: l
     made.legend(title)
     for group in groups:
         made.group(group)
-    caption(made.canvas, told)
+    caption(made.canvas, told, look.width)
     return made.canvas.text(title, scale)

@@ -34,6 +34,7 @@ def add_picture_options(parser: argparse.ArgumentParser, width_help: str, wrap_h
     group.add_argument("--font-size", type=float, default=LETTERS, metavar="S",
                        help=f"the size of the letters in pixels; the drawing grows with them (default {LETTERS})")
     group.add_argument("-o", "--output", metavar="FILE", help="write to FILE; its ending is .svg, .pdf or .png")
+    group.add_argument("--no-caption", action="store_true", help="without the lines that say how it was made")
     group.add_argument("--pdf", action="store_true", help="PDF, by rsvg-convert or chromium")
 
 
@@ -55,6 +56,13 @@ def scale_of(args: argparse.Namespace) -> float:
 def room_of(args: argparse.Namespace, default: int) -> float:
     """The width in the units of the drawing, before it is made larger."""
     return float(args.width or default) / scale_of(args)
+
+
+def caption_lines(args: argparse.Namespace, program: Program | None, of_what: str) -> list[str]:
+    """The caption of a picture: the command, the versions, and what it is drawn of."""
+    if args.no_caption:
+        return []
+    return [command_text(args), f"{version_of(program)}; {of_what}"]
 
 
 def command_text(args: argparse.Namespace) -> str:
@@ -82,12 +90,11 @@ def version_of(program: Program | None) -> str:
     return f"nooks-bench {__version__}" + (f", {told}" if told else "")
 
 
-def caption(canvas: Canvas, lines: list[str]) -> None:
+def caption(canvas: Canvas, lines: list[str], room: float) -> None:
     """Small lines below a drawing: how it was made, and of what."""
-    y = canvas.height + 8
+    y = canvas.height + 20
     for line in lines:
-        y += 12
-        canvas.words(12, y, line, 8.5, GREY)
+        y += canvas.lines(12, y, line, max(room, canvas.width) - 12, 8.5, GREY)
 
 
 def format_of(args: argparse.Namespace) -> str:

@@ -23,6 +23,17 @@ def text_width(text: str, size: float) -> float:
     return sum(WIDTHS.get(letter, LETTER) for letter in text) * size
 
 
+def fitted(text: str, size: float, room: float) -> list[str]:
+    """A text in lines that fit into some room, as far as its words do."""
+    lines: list[str] = []
+    for word in text.split(" "):
+        if lines and text_width(f"{lines[-1]} {word}", size) <= room:
+            lines[-1] += f" {word}"
+        else:
+            lines.append(word)
+    return lines
+
+
 @dataclass
 class Canvas:
     """A drawing that grows by elements. Coordinates are in pixels."""
@@ -63,6 +74,13 @@ class Canvas:
         anchor = more.get("text_anchor", "start")
         self.reach(x + (text_width(text, size) if anchor == "start" else 0), y + 3)
         self.add("text", title, text, x=x, y=y, font_size=size, fill=fill, **more)
+
+    def lines(self, x: float, y: float, text: str, room: float, size: float = 11, fill: str = BLACK) -> float:
+        """A text in lines that fit into some room; how high they are."""
+        told = fitted(text, size, room)
+        for number, line in enumerate(told):
+            self.words(x, y + number * (size + 3), line, size, fill)
+        return len(told) * (size + 3)
 
     def shape(self, path: str, fill: str, title: str = "", **more: object) -> None:
         self.add("path", title, d=path, fill=fill, **more)

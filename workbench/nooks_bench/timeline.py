@@ -7,8 +7,7 @@ import re
 import shutil
 
 from .build import built
-from .picture import add_picture_options, check_picture_options, command_text, hash_of, put_picture, room_of, scale_of
-from .picture import version_of
+from .picture import add_picture_options, caption_lines, check_picture_options, hash_of, put_picture, room_of, scale_of
 from .program import Mistake
 from .report import parse_report
 from .source import read_text
@@ -58,7 +57,7 @@ def run(args: argparse.Namespace) -> int:
         wide = args.width or shutil.get_terminal_size((100, 24)).columns
         print("\n".join(text_lines(times, max(wide, 40), args.wrap)))
         return 0
-    told = [f"{command_text(args)}", f"{version_of(None)}; report {hash_of(text)}, status {report.status}"]
+    told = caption_lines(args, None, f"report {hash_of(text)}, status {report.status}")
     put_picture(drawing(times, room_of(args, DEFAULT_WIDTH), args.wrap, told, scale_of(args)), args)
     return 0
 

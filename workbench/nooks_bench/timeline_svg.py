@@ -183,8 +183,7 @@ class Drawing:
             self.row(times)
         for note in times.notes():
             broken = note.startswith("CONTRACT")
-            self.canvas.words(16, self.y + 4, note, 10, RED if broken else BLACK)
-            self.y += 14
+            self.y += self.canvas.lines(16, self.y + 4, note, self.width - 28, 10, RED if broken else BLACK) + 1
         self.y += BETWEEN
 
     def row(self, times: PartTimes) -> None:
@@ -351,5 +350,5 @@ def drawing(times: list[PartTimes], width: float, wrap: int | None, told: list[s
     made.legend()
     for each in times:
         made.part(each)
-    caption(made.canvas, told)
+    caption(made.canvas, told, width)
     return made.canvas.text("Timeline of " + ", ".join(each.part.name for each in times), scale)

@@ -8,7 +8,7 @@ import json
 from .build import built
 from .folding import short_event
 from .listing import Source, source_of
-from .ports import FIRST_REGISTER, LASTING, REGISTERS, command_name, port_name
+from .ports import LASTING, REGISTERS, command_name, port_name
 from .program import Mistake, Program, Refusal, find_program
 from .report import Event, Part, parse_report
 from .scenario import Scenario

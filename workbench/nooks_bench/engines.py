@@ -5,7 +5,6 @@ from __future__ import annotations
 
 import functools
 import os
-import tempfile
 from typing import Iterator, Sequence
 
 from .batches import Batch, Results, run_batch
@@ -52,6 +51,8 @@ def package_file(folder: str) -> str:
 def run_dask(address: str, path: str, batches: Sequence[Batch]) -> Iterator[tuple[int, Results]]:
     """Runs batches on a cluster, whose scheduler gives a batch again to another worker if one went away."""
     try:
+        import tempfile
+
         from distributed import Client, as_completed  # type: ignore[import]
     except ImportError as error:
         raise Mistake("--dask needs `distributed` (python3-distributed), and this Python has none") from error

@@ -3,7 +3,6 @@ go on later. The first line says what the sweep is of; each other one has the ou
 
 from __future__ import annotations
 
-import hashlib
 import json
 import os
 from dataclasses import dataclass, field
@@ -29,6 +28,8 @@ KEYS = {
 
 def digest(value: Any) -> str:
     """A number that tells values apart."""
+    import hashlib
+
     return hashlib.sha256(json.dumps(value, sort_keys=True).encode()).hexdigest()
 
 
@@ -65,6 +66,13 @@ class Journal:
 
     def open(self, heading: dict[str, Any], resume: bool) -> None:
         """Opens the file: a new one, or with `resume` one that goes on."""
+        try:
+            self.begin(heading, resume)
+        except Mistake:
+            self.close()
+            raise
+
+    def begin(self, heading: dict[str, Any], resume: bool) -> None:
         try:
             exists = os.path.exists(self.path) and os.path.getsize(self.path) > 0
             if exists and not resume:

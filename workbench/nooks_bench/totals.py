@@ -68,11 +68,13 @@ def total_lines(runs: Sequence[Swept], part: int, is_drawn: bool) -> list[str]:
         interval = f" ({percent(low)} to {percent(high)})" if is_drawn else ""
         lines.append(f"{count:6}  {name.ljust(wide)}  {percent(count / done):>5} %{interval}")
     cover = coverage_of(runs, part)
-    of_all = f" of {chosen:,}: interrupted" if done < chosen else ""
-    about = ", drawn; in brackets the 95 % intervals" if is_drawn and done else ""
-    lines.append(f"{done:6}  faults{of_all}{about}")
+    drawn = " drawn" if is_drawn else ""
+    of_all = f", of {chosen:,}: interrupted" if done < chosen else ""
+    lines.append(f"{done:6}  faults{drawn}{of_all}")
     if cover.turns:
         lines.append(f"{cover.struck:6}  turns struck, of {cover.turns:,} in {counted(cover.bursts, 'burst')}")
+    if is_drawn and done:
+        lines.append("        in brackets 95 % intervals, by Wilson's formula")
     return lines
 
 

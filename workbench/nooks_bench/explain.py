@@ -17,6 +17,7 @@ ABOUT = """Explains what the program wrote. FILE (- is standard input) is a repo
 refused input, which wants --input: the scenario, campaign, image or assembler text that was refused. For a report
 --input is its scenario, and then each fault of it is told: where it struck, or why it did not."""
 
+
 def not_json(file: str, text: str) -> Explained:
     """Where a text stops being JSON."""
     try:

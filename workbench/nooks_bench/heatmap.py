@@ -96,7 +96,8 @@ def add_to(commands: argparse._SubParsersAction[argparse.ArgumentParser]) -> Non
     parser.add_argument("--from", dest="from_", metavar="SWEEP", help="the JSON of a sweep; it is not run again")
     parser.add_argument("--title", metavar="TEXT", help="the text over the map")
     parser.add_argument("--together", action="store_true", help="one row a burst; a cell shows the worst of its faults")
-    parser.add_argument("--no-fold", action="store_true", help="a row for each thing that strikes, also if some look the same")
+    about = "a row for each thing that strikes, also if some look the same"
+    parser.add_argument("--no-fold", action="store_true", help=about)
     about = "what the strip over the cells shows of each instruction (default mnemonics)"
     parser.add_argument("--strip", choices=STRIPS, default=MNEMONICS, help=about)
     parser.add_argument("--no-instructions", action="store_true", help="do not ask for the instructions: no strip")

@@ -159,7 +159,8 @@ def merged(lines: list[Line]) -> Line:
     row = Line(folded_label(lines), [fault for line in lines for fault in line.faults])
     for turn, cell in first.cells.items():
         others = len(lines) - 1
-        told = [*cell.told, f"and {others} faults more that look the same" if others > 1 else "and 1 fault more that looks the same"]
+        more = f"and {others} faults more that look the same" if others > 1 else "and 1 fault more that looks the same"
+        told = [*cell.told, more]
         kinds = [kind for line in lines for kind in line.cells[turn].kinds]
         row.cells[turn] = Cell(cell.outcome, cell.cause, cell.lost, told, kinds)
     return row

@@ -285,7 +285,8 @@ class Map:
             text = self.strip_text(step)
             if text:
                 x, y = self.x(turn, first) + self.cell / 2 + STRIP_LETTERS / 3, self.y + high - 3
-                self.canvas.words(x, y, text, STRIP_LETTERS, BLACK, step_title(turn, step), transform=f"rotate(-90 {x:.1f} {y:.1f})")
+                upwards = f"rotate(-90 {x:.1f} {y:.1f})"
+                self.canvas.words(x, y, text, STRIP_LETTERS, BLACK, step_title(turn, step), transform=upwards)
         self.y += high
 
     def line(self, line: Line, first: int, last: int) -> None:

@@ -4,6 +4,7 @@ from __future__ import annotations
 
 import argparse
 import hashlib
+import importlib
 import json
 import os
 import shlex
@@ -35,7 +36,7 @@ def add_picture_options(parser: argparse.ArgumentParser, width_help: str, wrap_h
                        help=f"the size of the letters in pixels; the drawing grows with them (default {LETTERS})")
     group.add_argument("-o", "--output", metavar="FILE", help="write to FILE; its ending is .svg, .pdf or .png")
     group.add_argument("--no-caption", action="store_true", help="without the lines that say how it was made")
-    group.add_argument("--pdf", action="store_true", help="PDF, by rsvg-convert or chromium")
+    group.add_argument("--pdf", action="store_true", help="PDF, by rsvg-convert, cairosvg or chromium")
 
 
 def check_picture_options(args: argparse.Namespace) -> None:
@@ -130,11 +131,23 @@ def converted(svg: str, kind: str) -> bytes:
     """The drawing in another format, by a converter of this machine."""
     if found := shutil.which("rsvg-convert"):
         return told_by([found, "--format", kind], svg.encode())
+    if library := cairosvg():
+        made = library.svg2pdf if kind == "pdf" else library.svg2png
+        return bytes(made(bytestring=svg.encode()))
     chromium = next((path for path in [shutil.which(name) for name in CHROMIUMS] if path), None)
     if chromium and kind == "pdf":
         return printed(chromium, svg)
-    wanted = "librsvg2-bin (rsvg-convert) or chromium" if kind == "pdf" else "librsvg2-bin (rsvg-convert)"
+    others = ", chromium" if kind == "pdf" else ""
+    wanted = f"librsvg2-bin (rsvg-convert){others} or the Python package cairosvg"
     raise Mistake(f"nothing here makes a {kind.upper()} of an SVG: install {wanted}")
+
+
+def cairosvg() -> Any:
+    """The Python package of that name, or None if it is not installed."""
+    try:
+        return importlib.import_module("cairosvg")
+    except ImportError:
+        return None
 
 
 def told_by(words: list[str], given: bytes) -> bytes:

@@ -107,7 +107,8 @@ class Drawing:
         acts = {act_letter(event) for each in self.times for event in each.acting()}
         key += [(self.lettered(letter, act_fill(letter)), name) for letter, name in ACT_NAMES.items() if letter in acts]
         struck = {strike.fault["kind"] for each in self.times for strike in each.struck()}
-        key += [(self.lettered(letter, RED, WHITE), f"fault: {name}") for name, letter in STRIKES.items() if name in struck]
+        key += [(self.lettered(letter, RED, WHITE), f"fault: {name}") for name, letter in STRIKES.items()
+                if name in struck]
         return key
 
     def flow(self, entries: list[tuple[Mark, str]]) -> None:
@@ -249,7 +250,8 @@ class Drawing:
                 self.canvas.line(left, self.y, left, self.y + BAR, GREY, stroke_width=0.5)
                 name = self.stage_text(event.text.split(" ")[0])
                 size = 9 if len(name) == 1 else STAGE_SIZE
-                self.canvas.words(self.middle(event.number), self.y + 11, name, size, title=event.line, text_anchor="middle")
+                x = self.middle(event.number)
+                self.canvas.words(x, self.y + 11, name, size, title=event.line, text_anchor="middle")
         for event in times.events("burst"):
             if event.call == 0 and self.shows(event.number):
                 self.mark_burst(self.middle(event.number), self.y + BAR / 2, short_event(event))

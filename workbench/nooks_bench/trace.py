@@ -23,7 +23,8 @@ or as `build` takes it. The turns are those of the program's own `trace P B`."""
 # How far back the last word of a port is looked for.
 MOST_BURSTS_BACK = 256
 COMPARED = {"BEQ": "=", "BNE": "!=", "BLT": "<"}
-MOST_WIDE = 52
+# Where the source begins at the latest; a turn that says more than fits moves its own.
+MOST_WIDE = 72
 
 
 def traced(program: Program, scenario: Scenario, part: int, burst: int) -> Trace:
@@ -86,7 +87,8 @@ def effect(turn: Turn, kind: str) -> str:
         name = port_name(kind, "IN", int(operands[1]))
         told.append(f"{operands[0]} = {turn.register[1]} from {name}")
     elif mnemonic == "KCALL":
-        told.append(f"calls {service_name(int(operands[0]))}, r1 = {turn.before.get(1, 0)}, r2 = {turn.before.get(2, 0)}")
+        first, second = (turn.before.get(register, 0) for register in (1, 2))
+        told.append(f"calls {service_name(int(operands[0]))}, r1 = {first}, r2 = {second}")
     elif mnemonic == "RET":
         told.append(f"replies {turn.value(0)}")
     elif mnemonic in COMPARED:
@@ -195,7 +197,7 @@ def trace_lines(program: Program, scenario: Scenario, place: int, burst: int) ->
     lines = head_lines(trace, part, event, source)
     lines += [f"device: {'; '.join(device)}"] if device else []
     rows = rows_of(trace, source, part.kind)
-    wide = min(max((len(left) for left, _ in rows), default=0), 28 + MOST_WIDE)
+    wide = min(max((len(left) for left, _ in rows), default=0), MOST_WIDE)
     rows = [("turn    at  instruction       what it does", "line  source"), *rows]
     lines += ["", *(f"{left:{wide}}  {right}".rstrip() for left, right in rows), ""]
     return lines + end_lines(trace, event, strikes_of(part, scenario["parts"][place].get("faults", [])))

@@ -61,8 +61,8 @@ def strike_of(part: Part, bursts: dict[int, Event], faults: list[Fault], place: 
     ender = ended_by(event, faults)
     if ender is not None:
         if (fault["after"], place) > (faults[ender]["after"], ender):
-            told = f"fault {ender}, a {faults[ender]['kind']} after {faults[ender]['after']} turns, ended the burst before"
-            return Strike(place, fault, 0, told)
+            first = f"fault {ender}, a {faults[ender]['kind']} after {faults[ender]['after']} turns"
+            return Strike(place, fault, 0, f"{first}, ended the burst before")
     elif fault["after"] >= event.turns:
         turns = "1 turn" if event.turns == 1 else f"{event.turns} turns"
         return Strike(place, fault, 0, f"burst {event.burst} ended after {turns}")

@@ -51,7 +51,7 @@ CAUSES = {
     "bad_param {service} 0": "it may not call the service {service_name}",
     "too_many_crossings": "the 32nd burst of one attempt was no reply",
     "bad_reply {status}": "it replied with status {status}, which this call does not have",
-    "bad_init {status}": "its init replied with status {status}, or had not registered; it owes a register and status 0",
+    "bad_init {status}": "its init replied with status {status}, and it owes 0 and a register before",
 }
 
 LIST = re.compile(r"\[([0-9,]*)\]")

@@ -175,10 +175,12 @@ class Files(unittest.TestCase):
         self.assertTrue(self.written("map.png").startswith(b"\x89PNG"))
 
     def test_no_converter(self):
-        with mock.patch("nooks_bench.picture.shutil.which", return_value=None):
+        with mock.patch("nooks_bench.picture.shutil.which", return_value=None), \
+                mock.patch("nooks_bench.picture.cairosvg", return_value=None):
             status, out, err = bench(*self.words, "--pdf", "--program", program().path)
         self.assertEqual((status, out), (2, ""))
-        self.assertEqual(err, "nooks-bench: nothing here makes a PDF of an SVG: install librsvg2-bin (rsvg-convert) or chromium\n")
+        self.assertEqual(err, "nooks-bench: nothing here makes a PDF of an SVG: "
+                         "install librsvg2-bin (rsvg-convert), chromium or the Python package cairosvg\n")
 
 
 if __name__ == "__main__":

@@ -1,5 +1,5 @@
-"""The journal of a sweep: the outcomes that are known so far, as JSON lines, so that a long sweep may be interrupted and
-go on later. The first line says what the sweep is of; each other one has the outcomes of some faults."""
+"""The journal of a sweep: the outcomes that are known so far, as JSON lines, so that a long sweep may be interrupted
+and go on later. The first line says what the sweep is of; each other one has the outcomes of some faults."""
 
 from __future__ import annotations
 

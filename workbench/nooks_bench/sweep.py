@@ -214,7 +214,8 @@ def base_lines(report: Report) -> list[str]:
              f"{row.gone} gone, {row.lost} lost"]
     for part in report.parts:
         if part.broken:
-            lines.append(f"without: the contract of {part.name} is broken at event {part.broken[0]}, clause {part.broken[1]}")
+            event, clause = part.broken
+            lines.append(f"without: the contract of {part.name} is broken at event {event}, clause {clause}")
     return lines
 
 

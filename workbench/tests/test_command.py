@@ -2,7 +2,6 @@
 is taken."""
 
 import ast
-import contextlib
 import os
 import re
 import subprocess

@@ -44,7 +44,7 @@ class Call:
     entered: int = 0
 
     def leave(self, event: int) -> None:
-        """Ends its stay in the driver, where it is inside."""
+        """Ends its stay in the driver, if it is inside."""
         if self.entered:
             self.inside.append((self.entered, event))
             self.entered = 0

@@ -14,8 +14,8 @@ from .source import Node, Place, Reader, read_text
 from .unstruck import strikes_of_report
 
 ABOUT = """Explains what the program wrote. FILE (- is standard input) is a report, or the line `fault ..` of a
-refused input, which wants --input: the scenario, campaign, image or assembler text that was refused. For a report
---input is its scenario, and then each fault of it is told: where it struck, or why it did not."""
+refused input, which needs --input: the scenario, campaign, image or assembler text that was refused. For a report
+--input is its scenario, and then each fault of it is listed, with the burst that it struck or why it did not."""
 
 
 def not_json(file: str, text: str) -> Explained:
@@ -25,7 +25,7 @@ def not_json(file: str, text: str) -> Explained:
     except json.JSONDecodeError as error:
         return Explained(Place(file, error.lineno, error.colno), f"this is no JSON: {error.msg}", "")
     except RecursionError:
-        return Explained(Place(file, 1, 1), "lists and objects stand too deep in each other", "")
+        return Explained(Place(file, 1, 1), "lists and objects are nested too deeply", "")
     return Explained(Place(file, 1, 1), "the program reads no JSON here", "at most 127 levels of lists and objects")
 
 
@@ -65,7 +65,7 @@ def run(args: argparse.Namespace) -> int:
     text = read_text(args.file)
     if text.startswith("fault "):
         if not args.input:
-            raise Mistake("the line of a refused input wants --input, the file that was refused")
+            raise Mistake("the line of a refused input needs --input, the file that was refused")
         print(refused(text, args.input))
         return 0
     report = parse_report(text)

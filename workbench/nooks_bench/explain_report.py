@@ -20,20 +20,20 @@ STATUSES = {
 
 
 def where(call: Call) -> str:
-    """Where and by whom a call was answered."""
+    """At which event and by whom a call was answered."""
     cuts = f", cut by a failure at event {', '.join(map(str, call.cuts))}" if call.cuts else ""
-    told = {
+    answered = {
         REFUSED: f"answered {REFUSED}, event {call.answered}",
         AT_ENTER: f"answered at its enter, event {call.answered}",
         BY_DRIVER: f"answered by the driver at event {call.answered}",
         BY_SHADOW: f"answered by the shadow at event {call.answered}",
         GONE: f"answered {GONE}, event {call.answered}",
     }.get(call.by, "not answered")
-    return f"c{call.number} {told}{cuts}"
+    return f"c{call.number} {answered}{cuts}"
 
 
 def thread_lines(thread: Thread, calls: list[Call]) -> list[str]:
-    """A thread's operations, each with its answer and where that came from."""
+    """A thread's operations, each with its answer and who gave it."""
     asked = [f"p{call.part} {short(call.text)}" for call in calls]
     given = [short(answer) for _, answer in thread.answers]
     wide = [max(map(len, texts), default=0) for texts in (asked, given)]
@@ -46,8 +46,8 @@ def thread_lines(thread: Thread, calls: list[Call]) -> list[str]:
 def answered_line(calls: list[Call]) -> str:
     """How many calls were answered by whom."""
     counts = {by: sum(call.by == by for call in calls) for by in (BY_DRIVER, BY_SHADOW, AT_ENTER, REFUSED, GONE)}
-    told = ", ".join(f"{number} {by}" for by, number in counts.items() if number)
-    return f"{counted(len(calls), 'call')}" + (f", answered: {told}" if told else "")
+    by_whom = ", ".join(f"{number} {by}" for by, number in counts.items() if number)
+    return f"{counted(len(calls), 'call')}" + (f", answered: {by_whom}" if by_whom else "")
 
 
 def failure_lines(part: Part) -> list[str]:
@@ -106,9 +106,9 @@ def part_lines(part: Part, strikes: list[Strike]) -> list[str]:
     """A part's summary, with its faults if the scenario is known."""
     head = f"part {part.place} {part.name}, {part.kind}, limit {part.limit}: {counted(len(part.events), 'event')}"
     lines = [f"{head}, {counted(len(part.bursts()), 'burst')}, {counted(part.failures, 'failure')}"]
-    told = [answered_line(calls_of(part)), *(strike.line for strike in strikes)]
-    told += [*failure_lines(part), *recovery_lines(part), *left_lines(part), *contract_lines(part)]
-    return lines + ["  " + line for line in told]
+    summary = [answered_line(calls_of(part)), *(strike.line for strike in strikes)]
+    summary += [*failure_lines(part), *recovery_lines(part), *left_lines(part), *contract_lines(part)]
+    return lines + ["  " + line for line in summary]
 
 
 def report_lines(report: Report, strikes: dict[int, list[Strike]] | None = None) -> list[str]:

@@ -12,7 +12,7 @@ from .picture import add_picture_options, caption_lines, check_picture_options, 
 from .program import Mistake, Program, find_program
 from .source import read_text
 from .strip import Strips, fill_instructions, strips_of, writes_traces
-from .sweep import add_sweep_options, scenario_of, swept
+from .sweep import add_sweep_options, swept
 
 ABOUT = """Draws a sweep as an SVG: for each burst a row for each thing that strikes there, a column for each turn, and
 over them a strip of the burst's instructions, in which those that act on the device are marked. A cell has the colour
@@ -53,9 +53,7 @@ def program_of(args: argparse.Namespace) -> Program | None:
 def made_runs(args: argparse.Namespace, program: Program) -> Runs:
     """The runs of the sweep that the options name. The instructions come from traces if the program writes these, and
     else from runs with faults of the workbench's own."""
-    args.instructions = False
-    if not args.no_instructions and not writes_traces(program, scenario_of(program, args.file), args.part):
-        args.instructions = True
+    args.instructions = not args.no_instructions and not writes_traces(program)
     return [run.as_json() for run in swept(args)]
 
 
@@ -67,7 +65,7 @@ def picture_of(args: argparse.Namespace) -> str:
     elif args.file is not None and program:
         runs, part = made_runs(args, program), args.part
     else:
-        raise Mistake("a scenario is wanted, or --from")
+        raise Mistake("a scenario is needed, or --from")
     strips: Strips = {}
     if not args.no_instructions:
         strips = strips_of(program, runs, part)
@@ -78,10 +76,10 @@ def picture_of(args: argparse.Namespace) -> str:
     if not args.no_fold:
         groups = [fold_rows(group) for group in groups]
     names = ", ".join(part["name"] for part in runs[0]["base"]["parts"])
-    told = caption_lines(args, program, f"scenario {hash_of(runs[0]['base'])}")
+    notes = caption_lines(args, program, f"scenario {hash_of(runs[0]['base'])}")
     strip = NO_STRIP if args.no_instructions else args.strip
     look = Look(room_of(args, DEFAULT_WIDTH), args.wrap, strip)
-    return drawing(groups, strips, look, args.title or f"Faults of {names}", told, scale_of(args))
+    return drawing(groups, strips, look, args.title or f"Faults of {names}", notes, scale_of(args))
 
 
 def run(args: argparse.Namespace) -> int:

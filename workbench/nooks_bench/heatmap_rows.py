@@ -31,14 +31,14 @@ class Cell:
     outcome: str
     cause: str = ""
     lost: int = 0
-    told: list[str] = field(default_factory=list)
+    texts: list[str] = field(default_factory=list)
     kinds: list[tuple[str, int]] = field(default_factory=list)
 
     def take(self, outcome: str, cause: str, lost: int, text: str) -> None:
-        self.told.append(text)
+        self.texts.append(text)
         self.kinds.append((outcome, clause_of(outcome, cause)))
         worse = OUTCOMES.index(outcome) > OUTCOMES.index(self.outcome)
-        if worse or (outcome == self.outcome and lost > self.lost) or len(self.told) == 1:
+        if worse or (outcome == self.outcome and lost > self.lost) or len(self.texts) == 1:
             self.outcome, self.cause, self.lost = outcome, cause, lost
 
     @property
@@ -93,7 +93,7 @@ def lost_in(entry: dict[str, Any]) -> int:
 
 
 def cell_text(entry: dict[str, Any]) -> str:
-    """What the pointer over a cell is told of one fault."""
+    """What the pointer over a cell shows of one fault."""
     cause = f": {entry['cause']}" if entry["cause"] else ""
     losses = entry.get("losses") or {}
     lost = ", ".join(f"{name} {number}" for name, number in losses.items() if number)
@@ -160,9 +160,9 @@ def merged(lines: list[Line]) -> Line:
     for turn, cell in first.cells.items():
         others = len(lines) - 1
         more = f"and {others} faults more that look the same" if others > 1 else "and 1 fault more that looks the same"
-        told = [*cell.told, more]
+        texts = [*cell.texts, more]
         kinds = [kind for line in lines for kind in line.cells[turn].kinds]
-        row.cells[turn] = Cell(cell.outcome, cell.cause, cell.lost, told, kinds)
+        row.cells[turn] = Cell(cell.outcome, cell.cause, cell.lost, texts, kinds)
     return row
 
 

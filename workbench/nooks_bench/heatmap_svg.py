@@ -33,7 +33,7 @@ STRIPS = (MNEMONICS, INSTRUCTIONS, COLOURS, NO_STRIP)
 FILLS = {MISSED: WHITE, NO_TRACE: PALE, CHANGED: YELLOW, RECOVERED: SKY, LOSSES: ORANGE, GIVEN_UP: BLUE, BROKEN: BLACK}
 # Losses from the least to the most, and the colour of a number on them.
 SHADES = (("#fbe0a8", BLACK), ("#f3b942", BLACK), ("#cf8600", BLACK), ("#955b00", WHITE), ("#5f3900", WHITE))
-# Hatches that tell clauses apart if a number does not fit.
+# Hatches by which clauses differ if a number does not fit.
 HATCHES = (BLACK, "#ffffff", "#f0e442", "#56b4e9", "#e69f00", "#cc79a7")
 
 # What an instruction is about, by the background of its place in the strip.
@@ -112,11 +112,11 @@ class Map:
     # Fills.
 
     def shade_fill(self, place: int) -> str:
-        """A shade of losses, striped where no number says how much."""
+        """A shade of losses, striped if no number says how much."""
         return SHADES[place][0] if self.readable else self.canvas.stripes(f"losses{place}", SHADES[place][0], WHITE)
 
     def hatch(self, place: int) -> str:
-        """The fill of a clause: black, with a hatch of its own where no number tells it."""
+        """The fill of a clause: black, with a hatch of its own if no number fits."""
         if self.readable or place == 0:
             return BLACK
         return self.canvas.stripes(f"clause{place}", BLACK, HATCHES[place % len(HATCHES)], 4 + 2 * (place % 3))
@@ -134,7 +134,7 @@ class Map:
         return self.given_up if cell.outcome == GIVEN_UP else FILLS[cell.outcome]
 
     def number(self, cell: Cell) -> tuple[str, str]:
-        """What stands in a cell, and its colour: the clause, or how much was lost."""
+        """The text in a cell, and its colour: the clause, or how much was lost."""
         if cell.outcome == BROKEN and cell.clause:
             return str(cell.clause), WHITE
         if cell.outcome == LOSSES and cell.lost > 0:
@@ -298,7 +298,7 @@ class Map:
         self.canvas.group(stroke=GREY, stroke_width=0.3)
         for turn, cell in shown:
             begin, end = max(turn, first), min(turn + wide, last + 1)
-            title = "\n\n".join(cell.told)
+            title = "\n\n".join(cell.texts)
             self.canvas.box(self.x(begin, first), self.y, (end - begin) * self.cell, ROW, self.fill(cell), title)
         self.canvas.end_group()
         for turn, cell in shown:
@@ -311,17 +311,17 @@ class Map:
 
 
 def step_title(turn: int, step: Step) -> str:
-    """What the pointer over a step is told."""
+    """What the pointer over a step shows."""
     acts = f"\n{step.acts[0]}" if step.acts else ""
     source = f"\n{step.source}" if step.source else ""
     return f"after {turn}: {step.instruction}{source}{acts}"
 
 
-def drawing(groups: list[Group], strips: Strips, look: Look, title: str, told: list[str], scale: float) -> str:
+def drawing(groups: list[Group], strips: Strips, look: Look, title: str, notes: list[str], scale: float) -> str:
     """The SVG of some groups, with a caption."""
     made = Map(groups, strips, look)
     made.legend(title)
     for group in groups:
         made.group(group)
-    caption(made.canvas, told, look.width)
+    caption(made.canvas, notes, look.width)
     return made.canvas.text(title, scale)

@@ -87,8 +87,8 @@ def hash_of(value: Any) -> str:
 
 def version_of(program: Program | None) -> str:
     """The versions of the workbench and, if there is one, of the program."""
-    told = program.version() if program else None
-    return f"nooks-bench {__version__}" + (f", {told}" if told else "")
+    version = program.version() if program else None
+    return f"nooks-bench {__version__}" + (f", {version}" if version else "")
 
 
 def caption(canvas: Canvas, lines: list[str], room: float) -> None:
@@ -130,7 +130,7 @@ def put_picture(svg: str, args: argparse.Namespace) -> None:
 def converted(svg: str, kind: str) -> bytes:
     """The drawing in another format, by a converter of this machine."""
     if found := shutil.which("rsvg-convert"):
-        return told_by([found, "--format", kind], svg.encode())
+        return output_of([found, "--format", kind], svg.encode())
     if library := cairosvg():
         made = library.svg2pdf if kind == "pdf" else library.svg2png
         return bytes(made(bytestring=svg.encode()))
@@ -150,7 +150,7 @@ def cairosvg() -> Any:
         return None
 
 
-def told_by(words: list[str], given: bytes) -> bytes:
+def output_of(words: list[str], given: bytes) -> bytes:
     """What a converter writes to standard output."""
     try:
         ended = subprocess.run(words, input=given, capture_output=True, check=False)
@@ -170,8 +170,8 @@ def printed(chromium: str, svg: str) -> bytes:
         style = f"@page {{ size: {sides[0]}px {sides[1]}px; margin: 0 }} body {{ margin: 0 }} svg {{ display: block }}"
         with open(page, "w", encoding="utf-8") as file:
             file.write(f"<!doctype html><meta charset='utf-8'><style>{style}</style>{svg}")
-        told_by([chromium, "--headless", "--no-sandbox", "--disable-gpu", f"--print-to-pdf={made}",
-                 "--no-pdf-header-footer", f"file://{page}"], b"")
+        options = ["--headless", "--no-sandbox", "--disable-gpu", "--no-pdf-header-footer"]
+        output_of([chromium, *options, f"--print-to-pdf={made}", f"file://{page}"], b"")
         try:
             with open(made, "rb") as pdf:
                 return pdf.read()

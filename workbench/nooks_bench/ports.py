@@ -2,7 +2,7 @@
 
 from __future__ import annotations
 
-# For each class the ports that it has by direction, with what stands there.
+# For each class the ports that it has by direction, with what each is.
 PORTS: dict[str, dict[tuple[str, int], str]] = {
     "block": {
         ("OUT", 0): "command",
@@ -43,7 +43,7 @@ LASTING: dict[str, int] = {"block": 1, "net": 1}
 
 
 def port_name(kind: str, direction: str, port: int) -> str:
-    """What stands at a port; empty where the device has none there."""
+    """What a port is; empty if the device has no such port."""
     registers = REGISTERS[kind]
     if FIRST_REGISTER <= port < FIRST_REGISTER + len(registers):
         number = port - FIRST_REGISTER

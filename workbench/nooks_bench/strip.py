@@ -7,7 +7,7 @@ from dataclasses import dataclass
 from typing import Any
 
 from .listing import Source, source_of
-from .program import Program
+from .program import REFUSED, Program
 from .scenario import Scenario
 from .trace_text import parse_trace
 from .times import ACTS
@@ -55,16 +55,15 @@ def strip_by_trace(program: Program, scenario: Scenario, part: int, burst: int, 
         return None
     found: Strip = {}
     for turn in parse_trace(ended.out).turns():
-        told = f"{turn.address}: {turn.instruction}"
-        found[turn.number - 1] = Step(told, turn.acts, line_of(source, turn.address))
+        instruction = f"{turn.address}: {turn.instruction}"
+        found[turn.number - 1] = Step(instruction, turn.acts, line_of(source, turn.address))
     return found
 
 
 def strip_by_entries(entries: list[dict[str, Any]], burst: int) -> Strip:
     """The turns of a burst as far as a sweep asked for its instructions."""
-    told = {entry["fault"]["after"]: entry["instruction"] for entry in entries
-            if entry["fault"]["burst"] == burst and entry["instruction"]}
-    return {after: Step(text) for after, text in told.items()}
+    known = [entry for entry in entries if entry["fault"]["burst"] == burst and entry["instruction"]]
+    return {entry["fault"]["after"]: Step(entry["instruction"]) for entry in known}
 
 
 def strips_of(program: Program | None, runs: list[dict[str, Any]], part: int) -> Strips:
@@ -73,16 +72,17 @@ def strips_of(program: Program | None, runs: list[dict[str, Any]], part: int) ->
     for number, run in enumerate(runs):
         source = source_of(program, run["base"]["parts"][part]["driver"]) if program else Source()
         for burst in sorted({entry["fault"]["burst"] for entry in run["faults"]}):
-            told = strip_by_trace(program, run["base"], part, burst, source) if program else None
-            strip = strip_by_entries(run["faults"], burst) if told is None else told
+            traced = strip_by_trace(program, run["base"], part, burst, source) if program else None
+            strip = strip_by_entries(run["faults"], burst) if traced is None else traced
             if strip:
                 found[number, burst] = strip
     return found
 
 
-def writes_traces(program: Program, scenario: Scenario, part: int) -> bool:
-    """Whether the program has the form `trace`: every part's run has a burst 1."""
-    return program.ask(["trace", str(part), "1"], json.dumps(scenario)).status == 0
+def writes_traces(program: Program) -> bool:
+    """Whether the program has the form `trace`: then it refuses an input that is no scenario, and does not write its
+    usage line."""
+    return program.ask(["trace", "0", "1"], "").status == REFUSED
 
 
 def fill_instructions(runs: list[dict[str, Any]], strips: Strips) -> None:

@@ -1,4 +1,4 @@
-"""SVG texts: a canvas, and colours that can be told apart without colour vision."""
+"""SVG texts: a canvas, and colours that differ without colour vision."""
 
 from __future__ import annotations
 
@@ -48,9 +48,9 @@ class Canvas:
 
     def add(self, tag: str, title: str = "", inner: str = "", /, **attributes: object) -> None:
         """An element; a title is what is shown under the pointer."""
-        told = told_of(attributes)
+        written = attributes_text(attributes)
         body = (f"<title>{escape(title)}</title>" if title else "") + escape(inner)
-        self.parts.append(f"<{tag}{told}>{body}</{tag}>" if body else f"<{tag}{told}/>")
+        self.parts.append(f"<{tag}{written}>{body}</{tag}>" if body else f"<{tag}{written}/>")
 
     def box(self, x: float, y: float, wide: float, high: float, fill: str, title: str = "", **more: object) -> None:
         self.reach(x + wide, y + high)
@@ -58,8 +58,8 @@ class Canvas:
 
     def group(self, **attributes: object) -> None:
         """Begins a group, whose elements share what is named; `end_group` ends it."""
-        told = told_of(attributes)
-        self.parts.append(f"<g{told}>")
+        written = attributes_text(attributes)
+        self.parts.append(f"<g{written}>")
 
     def end_group(self) -> None:
         self.parts.append("</g>")
@@ -77,16 +77,16 @@ class Canvas:
 
     def lines(self, x: float, y: float, text: str, room: float, size: float = 11, fill: str = BLACK) -> float:
         """A text in lines that fit into some room; how high they are."""
-        told = fitted(text, size, room)
-        for number, line in enumerate(told):
+        written = fitted(text, size, room)
+        for number, line in enumerate(written):
             self.words(x, y + number * (size + 3), line, size, fill)
-        return len(told) * (size + 3)
+        return len(written) * (size + 3)
 
     def shape(self, path: str, fill: str, title: str = "", **more: object) -> None:
         self.add("path", title, d=path, fill=fill, **more)
 
     def stripes(self, name: str, back: str, front: str, step: int = 6) -> str:
-        """A fill of stripes, so that a state is told by more than its colour."""
+        """A fill of stripes, so that a state differs by more than its colour."""
         ground = f'<rect width="{step}" height="{step}" fill="{back}"/>'
         inner = f'{ground}<path d="M0,0 L0,{step}" stroke="{front}" stroke-width="2"/>'
         self.definitions.append(
@@ -106,7 +106,7 @@ class Canvas:
         return "\n".join([head, f"<title>{escape(title)}</title>", definitions, ground, *self.parts, "</svg>"]) + "\n"
 
 
-def told_of(attributes: dict[str, object]) -> str:
+def attributes_text(attributes: dict[str, object]) -> str:
     """Attributes as SVG writes them."""
     return "".join(f" {name.replace('_', '-')}={quoteattr(shown(value))}" for name, value in attributes.items())
 

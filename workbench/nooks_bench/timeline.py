@@ -57,8 +57,8 @@ def run(args: argparse.Namespace) -> int:
         wide = args.width or shutil.get_terminal_size((100, 24)).columns
         print("\n".join(text_lines(times, max(wide, 40), args.wrap)))
         return 0
-    told = caption_lines(args, None, f"report {hash_of(text)}, status {report.status}")
-    put_picture(drawing(times, room_of(args, DEFAULT_WIDTH), args.wrap, told, scale_of(args)), args)
+    notes = caption_lines(args, None, f"report {hash_of(text)}, status {report.status}")
+    put_picture(drawing(times, room_of(args, DEFAULT_WIDTH), args.wrap, notes, scale_of(args)), args)
     return 0
 
 

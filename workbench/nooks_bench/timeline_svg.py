@@ -19,7 +19,8 @@ LOW_LANE = 26
 BAR = 16
 BETWEEN = 20
 
-# How wide an event is drawn: at most, where names of stages fit, and at least, where single letters do.
+# How wide an event is drawn: at most, so that names of stages fit, and at least, so that single
+# letters do.
 WIDEST, NARROWEST = 34, 18
 FEWEST_PIXELS = 9
 
@@ -320,11 +321,11 @@ class Drawing:
     def faults(self, times: PartTimes) -> None:
         """The faults that struck, at the events of their bursts."""
         self.lane_name("faults")
-        told: dict[int, list[str]] = {}
+        texts: dict[int, list[str]] = {}
         for strike in times.struck():
-            told.setdefault(strike.event, []).append(strike.text)
+            texts.setdefault(strike.event, []).append(strike.text)
         kinds = {strike.event: STRIKES[strike.fault["kind"]] for strike in times.struck()}
-        for number, lines in told.items():
+        for number, lines in texts.items():
             if self.shows(number):
                 letter = kinds[number] if len(lines) == 1 else SEVERAL
                 self.lettered(letter, RED, WHITE)(self.middle(number), self.y + BAR / 2, "\n".join(lines))
@@ -346,11 +347,11 @@ def act_fill(letter: str) -> str:
     return "#cfe6f5" if letter in OUTWARD else WHITE
 
 
-def drawing(times: list[PartTimes], width: float, wrap: int | None, told: list[str], scale: float) -> str:
+def drawing(times: list[PartTimes], width: float, wrap: int | None, notes: list[str], scale: float) -> str:
     """The SVG of some parts' timelines, with a caption."""
     made = Drawing(times, width, wrap)
     made.legend()
     for each in times:
         made.part(each)
-    caption(made.canvas, told, width)
+    caption(made.canvas, notes, width)
     return made.canvas.text("Timeline of " + ", ".join(each.part.name for each in times), scale)

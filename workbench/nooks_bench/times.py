@@ -91,12 +91,12 @@ class PartTimes:
 
     def loss_text(self) -> str:
         """What was lost, of that which is not nothing."""
-        told: list[str] = []
+        losses: list[str] = []
         for line in self.part.losses:
             words = line.split(" ")
             named = dict(zip(words[1::2], words[2::2]))
-            told += [f"{LOSSES[name]} {number}" for name, number in named.items() if name in LOSSES and number != "0"]
-        return ", ".join(told)
+            losses += [f"{LOSSES[name]} {number}" for name, number in named.items() if name in LOSSES and number != "0"]
+        return ", ".join(losses)
 
     def notes(self) -> list[str]:
         """What the lanes do not say in words: causes, the broken clause, losses, faults that missed, and a leak."""
@@ -112,7 +112,7 @@ class PartTimes:
 
 
 def act_letter(event: Event) -> str:
-    """The letter of a burst's acts: that of their kind, or one that stands for several kinds."""
+    """The letter of a burst's acts: that of their kind, or the one for several kinds."""
     kinds = {act.split(" ")[0] for act in event.acts}
     return ACTS[kinds.pop()] if len(kinds) == 1 else SEVERAL
 

@@ -28,7 +28,7 @@ MOST_WIDE = 72
 
 
 def traced(program: Program, scenario: Scenario, part: int, burst: int) -> Trace:
-    """The trace of a burst; a mistake where the run has none of that number."""
+    """The trace of a burst; a mistake if the run has none of that number."""
     words = ["trace", str(part), str(burst)]
     try:
         return parse_trace(program.answer(words, json.dumps(scenario)).out)
@@ -79,29 +79,30 @@ def port_line(program: Program, scenario: Scenario, part: Part, before: list[Eve
 
 def effect(turn: Turn, kind: str) -> str:
     """What a turn did, with the words that it read."""
-    told: list[str] = []
+    pieces: list[str] = []
     mnemonic, operands = turn.mnemonic, turn.operands
     if mnemonic == "OUT":
-        told.append(out_text(turn, kind))
+        pieces.append(out_text(turn, kind))
     elif mnemonic == "IN" and turn.register:
         name = port_name(kind, "IN", int(operands[1]))
-        told.append(f"{operands[0]} = {turn.register[1]} from {name}")
+        pieces.append(f"{operands[0]} = {turn.register[1]} from {name}")
     elif mnemonic == "KCALL":
         first, second = (turn.before.get(register, 0) for register in (1, 2))
-        told.append(f"calls {service_name(int(operands[0]))}, r1 = {first}, r2 = {second}")
+        pieces.append(f"calls {service_name(int(operands[0]))}, r1 = {first}, r2 = {second}")
     elif mnemonic == "RET":
-        told.append(f"replies {turn.value(0)}")
+        pieces.append(f"replies {turn.value(0)}")
     elif mnemonic in COMPARED:
-        told.append(("" if turn.goto is not None else "not ") + f"{turn.value(0)} {COMPARED[mnemonic]} {turn.value(1)}")
+        compared = f"{turn.value(0)} {COMPARED[mnemonic]} {turn.value(1)}"
+        pieces.append(compared if turn.goto is not None else f"not {compared}")
     elif mnemonic in ("LD", "ST") and not turn.register and not turn.stored:
-        told.append(refused_text(turn))
+        pieces.append(refused_text(turn))
     elif turn.register:
-        told.append(f"r{turn.register[0]} = {turn.register[1]}")
+        pieces.append(f"r{turn.register[0]} = {turn.register[1]}")
     if turn.stored:
-        told.append(f"[{turn.stored[0]}] = {turn.stored[1]}")
+        pieces.append(f"[{turn.stored[0]}] = {turn.stored[1]}")
     if turn.goto is not None:
-        told.append(f"goto {turn.goto}")
-    return ", ".join(told) + "".join(f" | {short(act)}" for act in turn.acts)
+        pieces.append(f"goto {turn.goto}")
+    return ", ".join(pieces) + "".join(f" | {short(act)}" for act in turn.acts)
 
 
 def refused_text(turn: Turn) -> str:

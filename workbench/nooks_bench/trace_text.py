@@ -80,20 +80,20 @@ def turn_of(line: str, registers: dict[int, int]) -> Turn:
     register = stored = goto = None
     acts: list[str] = []
     for effect in effects:
-        if told := SET.fullmatch(effect):
-            register = (int(told[1]), int(told[2]))
+        if match := SET.fullmatch(effect):
+            register = (int(match[1]), int(match[2]))
             registers[register[0]] = register[1]
-        elif told := STORED.fullmatch(effect):
-            stored = (int(told[1]), int(told[2]))
-        elif told := GOTO.fullmatch(effect):
-            goto = int(told[1])
+        elif match := STORED.fullmatch(effect):
+            stored = (int(match[1]), int(match[2]))
+        elif match := GOTO.fullmatch(effect):
+            goto = int(match[1])
         else:
             acts.append(effect)
     return Turn(int(found[1]), int(found[2]), found[3], before, register, stored, goto, tuple(acts))
 
 
 def parse_trace(text: str) -> Trace:
-    """The trace of a text; a mistake where it is none."""
+    """The trace of a text; a mistake if it is none."""
     lines = [line for line in text.split("\n") if line]
     head = HEAD.fullmatch(lines[0]) if lines else None
     start = START.fullmatch(lines[1]) if len(lines) > 1 else None
@@ -111,8 +111,8 @@ def parse_trace(text: str) -> Trace:
             trace.end = line
         elif found := FAULT.fullmatch(line):
             trace.items.append(Struck(int(found[1]), found[2]))
-            if told := REG_FAULT.fullmatch(found[2]):
-                now[int(told[1])] = int(told[2])
+            if match := REG_FAULT.fullmatch(found[2]):
+                now[int(match[1])] = int(match[2])
         else:
             trace.items.append(turn_of(line, now))
     if not trace.end:

@@ -37,7 +37,7 @@ SERVICES = {
     8: "yield",
 }
 
-# docs/REPORT.md has these: why a driver failed. The name of each number of a cause stands in braces.
+# docs/REPORT.md has these: why a driver failed. Each number of a cause has its name in braces.
 CAUSES = {
     "trap bad_opcode": "a word was no instruction",
     "trap bad_fetch": "its counter went past the end of the text",
@@ -93,7 +93,7 @@ def ranges_text(numbers: Iterable[int]) -> str:
 
 
 def folded(words: list[str]) -> list[str]:
-    """Equal words beside each other as one: `7 x16`. Rising ones are left out in the middle: `1 to 16`."""
+    """Equal neighbours as one: `7 x16`. Rising ones are left out in the middle: `1 to 16`."""
     pieces: list[str] = []
     at = 0
     while at < len(words):

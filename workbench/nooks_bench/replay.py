@@ -104,7 +104,7 @@ def run(args: argparse.Namespace) -> int:
     return 0
 
 
-def add_to(commands: argparse._SubParsersAction) -> None:
+def add_to(commands: argparse._SubParsersAction[argparse.ArgumentParser]) -> None:
     parser = commands.add_parser("replay", help="the schedule that gives a report of threads again", description=ABOUT)
     parser.add_argument("file", metavar="SCENARIO")
     parser.add_argument("report", metavar="REPORT", help="- is standard input")

@@ -143,7 +143,7 @@ def run(args: argparse.Namespace) -> int:
     return 0
 
 
-def add_to(commands: argparse._SubParsersAction) -> None:
+def add_to(commands: argparse._SubParsersAction[argparse.ArgumentParser]) -> None:
     parser = commands.add_parser("shrink", help="a smaller scenario of which the same holds", description=ABOUT)
     parser.add_argument("file", metavar="SCENARIO")
     parser.add_argument("--status", type=int, metavar="S", help="the run's status: 7 where a contract is broken")

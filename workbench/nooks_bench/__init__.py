@@ -1,1 +1,3 @@
-"""The workbench around the program `nooks`: it makes its inputs and draws its outputs."""
+"""A workbench around the program nooks: it makes inputs and reads outputs, and simulates nothing."""
+
+__version__ = "0.11.0"

@@ -1,13 +1,16 @@
-"""As much of JSON Schema 2020-12 as scenario.schema.json uses."""
+"""As much of JSON Schema 2020-12 as the schemas of the package use."""
 
 from __future__ import annotations
 
 import re
 from typing import Any
 
+from common import schema_file
+
 KNOWN = {
     "$schema", "$id", "$defs", "$ref", "$comment", "title", "description", "type", "const", "enum", "minimum", "maximum",
-    "minItems", "maxItems", "items", "properties", "required", "additionalProperties", "oneOf", "pattern", "if", "then",
+    "minItems", "maxItems", "items", "properties", "required", "additionalProperties", "minProperties", "maxProperties",
+    "allOf", "pattern", "if", "then",
 }
 TYPES = {"object": dict, "array": list, "string": str}
 
@@ -18,19 +21,21 @@ def is_type(value: Any, name: str) -> bool:
     return isinstance(value, TYPES[name])
 
 
-def of_object(schema: dict[str, Any], value: dict[str, Any], whole: dict[str, Any]) -> bool:
+def of_object(schema: dict[str, Any], value: dict[str, Any], file: str) -> bool:
     properties = schema.get("properties", {})
     if any(key not in value for key in schema.get("required", [])):
         return False
+    if not schema.get("minProperties", 0) <= len(value) <= schema.get("maxProperties", len(value)):
+        return False
     if schema.get("additionalProperties") is False and any(key not in properties for key in value):
         return False
-    return all(valid(properties[key], each, whole) for key, each in value.items() if key in properties)
+    return all(valid(properties[key], each, file) for key, each in value.items() if key in properties)
 
 
-def of_list(schema: dict[str, Any], value: list[Any], whole: dict[str, Any]) -> bool:
+def of_list(schema: dict[str, Any], value: list[Any], file: str) -> bool:
     if not schema.get("minItems", 0) <= len(value) <= schema.get("maxItems", len(value)):
         return False
-    return all(valid(schema.get("items", True), each, whole) for each in value)
+    return all(valid(schema.get("items", True), each, file) for each in value)
 
 
 def plain(schema: dict[str, Any], value: Any) -> bool:
@@ -48,19 +53,28 @@ def plain(schema: dict[str, Any], value: Any) -> bool:
     return True
 
 
-def valid(schema: Any, value: Any, whole: dict[str, Any]) -> bool:
-    """Whether a value is one of a schema's."""
+def referred(reference: str, file: str) -> tuple[dict[str, Any], str]:
+    """The schema that a reference of a file names, and the file that it stands in."""
+    named, _, place = reference.partition("#")
+    found = schema_file(named or file)
+    for step in place.split("/")[1:]:
+        found = found[step]
+    return found, named or file
+
+
+def valid(schema: Any, value: Any, file: str) -> bool:
+    """Whether a value is one of a schema's, which stands in a file of the package."""
     if isinstance(schema, bool):
         return schema
     assert set(schema) <= KNOWN, set(schema) - KNOWN
-    if "$ref" in schema and not valid(whole["$defs"][schema["$ref"].split("/")[-1]], value, whole):
+    if "$ref" in schema and not valid(referred(schema["$ref"], file)[0], value, referred(schema["$ref"], file)[1]):
         return False
-    if "oneOf" in schema and sum(valid(each, value, whole) for each in schema["oneOf"]) != 1:
+    if not all(valid(each, value, file) for each in schema.get("allOf", [])):
         return False
-    if "if" in schema and valid(schema["if"], value, whole) and not valid(schema["then"], value, whole):
+    if "if" in schema and valid(schema["if"], value, file) and not valid(schema["then"], value, file):
         return False
-    if isinstance(value, dict) and not of_object(schema, value, whole):
+    if isinstance(value, dict) and not of_object(schema, value, file):
         return False
-    if isinstance(value, list) and not of_list(schema, value, whole):
+    if isinstance(value, list) and not of_list(schema, value, file):
         return False
     return plain(schema, value)

@@ -20,10 +20,30 @@ CLASSES = {
 
 # The operands of each instruction: `a` and `b` are registers, `imm` is a number or a label.
 FORMS = {
-    "LI": "a imm", "LUI": "a imm", "MOV": "a b", "ADD": "a b", "SUB": "a b", "AND": "a b", "OR": "a b", "XOR": "a b",
-    "SHL": "a b", "SHR": "a b", "ADDI": "a b imm", "LD": "a b imm", "ST": "a b imm", "JMP": "imm", "BEQ": "a b imm",
-    "BNE": "a b imm", "BLT": "a b imm", "JAL": "a imm", "JR": "a", "IN": "a imm", "OUT": "a imm", "KCALL": "imm",
-    "RET": "a", "FAULT": "",
+    "LI": "a imm",
+    "LUI": "a imm",
+    "MOV": "a b",
+    "ADD": "a b",
+    "SUB": "a b",
+    "AND": "a b",
+    "OR": "a b",
+    "XOR": "a b",
+    "SHL": "a b",
+    "SHR": "a b",
+    "ADDI": "a b imm",
+    "LD": "a b imm",
+    "ST": "a b imm",
+    "JMP": "imm",
+    "BEQ": "a b imm",
+    "BNE": "a b imm",
+    "BLT": "a b imm",
+    "JAL": "a imm",
+    "JR": "a",
+    "IN": "a imm",
+    "OUT": "a imm",
+    "KCALL": "imm",
+    "RET": "a",
+    "FAULT": "",
 }
 
 # The operands of each directive.
@@ -134,7 +154,9 @@ class Text:
 
     def is_data(self, number: int) -> bool:
         """Whether a line stands among the initial words."""
-        changes = [line for line in self.lines[: number - 1] if line.statement and line.statement.text in (".text", ".data")]
+        changes = [
+            line for line in self.lines[: number - 1] if line.statement and line.statement.text in (".text", ".data")
+        ]
         whole = [line for line in changes if not line.operands and line.statement]
         return bool(whole) and whole[-1].statement is not None and whole[-1].statement.text == ".data"
 
@@ -171,7 +193,9 @@ def unknown_name(line: Line, text: Text) -> Said | None:
         return None
     if first.text == ".class" and line.operands:
         named = line.operands[0]
-        return Said(named.column, f"{named.text!r} is no class, which is block, net or sound{nearest(named.text, CLASSES)}")
+        return Said(
+            named.column, f"{named.text!r} is no class, which is block, net or sound{nearest(named.text, CLASSES)}"
+        )
     if first.text == ".entry" and line.operands:
         named = line.operands[0]
         kind = text.kind(line.number)
@@ -221,7 +245,9 @@ def wrong_operands(line: Line, text: Text) -> Said | None:
         return wrong_operand(line, first, DIRECTIVES[first.text])
     if first.text.startswith("."):
         names = ", ".join(DIRECTIVES)
-        return Said(first.column, f"{first.text!r} is no directive, of which there are {names}{nearest(first.text, DIRECTIVES)}")
+        return Said(
+            first.column, f"{first.text!r} is no directive, of which there are {names}{nearest(first.text, DIRECTIVES)}"
+        )
     if first.text in FORMS:
         if text.is_data(line.number):
             return Said(first.column, "an instruction stands here among the initial words: .text must come before it")
@@ -239,7 +265,9 @@ def number_range(line: Line, _: Text) -> Said | None:
         if token.is_number and int(token.text, 0 if token.text.startswith("0x") else 10) > most:
             return Said(token.column, f"{token.text} is too large: {line.statement.text} takes at most {most}")
     for token in line.operands[-1:]:
-        return Said(token.column, f"the label {token.text!r} stands too far on: {line.statement.text} takes at most {most}")
+        return Said(
+            token.column, f"the label {token.text!r} stands too far on: {line.statement.text} takes at most {most}"
+        )
     return None
 
 
@@ -248,12 +276,16 @@ def second_time(line: Line, text: Text) -> Said | None:
     name = line.definition.defines if line.definition else None
     if line.definition and name is not None and text.labels[name] < line.number:
         first = text.labels[name]
-        return Said(line.definition.column, f"the label {name!r} is defined a second time; the first is on line {first}")
+        return Said(
+            line.definition.column, f"the label {name!r} is defined a second time; the first is on line {first}"
+        )
     if line.statement is None:
         return None
     earlier = text.statements(line.statement.text, line.number)
     if line.statement.text == ".class" and earlier:
-        return Said(line.statement.column, f"the class is named a second time; the first is on line {earlier[0].number}")
+        return Said(
+            line.statement.column, f"the class is named a second time; the first is on line {earlier[0].number}"
+        )
     same = [each for each in earlier if each.operands[:1] and each.operands[0].text == line.operands[0].text]
     if line.statement.text == ".entry" and same:
         about = f"the entry {line.operands[0].text!r} is given a second time; the first is on line {same[0].number}"

@@ -93,7 +93,9 @@ def check(program: Program, node: Node, text: str) -> None:
     """Ends with a mistake at its place if the program would refuse the scenario."""
     size = len(text.encode())
     if size > MOST_BYTES:
-        raise Misplaced(node.place, f"the scenario has {size:,} bytes as the program reads it; it reads at most {MOST_BYTES:,}")
+        raise Misplaced(
+            node.place, f"the scenario has {size:,} bytes as the program reads it; it reads at most {MOST_BYTES:,}"
+        )
     line = program.fault_of(text)
     if line is not None:
         explained = explain_fault(parse_fault(line), node)

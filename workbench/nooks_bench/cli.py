@@ -5,10 +5,10 @@ from __future__ import annotations
 import argparse
 import sys
 
-from . import build, explain, map, replay, shrink, sweep, timeline
+from . import build, explain, gen, map, replay, shrink, sweep, timeline
 from .program import BUILT, Mistake
 
-MODULES = (build, sweep, map, timeline, explain, replay, shrink)
+MODULES = (build, gen, sweep, map, timeline, explain, replay, shrink)
 
 ABOUT = """A workbench around the proved program nooks. Each subcommand has its own --help; docs/WORKBENCH.md
 walks through a question. The program is that of --program, of the environment's NOOKS, or the repository's

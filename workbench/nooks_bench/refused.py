@@ -15,7 +15,7 @@ from .source import Node, Place, deepest
 
 LINE = re.compile(r"fault (\d+) (\w+)(?: (\d+) line (\d+))? (/\S*)")
 
-# The program reads at most so many bytes of an input, and lets the threads of a campaign's base have so many operations.
+# The program reads at most so many bytes of an input. The threads of a campaign's base have so many operations at most.
 MOST_BYTES = 1_048_576
 MOST_MEMBER_OPS = 64
 
@@ -145,7 +145,9 @@ def unknown_key(refused: Refused) -> Explained:
     named = ", ".join(json.dumps(key) for key in unknown)
     hint = close_to(unknown[0], known_keys(refused.schemas))
     keys = "a key" if len(unknown) == 1 else "keys"
-    return refused.told(f"{keys} that {kind_of_object(refused.path, node.plain())} does not have: {named}{hint}", None, place)
+    return refused.told(
+        f"{keys} that {kind_of_object(refused.path, node.plain())} does not have: {named}{hint}", None, place
+    )
 
 
 def missing_key(refused: Refused) -> Explained:
@@ -201,7 +203,9 @@ def too_many(refused: Refused) -> Explained:
     steps = refused.path.split("/")[1:]
     if steps == ["base", "threads"] and isinstance(value, list) and len(value) <= 16:
         count = sum(len(thread.get("ops", [])) for thread in value)
-        return refused.told(f"the threads have {count} operations together; a campaign's base has at most {MOST_MEMBER_OPS}", "")
+        return refused.told(
+            f"the threads have {count} operations together; a campaign's base has at most {MOST_MEMBER_OPS}", ""
+        )
     if steps[:2] == ["base", "parts"] and steps[3:] == ["faults"] and isinstance(value, list) and len(value) == 64:
         return refused.told("the struck part has 64 faults of its own; in a campaign it has at most 63", "")
     return refused.told(f"a list that is too long: it has {len(value):,} items")

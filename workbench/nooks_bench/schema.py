@@ -54,7 +54,7 @@ def holds(condition: Schema, value: Any) -> bool:
 
 
 def applying(schema: AnySchema, value: Any) -> list[AnySchema]:
-    """The schemas that a value must meet all together: this one, what it refers to, and each `then` whose `if` holds."""
+    """The schemas that a value must meet together: this one, what it refers to, and each `then` whose `if` holds."""
     if isinstance(schema, bool):
         return [schema]
     found: list[AnySchema] = [schema]
@@ -107,7 +107,9 @@ def of_key(schemas: Sequence[AnySchema], key: str) -> Any:
 def known_keys(schemas: Sequence[AnySchema]) -> list[str]:
     """The keys that an object may have by schemas that it must meet all together."""
     tables = [each["properties"] for each in schemas if isinstance(each, dict) and "properties" in each]
-    closed = [each["properties"] for each in schemas if isinstance(each, dict) and each.get("additionalProperties") is False]
+    closed = [
+        each["properties"] for each in schemas if isinstance(each, dict) and each.get("additionalProperties") is False
+    ]
     names = dict.fromkeys(key for table in closed or tables for key in table)
     return [key for key in names if not any(table.get(key) is False for table in tables)]
 

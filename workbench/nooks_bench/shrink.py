@@ -98,7 +98,7 @@ def at(value: Any, path: tuple[Any, ...]) -> Any:
 
 def is_smaller(value: Any, now: Any) -> bool:
     """Whether a number is less, or a list or a text shorter, than what stands there by now."""
-    return value < now if isinstance(value, int) else len(value) < len(now)
+    return bool(value < now) if isinstance(value, int) else len(value) < len(now)
 
 
 @dataclass(frozen=True)

@@ -38,13 +38,18 @@ def of_list(schema: dict[str, Any], value: list[Any], file: str) -> bool:
     return all(valid(schema.get("items", True), each, file) for each in value)
 
 
+def same(value: Any, other: Any) -> bool:
+    """Whether two values are the same as JSON: true is not 1."""
+    return value == other and isinstance(value, bool) == isinstance(other, bool)
+
+
 def plain(schema: dict[str, Any], value: Any) -> bool:
     """The keywords that look at the value alone."""
     if "type" in schema and not is_type(value, schema["type"]):
         return False
-    if "const" in schema and (value != schema["const"] or type(value) is not type(schema["const"])):
+    if "const" in schema and not same(value, schema["const"]):
         return False
-    if "enum" in schema and not any(value == each and type(value) is type(each) for each in schema["enum"]):
+    if "enum" in schema and not any(same(value, each) for each in schema["enum"]):
         return False
     if "pattern" in schema and isinstance(value, str) and not re.search(schema["pattern"], value):
         return False

@@ -52,7 +52,7 @@ def nooks_page(program: str, docs: str) -> str:
     lines += [
         ".SH DESCRIPTION",
         escaped(
-            "Runs device drivers in protection domains of their own, lets faults strike them, and restarts them without "
+            "Runs device drivers in protection domains of their own, lets faults strike them, and restarts them "
             "the applications that use them noticing, as Nooks with shadow drivers does. The input is read from standard "
             "input, and the report is written to standard output."
         ),

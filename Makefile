@@ -67,6 +67,8 @@ install: check-program
 	chmod -R u+rwX,go+rX,go-w $(DESTDIR)$(docdir) $(DESTDIR)$(sharedir)
 	chmod 644 $(DESTDIR)$(mandir)/nooks*.1.gz $(addprefix $(DESTDIR)$(bashdir)/,nooks nooks-bench) \
 	    $(addprefix $(DESTDIR)$(zshdir)/,_nooks _nooks-bench)
+	@# A package has its bytecode written when it is installed, and so has none in its tree.
+	[ -n "$(DESTDIR)" ] || $(PYTHON) -m compileall -q $(sharedir)/nooks_bench
 
 uninstall:
 	rm -f $(addprefix $(DESTDIR)$(bindir)/,nooks nooks-bench) $(addprefix $(DESTDIR)$(mandir)/,nooks.1.gz nooks-bench.1.gz) \

@@ -53,8 +53,8 @@ def nooks_page(program: str, docs: str) -> str:
         ".SH DESCRIPTION",
         escaped(
             "Runs device drivers in protection domains of their own, lets faults strike them, and restarts them "
-            "the applications that use them noticing, as Nooks with shadow drivers does. The input is read from standard "
-            "input, and the report is written to standard output."
+            "unseen by the applications that use them, as Nooks with shadow drivers does. The input is read from "
+            "standard input, and the report is written to standard output."
         ),
         ".SH FORMS OF WORDS",
         *items([(marked(form.words), form.about) for form in words]),

@@ -1,5 +1,5 @@
 """The work of a sweep, in batches: each a campaign over some faults, and a run of each member of which the row does not
-tell all. A batch is all that a worker gets, here or on another machine."""
+have all. A batch is all that a worker gets, here or on another machine."""
 
 from __future__ import annotations
 
@@ -15,19 +15,23 @@ from .scenario import Fault, Scenario, operations, with_faults
 MOST_OPERATIONS = 64
 MOST_OWN_FAULTS = 63
 
+Results = list[Outcome]
+
 
 @dataclass(frozen=True)
 class Batch:
-    """Some faults of one sweep. `order` is the place of the first of them in the whole."""
+    """Some faults of one base. `first` is the place of the first of them in the whole sweep, `number` that of the base
+    among its bases."""
 
     base: Scenario
     part: int
     faults: tuple[Fault, ...]
-    order: int
+    first: int
+    number: int = 0
 
 
 def rows_of(program: Program, batch: Batch) -> list[Row | None]:
-    """The campaign's rows, or none where the base is too large for a campaign."""
+    """The campaign's rows, or none if the base is too large for a campaign."""
     own = batch.base["parts"][batch.part].get("faults", [])
     if operations(batch.base) > MOST_OPERATIONS or len(own) > MOST_OWN_FAULTS:
         return [None] * len(batch.faults)
@@ -45,7 +49,7 @@ def member_outcome(program: Program, judge: Judge, batch: Batch, fault: Fault) -
     return judge.by_report(fault, parse_report(report))
 
 
-def outcomes_of(program: Program, base: Report, batch: Batch) -> list[Outcome]:
+def outcomes_of(program: Program, base: Report, batch: Batch) -> Results:
     """The outcomes of a batch's faults, in order. Equal faults are run once."""
     judge = judge_of(base, batch.base, batch.part)
     looked: dict[str, Outcome] = {}
@@ -61,13 +65,8 @@ def outcomes_of(program: Program, base: Report, batch: Batch) -> list[Outcome]:
     return found
 
 
-def run_batch(path: str, batch: Batch) -> list[tuple[str, str]]:
-    """A batch from nothing but a path and the batch, as a worker on another machine runs it: names and causes."""
+def run_batch(path: str, batch: Batch) -> Results:
+    """A batch from nothing but a path and the batch, as a worker on another machine runs it."""
     program = Program(path)
     base = parse_report(program.report(batch.base))
-    return [(outcome.name, outcome.cause) for outcome in outcomes_of(program, base, batch)]
-
-
-def batches_of(base: Scenario, part: int, faults: list[Fault], size: int) -> list[Batch]:
-    """The faults in batches of at most a size."""
-    return [Batch(base, part, tuple(faults[at : at + size]), at) for at in range(0, len(faults), size)]
+    return outcomes_of(program, base, batch)

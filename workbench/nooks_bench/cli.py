@@ -3,40 +3,109 @@
 from __future__ import annotations
 
 import argparse
+import importlib
+import os
 import sys
 
-from . import build, explain, gen, map, replay, shrink, sweep, timeline
-from .program import BUILT, Mistake
+from . import __version__
+from .messages import say
+from .program import Mistake, find_program
 
-MODULES = (build, gen, sweep, map, timeline, explain, replay, shrink)
+# The subcommands, each a module of this package, with what `--help` says of it. A module is imported only if its
+# subcommand is asked for, so that each starts fast.
+SUBCOMMANDS = {
+    "build": "write a scenario's exact JSON",
+    "gen": "operations to try one's own driver with",
+    "sweep": "what becomes of each of a set of faults",
+    "map": "a sweep as an SVG",
+    "timeline": "a report as lanes, as an SVG or as text",
+    "explain": "a report, or the line of a refused input, for people",
+    "replay": "the schedule that gives a report of threads again",
+    "shrink": "a smaller scenario of which the same holds",
+}
+
+# The exit statuses, beside 0; sweep's --fail-on adds 1. 5 is the program's own for output that cannot be written.
+MISTAKEN = 2
+UNWRITTEN = 5
+INTERRUPTED = 130
 
 ABOUT = """A workbench around the proved program nooks. Each subcommand has its own --help; docs/WORKBENCH.md
-walks through a question. The program is that of --program, of the environment's NOOKS, or the repository's
-own."""
+walks through a question. The program is that of --program, else that of the environment's NOOKS, else the first that
+./nooks, ./nooks-unproved or ./nooks-plain built, else the installed one."""
+
+EPILOG = """exit status: 0; 1 by sweep's --fail-on; 2 for a mistake, which one line on standard error reports; 5 if
+standard output cannot be written; 130 if interrupted"""
 
 
-def parser() -> argparse.ArgumentParser:
-    """The parser of the whole command line."""
-    made = argparse.ArgumentParser(prog="nooks-bench", description=ABOUT)
-    made.add_argument("--program", metavar="PATH", help=f"the program nooks (default: $NOOKS or {BUILT})")
-    commands = made.add_subparsers(title="subcommands", required=True, metavar="SUBCOMMAND")
-    for module in MODULES:
-        module.add_to(commands)
-    for command in commands.choices.values():
-        command.add_argument("--program", metavar="PATH", default=argparse.SUPPRESS, help="the program nooks")
+def parser(wanted: list[str] | None = None) -> argparse.ArgumentParser:
+    """The parser of the whole command line. Only the subcommands among the wanted words have their options then."""
+    made = argparse.ArgumentParser(prog="nooks-bench", description=ABOUT, epilog=EPILOG)
+    made.add_argument("--program", metavar="PATH", help="the program nooks")
+    made.add_argument("--version", action="store_true", help="the versions of the workbench and of the program")
+    commands = made.add_subparsers(title="subcommands", dest="subcommand", metavar="SUBCOMMAND")
+    for name, about in SUBCOMMANDS.items():
+        if wanted is None or name in wanted:
+            importlib.import_module(f".{name}", __package__).add_to(commands)
+            command = commands.choices[name]
+            command.add_argument("--program", metavar="PATH", default=argparse.SUPPRESS, help="the program nooks")
+        else:
+            commands.add_parser(name, help=about)
     return made
 
 
-def main(words: list[str] | None = None) -> int:
-    """Runs one subcommand; a mistake is one line on standard error, with status 2."""
-    args = parser().parse_args(words)
+def versions(named: str | None) -> int:
+    """Writes the version of the workbench, and that of the program if there is one."""
+    print(f"nooks-bench {__version__}")
     try:
-        return args.run(args)
+        program = find_program(named)
     except Mistake as mistake:
-        print(f"nooks-bench: {mistake}", file=sys.stderr)
-        return 2
-    except BrokenPipeError:
-        sys.stderr.close()
-        return 2
+        say(str(mistake))
+        return 0
+    print(f"{program.path}: {program.version() or 'has no --version'}")
+    return 0
+
+
+def command(words: list[str]) -> int:
+    """Does what the words ask for; the exit status."""
+    made = parser(words)
+    try:
+        args = made.parse_args(words)
+        if args.version:
+            return versions(args.program)
+        if args.subcommand is None:
+            made.error("a SUBCOMMAND is wanted")
+        status: int = args.run(args)
+        return status
+    except Mistake as mistake:
+        say(str(mistake))
+        return MISTAKEN
     except KeyboardInterrupt:
-        return 130
+        say("interrupted")
+        return INTERRUPTED
+    except SystemExit as ended:
+        return ended.code if isinstance(ended.code, int) else 0
+
+
+def unwritten(error: OSError) -> int:
+    """Reports that standard output cannot be written; an error of anything else is raised again."""
+    try:
+        sys.stdout.flush()
+    except OSError:
+        # What is still buffered is thrown away, or Python reports the error a second time at its end.
+        os.dup2(os.open(os.devnull, os.O_WRONLY), sys.stdout.fileno())
+        say(f"standard output: {error.strerror}")
+        return UNWRITTEN
+    raise error
+
+
+def main(words: list[str] | None = None) -> int:
+    """Runs the command with some words, or with those of the command line."""
+    if sys.stdout is None:
+        say("standard output is closed")
+        return UNWRITTEN
+    try:
+        status = command(sys.argv[1:] if words is None else words)
+        sys.stdout.flush()
+        return status
+    except OSError as error:
+        return unwritten(error)

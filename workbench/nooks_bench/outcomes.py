@@ -5,9 +5,10 @@ from __future__ import annotations
 
 import re
 from dataclasses import dataclass
+from typing import Any, Callable, Iterable
 
 from .program import Mistake
-from .report import Event, Report, lost_of
+from .report import Event, Part, Report
 from .scenario import Fault, Scenario
 from .words import CLAUSES, short
 
@@ -24,6 +25,9 @@ OUTCOMES = (MISSED, NO_TRACE, CHANGED, RECOVERED, LOSSES, GIVEN_UP, BROKEN)
 # Their names for --fail-on.
 SHORT_NAMES = dict(zip(("missed", "no-trace", "changed", "recovered", "losses", "given-up", "broken"), OUTCOMES))
 
+# What becomes of a base under another schedule, if it is as under its own.
+SAME = "the same"
+
 ROW = re.compile(r"\d+ status (\d+) events (\d+) failures (\d+) gone (\d+) lost (\d+)")
 
 
@@ -39,11 +43,76 @@ class Row:
 
 
 @dataclass(frozen=True)
+class Losses:
+    """What applications lost, by kind: sends with no frame on the wire, samples not played, answers `busy`, and frames
+    lost on their way in. The losses of a fault are a difference, so that a kind may be negative."""
+
+    sends: int = 0
+    samples: int = 0
+    busy: int = 0
+    frames: int = 0
+
+    @property
+    def total(self) -> int:
+        return self.sends + self.samples + self.busy + self.frames
+
+    def numbers(self) -> tuple[int, int, int, int]:
+        return (self.sends, self.samples, self.busy, self.frames)
+
+    def joined(self, other: Losses, joining: Callable[[int, int], int]) -> Losses:
+        """Kind by kind, of two numbers one."""
+        return Losses(*(joining(*pair) for pair in zip(self.numbers(), other.numbers())))
+
+    def __add__(self, other: Losses) -> Losses:
+        return self.joined(other, int.__add__)
+
+    def __sub__(self, other: Losses) -> Losses:
+        return self.joined(other, int.__sub__)
+
+
+NOTHING_LOST = Losses()
+
+# The words of a report's lines of losses and frames, by the kind that they count.
+COUNTED = {"sends": "sends", "samples": "samples", "busy": "busy",
+           "reset": "frames", "full_ring": "frames", "full_queue": "frames"}
+
+
+def losses_of_part(part: Part) -> Losses:
+    """The losses of a part by its lines `losses` and `frames`."""
+    found = dict.fromkeys(vars(NOTHING_LOST), 0)
+    for line in part.losses:
+        words = line.split(" ")
+        for name, number in zip(words[1::2], words[2::2]):
+            if name in COUNTED:
+                found[COUNTED[name]] += int(number)
+    return Losses(**found)
+
+
+def least_and_most(losses: Iterable[Losses]) -> tuple[Losses, Losses]:
+    """Of each kind the least and the greatest number among some losses."""
+    first, *others = losses
+    least = most = first
+    for each in others:
+        least = least.joined(each, lambda ours, theirs: min(ours, theirs))
+        most = most.joined(each, lambda ours, theirs: max(ours, theirs))
+    return least, most
+
+
+def losses_of(report: Report) -> Losses:
+    """The losses of all parts together."""
+    return sum((losses_of_part(part) for part in report.parts), NOTHING_LOST)
+
+
+@dataclass(frozen=True)
 class Outcome:
-    """What became of a fault, and why."""
+    """What became of a fault, why, and what was lost more than without it."""
 
     name: str
     cause: str = ""
+    losses: Losses = NOTHING_LOST
+
+    def as_json(self) -> dict[str, Any]:
+        return {"outcome": self.name, "cause": self.cause, "losses": vars(self.losses)}
 
 
 def parse_row(line: str) -> Row:
@@ -86,37 +155,39 @@ class Judge:
         turns = event.turns
         if event.cause == "trap hang" and event.burst in self.hangs:
             turns = self.hangs[event.burst]
-        return fault["after"] < turns
+        after: int = fault["after"]
+        return after < turns
 
     def by_row(self, fault: Fault, row: Row) -> Outcome | None:
-        """The outcome, where the row tells it: of a trap or a hang, since these stop the driver and nothing else."""
+        """The outcome, if the row has all of it: of a trap or a hang, since these stop the driver and nothing else, of
+        which nothing is lost. A row does not say what was lost."""
+        base = row_of(self.base)
         if not self.strikes(fault):
-            if row != row_of(self.base):
+            if row != base:
                 raise Mistake(f"a fault that does not strike has another row than the base: {fault}")
             return Outcome(MISSED)
         if fault["kind"] not in ("trap", "hang") or self.is_open or self.base.status or row.status == 7:
             return None
+        if row.lost or base.lost:
+            return None
         cause = "trap injected" if fault["kind"] == "trap" else "trap hang"
-        if row.status:
-            return Outcome(GIVEN_UP, cause)
-        return Outcome(LOSSES if row.lost > row_of(self.base).lost else RECOVERED, cause)
+        return Outcome(GIVEN_UP if row.status else RECOVERED, cause)
 
     def by_report(self, fault: Fault, report: Report) -> Outcome:
         """The outcome by a member's report."""
         if not self.strikes(fault):
             return Outcome(MISSED)
+        more = losses_of(report) - losses_of(self.base)
         for ours, theirs in zip(report.parts, self.base.parts):
             if ours.broken and (theirs.broken is None or theirs.broken[1] != ours.broken[1]):
-                return Outcome(BROKEN, f"clause {ours.broken[1]}: {CLAUSES[ours.broken[1]]}")
+                return Outcome(BROKEN, clause_text(ours.broken[1]), more)
         cause = self.cause(fault, report)
-        for ours, theirs in zip(report.parts, self.base.parts):
-            if ours.given_up and not theirs.given_up:
-                return Outcome(GIVEN_UP, cause)
+        if is_given_up(report, self.base):
+            return Outcome(GIVEN_UP, cause, more)
         if cause:
-            more = sum(lost_of(part) for part in report.parts) - sum(lost_of(part) for part in self.base.parts)
-            return Outcome(LOSSES if more > 0 else RECOVERED, cause)
-        changed = self.changes(report)
-        return Outcome(CHANGED, changed) if changed else Outcome(NO_TRACE)
+            return Outcome(LOSSES if more.total > 0 else RECOVERED, cause, more)
+        changed = changes(report, self.base)
+        return Outcome(CHANGED, changed, more) if changed else Outcome(NO_TRACE)
 
     def cause(self, fault: Fault, report: Report) -> str:
         """Why the struck driver failed: in the burst itself, or later where it failed more often than in the base."""
@@ -133,22 +204,48 @@ class Judge:
             return plain_cause(fresh[0].cause or "")
         return ""
 
-    def changes(self, report: Report) -> str:
-        """In what a run without a failure more differs from the base's: what was answered, lost, or left behind."""
-        told: list[str] = []
-        if [thread.answers for thread in report.threads] != [thread.answers for thread in self.base.threads]:
-            told.append("answers")
-        pairs = list(zip(report.parts, self.base.parts))
-        if any(ours.losses != theirs.losses for ours, theirs in pairs):
-            told.append("losses")
-        if any((ours.left, ours.config) != (theirs.left, theirs.config) for ours, theirs in pairs):
-            told.append("what is left")
-        return ", ".join(told)
+
+def clause_text(clause: int) -> str:
+    return f"clause {clause}: {CLAUSES[clause]}"
+
+
+def is_given_up(report: Report, base: Report) -> bool:
+    """Whether a part is given up that is not in the base's run."""
+    return any(ours.given_up and not theirs.given_up for ours, theirs in zip(report.parts, base.parts))
+
+
+def changes(report: Report, base: Report) -> str:
+    """In what a run without a failure more differs from the base's: what was answered, lost, or left."""
+    found: list[str] = []
+    if [thread.answers for thread in report.threads] != [thread.answers for thread in base.threads]:
+        found.append("answers")
+    pairs = list(zip(report.parts, base.parts))
+    if any(ours.losses != theirs.losses for ours, theirs in pairs):
+        found.append("losses")
+    if any((ours.left, ours.config) != (theirs.left, theirs.config) for ours, theirs in pairs):
+        found.append("what is left")
+    return ", ".join(found)
+
+
+def own_outcome(report: Report, base: Report) -> Outcome:
+    """What becomes of a scenario under a schedule, with no fault more, against its run under its own schedule. A broken
+    contract counts even if the scenario breaks it under its own schedule too."""
+    more = losses_of(report) - losses_of(base)
+    for part in report.parts:
+        if part.broken:
+            return Outcome(BROKEN, clause_text(part.broken[1]), more)
+    if is_given_up(report, base):
+        return Outcome(GIVEN_UP, "", more)
+    failures = sum(part.failures for part in report.parts) - sum(part.failures for part in base.parts)
+    if failures > 0:
+        return Outcome(LOSSES if more.total > 0 else RECOVERED, "", more)
+    changed = changes(report, base)
+    return Outcome(CHANGED, changed, more) if changed else Outcome(SAME)
 
 
 def plain_cause(cause: str) -> str:
-    """A cause without the address, so that equal ones fold."""
-    return re.sub(r"^(trap (?:foreign_write|bad_read)) \d+$", r"\1", cause)
+    """A cause without the address or the status, so that equal ones fold."""
+    return re.sub(r"^(trap (?:foreign_write|bad_read)|bad_reply) \d+$", r"\1", cause)
 
 
 def judge_of(base: Report, scenario: Scenario, part: int) -> Judge:

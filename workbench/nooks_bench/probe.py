@@ -3,12 +3,13 @@ stands, and which turns are acts on the device."""
 
 from __future__ import annotations
 
-from concurrent.futures import ProcessPoolExecutor
+import functools
 from dataclasses import dataclass, field
 
+from .pool import each_done
 from .program import Program
 from .report import Event, parse_report
-from .scenario import MOST_FAULTS, Scenario, with_faults
+from .scenario import MOST_FAULTS, Fault, Scenario, with_faults
 
 # A word that stops the driver and tells where it stands: IN r0 from a port that no device has, the address behind
 # this number. So the trap `bad_port` names the address.
@@ -18,16 +19,20 @@ FIRST_PORT = 0x8000
 
 @dataclass
 class Probe:
-    """Asks about one part of one scenario. `listing` has the instructions of the part's driver by address."""
+    """Asks about one part of one scenario."""
 
     program: Program
     scenario: Scenario
     part: int
-    listing: list[str]
     near: int = 0
     counts: dict[tuple[int, int], int] = field(default_factory=dict)
 
-    def burst_under(self, burst: int, faults: list[dict[str, int | str]]) -> Event | None:
+    @functools.cached_property
+    def listing(self) -> list[str]:
+        """The instructions of the part's driver by address."""
+        return self.program.listing(self.scenario["parts"][self.part]["driver"])
+
+    def burst_under(self, burst: int, faults: list[Fault]) -> Event | None:
         """The event of a burst in the run with some faults more."""
         text = self.program.report(with_faults(self.scenario, self.part, faults))
         found = [event for event in parse_report(text).parts[self.part].bursts() if event.burst == burst]
@@ -80,21 +85,24 @@ class Probe:
         return found
 
 
-def probe_of(program: Program, scenario: Scenario, part: int) -> Probe:
-    return Probe(program, scenario, part, program.listing(scenario["parts"][part]["driver"]))
+@dataclass(frozen=True)
+class Piece:
+    """Some places, each a burst and the turns before it, with whom to ask about them."""
+
+    probe: Probe
+    places: list[tuple[int, int]]
 
 
-def instructions_of(probe: Probe, places: list[tuple[int, int]]) -> list[str]:
-    return [probe.instruction(*place) for place in places]
+def instructions_of(piece: Piece) -> list[str]:
+    return [piece.probe.instruction(*place) for place in piece.places]
 
 
 def instructions(probe: Probe, places: list[tuple[int, int]], jobs: int) -> dict[tuple[int, int], str]:
-    """The instructions at some places, each a burst and the turns before it. They are asked for in pieces, so that one
-    begins its search near where the one before it ended."""
+    """The instructions at some places. They are asked for in pieces, so that one begins its search near where the one
+    before it ended."""
     size = max(8, -(-len(places) // jobs))
-    pieces = [places[at : at + size] for at in range(0, len(places), size)]
-    if len(pieces) < 2:
-        return dict(zip(places, instructions_of(probe, places)))
-    with ProcessPoolExecutor(jobs) as pool:
-        found = list(pool.map(instructions_of, [probe] * len(pieces), pieces))
-    return {place: text for piece, texts in zip(pieces, found) for place, text in zip(piece, texts)}
+    pieces = [Piece(probe, places[at : at + size]) for at in range(0, len(places), size)]
+    found: dict[tuple[int, int], str] = {}
+    for number, texts in each_done(instructions_of, pieces, jobs):
+        found.update(zip(pieces[number].places, texts))
+    return found

@@ -4,28 +4,41 @@ from __future__ import annotations
 
 import json
 import os
+import shutil
 import subprocess
 from dataclasses import dataclass
 from typing import Any
 
 TOP = os.path.dirname(os.path.dirname(os.path.dirname(os.path.abspath(__file__))))
-BUILT = os.path.join(TOP, "crates/nooks_main/out/nooks_main")
 
-# The statuses behind which a whole report stands.
+# Where the repository's scripts leave the program that they build, from the one that is taken first.
+BUILT = {
+    "./nooks": os.path.join(TOP, "crates/nooks_main/out/nooks_main"),
+    "./nooks-unproved": os.path.join(TOP, "out/unproved/nooks"),
+    "./nooks-plain": os.path.join(TOP, "out/plain/nooks"),
+}
+
+# The statuses with which a whole report was written.
 REPORTED = (0, 1, 7)
 REFUSED = 3
 
+# How the line of a version begins: that of the program, and that of the plain one.
+NAMES = ("nooks", "plain")
+
 
 class Mistake(Exception):
-    """Something that the caller of the workbench can mend; its text is told on one line."""
+    """Something that the caller of the workbench can mend; its text is written on one line."""
 
 
 class Refusal(Mistake):
     """The program refused its input. The line is its own, `fault NUMBER NAME PATH`."""
 
     def __init__(self, line: str) -> None:
-        super().__init__(f"the program refuses the input: {line}")
+        super().__init__(line)
         self.line = line
+
+    def __str__(self) -> str:
+        return f"the program refuses the input: {self.line}"
 
 
 @dataclass(frozen=True)
@@ -49,10 +62,22 @@ class Program:
             ended = subprocess.run([self.path, *words], input=given.encode(), capture_output=True, check=False)
         except OSError as error:
             raise Mistake(f"{self.path} cannot be run ({error.strerror}); --program names another") from error
-        return Ended(ended.returncode, ended.stdout.decode(), ended.stderr.decode())
+        out, err = (text.decode(errors="replace") for text in (ended.stdout, ended.stderr))
+        return Ended(ended.returncode, out, err)
+
+    def version(self) -> str | None:
+        """The program's own line of its version, None if it has none. A program that answers neither with such a line
+        nor with a usage line that names `run` is no nooks program."""
+        ended = self.ask(["--version"], "")
+        line = (ended.out or ended.err).strip().partition("\n")[0]
+        if ended.status == 0 and line.startswith(NAMES):
+            return line
+        if line.startswith("usage: ") and "run" in line.split():
+            return None
+        raise Mistake(f"{self.path} is no nooks program: it does not answer --version as one does")
 
     def answer(self, words: list[str], given: str, statuses: tuple[int, ...] = (0,)) -> Ended:
-        """Runs it where only some statuses are an answer; any other is a mistake that tells what the program said."""
+        """Runs it if only some statuses are an answer; any other is a mistake with what the program said."""
         ended = self.ask(words, given)
         if ended.status == REFUSED:
             raise Refusal(ended.out.strip())
@@ -86,9 +111,34 @@ class Program:
         return code[:words]
 
 
+def installed() -> str | None:
+    """The program `nooks` on the path. The repository's script of that name, which may begin a proof, is not taken."""
+    found = shutil.which("nooks")
+    if found is None:
+        return None
+    folder = os.path.dirname(os.path.realpath(found))
+    return None if os.path.exists(os.path.join(folder, "crates.txt")) else found
+
+
+def default_path() -> str:
+    """The program that is taken if none is named: the first that is built in the repository, or the installed one."""
+    for path in BUILT.values():
+        if os.access(path, os.X_OK):
+            return path
+    found = installed()
+    if found is None:
+        scripts = list(BUILT)
+        others = f"{', '.join(scripts[:-1])} or {scripts[-1]}"
+        raise Mistake(f"no program is built: {others} builds one; --program or $NOOKS names another")
+    return found
+
+
 def find_program(named: str | None) -> Program:
-    """The program that is named, that of the environment's NOOKS, or the repository's built one."""
-    path = named or os.environ.get("NOOKS") or BUILT
-    if not os.access(path, os.X_OK):
-        raise Mistake(f"{path} is not there: ./nooks builds it at its first run; --program names another")
-    return Program(os.path.abspath(path))
+    """The program that is named, that of the environment's NOOKS, or the default one. It is asked whether it is a nooks
+    program."""
+    path = named or os.environ.get("NOOKS") or default_path()
+    if not os.access(path, os.X_OK) or os.path.isdir(path):
+        raise Mistake(f"{path} is no program that can be run; --program or $NOOKS names another")
+    program = Program(os.path.abspath(path))
+    program.version()
+    return program

@@ -4,44 +4,34 @@ from __future__ import annotations
 
 import argparse
 import json
-import os
 import sys
-from dataclasses import dataclass
-from typing import Any
+from dataclasses import dataclass, field
+from typing import Any, Iterator, Sequence
 
-from .batches import batches_of
-from .engines import CLUSTER_BATCH, Progress, local_size, run_dask, run_local
-from .faults import Selection, add_selection, faults_of, selection_of
-from .outcomes import OUTCOMES, SHORT_NAMES, judge_of, place_of
-from .probe import instructions, probe_of
+from .batches import Batch, Results
+from .build import built, check
+from .engines import CLUSTER_BATCH, local_size, run_dask, run_local
+from .faults import GREATEST, Selection, add_selection, check_range, selection_of
+from .journal import Journal, heading_of
+from .messages import say
+from .model import Entry, Swept
+from .outcomes import OUTCOMES, SAME, SHORT_NAMES, Outcome, judge_of, own_outcome, place_of, row_of
+from .plans import Plan, batches_of, plans_of
+from .pool import processors
+from .probe import Probe, instructions
 from .program import Mistake, Program, find_program
+from .progress import Progress
 from .report import Report, parse_report
-from .scenario import Fault, Scenario, read_scenario, with_limit, with_schedule
+from .scenario import Scenario, with_limit, with_schedule
+from .source import read_text
 from .table import fold, table_lines, write_members
+from .totals import GROUPS, counts_of, coverage_of, group_lines, groups_of, own_groups, own_lines, total_lines, wilson
 
-ABOUT = """Runs the scenario FILE once, then with each of a set of faults, and tells of each what became of it
+INTERRUPTED = 130
+
+ABOUT = """Runs the scenario FILE once, then with each of a set of faults, and reports for each what became of it
 against the run without it. Rows of one outcome, cause and place are folded, with their number and one fault of
-them as JSON."""
-
-
-@dataclass(frozen=True)
-class Entry:
-    """One fault with what became of it."""
-
-    fault: Fault
-    outcome: str
-    cause: str
-    place: str
-    instruction: str = ""
-
-
-@dataclass(frozen=True)
-class Swept:
-    """The sweep of one base: one scenario under one schedule."""
-
-    base: Scenario
-    report: Report
-    entries: list[Entry]
+them as JSON. FILE is exact JSON, or a scenario as `build` takes it."""
 
 
 @dataclass(frozen=True)
@@ -51,117 +41,267 @@ class How:
     jobs: int
     quiet: bool
     instructions: bool
-    numbered: bool
     dask: str | None = None
     dask_program: str | None = None
 
 
-def sweep_base(program: Program, base: Scenario, selection: Selection, how: How) -> Swept:
-    """Sweeps one base."""
-    report = parse_report(program.report(base))
-    if not 0 <= selection.part < len(report.parts):
-        raise Mistake(f"there is no part {selection.part}")
-    part = report.parts[selection.part]
-    probe = probe_of(program, base, selection.part)
-    faults = faults_of(selection, part, probe)
-    progress = Progress(len(faults), how.quiet)
-    if how.dask:
-        batches = batches_of(base, selection.part, faults, CLUSTER_BATCH)
-        results = run_dask(how.dask, how.dask_program or program.path, batches, progress.told)
-    else:
-        batches = batches_of(base, selection.part, faults, local_size(len(faults), how.jobs))
-        results = run_local(program.path, batches, how.jobs, progress.told)
-    found = [result for batch in results for result in batch]
-    judge = judge_of(report, base, selection.part)
-    texts: dict[tuple[int, int], str] = {}
-    if how.instructions:
-        places = sorted({(fault["burst"], fault["after"]) for fault in faults if judge.strikes(fault)})
-        texts = instructions(probe, places, how.jobs)
-    entries = []
-    for fault, (name, cause) in zip(faults, found):
-        place = place_of(judge.burst(fault), report, selection.part, how.numbered)
-        entries.append(Entry(fault, name, cause, place, texts.get((fault["burst"], fault["after"]), "")))
-    return Swept(base, report, entries)
+@dataclass
+class Sweep:
+    """A sweep that is run: what is known of each fault so far, by its place in the whole. `first` is the report of the
+    scenario under its own schedule."""
+
+    program: Program
+    selection: Selection
+    how: How
+    plans: list[Plan]
+    first: Report
+    journal: Journal | None = None
+    known: list[Outcome | None] = field(default_factory=list)
+    texts: dict[tuple[int, int, int], str] = field(default_factory=dict)
+    interrupted: bool = False
+
+    def batches(self) -> list[Batch]:
+        """The work that is left."""
+        chosen = len(self.known)
+        seconds = max(plan.seconds for plan in self.plans)
+        size = CLUSTER_BATCH if self.how.dask else local_size(chosen, self.how.jobs, seconds)
+        return batches_of(self.plans, self.selection.part, self.known, size)
+
+    def results(self, batches: list[Batch]) -> Iterator[tuple[int, Results]]:
+        """The place and the results of each batch as it is done."""
+        if self.how.dask:
+            return run_dask(self.how.dask, self.how.dask_program or self.program.path, batches)
+        return run_local(self.program.path, batches, self.how.jobs)
+
+    def take(self, first: int, results: Results) -> None:
+        self.known[first : first + len(results)] = results
+
+    def run(self) -> None:
+        """Runs what is left; an interruption ends it with what is known so far."""
+        progress = Progress(len(self.known), self.how.quiet, len(self.plans))
+        progress.take([outcome for outcome in self.known if outcome], 0)
+        batches = self.batches()
+        try:
+            for place, results in self.results(batches):
+                batch = batches[place]
+                self.take(batch.first, results)
+                if self.journal:
+                    self.journal.add(batch.first, results)
+                progress.take(results, batch.number)
+            if self.how.instructions:
+                self.ask_instructions()
+        except KeyboardInterrupt:
+            self.interrupted = True
+        progress.end()
+
+    def ask_instructions(self) -> None:
+        """Asks which instruction stands at each place that was struck."""
+        for number, plan in enumerate(self.plans):
+            judge = judge_of(plan.report, plan.base, self.selection.part)
+            struck = [fault for fault in plan.faults if judge.strikes(fault)]
+            places = sorted({(fault["burst"], fault["after"]) for fault in struck})
+            probe = Probe(self.program, plan.base, self.selection.part)
+            for (burst, after), text in instructions(probe, places, self.how.jobs).items():
+                self.texts[number, burst, after] = text
+
+    def entries(self, number: int) -> list[Entry]:
+        """The faults of a base of which the outcome is known."""
+        plan = self.plans[number]
+        judge = judge_of(plan.report, plan.base, self.selection.part)
+        entries: list[Entry] = []
+        for fault, outcome in zip(plan.faults, self.known[plan.first :]):
+            if outcome is not None:
+                place = place_of(judge.burst(fault), plan.report, self.selection.part, len(self.plans) == 1)
+                text = self.texts.get((number, fault["burst"], fault["after"]), "")
+                entries.append(Entry(fault, outcome.name, outcome.cause, place, text, outcome.losses))
+        return entries
+
+    def runs(self) -> list[Swept]:
+        """What is known, base by base."""
+        return [
+            Swept(plan.base, plan.report, self.entries(number), own_outcome(plan.report, self.first), len(plan.faults))
+            for number, plan in enumerate(self.plans)
+        ]
 
 
-def bases_of(args: argparse.Namespace) -> list[Scenario]:
-    """The scenario, with another limit where one is named, or under so many drawn schedules."""
-    base = read_scenario(args.file)
-    if args.limit is not None:
-        if not 0 <= args.part < len(base["parts"]):
-            raise Mistake(f"there is no part {args.part}")
-        base = with_limit(base, args.part, args.limit)
+def scenario_of(program: Program, file: str) -> Scenario:
+    """The scenario of a file: exact JSON, or as `build` takes it. A refused one is reported with its place."""
+    text = read_text(file)
+    try:
+        value = json.loads(text)
+    except ValueError:
+        value = None
+    if isinstance(value, dict) and {"base", "faults"} <= set(value):
+        raise Mistake(f"{file} is a campaign: a sweep takes its base, and chooses the faults")
+    if value is None or program.fault_of(text) is not None:
+        node = built(file, text)
+        value = node.plain()
+        check(program, node, json.dumps(value))
+    if not isinstance(value, dict) or not isinstance(value.get("parts"), list):
+        raise Mistake(f"{file} is no scenario")
+    return value
+
+
+def check_options(args: argparse.Namespace) -> None:
+    """What can be checked before the program is asked."""
+    for option, ends in {"limit": (0, 16), "schedules": (1, GREATEST), "jobs": (1, 4096)}.items():
+        check_range(option, getattr(args, option), ends)
+    if args.resume and not args.journal:
+        raise Mistake("--resume is for --journal")
+    if args.dask_program and not args.dask:
+        raise Mistake("--dask-program is for --dask")
+
+
+def bases_of(args: argparse.Namespace, base: Scenario) -> list[Scenario]:
+    """The scenario itself, or under as many drawn schedules as are asked for."""
     if args.schedules is None:
         return [base]
     return [with_schedule(base, {"kind": "drawn", "start": args.seed + each}) for each in range(args.schedules)]
 
 
-def swept(args: argparse.Namespace) -> list[Swept]:
-    """All that the options ask for."""
-    program = find_program(args.program)
+def journal_of(args: argparse.Namespace, sweep: Sweep, base: Scenario) -> None:
+    """Opens the journal, and takes what it has."""
+    if not args.journal:
+        return
+    choice = {**vars(sweep.selection), "schedules": args.schedules}
+    faults = [plan.faults for plan in sweep.plans]
+    version = sweep.program.version() or "no version"
+    sweep.journal = Journal(args.journal)
+    sweep.journal.open(heading_of(version, base, choice, faults), args.resume)
+    for place, outcome in sweep.journal.known.items():
+        if place < len(sweep.known):
+            sweep.known[place] = outcome
+
+
+def sweep_of(args: argparse.Namespace) -> Sweep:
+    """Runs all that the options ask for."""
+    check_options(args)
     selection = selection_of(args)
-    how = How(max(1, args.jobs), args.quiet, args.instructions, args.schedules is None, args.dask, args.dask_program)
-    return [sweep_base(program, base, selection, how) for base in bases_of(args)]
+    how = How(args.jobs, args.quiet, args.instructions, args.dask, args.dask_program)
+    program = find_program(args.program)
+    base = scenario_of(program, args.file)
+    if not args.part < len(base["parts"]):
+        raise Mistake(f"there is no part {args.part}: the scenario has {len(base['parts'])}")
+    if args.limit is not None:
+        base = with_limit(base, args.part, args.limit)
+    plans = plans_of(program.path, selection, bases_of(args, base), how.jobs)
+    first = plans[0].report if args.schedules is None else parse_report(program.report(base))
+    sweep = Sweep(program, selection, how, plans, first)
+    sweep.known = [None for plan in plans for _ in plan.faults]
+    journal_of(args, sweep, base)
+    sweep.run()
+    if sweep.journal:
+        sweep.journal.close()
+    return sweep
 
 
-def counts_of(runs: list[Swept]) -> dict[str, int]:
-    """How often each outcome came, from the mildest to the worst."""
-    names = [entry.outcome for run in runs for entry in run.entries]
-    return {name: names.count(name) for name in OUTCOMES if name in names}
+def swept(args: argparse.Namespace) -> list[Swept]:
+    """The whole sweep that the options ask for; an interrupted one is no whole."""
+    sweep = sweep_of(args)
+    if sweep.interrupted:
+        raise KeyboardInterrupt
+    return sweep.runs()
 
 
-def run_json(run: Swept) -> dict[str, Any]:
-    faults = [vars(each) for each in run.entries]
-    return {"base": run.base, "status": run.report.status, "faults": faults}
+def base_lines(report: Report) -> list[str]:
+    """What the run without a fault more was like."""
+    row = row_of(report)
+    lines = [f"without: status {row.status}, {row.events} events, {row.failures} failures, "
+             f"{row.gone} gone, {row.lost} lost"]
+    for part in report.parts:
+        if part.broken:
+            lines.append(f"without: the contract of {part.name} is broken at event {part.broken[0]}, clause {part.broken[1]}")
+    return lines
 
 
-def as_json(runs: list[Swept], part: int) -> dict[str, Any]:
+def as_json(sweep: Sweep, runs: list[Swept], args: argparse.Namespace) -> dict[str, Any]:
     """A sweep for tools."""
-    rows = [vars(row) | {"schedule": row.base.get("schedule")} for row in fold(runs)]
-    for row in rows:
-        del row["base"]
-    return {
-        "part": part,
-        "outcomes": counts_of(runs),
-        "rows": rows,
-        "runs": [run_json(run) for run in runs],
+    entries = [entry for run in runs for entry in run.entries]
+    counts = counts_of(entries)
+    shown: dict[str, Any] = {
+        "part": args.part,
+        "chosen": len(sweep.known),
+        "done": len(entries),
+        "outcomes": counts,
+        "struck": vars(coverage_of(runs, args.part)),
+        "rows": [row.as_json() for row in fold(runs, args.amounts)],
+        "per": {by: [group.as_json() for group in groups_of(runs, args.part, by)] for by in args.per or ()},
+        "runs": [run.as_json() for run in runs],
     }
+    if args.random is not None:
+        shown["intervals"] = {name: wilson(count, len(entries)) for name, count in counts.items()}
+    if args.schedules is not None:
+        shown["schedules"] = [group.as_json() for group in own_groups(runs)]
+    return shown
+
+
+def as_text(sweep: Sweep, runs: list[Swept], args: argparse.Namespace) -> str:
+    """A sweep for people."""
+    lines = base_lines(sweep.first)
+    if args.schedules is not None:
+        lines += own_lines(runs)
+    rows = fold(runs, args.amounts)
+    lines += ["", *table_lines(rows, len(runs), args.members)]
+    for by in args.per or ():
+        lines += ["", *group_lines(runs, args.part, by)]
+    lines += ["", *total_lines(runs, args.part, args.random is not None)]
+    return "\n".join(lines)
+
+
+def fails(runs: Sequence[Swept], named: str) -> bool:
+    """Whether an outcome is as bad as the named one or worse: that of a fault, or of a base without one."""
+    least = OUTCOMES.index(SHORT_NAMES[named])
+    names = {entry.outcome for run in runs for entry in run.entries}
+    names |= {run.own.name for run in runs if run.own.name != SAME}
+    return any(OUTCOMES.index(name) >= least for name in names)
 
 
 def run(args: argparse.Namespace) -> int:
-    runs = swept(args)
+    sweep = sweep_of(args)
+    runs = sweep.runs()
     if args.members:
-        write_members(runs, args.part, args.members)
+        write_members(fold(runs, args.amounts), args.part, args.members)
     if args.json:
-        json.dump(as_json(runs, args.part), sys.stdout)
+        json.dump(as_json(sweep, runs, args), sys.stdout)
         sys.stdout.write("\n")
     else:
-        print("\n".join(table_lines(runs, counts_of(runs), args.members)))
-    if args.fail_on:
-        least = OUTCOMES.index(SHORT_NAMES[args.fail_on])
-        return int(any(OUTCOMES.index(name) >= least for name in counts_of(runs)))
-    return 0
+        print(as_text(sweep, runs, args))
+    if sweep.interrupted:
+        done = sum(outcome is not None for outcome in sweep.known)
+        more = "; the same with --resume goes on" if args.journal else ""
+        say(f"interrupted: {done:,} of {len(sweep.known):,} faults{more}")
+        return INTERRUPTED
+    return int(bool(args.fail_on) and fails(runs, args.fail_on))
 
 
 def add_sweep_options(parser: argparse.ArgumentParser, needed: bool = True) -> None:
     """The options of a sweep, which `map` takes too."""
-    about = "a scenario as exact JSON; - is standard input"
-    parser.add_argument("file", metavar="FILE", nargs=None if needed else "?", help=about)
+    about = "a scenario, as exact JSON or as `build` takes it; - is standard input"
+    if needed:
+        parser.add_argument("file", metavar="FILE", help=about)
+    else:
+        parser.add_argument("file", metavar="FILE", nargs="?", help=about)
     add_selection(parser)
-    parser.add_argument("--limit", type=int, metavar="L", help="let the part be recovered so many times")
+    parser.add_argument("--limit", type=int, metavar="L", help="let the part be recovered L times")
     parser.add_argument("--schedules", type=int, metavar="N", help="under N drawn schedules, from --seed on")
-    processors = os.cpu_count() or 1
-    parser.add_argument("--jobs", type=int, default=processors, metavar="J", help="how many runs beside each other")
+    about = "how many runs at a time (default: one for each processor)"
+    parser.add_argument("--jobs", type=int, default=processors(), metavar="J", help=about)
     parser.add_argument("--quiet", action="store_true", help="no progress on standard error")
+    about = "write the outcomes that are known to FILE, line by line"
+    parser.add_argument("--journal", metavar="FILE", help=about)
+    parser.add_argument("--resume", action="store_true", help="go on with the journal, if it is there")
     parser.add_argument("--dask", metavar="ADDRESS", help="give the work to the Dask scheduler there (tcp://HOST:8786)")
     parser.add_argument("--dask-program", metavar="PATH", help="where the program is on the cluster's machines")
 
 
-def add_to(commands: argparse._SubParsersAction) -> None:
+def add_to(commands: argparse._SubParsersAction[argparse.ArgumentParser]) -> None:
     parser = commands.add_parser("sweep", help="what becomes of each of a set of faults", description=ABOUT)
     add_sweep_options(parser)
     about = "ask which instruction stands at each place, and fold by it"
     parser.add_argument("--instructions", action="store_true", help=about)
+    parser.add_argument("--amounts", action="store_true", help="a row for each amount that is lost")
+    about = f"count the outcomes by this too; may be given again: {', '.join(GROUPS)}"
+    parser.add_argument("--per", action="append", choices=GROUPS, metavar="GROUP", help=about)
     parser.add_argument("--members", metavar="FOLDER", help="write a scenario for each row, and print how to run it")
     parser.add_argument("--json", action="store_true", help="write JSON for tools")
     parser.add_argument("--fail-on", choices=SHORT_NAMES, metavar="OUTCOME",

@@ -1,25 +1,27 @@
-"""The table of a sweep: entries of one outcome, cause and place in one row."""
+"""The table of a sweep: entries of one outcome, cause, place and kinds of losses in one row."""
 
 from __future__ import annotations
 
 import json
 import os
 from dataclasses import dataclass, field
-from typing import TYPE_CHECKING
+from typing import Any, Sequence
 
 from .jsontext import json_text
-from .outcomes import OUTCOMES, row_of
+from .model import Entry, Swept
+from .outcomes import NOTHING_LOST, OUTCOMES, Losses, least_and_most
 from .program import Mistake
 from .scenario import Fault, Scenario, with_faults
-from .words import ranges_text
+from .words import counted, ranges_text
 
-if TYPE_CHECKING:
-    from .sweep import Swept
+# A list of turns is shortened if its text is longer.
+LONGEST_LIST = 60
 
 
 @dataclass
 class Folded:
-    """A row: how many faults, one of them, and the turns at which they strike."""
+    """A row: how many faults, one of them, the turns at which they strike, what they lose at least and at most, and
+    where the draws of the schedules begin under which they come."""
 
     outcome: str
     cause: str
@@ -27,59 +29,105 @@ class Folded:
     instruction: str
     fault: Fault
     base: Scenario
+    least: Losses
+    most: Losses
     count: int = 0
     after: list[int] = field(default_factory=list)
+    starts: list[int] = field(default_factory=list)
+
+    def take(self, entry: Entry, start: int | None) -> None:
+        """Takes an entry more."""
+        self.count += 1
+        self.least, self.most = least_and_most((self.least, self.most, entry.losses))
+        self.after.append(entry.fault["after"])
+        if start is not None and start not in self.starts[-1:]:
+            self.starts.append(start)
+
+    def as_json(self) -> dict[str, Any]:
+        shown = {key: value for key, value in vars(self).items() if key not in ("base", "least", "most")}
+        return {**shown, "losses": losses_json(self.least, self.most), "schedule": self.base.get("schedule")}
 
 
-def fold(runs: list[Swept]) -> list[Folded]:
-    """The rows, from the worst outcome on, in the order of their first faults."""
-    rows: dict[tuple[str, ...], Folded] = {}
+def fold(runs: Sequence[Swept], by_amount: bool = False) -> list[Folded]:
+    """The rows, from the worst outcome on, in the order of their first faults. Faults that lose other kinds of things
+    are in rows of their own; with `by_amount` those that lose other amounts, too."""
+    rows: dict[tuple[Any, ...], Folded] = {}
     for run in runs:
         for entry in run.entries:
-            key = (entry.outcome, entry.cause, entry.place, entry.instruction)
-            row = rows.setdefault(key, Folded(*key, entry.fault, run.base))
-            row.count += 1
-            if entry.fault["after"] not in row.after:
-                row.after.append(entry.fault["after"])
+            losses = entry.losses
+            amounts = losses.numbers() if by_amount else tuple(number != 0 for number in losses.numbers())
+            texts = (entry.outcome, entry.cause, entry.place, entry.instruction)
+            key = (*texts, *amounts)
+            if key not in rows:
+                rows[key] = Folded(*texts, entry.fault, run.base, losses, losses)
+            rows[key].take(entry, run.start)
+    for row in rows.values():
+        row.after = sorted(set(row.after))
     return sorted(rows.values(), key=lambda row: -OUTCOMES.index(row.outcome))
+
+
+def spans(least: Losses, most: Losses) -> list[tuple[str, int, int]]:
+    """The kinds of which anything is lost, with the least and the greatest amount."""
+    named = zip(vars(NOTHING_LOST), least.numbers(), most.numbers())
+    return [(kind, low, high) for kind, low, high in named if low or high]
+
+
+def losses_json(least: Losses, most: Losses) -> dict[str, list[int]]:
+    """For tools: of each kind of which anything is lost the least and the greatest amount."""
+    return {kind: [low, high] for kind, low, high in spans(least, most)}
+
+
+def losses_text(least: Losses, most: Losses) -> str:
+    """What is lost: `samples 4-7, busy 1`."""
+    pieces = []
+    for kind, low, high in spans(least, most):
+        joined = f"{low}-{high}" if low >= 0 else f"{low} to {high}"
+        pieces.append(f"{kind} {low if low == high else joined}")
+    return ", ".join(pieces)
+
+
+def after_text(after: list[int]) -> str:
+    """The turns of a row; a long list by its ends and its length."""
+    text = ranges_text(after)
+    return text if len(text) <= LONGEST_LIST else f"{after[0]}-{after[-1]} ({len(after)} of these turns)"
 
 
 def member_path(folder: str, number: int) -> str:
     return os.path.join(folder, f"row-{number}.json")
 
 
-def write_members(runs: list[Swept], part: int, folder: str) -> None:
+def write_members(rows: Sequence[Folded], part: int, folder: str) -> None:
     """Writes the scenario of each row's fault."""
     try:
         os.makedirs(folder, exist_ok=True)
-        for number, row in enumerate(fold(runs), 1):
+        for number, row in enumerate(rows, 1):
             with open(member_path(folder, number), "w", encoding="utf-8") as file:
                 file.write(json_text(with_faults(row.base, part, [row.fault])) + "\n")
     except OSError as error:
         raise Mistake(f"{folder}: {error.strerror}") from error
 
 
-def base_line(runs: list[Swept]) -> str:
-    """What the run without a fault more was like."""
-    row = row_of(runs[0].report)
-    under = f" (the first of {len(runs)} schedules)" if len(runs) > 1 else ""
-    return (f"without: status {row.status}, {row.events} events, {row.failures} failures, "
-            f"{row.gone} gone, {row.lost} lost{under}")
+def row_lines(row: Folded, schedules: int) -> list[str]:
+    """A row as text; with the schedules, if there are several."""
+    at = f", at {row.instruction}" if row.instruction else ""
+    lost = losses_text(row.least, row.most)
+    lines = [
+        f"{row.count:6}  {row.outcome}" + (f": {row.cause}" if row.cause else ""),
+        *([f"        lost: {lost}"] if lost else []),
+        f"        {row.place}{at}, after {after_text(row.after)}",
+        f"        {json.dumps(row.fault)}",
+    ]
+    if schedules > 1:
+        others = f", and under {counted(len(row.starts) - 1, 'other')}" if len(row.starts) > 1 else ""
+        lines.append(f"        schedule {json.dumps(row.base['schedule'])}{others}")
+    return lines
 
 
-def table_lines(runs: list[Swept], counts: dict[str, int], folder: str | None) -> list[str]:
-    """The table as text."""
-    lines = [base_line(runs), ""]
-    for number, row in enumerate(fold(runs), 1):
-        lines.append(f"{row.count:6}  {row.outcome}" + (f": {row.cause}" if row.cause else ""))
-        at = f", at {row.instruction}" if row.instruction else ""
-        lines.append(f"        {row.place}{at}, after {ranges_text(row.after)}")
-        lines.append(f"        {json.dumps(row.fault)}")
-        if len(runs) > 1:
-            lines.append(f"        schedule {json.dumps(row.base['schedule'])}")
+def table_lines(rows: Sequence[Folded], schedules: int, folder: str | None) -> list[str]:
+    """The rows as text."""
+    lines: list[str] = []
+    for number, row in enumerate(rows, 1):
+        lines.extend(row_lines(row, schedules))
         if folder:
             lines.append(f"        nooks run < {member_path(folder, number)}")
-    lines.append("")
-    lines.extend(f"{count:6}  {name}" for name, count in counts.items())
-    lines.append(f"{sum(counts.values()):6}  faults")
     return lines

@@ -106,7 +106,7 @@ class Installed(unittest.TestCase):
 
     def test_the_installed_commands_run(self):
         path = f"{self.path('usr/bin')}:/usr/bin:/bin"
-        environment = {"PATH": path, "NOOKS": self.path("usr/bin/nooks")}
+        environment = {"PATH": path, "PYTHONDONTWRITEBYTECODE": "1"}
         with open(example_path("block.json"), encoding="utf-8") as given:
             ended = subprocess.run([self.path("usr/bin/nooks"), "run"], stdin=given, capture_output=True, check=False)
         with open(example_path("block.report"), "rb") as report:

@@ -1,0 +1,50 @@
+"""What a sweep finds: an entry for each fault, and the entries of one base together. The table, the totals and the maps
+are made of these."""
+
+from __future__ import annotations
+
+from dataclasses import dataclass
+from typing import Any
+
+from .outcomes import NOTHING_LOST, SAME, Losses, Outcome
+from .report import Report
+from .scenario import Fault, Scenario
+
+
+@dataclass(frozen=True)
+class Entry:
+    """One fault with what became of it. `losses` is what its run lost more than the run without it."""
+
+    fault: Fault
+    outcome: str
+    cause: str
+    place: str
+    instruction: str = ""
+    losses: Losses = NOTHING_LOST
+
+    def as_json(self) -> dict[str, Any]:
+        return {**vars(self), "losses": vars(self.losses)}
+
+
+@dataclass(frozen=True)
+class Swept:
+    """The sweep of one base: one scenario under one schedule. `own` is what became of the base itself, with no fault of
+    the sweep, against the scenario under its own schedule. `chosen` counts the faults of this base; an interrupted
+    sweep has fewer entries."""
+
+    base: Scenario
+    report: Report
+    entries: list[Entry]
+    own: Outcome = Outcome(SAME)
+    chosen: int = 0
+
+    @property
+    def start(self) -> int | None:
+        """Where the draws of its schedule begin, if the schedule is a drawn one."""
+        start = self.base.get("schedule", {}).get("start")
+        return start if isinstance(start, int) else None
+
+    def as_json(self) -> dict[str, Any]:
+        faults = [entry.as_json() for entry in self.entries]
+        own = self.own.as_json()
+        return {"base": self.base, "status": self.report.status, "own": own, "chosen": self.chosen, "faults": faults}

@@ -1,0 +1,79 @@
+"""What a sweep will run: for each base its own report and its faults."""
+
+from __future__ import annotations
+
+import functools
+import time
+from dataclasses import dataclass
+from typing import Iterator, Sequence
+
+from .batches import Batch
+from .faults import Selection, faults_of
+from .outcomes import Outcome
+from .pool import each_done
+from .probe import Probe
+from .program import Mistake, Program
+from .report import Report, parse_report
+from .scenario import Fault, Scenario
+
+
+@dataclass(frozen=True)
+class Plan:
+    """A base with its report, the time that its run took, and the faults that it is swept with. Its faults have the
+    places from `first` on in the whole sweep."""
+
+    base: Scenario
+    report: Report
+    seconds: float
+    faults: list[Fault]
+    first: int = 0
+
+
+def plan_of(path: str, selection: Selection, base: Scenario) -> Plan:
+    """The plan of one base."""
+    program = Program(path)
+    begun = time.monotonic()
+    text = program.report(base)
+    seconds = time.monotonic() - begun
+    report = parse_report(text)
+    if selection.part >= len(report.parts):
+        raise Mistake(f"there is no part {selection.part}: the scenario has {len(report.parts)}")
+    part = report.parts[selection.part]
+    return Plan(base, report, seconds, faults_of(selection, part, Probe(program, base, selection.part)))
+
+
+def plans_of(path: str, selection: Selection, bases: Sequence[Scenario], jobs: int) -> list[Plan]:
+    """The plans of all bases, in order."""
+    found = dict(each_done(functools.partial(plan_of, path, selection), bases, jobs))
+    plans: list[Plan] = []
+    first = 0
+    for number in range(len(bases)):
+        plan = found[number]
+        plans.append(Plan(plan.base, plan.report, plan.seconds, plan.faults, first))
+        first += len(plan.faults)
+    return plans
+
+
+def gaps(known: Sequence[Outcome | None], first: int, end: int) -> Iterator[tuple[int, int]]:
+    """The stretches between two places of which no outcome is known."""
+    start = first
+    while start < end:
+        if known[start] is not None:
+            start += 1
+            continue
+        stop = start
+        while stop < end and known[stop] is None:
+            stop += 1
+        yield start, stop
+        start = stop
+
+
+def batches_of(plans: Sequence[Plan], part: int, known: Sequence[Outcome | None], size: int) -> list[Batch]:
+    """The faults of which no outcome is known, in batches of at most a size."""
+    batches: list[Batch] = []
+    for number, plan in enumerate(plans):
+        for start, stop in gaps(known, plan.first, plan.first + len(plan.faults)):
+            for at in range(start, stop, size):
+                faults = plan.faults[at - plan.first : min(at + size, stop) - plan.first]
+                batches.append(Batch(plan.base, part, tuple(faults), at, number))
+    return batches

@@ -1,0 +1,55 @@
+"""How far a sweep is: one line on standard error that is written again and again; if that is no terminal, a line every
+ten seconds."""
+
+from __future__ import annotations
+
+import time
+from dataclasses import dataclass, field
+
+from .batches import Results
+from .messages import is_terminal, write_error
+
+WIDEST = 120
+
+
+@dataclass
+class Progress:
+    """`schedules` is the number of bases, if there are several."""
+
+    whole: int
+    quiet: bool
+    schedules: int = 1
+    done: int = 0
+    counts: dict[str, int] = field(default_factory=dict)
+    begun: float = field(default_factory=time.monotonic)
+    last: float = field(default_factory=time.monotonic)
+    is_open: bool = False
+
+    def take(self, results: Results, number: int) -> None:
+        """Takes the results of a batch, of the base with a number."""
+        self.done += len(results)
+        for outcome in results:
+            self.counts[outcome.name] = self.counts.get(outcome.name, 0) + 1
+        now = time.monotonic()
+        pause = 0.2 if is_terminal() else 10
+        if not self.quiet and (now - self.last >= pause or self.done == self.whole):
+            self.last = now
+            self.write(now - self.begun, number)
+
+    def write(self, seconds: float, number: int) -> None:
+        shown = ", ".join(f"{count} {name}" for name, count in sorted(self.counts.items(), key=lambda each: -each[1]))
+        front = f"schedule {number + 1} of {self.schedules}: " if self.schedules > 1 else ""
+        line = f"{front}{self.done:,} of {self.whole:,} faults in {seconds:.1f} s: {shown}"
+        if is_terminal():
+            write_error("\r\x1b[K" + line[:WIDEST])
+            self.is_open = True
+        else:
+            write_error(line + "\n")
+        if self.done == self.whole:
+            self.end()
+
+    def end(self) -> None:
+        """Ends the line, so that what comes next has its own."""
+        if self.is_open:
+            write_error("\n")
+        self.is_open = False

@@ -1,0 +1,201 @@
+"""The totals of a sweep: how often each outcome came, in parts of a hundred, which turns were struck, what became of the
+bases under their schedules, and the counts of each call, register or other group."""
+
+from __future__ import annotations
+
+import math
+from dataclasses import dataclass, field
+from typing import Any, Callable, Iterable, Sequence
+
+from .model import Entry, Swept
+from .outcomes import MISSED, OUTCOMES, SAME, SHORT_NAMES, Losses, least_and_most
+from .table import losses_json, losses_text
+from .words import counted, ranges_text
+
+# The deviation of a normal distribution within which 95 of 100 lie.
+NORMAL_95 = 1.959964
+
+
+def counts_of(entries: Iterable[Entry]) -> dict[str, int]:
+    """How often each outcome came, from the mildest to the worst."""
+    names = [entry.outcome for entry in entries]
+    return {name: names.count(name) for name in OUTCOMES if name in names}
+
+
+def wilson(count: int, whole: int) -> tuple[float, float]:
+    """The 95 % interval of a share that was seen `count` times among `whole` draws (E. B. Wilson, 1927)."""
+    share, square = count / whole, NORMAL_95**2
+    centre = share + square / (2 * whole)
+    wide = NORMAL_95 * math.sqrt(share * (1 - share) / whole + square / (4 * whole**2))
+    low, high = ((centre + side * wide) / (1 + square / whole) for side in (-1, 1))
+    return max(0.0, low), min(1.0, high)
+
+
+def percent(share: float) -> str:
+    return f"{100 * share:.1f}"
+
+
+@dataclass(frozen=True)
+class Coverage:
+    """How many turns were struck, of how many that the struck bursts have."""
+
+    struck: int
+    turns: int
+    bursts: int
+
+
+def coverage_of(runs: Sequence[Swept], part: int) -> Coverage:
+    """The turns at which a fault struck, over all bases together."""
+    struck = turns = bursts = 0
+    for run in runs:
+        whole = {event.burst: event.turns for event in run.report.parts[part].bursts()}
+        places = {(each.fault["burst"], each.fault["after"]) for each in run.entries if each.outcome != MISSED}
+        named = {burst for burst, _ in places}
+        struck += len(places)
+        turns += sum(whole[burst] for burst in named)
+        bursts += len(named)
+    return Coverage(struck, turns, bursts)
+
+
+def total_lines(runs: Sequence[Swept], part: int, is_drawn: bool) -> list[str]:
+    """The outcomes with their shares; of drawn faults with the interval of each."""
+    counts = counts_of(entry for run in runs for entry in run.entries)
+    done, chosen = sum(counts.values()), sum(run.chosen for run in runs)
+    wide = max((len(name) for name in counts), default=0)
+    lines = []
+    for name, count in counts.items():
+        low, high = wilson(count, done)
+        interval = f" ({percent(low)} to {percent(high)})" if is_drawn else ""
+        lines.append(f"{count:6}  {name.ljust(wide)}  {percent(count / done):>5} %{interval}")
+    cover = coverage_of(runs, part)
+    drawn = " drawn" if is_drawn else ""
+    of_all = f", of {chosen:,}: interrupted" if done < chosen else ""
+    lines.append(f"{done:6}  faults{drawn}{of_all}")
+    if cover.turns:
+        lines.append(f"{cover.struck:6}  turns struck, of {cover.turns:,} in {counted(cover.bursts, 'burst')}")
+    if is_drawn and done:
+        lines.append("        in brackets 95 % intervals, by Wilson's formula")
+    return lines
+
+
+@dataclass
+class Own:
+    """What became of some bases without a fault: all of one outcome, cause and losses."""
+
+    outcome: str
+    cause: str
+    losses: Losses
+    starts: list[int] = field(default_factory=list)
+
+    def as_json(self) -> dict[str, Any]:
+        return {**vars(self), "losses": vars(self.losses)}
+
+
+def own_groups(runs: Sequence[Swept]) -> list[Own]:
+    """The bases under drawn schedules by what became of them, from the worst on."""
+    groups: dict[tuple[Any, ...], Own] = {}
+    for run in runs:
+        own = run.own
+        group = groups.setdefault((own.name, own.cause, own.losses), Own(own.name, own.cause, own.losses))
+        if run.start is not None:
+            group.starts.append(run.start)
+    order = (SAME, *OUTCOMES)
+    return sorted(groups.values(), key=lambda group: -order.index(group.outcome))
+
+
+def own_lines(runs: Sequence[Swept]) -> list[str]:
+    """What became of the bases under drawn schedules, with no fault of the sweep."""
+    lines = [f"the same under {counted(len(runs), 'drawn schedule')}:"]
+    for group in own_groups(runs):
+        lost = losses_text(group.losses, group.losses)
+        about = "as under its own schedule" if group.outcome == SAME else group.outcome
+        lines.append(f"{len(group.starts):6}  {about}" + (f": {group.cause}" if group.cause else ""))
+        if lost:
+            lines.append(f"        lost: {lost}")
+        if group.outcome != SAME:
+            lines.append(f"        starts {starts_text(group.starts)}")
+    return lines
+
+
+def starts_text(starts: list[int], most: int = 60) -> str:
+    """Where the draws of some schedules begin; of many the first ones."""
+    text = ranges_text(starts)
+    if len(text) <= most:
+        return text
+    return f"{text[: text.rindex(',', 0, most)]}, .. ({len(starts)} of them)"
+
+
+def call_of(run: Swept, entry: Entry, part: int) -> str:
+    """The call that a fault strikes, without the burst and the attempt; with its number, if there is one base."""
+    event = next((each for each in run.report.parts[part].bursts() if each.burst == entry.fault["burst"]), None)
+    if event is None or event.call == 0:
+        return "no call"
+    text = entry.place.partition(" try ")[0]
+    front, _, rest = text.partition(" ")
+    return f"c{event.call} {rest}" if front == f"b{event.burst}" else text
+
+
+Key = Callable[[Swept, Entry, int], str]
+
+
+def named_key(key: str) -> Key:
+    """A group for each number of a fault's key."""
+    return lambda run, entry, part: str(entry.fault.get(key, f"no {key}"))
+
+
+# What a sweep's faults may be grouped by.
+GROUPS: dict[str, Key] = {
+    "call": call_of,
+    "burst": lambda run, entry, part: entry.place,
+    "instruction": lambda run, entry, part: entry.instruction or "not known",
+    "register": named_key("register"),
+    "address": named_key("address"),
+    "value": named_key("value"),
+    "kind": named_key("kind"),
+    "schedule": lambda run, entry, part: str(run.start) if run.start is not None else "its own",
+}
+
+
+@dataclass
+class Group:
+    """The entries of one group."""
+
+    name: str
+    entries: list[Entry] = field(default_factory=list)
+
+    def losses(self) -> tuple[Losses, Losses]:
+        """Of each kind the least and the most that a fault of the group lost."""
+        return least_and_most(entry.losses for entry in self.entries)
+
+    def as_json(self) -> dict[str, Any]:
+        losses = losses_json(*self.losses())
+        return {"name": self.name, "faults": len(self.entries), "outcomes": counts_of(self.entries), "losses": losses}
+
+
+def groups_of(runs: Sequence[Swept], part: int, by: str) -> list[Group]:
+    """The groups in the order in which they come."""
+    found: dict[str, Group] = {}
+    for run in runs:
+        for entry in run.entries:
+            name = GROUPS[by](run, entry, part)
+            found.setdefault(name, Group(name)).entries.append(entry)
+    if all(name.isdecimal() for name in found):
+        return sorted(found.values(), key=lambda group: int(group.name))
+    return list(found.values())
+
+
+def group_lines(runs: Sequence[Swept], part: int, by: str) -> list[str]:
+    """A row for each group, a column for each outcome that came."""
+    groups = groups_of(runs, part, by)
+    came = counts_of(entry for group in groups for entry in group.entries)
+    short = {name: word for word, name in SHORT_NAMES.items() if name in came}
+    heads = [f"{short[name]:>14}" for name in came]
+    lines = [f"faults{''.join(heads)}  by {by}"]
+    for group in groups:
+        counts = counts_of(group.entries)
+        whole = len(group.entries)
+        cells = [f"{counts[name]:6} {percent(counts[name] / whole):>5} %" if name in counts else "." for name in came]
+        lost = losses_text(*group.losses())
+        columns = "".join(f"{cell:>14}" for cell in cells)
+        lines.append(f"{whole:6}{columns}  {group.name}" + (f"; lost: {lost}" if lost else ""))
+    return lines

@@ -6,14 +6,16 @@ import json
 import os
 import random
 import re
+import subprocess
 import unittest
 import warnings
 
 import drawn
-from common import EXAMPLES, SCHEMAS, TOP, example, example_text, program, schema_file
+from common import DATA, EXAMPLES, SCHEMAS, TOP, example, example_text, program, schema_file
 from validator import valid
 
 from nooks_bench.schema import CAMPAIGN, SCENARIO
+from nooks_bench.source import read_source
 
 try:
     import jsonschema
@@ -25,6 +27,9 @@ ODD = [None, True, "", "x", -1, 2**32, 2**64, [], {}, 1.5, 0, 300]
 
 # Faults that a schema cannot tell: they are about two values, or about the inside of a text.
 BEYOND = ("bad_asm", "double_name", "bad_image")
+
+
+WRITTEN = "written.schema.json"
 
 
 def nodes(value, path=()):
@@ -121,8 +126,27 @@ class Schema(unittest.TestCase):
         given["parts"][0]["driver"] = {"image": json.loads(example_text("block.image"))}
         self.assertTrue(holds(given))
 
+    def test_what_people_write_is_valid(self):
+        for path in [os.path.join(DATA, "handmade.jsonc"), os.path.join(TOP, "workbench/examples/write.jsonc")]:
+            self.assertTrue(holds(read_source(path).plain(), WRITTEN), path)
+        for made in damaged_scenarios(40):
+            self.assertGreaterEqual(holds(made, WRITTEN), holds(made))
+        cases = [
+            ('"notes"', '"nots"'), ('"repeat": 3', '"repeat": -3'), ('"of": 5', '"for": 5'), ('"limit": 2', '"limit": 22'),
+            ('"asm_file"', '"asmfile"'), ('"driver": "link"', '"driver": 3'), ('"op": "recv"', '"op": "receive"'),
+        ]
+        for old, new in cases:
+            with open(os.path.join(DATA, "handmade.jsonc"), encoding="utf-8") as file:
+                made = read_source("f", file.read().replace(old, new)).plain()
+            self.assertFalse(holds(made, WRITTEN), new)
+
+    def test_the_schema_of_what_people_write_is_current(self):
+        made = subprocess.run([os.path.join(TOP, "packaging/generate"), WRITTEN], capture_output=True, text=True, check=True)
+        with open(os.path.join(SCHEMAS, WRITTEN), encoding="utf-8") as file:
+            self.assertEqual(file.read(), made.stdout)
+
     def test_no_schema_asks_for_one_of_several(self):
-        for name in (SCENARIO, CAMPAIGN):
+        for name in (SCENARIO, CAMPAIGN, WRITTEN):
             self.assertFalse({"oneOf", "anyOf"} & set(keywords(schema_file(name))))
 
 
@@ -139,7 +163,7 @@ class OfTheLibrary(unittest.TestCase):
             return [("/".join(map(str, error.absolute_path)), error.message) for error in checker.iter_errors(value)]
 
     def test_the_schemas_are_schemas(self):
-        for name in (SCENARIO, CAMPAIGN):
+        for name in (SCENARIO, CAMPAIGN, WRITTEN):
             jsonschema.Draft202012Validator.check_schema(schema_file(name))
 
     def test_a_message_is_at_its_place(self):

@@ -10,7 +10,7 @@ from common import schema_file
 KNOWN = {
     "$schema", "$id", "$defs", "$ref", "$comment", "title", "description", "type", "const", "enum", "minimum", "maximum",
     "minItems", "maxItems", "items", "properties", "required", "additionalProperties", "minProperties", "maxProperties",
-    "allOf", "pattern", "if", "then",
+    "allOf", "pattern", "if", "then", "else",
 }
 TYPES = {"object": dict, "array": list, "string": str}
 
@@ -27,9 +27,8 @@ def of_object(schema: dict[str, Any], value: dict[str, Any], file: str) -> bool:
         return False
     if not schema.get("minProperties", 0) <= len(value) <= schema.get("maxProperties", len(value)):
         return False
-    if schema.get("additionalProperties") is False and any(key not in properties for key in value):
-        return False
-    return all(valid(properties[key], each, file) for key, each in value.items() if key in properties)
+    others = schema.get("additionalProperties", True)
+    return all(valid(properties.get(key, others), each, file) for key, each in value.items())
 
 
 def of_list(schema: dict[str, Any], value: list[Any], file: str) -> bool:
@@ -76,7 +75,7 @@ def valid(schema: Any, value: Any, file: str) -> bool:
         return False
     if not all(valid(each, value, file) for each in schema.get("allOf", [])):
         return False
-    if "if" in schema and valid(schema["if"], value, file) and not valid(schema["then"], value, file):
+    if "if" in schema and not valid(schema.get("then" if valid(schema["if"], value, file) else "else", True), value, file):
         return False
     if isinstance(value, dict) and not of_object(schema, value, file):
         return False

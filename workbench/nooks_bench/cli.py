@@ -3,12 +3,14 @@
 from __future__ import annotations
 
 import argparse
+import contextlib
 import importlib
-import os
 import sys
+from typing import TextIO, cast
 
 from . import __version__
 from .messages import say
+from .output import Output, Unwritten
 from .program import Mistake, find_program
 
 # The subcommands, each a module of this package, with what `--help` says of it. A module is imported only if its
@@ -86,26 +88,18 @@ def command(words: list[str]) -> int:
         return ended.code if isinstance(ended.code, int) else 0
 
 
-def unwritten(error: OSError) -> int:
-    """Reports that standard output cannot be written; an error of anything else is raised again."""
-    try:
-        sys.stdout.flush()
-    except OSError:
-        # What is still buffered is thrown away, or Python reports the error a second time at its end.
-        os.dup2(os.open(os.devnull, os.O_WRONLY), sys.stdout.fileno())
-        say(f"standard output: {error.strerror}")
-        return UNWRITTEN
-    raise error
-
-
 def main(words: list[str] | None = None) -> int:
     """Runs the command with some words, or with those of the command line."""
     if sys.stdout is None:
         say("standard output is closed")
         return UNWRITTEN
+    output = Output(sys.stdout)
     try:
-        status = command(sys.argv[1:] if words is None else words)
-        sys.stdout.flush()
+        with contextlib.redirect_stdout(cast(TextIO, output)):
+            status = command(sys.argv[1:] if words is None else words)
+            output.flush()
         return status
-    except OSError as error:
-        return unwritten(error)
+    except Unwritten as error:
+        output.discard()
+        say(f"standard output: {error}")
+        return UNWRITTEN

@@ -61,7 +61,8 @@ def add_selection(parser: argparse.ArgumentParser) -> None:
     about = "which faults are tried; without --burst or --call every burst of a call"
     group = parser.add_argument_group("faults", about)
     group.add_argument("--part", type=int, default=0, metavar="P", help="the place of the struck part (default 0)")
-    group.add_argument("--kind", action="append", choices=KINDS, help="a kind of fault; may be given again (default trap)")
+    about = "a kind of fault; may be given again (default trap)"
+    group.add_argument("--kind", action="append", choices=KINDS, help=about)
     group.add_argument("--burst", metavar="A-B", help="these bursts of the part: 3, 3-9 or 3,6-7")
     group.add_argument("--call", type=int, metavar="N", help="the bursts of call cN")
     group.add_argument("--try", type=int, dest="attempt", metavar="T", help="with --call, those of its Tth attempt")

@@ -1,5 +1,5 @@
-"""The journal of a sweep: the outcomes that are known so far, as JSON lines, so that a long sweep may be interrupted and
-go on later. The first line says what the sweep is of; each other one has the outcomes of some faults."""
+"""The journal of a sweep: the outcomes that are known so far, as JSON lines, so that a long sweep may be interrupted
+and go on later. The first line says what the sweep is of; each other one has the outcomes of some faults."""
 
 from __future__ import annotations
 
@@ -66,6 +66,13 @@ class Journal:
 
     def open(self, heading: dict[str, Any], resume: bool) -> None:
         """Opens the file: a new one, or with `resume` one that goes on."""
+        try:
+            self.begin(heading, resume)
+        except Mistake:
+            self.close()
+            raise
+
+    def begin(self, heading: dict[str, Any], resume: bool) -> None:
         try:
             exists = os.path.exists(self.path) and os.path.getsize(self.path) > 0
             if exists and not resume:

@@ -1,4 +1,4 @@
-"""Standard error: messages of one line. Nothing is said if it is closed or full, since there is nowhere else to say it."""
+"""Standard error: messages of one line. If it is closed or full, nothing is said: there is nowhere else to say it."""
 
 from __future__ import annotations
 

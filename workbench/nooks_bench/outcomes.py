@@ -53,8 +53,9 @@ class Losses:
     frames: int = 0
 
     @property
-    def total(self) -> int:
-        return self.sends + self.samples + self.busy + self.frames
+    def is_more(self) -> bool:
+        """Whether of any kind more was lost than without the fault."""
+        return any(number > 0 for number in self.numbers())
 
     def numbers(self) -> tuple[int, int, int, int]:
         return (self.sends, self.samples, self.busy, self.frames)
@@ -185,7 +186,7 @@ class Judge:
         if is_given_up(report, self.base):
             return Outcome(GIVEN_UP, cause, more)
         if cause:
-            return Outcome(LOSSES if more.total > 0 else RECOVERED, cause, more)
+            return Outcome(LOSSES if more.is_more else RECOVERED, cause, more)
         changed = changes(report, self.base)
         return Outcome(CHANGED, changed, more) if changed else Outcome(NO_TRACE)
 
@@ -238,7 +239,7 @@ def own_outcome(report: Report, base: Report) -> Outcome:
         return Outcome(GIVEN_UP, "", more)
     failures = sum(part.failures for part in report.parts) - sum(part.failures for part in base.parts)
     if failures > 0:
-        return Outcome(LOSSES if more.total > 0 else RECOVERED, "", more)
+        return Outcome(LOSSES if more.is_more else RECOVERED, "", more)
     changed = changes(report, base)
     return Outcome(CHANGED, changed, more) if changed else Outcome(SAME)
 

@@ -11,7 +11,7 @@ from typing import Any, Iterator, Sequence
 from .batches import Batch, Results
 from .build import built, check
 from .engines import CLUSTER_BATCH, local_size, run_dask, run_local
-from .faults import GREATEST, Selection, add_selection, check_range, selection_of
+from .faults import GREATEST, RANGES, Selection, add_selection, check_range, selection_of
 from .journal import Journal, heading_of
 from .messages import say
 from .model import Entry, Swept
@@ -146,6 +146,9 @@ def check_options(args: argparse.Namespace) -> None:
     """What can be checked before the program is asked."""
     for option, ends in {"limit": (0, 16), "schedules": (1, GREATEST), "jobs": (1, 4096)}.items():
         check_range(option, getattr(args, option), ends)
+    greatest = RANGES["seed"][1]
+    if args.schedules and args.seed + args.schedules - 1 > greatest:
+        raise Mistake(f"--seed {args.seed} and --schedules {args.schedules}: the greatest start is {greatest}")
     if args.resume and not args.journal:
         raise Mistake("--resume is for --journal")
     if args.dask_program and not args.dask:
@@ -159,10 +162,8 @@ def bases_of(args: argparse.Namespace, base: Scenario) -> list[Scenario]:
     return [with_schedule(base, {"kind": "drawn", "start": args.seed + each}) for each in range(args.schedules)]
 
 
-def journal_of(args: argparse.Namespace, sweep: Sweep, base: Scenario) -> None:
+def open_journal(args: argparse.Namespace, sweep: Sweep, base: Scenario) -> None:
     """Opens the journal, and takes what it has."""
-    if not args.journal:
-        return
     choice = {**vars(sweep.selection), "schedules": args.schedules}
     faults = [plan.faults for plan in sweep.plans]
     version = sweep.program.version() or "no version"
@@ -175,8 +176,8 @@ def journal_of(args: argparse.Namespace, sweep: Sweep, base: Scenario) -> None:
 
 def sweep_of(args: argparse.Namespace) -> Sweep:
     """Runs all that the options ask for."""
-    check_options(args)
     selection = selection_of(args)
+    check_options(args)
     how = How(args.jobs, args.quiet, args.instructions, args.dask, args.dask_program)
     program = find_program(args.program)
     base = scenario_of(program, args.file)
@@ -188,10 +189,13 @@ def sweep_of(args: argparse.Namespace) -> Sweep:
     first = plans[0].report if args.schedules is None else parse_report(program.report(base))
     sweep = Sweep(program, selection, how, plans, first)
     sweep.known = [None for plan in plans for _ in plan.faults]
-    journal_of(args, sweep, base)
-    sweep.run()
-    if sweep.journal:
-        sweep.journal.close()
+    if args.journal:
+        open_journal(args, sweep, base)
+    try:
+        sweep.run()
+    finally:
+        if sweep.journal:
+            sweep.journal.close()
     return sweep
 
 
@@ -210,7 +214,8 @@ def base_lines(report: Report) -> list[str]:
              f"{row.gone} gone, {row.lost} lost"]
     for part in report.parts:
         if part.broken:
-            lines.append(f"without: the contract of {part.name} is broken at event {part.broken[0]}, clause {part.broken[1]}")
+            event, clause = part.broken
+            lines.append(f"without: the contract of {part.name} is broken at event {event}, clause {clause}")
     return lines
 
 

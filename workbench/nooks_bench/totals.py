@@ -1,5 +1,5 @@
-"""The totals of a sweep: how often each outcome came, in parts of a hundred, which turns were struck, what became of the
-bases under their schedules, and the counts of each call, register or other group."""
+"""The totals of a sweep: how often each outcome came, in parts of a hundred, which turns were struck, what became of
+the bases under their schedules, and the counts of each call, register or other group."""
 
 from __future__ import annotations
 

@@ -16,10 +16,19 @@ def numbers(text: str, line: str) -> int:
     return sum(int(found) for found in re.findall(rf"(?m)^{line}", text))
 
 
-def lost(text: str) -> int:
-    forms = [r"losses sends (\d+)", r"losses samples (\d+)", r"losses .* busy (\d+)"]
-    forms += [rf"frames .* {word} (\d+)" for word in ("reset", "full_ring", "full_queue")]
-    return sum(numbers(text, form) for form in forms)
+def lost_kinds(text: str) -> dict[str, int]:
+    frames = [rf"frames .* {word} (\d+)" for word in ("reset", "full_ring", "full_queue")]
+    return {
+        "sends": numbers(text, r"losses sends (\d+)"),
+        "samples": numbers(text, r"losses samples (\d+)"),
+        "busy": numbers(text, r"losses .* busy (\d+)"),
+        "frames": sum(numbers(text, form) for form in frames),
+    }
+
+
+def lost_more(base: str, member: str) -> bool:
+    before, after = lost_kinds(base), lost_kinds(member)
+    return any(after[kind] > before[kind] for kind in before)
 
 
 def answers(text: str) -> str:
@@ -46,7 +55,7 @@ def expected(base: str, member: str, fault: dict, limits: list[int]) -> str:
     causes = [burst_line(text, fault["burst"]).partition(" ! ")[2] for text in (base, member)]
     stopped = causes[1] and (fault["kind"] in ("trap", "hang") or causes[0] != causes[1])
     if sum(failures) > numbers(base, r"failures (\d+)") or stopped:
-        return "recovered with losses" if lost(member) > lost(base) else "recovered, nothing lost"
+        return "recovered with losses" if lost_more(base, member) else "recovered, nothing lost"
     left = [re.sub(r"(?m)^\d+ (invoke|enter|burst|stage|arrive) .*\n", "", each) for each in (base, member)]
     return "struck, no trace" if left[0] == left[1] else "answers changed, contract kept"
 
@@ -67,6 +76,8 @@ class Sweeps(unittest.TestCase):
             for entry in run["faults"]:
                 member = program().report(with_faults(run["base"], found["part"], [entry["fault"]]))
                 self.assertEqual(entry["outcome"], expected(base, member, entry["fault"], limits), entry)
+                before, after = lost_kinds(base), lost_kinds(member)
+                self.assertEqual(entry["losses"], {kind: after[kind] - before[kind] for kind in before}, entry)
         names = [entry["outcome"] for run in found["runs"] for entry in run["faults"]]
         self.assertEqual(found["outcomes"], {name: names.count(name) for name in found["outcomes"]})
         self.assertEqual(sum(row["count"] for row in found["rows"]), len(names))

@@ -1,0 +1,39 @@
+"""Standard output, whose failures have an exception of their own: the disk is full, or whoever reads it went away."""
+
+from __future__ import annotations
+
+import contextlib
+import io
+import os
+from typing import TextIO
+
+
+class Unwritten(Exception):
+    """Standard output cannot be written."""
+
+
+class Output(io.TextIOBase):
+    """Writes to a stream."""
+
+    def __init__(self, stream: TextIO) -> None:
+        self.stream = stream
+
+    def write(self, text: str) -> int:
+        try:
+            return self.stream.write(text)
+        except OSError as error:
+            raise Unwritten(error.strerror) from error
+
+    def flush(self) -> None:
+        try:
+            self.stream.flush()
+        except OSError as error:
+            raise Unwritten(error.strerror) from error
+
+    def isatty(self) -> bool:
+        return self.stream.isatty()
+
+    def discard(self) -> None:
+        """Throws away what is still buffered, or Python reports the failure a second time at its end."""
+        with contextlib.suppress(OSError, ValueError):
+            os.dup2(os.open(os.devnull, os.O_WRONLY), self.stream.fileno())

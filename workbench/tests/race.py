@@ -1,0 +1,33 @@
+"""A net driver that races: between the transmit length and the words it yields, so that another send may set its own
+length. Under round robin the two sends of the scenario never meet; under some drawn schedules they do."""
+
+from __future__ import annotations
+
+from typing import Any
+
+from common import example_text
+
+LENGTH = "send:   OUT r2 1            ; the transmit length\n"
+YIELD = "        KCALL 8             ; yield\n"
+
+
+def racing_driver() -> str:
+    text = example_text("net.asm")
+    assert LENGTH in text
+    return text.replace(LENGTH, LENGTH + YIELD)
+
+
+def send(*words: int) -> dict[str, Any]:
+    return {"part": 0, "op": "send", "frame": list(words)}
+
+
+def get(key: int) -> dict[str, Any]:
+    return {"part": 0, "op": "get", "key": key}
+
+
+def racing_scenario() -> dict[str, Any]:
+    """Three words are sent by one thread; one word by another, which asks for three registers first."""
+    part = {"name": "link", "class": "net", "limit": 1, "driver": {"asm": racing_driver()}}
+    first = {"name": "long", "ops": [send(1, 2, 3)]}
+    second = {"name": "short", "ops": [get(0), get(1), get(2), send(4)]}
+    return {"version": 1, "parts": [part], "threads": [first, second]}

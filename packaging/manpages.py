@@ -36,7 +36,8 @@ def option_text(option: Option) -> str:
 
 def option_about(option: Option) -> str:
     """What an option is for, and what may stand after it."""
-    return option.about + (f" ({', '.join(option.choices)})" if option.choices else "")
+    untold = [each for each in option.choices if each not in option.about]
+    return option.about + (f" ({', '.join(option.choices)})" if untold else "")
 
 
 def nooks_page(program: str, docs: str) -> str:

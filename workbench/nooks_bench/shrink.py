@@ -145,7 +145,7 @@ def run(args: argparse.Namespace) -> int:
 
 def add_to(commands: argparse._SubParsersAction[argparse.ArgumentParser]) -> None:
     parser = commands.add_parser("shrink", help="a smaller scenario of which the same holds", description=ABOUT)
-    parser.add_argument("file", metavar="SCENARIO")
+    parser.add_argument("file", metavar="SCENARIO", help="as exact JSON or as `build` takes it; - is standard input")
     parser.add_argument("--status", type=int, metavar="S", help="the run's status: 7 where a contract is broken")
     parser.add_argument("--text", action="append", metavar="TEXT", help="a text in the report; may come again")
     parser.add_argument("--quiet", action="store_true", help="no progress on standard error")

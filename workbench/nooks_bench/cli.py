@@ -17,6 +17,7 @@ from .program import Mistake, find_program
 # subcommand is asked for, so that each starts fast.
 SUBCOMMANDS = {
     "build": "write a scenario's exact JSON",
+    "gen": "operations to try one's own driver with",
     "sweep": "what becomes of each of a set of faults",
     "map": "a sweep as an SVG",
     "timeline": "a report as lanes, as an SVG or as text",

@@ -98,7 +98,7 @@ def at(value: Any, path: tuple[Any, ...]) -> Any:
 
 def is_smaller(value: Any, now: Any) -> bool:
     """Whether a number is less, or a list or a text shorter, than what stands there by now."""
-    return value < now if isinstance(value, int) else len(value) < len(now)
+    return bool(value < now) if isinstance(value, int) else len(value) < len(now)
 
 
 @dataclass(frozen=True)
@@ -143,9 +143,9 @@ def run(args: argparse.Namespace) -> int:
     return 0
 
 
-def add_to(commands: argparse._SubParsersAction) -> None:
+def add_to(commands: argparse._SubParsersAction[argparse.ArgumentParser]) -> None:
     parser = commands.add_parser("shrink", help="a smaller scenario of which the same holds", description=ABOUT)
-    parser.add_argument("file", metavar="SCENARIO")
+    parser.add_argument("file", metavar="SCENARIO", help="as exact JSON or as `build` takes it; - is standard input")
     parser.add_argument("--status", type=int, metavar="S", help="the run's status: 7 where a contract is broken")
     parser.add_argument("--text", action="append", metavar="TEXT", help="a text in the report; may come again")
     parser.add_argument("--quiet", action="store_true", help="no progress on standard error")

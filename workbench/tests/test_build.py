@@ -41,12 +41,12 @@ class Build(unittest.TestCase):
 
     def test_mistakes_of_the_file(self):
         cases = [
-            ('{"version": 1,\n "parts": [,]}', "2:12: a value is wanted here"),
-            ('{"version": 1 "parts": []}', "1:15: ',' is wanted between the keys of the object, and here is '\"'"),
-            ('{"version": 1', "1:14: ',' is wanted between the keys of the object, and here is the end of the file"),
+            ('{"version": 1,\n "parts": [,]}', "2:12: a value must stand here"),
+            ('{"version": 1 "parts": []}', "1:15: ',' must stand between the keys of the object, and here is '\"'"),
+            ('{"version": 1', "1:14: ',' must stand between the keys of the object, and here is the end of the file"),
             ('{"a": 1, "a": 2}', "1:10: the key 'a' stands here a second time"),
             ('{"a": "x\ny"}', "1:7: this text does not end on its line"),
-            ('{} {}', "1:4: something stands behind the value"),
+            ('{} {}', "1:4: something stands after the value"),
             ('[]', "1:1: a scenario is an object"),
             ("[" * 300, "1:202: lists and objects stand too deep in each other"),
         ]
@@ -55,14 +55,14 @@ class Build(unittest.TestCase):
 
     def test_mistakes_that_the_program_tells(self):
         cases = [
-            ('"limit": 2', '"limit": 22', "10:60: /parts/0/limit: a number out of its range"),
+            ('"limit": 2', '"limit": 22', "10:60: /parts/0/limit: a number out of its range: 22; allowed is a whole number from 0 to 16"),
             ('"blocks": 8, ', "", '10:5: the key "blocks" is not there; allowed is a whole number from 1 to 256'),
-            ('"limit"', '"limmit"', '10:51: a key that this kind of object does not have: "limmit"'),
+            ('"limit"', '"limmit"', '10:51: /parts/0: a key that a part of class block does not have: "limmit" (did you mean "limit"?)'),
             ('"driver": "link"', '"driver": "lonk"', "11:46: there is no driver 'lonk' in the table"),
             ("block.asm", "nowhere.asm", "6:26: "),
-            ('"repeat": 3', '"repeat": -3', "11:79: a count from 0 to 65536 is wanted here"),
-            ('"op": "recv"', '"op": "receive"', "19:27: /threads/0/ops/2/op: a value of the wrong kind"),
-            ('"part": 1', '"part": 2', "19:18: /threads/0/ops/2/part: a number out of its range"),
+            ('"repeat": 3', '"repeat": -3', "11:79: a count from 0 to 65536 must stand here"),
+            ('"op": "recv"', '"op": "receive"', '19:27: /threads/0/ops/2/op: "receive" is none of the names (did you mean "recv"?); allowed is "read" or'),
+            ('"part": 1', '"part": 2', "19:18: /threads/0/ops/2/part: a number out of its range: 2; allowed is 0 to 1, since there are 2 parts"),
         ]
         for old, new, told in cases:
             self.assertEqual(mistake(handmade().replace("../../..", TOP).replace(old, new))[: len(told)], told)
@@ -72,7 +72,7 @@ class Build(unittest.TestCase):
             text = handmade().replace("../../../examples/block.asm", asm).replace("../../..", TOP)
             with file_of(text) as path:
                 _, _, err = bench("build", path)
-        self.assertIn(f"{asm}:3:1: wrong operands", err)
+        self.assertIn(f"{asm}:3:7: LI takes a register (r0 to r15) and a number or a label, and here are only 1 of 2 operands", err)
         self.assertIn("'init: LI r1'", err)
 
 

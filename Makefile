@@ -21,7 +21,7 @@ vimdir = $(datadir)/vim/vimfiles
 
 BUILT = crates/nooks_main/out/nooks_main
 program = $(or $(PROGRAM),$(BUILT))
-generate = $(PYTHON) packaging/generate --program $(program) --docs $(docdir)
+generate = $(PYTHON) -B packaging/generate --program $(program) --docs $(docdir)
 data = install -m 644
 
 .PHONY: help install uninstall check-program

@@ -17,7 +17,7 @@ sys.path.insert(0, os.path.join(TOP, "workbench"))
 from nooks_bench import __version__, cli  # noqa: E402
 
 # Metavars of options and operands that are files.
-FILES = ("PATH", "FILE", "FOLDER", "SCENARIO", "REPORT", "INPUT", "DRIVER", "CAMPAIGN", "JOURNAL", "CSV")
+FILES = ("PATH", "FILE", "FOLDER", "SCENARIO", "REPORT", "INPUT", "DRIVER", "SWEEP")
 
 
 @dataclass(frozen=True)

@@ -221,5 +221,5 @@ def add_to(commands: argparse._SubParsersAction[argparse.ArgumentParser]) -> Non
     )
     about = "also operations beyond what may be asked, which the kernel answers by itself"
     parser.add_argument("--beyond", action="store_true", help=about)
-    parser.add_argument("--output", metavar="FILE", help="write the scenario there")
+    parser.add_argument("-o", "--output", metavar="FILE", help="write the scenario there")
     parser.set_defaults(run=run)

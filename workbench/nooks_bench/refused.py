@@ -18,6 +18,8 @@ LINE = re.compile(r"fault (\d+) (\w+)(?: (\d+) line (\d+))? (/\S*)")
 # The program reads at most so many bytes of an input. The threads of a campaign's base have so many operations at most.
 MOST_BYTES = 1_048_576
 MOST_MEMBER_OPS = 64
+MOST_THREADS = 16
+MOST_FAULTS = 64
 
 
 @dataclass(frozen=True)
@@ -201,13 +203,15 @@ def too_many(refused: Refused) -> Explained:
         return Explained(refused.whole.place, f"the input has {size}; at most {MOST_BYTES:,} are read", "")
     value = refused.node.plain()
     steps = refused.path.split("/")[1:]
-    if steps == ["base", "threads"] and isinstance(value, list) and len(value) <= 16:
+    # Where a list is not too long by itself, a campaign's base asks for less.
+    if steps[-1:] == ["threads"] and isinstance(value, list) and len(value) <= MOST_THREADS:
         count = sum(len(thread.get("ops", [])) for thread in value)
         return refused.told(
             f"the threads have {count} operations together; a campaign's base has at most {MOST_MEMBER_OPS}", ""
         )
-    if steps[:2] == ["base", "parts"] and steps[3:] == ["faults"] and isinstance(value, list) and len(value) == 64:
-        return refused.told("the struck part has 64 faults of its own; in a campaign it has at most 63", "")
+    if "parts" in steps and steps[-1] == "faults" and isinstance(value, list) and len(value) == MOST_FAULTS:
+        about = f"the struck part has {MOST_FAULTS} faults of its own; in a campaign it has at most {MOST_FAULTS - 1}"
+        return refused.told(about, "")
     return refused.told(f"a list that is too long: it has {len(value):,} items")
 
 
@@ -254,7 +258,7 @@ FINDERS = {
 
 
 def explain_fault(fault: FaultLine, whole: Node) -> Explained:
-    """The fault of an input, a scenario or a campaign, whose value is known with its places."""
+    """The fault of an input, a scenario, a campaign or an image, whose value is known with its places."""
     refused = Refused(fault, whole)
     if fault.name == "bad_asm":
         return explain_asm(fault, refused.node)

@@ -85,8 +85,10 @@ def below(schema: AnySchema, value: Any, step: str) -> AnySchema | None:
 
 
 def root_schema(value: Any) -> Schema:
-    """The schema of a whole input: a campaign has a base."""
-    return campaign_schema() if isinstance(value, dict) and "base" in value else scenario_schema()
+    """The schema of a whole input: a campaign has a base, an image has entries."""
+    if isinstance(value, dict) and "base" in value:
+        return campaign_schema()
+    return referred("#/$defs/image") if isinstance(value, dict) and "entries" in value else scenario_schema()
 
 
 def schemas_at(path: str, value: Any) -> list[AnySchema]:

@@ -6,6 +6,15 @@ import unittest
 
 from common import DATA, TOP, bench, example, example_path, example_text, file_of, program
 
+from nooks_bench.jsontext import json_text
+from nooks_bench.source import Misplaced, Reader
+
+try:
+    import hypothesis
+    from hypothesis import strategies
+except ImportError:
+    hypothesis = None
+
 HAND = os.path.join(DATA, "handmade.jsonc")
 
 
@@ -74,6 +83,42 @@ class Build(unittest.TestCase):
                 _, _, err = bench("build", path)
         self.assertIn(f"{asm}:3:7: LI takes a register (r0 to r15) and a number or a label, and here are only 1 of 2 operands", err)
         self.assertIn("'init: LI r1'", err)
+
+
+@unittest.skipUnless(hypothesis, "python3-hypothesis is not installed")
+class Texts(unittest.TestCase):
+    """Whatever the value, the writer's text is JSON of it, and the reader reads it as Python's own does."""
+
+    def test_any_value_comes_back(self):
+        texts = strategies.text(strategies.characters(blacklist_categories=["Cs"]), max_size=9)
+        plain = strategies.none() | strategies.booleans() | strategies.integers() | texts
+        values = strategies.recursive(
+            plain, lambda inner: strategies.lists(inner, max_size=4) | strategies.dictionaries(texts, inner, max_size=4)
+        )
+
+        @hypothesis.settings(max_examples=200, deadline=None)
+        @hypothesis.given(values)
+        def holds(value):
+            text = json_text(value)
+            self.assertEqual(json.loads(text), value)
+            self.assertEqual(Reader(text, "f").whole().plain(), value)
+
+        holds()
+
+    def test_any_text_is_read_or_refused_with_a_place_in_it(self):
+        pieces = strategies.sampled_from(['{"a": ', "[1", ", ", "]", "}", '"', "// x\n", "\n", "nul", "true", "-0", "1e9", "\\u00", " "])
+
+        @hypothesis.settings(max_examples=200, deadline=None)
+        @hypothesis.given(strategies.lists(pieces | strategies.text(max_size=3), max_size=12).map("".join))
+        def holds(text):
+            try:
+                Reader(text, "f").whole()
+            except Misplaced as mistake:
+                lines = text.split("\n")
+                self.assertLessEqual(mistake.place.line, len(lines))
+                self.assertLessEqual(mistake.place.column, len(lines[mistake.place.line - 1]) + 1)
+
+        holds()
 
 
 if __name__ == "__main__":

@@ -213,7 +213,7 @@ class Assembler(unittest.TestCase):
         words = strategies.sampled_from([*FORMS, *DIRECTIVES, "r1", "r16", "x", "x:", "0x1", "99999", "-1", ";", "block", "init", ""])
         lines = strategies.lists(strategies.lists(words | strategies.text(max_size=5), max_size=5).map(" ".join), max_size=8)
 
-        @hypothesis.settings(max_examples=300, deadline=None)
+        @hypothesis.settings(max_examples=200, deadline=None)
         @hypothesis.given(lines.map("\n".join), strategies.integers(0, 10), strategies.integers(0, 12))
         def holds(text, kind, line):
             said = asm_fault(kind, line, text)

@@ -15,6 +15,7 @@ import tempfile
 from typing import Any
 
 from . import __version__
+from .output import Output, Unwritten
 from .program import Mistake, Program
 from .svg import GREY, Canvas
 
@@ -123,8 +124,19 @@ def put_picture(svg: str, args: argparse.Namespace) -> None:
     elif kind == "svg":
         sys.stdout.write(svg)
     else:
-        sys.stdout.flush()
-        sys.stdout.buffer.write(made)
+        write_bytes(made)
+
+
+def write_bytes(made: bytes) -> None:
+    """Writes bytes to standard output."""
+    out: object = sys.stdout
+    stream = out.stream if isinstance(out, Output) else sys.stdout
+    try:
+        stream.flush()
+        stream.buffer.write(made)
+        stream.buffer.flush()
+    except OSError as error:
+        raise Unwritten(error.strerror) from error
 
 
 def converted(svg: str, kind: str) -> bytes:

@@ -6,6 +6,7 @@ import os
 import re
 import shlex
 import shutil
+import subprocess
 import tempfile
 import unittest
 import xml.etree.ElementTree as ElementTree
@@ -196,6 +197,18 @@ class Files(unittest.TestCase):
     def test_a_pdf_and_a_png(self):
         self.assertTrue(self.written("map.pdf", "--pdf").startswith(b"%PDF-"))
         self.assertTrue(self.written("map.png").startswith(b"\x89PNG"))
+
+    @unittest.skipUnless(shutil.which("rsvg-convert"), "there is no rsvg-convert here")
+    def test_a_pdf_to_standard_output(self):
+        command = os.path.join(TOP, "workbench/nooks-bench")
+        words = [command, *self.words, "--pdf", "--program", program().path]
+        ended = subprocess.run(words, capture_output=True, check=True)
+        self.assertTrue(ended.stdout.startswith(b"%PDF-"))
+        self.assertEqual(ended.stderr, b"")
+        with open("/dev/full", "wb") as full:
+            ended = subprocess.run(words, stdout=full, stderr=subprocess.PIPE, check=False)
+        self.assertEqual(ended.returncode, 5)
+        self.assertEqual(len(ended.stderr.splitlines()), 1)
 
     def test_no_converter(self):
         with mock.patch("nooks_bench.picture.shutil.which", return_value=None), \

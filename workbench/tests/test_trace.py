@@ -55,6 +55,24 @@ class Traces(unittest.TestCase):
         lines = traced("0", "9", example_path("sound-skips.json"))
         self.assertEqual(lines[2], "device: register 0, rate = 44100 (set in b5); register 1, volume = 3 (set in b7)")
 
+    def test_the_device_as_another_context_left_it(self):
+        """Two sends race: the driver yields between the transmit length and the words."""
+        text = example_text("net.asm").replace("LI r6 1             ; the command to send", "KCALL 8\n        LI r6 1")
+        self.assertIn("KCALL 8\n", text)
+        threads = [{"name": f"t{number}", "ops": [{"part": 0, "op": "send", "frame": [number + 1] * (2 + 3 * number)}]}
+                   for number in range(2)]
+        part = {"name": "wire", "class": "net", "limit": 0, "driver": {"asm": text}}
+        given = {"version": 1, "parts": [part], "threads": threads}
+        report = program().report(given)
+        self.assertIn("contract broken", report)
+        sent = re.search(r"x(\d+) c\d+ b(\d+) .*sent \[", report)
+        with file_of(given) as path:
+            lines = traced("0", sent[2], path)
+        other = 1 - int(sent[1])
+        setting = re.search(rf"x{other} c\d+ b(\d+) n2 service 8", report)[1]
+        length = len(threads[other]["ops"][0]["frame"])
+        self.assertEqual(lines[2], f"device: transmit length = {length} (set in b{setting}, context {other})")
+
     def test_lines_that_are_labels_alone(self):
         given = example("block.json")
         asm = given["parts"][0]["driver"]["asm"]

@@ -234,6 +234,17 @@ def changes(report: Report, base: Report) -> str:
     return ", ".join(found)
 
 
+def fresh_cause(report: Report, base: Report) -> str:
+    """The first cause of a failure that is none of the base's; empty if there is none."""
+    known = causes_of(base)
+    return next((plain_cause(cause) for cause in causes_of(report) if cause not in known), "")
+
+
+def causes_of(report: Report) -> list[str]:
+    """Why drivers failed, in the order of their parts and bursts."""
+    return [event.cause for part in report.parts for event in part.bursts() if event.cause]
+
+
 def own_outcome(report: Report, base: Report) -> Outcome:
     """What becomes of a scenario under a schedule, with no fault more, against its run under its own schedule. A broken
     contract counts even if the scenario breaks it under its own schedule too."""
@@ -242,10 +253,10 @@ def own_outcome(report: Report, base: Report) -> Outcome:
         if part.broken:
             return Outcome(BROKEN, clause_text(part.broken[1]), more)
     if is_given_up(report, base):
-        return Outcome(GIVEN_UP, "", more)
+        return Outcome(GIVEN_UP, fresh_cause(report, base), more)
     failures = sum(part.failures for part in report.parts) - sum(part.failures for part in base.parts)
     if failures > 0:
-        return Outcome(LOSSES if more.is_more else RECOVERED, "", more)
+        return Outcome(LOSSES if more.is_more else RECOVERED, fresh_cause(report, base), more)
     changed = changes(report, base)
     return Outcome(CHANGED, changed, more) if changed else Outcome(SAME)
 

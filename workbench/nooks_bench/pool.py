@@ -6,6 +6,7 @@ process has a pipe of its own, and the caller waits for nothing but these."""
 
 from __future__ import annotations
 
+import contextlib
 import multiprocessing
 import os
 import signal
@@ -25,6 +26,16 @@ def processors() -> int:
     if hasattr(os, "sched_getaffinity"):
         return len(os.sched_getaffinity(0))
     return os.cpu_count() or 1
+
+
+@contextlib.contextmanager
+def uninterrupted() -> Iterator[None]:
+    """Holds Ctrl-C back for as long as it takes, so that what belongs together is done whole."""
+    before = signal.pthread_sigmask(signal.SIG_BLOCK, {signal.SIGINT})
+    try:
+        yield
+    finally:
+        signal.pthread_sigmask(signal.SIG_SETMASK, before)
 
 
 def leave(*_: object) -> None:
@@ -59,14 +70,13 @@ class Workers:
         self.pipes: dict[Connection, BaseProcess] = {}
         self.busy: dict[Connection, int] = {}
         # A worker takes an interruption only when it has its handlers.
-        before = signal.pthread_sigmask(signal.SIG_BLOCK, {signal.SIGINT})
-        for _ in range(number):
-            ours, theirs = multiprocessing.Pipe()
-            process = multiprocessing.Process(target=serve, args=(work, theirs), daemon=True)
-            process.start()
-            theirs.close()
-            self.pipes[ours] = process
-        signal.pthread_sigmask(signal.SIG_SETMASK, before)
+        with uninterrupted():
+            for _ in range(number):
+                ours, theirs = multiprocessing.Pipe()
+                process = multiprocessing.Process(target=serve, args=(work, theirs), daemon=True)
+                process.start()
+                theirs.close()
+                self.pipes[ours] = process
 
     def give(self, items: Sequence[Any], first: int) -> int:
         """Gives items to idle workers, from a place on; the place of the next one."""
@@ -119,4 +129,5 @@ def each_done(work: Callable[[Item], Result], items: Sequence[Item], jobs: int) 
             yield from workers.take()
             given = workers.give(items, given)
     finally:
-        workers.end()
+        with uninterrupted():
+            workers.end()

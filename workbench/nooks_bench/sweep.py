@@ -8,6 +8,7 @@ import sys
 from typing import Any, Sequence
 
 from .build import built, check
+from .faults import GREATEST, RANGES, add_selection, check_range, selection_of
 from .journal import Journal, heading_of
 from .messages import say
 from .model import Swept
@@ -17,7 +18,6 @@ from .pool import processors
 from .program import Mistake, Program, find_program
 from .report import Report, parse_report
 from .scenario import Scenario, with_limit, with_schedule
-from .selection import GREATEST, RANGES, add_selection, check_range, selection_of
 from .source import read_text
 from .sweeping import How, Sweep
 from .table import fold, table_lines, write_members

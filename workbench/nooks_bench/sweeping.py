@@ -7,15 +7,16 @@ from typing import Iterator
 
 from .batches import Batch, Results
 from .engines import CLUSTER_BATCH, local_size, run_dask, run_local
+from .faults import Selection
 from .journal import Journal
 from .model import Entry, Swept
 from .outcomes import Outcome, bursts_of, judge_of, own_outcome, place_of
 from .plans import Plan, batches_of
+from .pool import uninterrupted
 from .probe import Probe, instructions
 from .program import Program
 from .progress import Progress
 from .report import Report
-from .selection import Selection
 
 
 @dataclass(frozen=True)
@@ -57,8 +58,11 @@ class Sweep:
             return run_dask(self.how.dask, self.how.dask_program or self.program.path, batches)
         return run_local(self.program.path, batches, self.how.jobs)
 
-    def take(self, first: int, results: Results) -> None:
-        self.known[first : first + len(results)] = results
+    def take(self, batch: Batch, results: Results) -> None:
+        """Takes the results of a batch, and writes them down."""
+        self.known[batch.first : batch.first + len(results)] = results
+        if self.journal:
+            self.journal.add(batch.first, results)
 
     def run(self) -> None:
         """Runs what is left; an interruption ends it with what is known so far."""
@@ -67,11 +71,9 @@ class Sweep:
         batches = self.batches()
         try:
             for place, results in self.results(batches):
-                batch = batches[place]
-                self.take(batch.first, results)
-                if self.journal:
-                    self.journal.add(batch.first, results)
-                progress.take(results, batch.number)
+                with uninterrupted():
+                    self.take(batches[place], results)
+                progress.take(results, batches[place].number)
             if self.how.instructions:
                 self.ask_instructions()
         except KeyboardInterrupt:

@@ -17,6 +17,19 @@ def racing_driver() -> str:
     return text.replace(LENGTH, LENGTH + YIELD)
 
 
+def failing_driver() -> str:
+    """One that fails if a send comes while another is between its length and its words: it keeps a flag."""
+    text = racing_driver()
+    flag = """send:   LI r4 2048
+        LD r5 r4 0
+        BNE r5 r0 twice
+        LI r5 1
+        ST r5 r4 0
+"""
+    made = text.replace(LENGTH, flag + LENGTH.replace("send:", "     ")).replace(YIELD, YIELD + "        ST r0 r4 0\n")
+    return made + "twice:  FAULT\n"
+
+
 def send(*words: int) -> dict[str, Any]:
     return {"part": 0, "op": "send", "frame": list(words)}
 

@@ -5,7 +5,7 @@ import re
 import unittest
 
 from common import bench, file_of, program
-from race import racing_scenario
+from race import failing_driver, racing_scenario
 
 from nooks_bench.scenario import with_schedule
 
@@ -61,6 +61,22 @@ class Schedules(unittest.TestCase):
         groups = {group["outcome"]: group["starts"] for group in json.loads(told)["schedules"]}
         self.assertEqual(groups["answers changed, contract kept"], others)
         self.assertEqual(len(groups["the same"]), 12 - len(others))
+
+    def test_schedules_under_which_it_fails(self):
+        scenario = racing_scenario()
+        scenario["parts"][0]["driver"]["asm"] = failing_driver()
+        self.assertEqual(program().ask(["run"], json.dumps(scenario)).status, 0)
+        for limit, outcome, named in [(0, "given up", "given-up"), (1, "recovered with losses", "losses")]:
+            scenario["parts"][0]["limit"] = limit
+            drawn = [program().report(with_schedule(scenario, {"kind": "drawn", "start": start})) for start in range(1, 101)]
+            failed = [start for start, report in enumerate(drawn, 1) if "\nfailures 1\n" in report]
+            self.assertGreater(len(failed), 0)
+            with file_of(scenario) as path:
+                status, out, _ = bench("sweep", path, "--schedules", "100", *NOWHERE, "--json", "--fail-on", named)
+            self.assertEqual(status, 1)
+            groups = [group for group in json.loads(out)["schedules"] if group["outcome"] == outcome]
+            self.assertEqual(sorted(start for group in groups for start in group["starts"]), failed)
+            self.assertEqual({group["cause"] for group in groups}, {"trap explicit"})
 
     def test_a_base_that_breaks_by_itself(self):
         scenario = racing_scenario()

@@ -71,7 +71,7 @@ class Work:
         return self.beyond and self.draw.randrange(6) == 0
 
     def place(self, blocks: int) -> int:
-        """Where so many blocks may begin."""
+        """The first block of a read or a write of this length."""
         return self.blocks if self.is_beyond() else self.edge(0, self.blocks - blocks)
 
     def blocks_of_one(self) -> int:
@@ -170,7 +170,7 @@ def scenario_of(kind: str, asked: Asked, seed: int) -> dict[str, Any]:
 def in_range(name: str, value: int, least: int, most: int) -> None:
     """Ends with a mistake if an option's number is out of its range."""
     if not least <= value <= most:
-        raise Mistake(f"{name} {value}: allowed is a whole number from {least} to {most}")
+        raise Mistake(f"{name} {value}: expected a whole number from {least} to {most}")
 
 
 def class_of(driver: str) -> str:

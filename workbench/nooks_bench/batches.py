@@ -11,7 +11,7 @@ from .program import Mistake, Program
 from .report import Report, parse_report
 from .scenario import Fault, Scenario, operations, with_faults
 
-# A campaign takes a base of at most so many operations, and a part with at most so many faults of its own.
+# The most operations of a campaign's base, and the most faults of its part.
 MOST_OPERATIONS = 64
 MOST_OWN_FAULTS = 63
 

@@ -80,7 +80,7 @@ def command(words: list[str]) -> int:
         if args.version:
             return versions(args.program)
         if args.subcommand is None:
-            made.error("a SUBCOMMAND is wanted")
+            made.error("which SUBCOMMAND?")
         status: int = args.run(args)
         return status
     except Mistake as mistake:

@@ -4,8 +4,9 @@ of each batch as it is done."""
 from __future__ import annotations
 
 import functools
+import importlib
 import os
-from typing import Iterator, Sequence
+from typing import Any, Iterator, Sequence
 
 from .batches import Batch, Results, run_batch
 from .pool import each_done
@@ -14,8 +15,8 @@ from .program import Mistake
 # A batch that a cluster runs: large enough that its way there and back does not count.
 CLUSTER_BATCH = 400
 
-# A batch on this machine has at most so many faults, and takes about so many seconds at most: what an interruption
-# loses is the batches that are begun.
+# The most faults of a batch on this machine, and about the most seconds that it may take: what an interruption loses is
+# the batches that are begun.
 MOST_LOCAL = 256
 LONGEST_LOCAL = 1.0
 
@@ -50,19 +51,24 @@ def package_file(folder: str) -> str:
 
 def run_dask(address: str, path: str, batches: Sequence[Batch]) -> Iterator[tuple[int, Results]]:
     """Runs batches on a cluster, whose scheduler gives a batch again to another worker if one went away."""
-    try:
-        import tempfile
+    import logging
+    import tempfile
 
-        from distributed import Client, as_completed  # type: ignore[import]
+    try:
+        distributed: Any = importlib.import_module("distributed")
     except ImportError as error:
         raise Mistake("--dask needs `distributed` (python3-distributed), and this Python has none") from error
     try:
-        client = Client(address, timeout=20)
+        client = distributed.Client(address, timeout=20)
     except (OSError, ValueError) as error:
         raise Mistake(f"no Dask scheduler answers at {address}: {error}") from error
     with client, tempfile.TemporaryDirectory() as folder:
         client.upload_file(package_file(folder))
         futures = [client.submit(run_batch, path, batch, pure=False, retries=RETRIES) for batch in batches]
         places = {future.key: place for place, future in enumerate(futures)}
-        for future in as_completed(futures):
-            yield places[future.key], future.result()
+        try:
+            for future in distributed.as_completed(futures):
+                yield places[future.key], future.result()
+        finally:
+            # All results are here, or nobody waits for them: what the client logs while it closes is of no use.
+            logging.disable(logging.CRITICAL)

@@ -281,12 +281,12 @@ class Map:
             fill = KINDS.get(step.mnemonic, WHITE)
             self.canvas.box(self.x(turn, first), self.y, self.cell, high, fill, step_title(turn, step))
         self.canvas.end_group()
+        self.canvas.group(font_size=STRIP_LETTERS, fill=BLACK, pointer_events="none")
         for turn, step in steps.items():
-            text = self.strip_text(step)
-            if text:
+            if text := self.strip_text(step):
                 x, y = self.x(turn, first) + self.cell / 2 + STRIP_LETTERS / 3, self.y + high - 3
-                upwards = f"rotate(-90 {x:.1f} {y:.1f})"
-                self.canvas.words(x, y, text, STRIP_LETTERS, BLACK, step_title(turn, step), transform=upwards)
+                self.canvas.grouped_words(0.0, 0.0, text, transform=f"translate({x:.1f},{y:.1f}) rotate(-90)")
+        self.canvas.end_group()
         self.y += high
 
     def line(self, line: Line, first: int, last: int) -> None:
@@ -301,13 +301,20 @@ class Map:
             title = "\n\n".join(cell.texts)
             self.canvas.box(self.x(begin, first), self.y, (end - begin) * self.cell, ROW, self.fill(cell), title)
         self.canvas.end_group()
-        for turn, cell in shown:
-            text, ink = self.number(cell)
-            room = self.cell * (min(turn + wide, last + 1) - max(turn, first))
-            if text and self.readable and text_width(text, 8) <= room + 1:
-                middle = self.x(max(turn, first), first) + room / 2
-                self.canvas.words(middle, self.y + 10.2, text, 8, ink, text_anchor="middle", pointer_events="none")
+        if self.readable:
+            self.numbers([(max(turn, first), min(turn + wide, last + 1), cell) for turn, cell in shown], first)
         self.y += ROW
+
+    def numbers(self, shown: list[tuple[int, int, Cell]], first: int) -> None:
+        """The numbers in some cells, each from a turn to before another."""
+        for ink in (BLACK, WHITE):
+            self.canvas.group(font_size=8, fill=ink, text_anchor="middle", pointer_events="none")
+            for begin, end, cell in shown:
+                text, own = self.number(cell)
+                room = (end - begin) * self.cell
+                if text and own == ink and text_width(text, 8) <= room + 1:
+                    self.canvas.grouped_words(self.x(begin, first) + room / 2, self.y + 10.2, text)
+            self.canvas.end_group()
 
 
 def step_title(turn: int, step: Step) -> str:

@@ -27,7 +27,7 @@ KEYS = {
 
 
 def digest(value: Any) -> str:
-    """A number that tells values apart."""
+    """A number by which values are compared."""
     import hashlib
 
     return hashlib.sha256(json.dumps(value, sort_keys=True).encode()).hexdigest()

@@ -1,5 +1,5 @@
-"""What became of a fault, against the run without it: told from a campaign's row where that says it all, else from the
-member's own report."""
+"""What became of a fault, against the run without it: by a campaign's row if that has all of it, else by the member's
+own report."""
 
 from __future__ import annotations
 
@@ -132,24 +132,30 @@ def row_of(report: Report) -> Row:
     return Row(report.status, events, sum(part.failures for part in report.parts), gone, lost)
 
 
+def bursts_of(report: Report, part: int) -> dict[int, Event]:
+    """The bursts of a part by their numbers."""
+    return {event.burst: event for event in report.parts[part].bursts()}
+
+
 @dataclass(frozen=True)
 class Judge:
-    """Judges faults of one part against the base's run. `is_open` tells that frames come from the wire, so that a row
-    does not have all that can be lost. `hangs` has the first of the part's own hangs in each burst."""
+    """Judges faults of one part against the base's run. `bursts` has the part's bursts by their numbers. `is_open`
+    says that frames come from the wire, so that a row does not have all that can be lost. `hangs` has the first of the
+    part's own hangs in each burst."""
 
     base: Report
     part: int
+    bursts: dict[int, Event]
     is_open: bool
     hangs: dict[int, int]
 
     def burst(self, fault: Fault) -> Event | None:
         """The burst of the base's run that a fault names."""
-        found = [event for event in self.base.parts[self.part].bursts() if event.burst == fault["burst"]]
-        return found[0] if found else None
+        return self.bursts.get(fault["burst"])
 
     def strikes(self, fault: Fault) -> bool:
-        """Up to a fault its run is the base's, so it strikes where the base's burst has that turn. Of a burst that one
-        of the part's own hangs ended the report does not tell the turns: it says 4096."""
+        """Up to a fault its run is the base's, so it strikes if the base's burst has that turn. Of a burst that one of
+        the part's own hangs ended the report does not have the turns: it says 4096."""
         event = self.burst(fault)
         if event is None:
             return False
@@ -191,7 +197,7 @@ class Judge:
         return Outcome(CHANGED, changed, more) if changed else Outcome(NO_TRACE)
 
     def cause(self, fault: Fault, report: Report) -> str:
-        """Why the struck driver failed: in the burst itself, or later where it failed more often than in the base."""
+        """Why the struck driver failed: in the burst itself, or later if it failed more often than in the base."""
         ours, theirs = report.parts[self.part], self.base.parts[self.part]
         struck = [event for event in ours.bursts() if event.burst == fault["burst"] and event.failed]
         base = self.burst(fault)
@@ -255,7 +261,7 @@ def judge_of(base: Report, scenario: Scenario, part: int) -> Judge:
     for fault in scenario["parts"][part].get("faults", []):
         if fault["kind"] == "hang":
             hangs[fault["burst"]] = min(fault["after"], hangs.get(fault["burst"], fault["after"]))
-    return Judge(base, part, is_open, hangs)
+    return Judge(base, part, bursts_of(base, part), is_open, hangs)
 
 
 def place_of(event: Event | None, base: Report, part: int, numbered: bool) -> str:

@@ -8,13 +8,14 @@ from dataclasses import dataclass
 from typing import Iterator, Sequence
 
 from .batches import Batch
-from .faults import Selection, faults_of
+from .faults import faults_of
 from .outcomes import Outcome
 from .pool import each_done
 from .probe import Probe
 from .program import Mistake, Program
 from .report import Report, parse_report
 from .scenario import Fault, Scenario
+from .selection import Selection
 
 
 @dataclass(frozen=True)

@@ -106,8 +106,8 @@ class Workers:
 
 
 def each_done(work: Callable[[Item], Result], items: Sequence[Item], jobs: int) -> Iterator[tuple[int, Result]]:
-    """Does work on each item, on so many processors; the place and the result of each as it is done. Whoever stops to
-    listen, for an interruption too, ends the work."""
+    """Does work on each item, in as many processes as there are jobs; the place and the result of each as it is done. A
+    caller that stops to listen, by an interruption too, ends the work."""
     number = min(jobs, len(items))
     if number <= 1:
         yield from ((place, work(item)) for place, item in enumerate(items))

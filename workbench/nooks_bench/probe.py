@@ -1,5 +1,5 @@
-"""What happens at a turn of a burst, asked of the program by runs with faults of the workbench's own: where the counter
-stands, and which turns are acts on the device."""
+"""What happens at a turn of a burst, asked of the program by runs with faults of the workbench's own: which instruction
+comes next, and which turns are acts on the device."""
 
 from __future__ import annotations
 
@@ -11,7 +11,7 @@ from .program import Program
 from .report import Event, parse_report
 from .scenario import MOST_FAULTS, Fault, Scenario, with_faults
 
-# A word that stops the driver and tells where it stands: IN r0 from a port that no device has, the address behind
+# A word that stops the driver and names its own address: IN r0 from a port that no device has, the address added to
 # this number. So the trap `bad_port` names the address.
 TELLTALE = 0x14000000
 FIRST_PORT = 0x8000
@@ -39,8 +39,8 @@ class Probe:
         return found[0] if found else None
 
     def address(self, burst: int, after: int) -> int | None:
-        """The address of the instruction that a burst comes to behind so many turns; None where it is none of the
-        image's. Every word of the text is made one that tells its address, as many at a time as there may be faults."""
+        """The address of the instruction that a burst comes to after some turns; None if it is none of the image's.
+        Every word of the text is made one that names its address, as many at a time as there may be faults."""
         room = MOST_FAULTS - len(self.scenario["parts"][self.part].get("faults", []))
         if room <= 0:
             return None
@@ -59,12 +59,12 @@ class Probe:
         return None
 
     def instruction(self, burst: int, after: int) -> str:
-        """The address and the instruction there; empty where it is not known."""
+        """The address and the instruction there; empty if it is not known."""
         address = self.address(burst, after)
         return "" if address is None else f"{address}: {self.listing[address]}"
 
     def acts_before(self, burst: int, after: int) -> int:
-        """How many acts a burst has made behind so many turns: those that a trap there leaves."""
+        """How many acts a burst has made after some turns: those that a trap there leaves."""
         if (burst, after) not in self.counts:
             event = self.burst_under(burst, [{"burst": burst, "after": after, "kind": "trap"}])
             self.counts[burst, after] = len(event.acts) if event else 0

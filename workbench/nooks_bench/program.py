@@ -92,7 +92,7 @@ class Program:
         return self.answer(words, json.dumps(scenario), REPORTED).out
 
     def fault_of(self, text: str) -> str | None:
-        """The line of a scenario's first fault, or None where it is valid. Nothing is simulated: an empty report is
+        """The line of a scenario's first fault, or None if it is valid. Nothing is simulated: an empty report is
         handed to `audit`, which reads the scenario first."""
         size = len(text.encode())
         ended = self.ask(["audit"], f"{size}\n{text}")

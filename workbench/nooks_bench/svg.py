@@ -75,6 +75,10 @@ class Canvas:
         self.reach(x + (text_width(text, size) if anchor == "start" else 0), y + 3)
         self.add("text", title, text, x=x, y=y, font_size=size, fill=fill, **more)
 
+    def grouped_words(self, x: float, y: float, text: str, **more: object) -> None:
+        """Words whose size and colour are those of the group around them."""
+        self.add("text", "", text, x=x, y=y, **more)
+
     def lines(self, x: float, y: float, text: str, room: float, size: float = 11, fill: str = BLACK) -> float:
         """A text in lines that fit into some room; how high they are."""
         written = fitted(text, size, room)

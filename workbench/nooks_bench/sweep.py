@@ -5,25 +5,21 @@ from __future__ import annotations
 import argparse
 import json
 import sys
-from dataclasses import dataclass, field
-from typing import Any, Iterator, Sequence
+from typing import Any, Sequence
 
-from .batches import Batch, Results
 from .build import built, check
-from .engines import CLUSTER_BATCH, local_size, run_dask, run_local
-from .faults import GREATEST, RANGES, Selection, add_selection, check_range, selection_of
 from .journal import Journal, heading_of
 from .messages import say
-from .model import Entry, Swept
-from .outcomes import OUTCOMES, SAME, SHORT_NAMES, Outcome, judge_of, own_outcome, place_of, row_of
-from .plans import Plan, batches_of, plans_of
+from .model import Swept
+from .outcomes import OUTCOMES, SAME, SHORT_NAMES, row_of
+from .plans import plans_of
 from .pool import processors
-from .probe import Probe, instructions
 from .program import Mistake, Program, find_program
-from .progress import Progress
 from .report import Report, parse_report
 from .scenario import Scenario, with_limit, with_schedule
+from .selection import GREATEST, RANGES, add_selection, check_range, selection_of
 from .source import read_text
+from .sweeping import How, Sweep
 from .table import fold, table_lines, write_members
 from .totals import GROUPS, counts_of, coverage_of, group_lines, groups_of, own_groups, own_lines, total_lines, wilson
 
@@ -32,96 +28,6 @@ INTERRUPTED = 130
 ABOUT = """Runs the scenario FILE once, then with each of a set of faults, and reports for each what became of it
 against the run without it. Rows of one outcome, cause and place are folded, with their number and one fault of
 them as JSON. FILE is exact JSON, or a scenario as `build` takes it."""
-
-
-@dataclass(frozen=True)
-class How:
-    """How a sweep is run, beside its faults."""
-
-    jobs: int
-    quiet: bool
-    instructions: bool
-    dask: str | None = None
-    dask_program: str | None = None
-
-
-@dataclass
-class Sweep:
-    """A sweep that is run: what is known of each fault so far, by its place in the whole. `first` is the report of the
-    scenario under its own schedule."""
-
-    program: Program
-    selection: Selection
-    how: How
-    plans: list[Plan]
-    first: Report
-    journal: Journal | None = None
-    known: list[Outcome | None] = field(default_factory=list)
-    texts: dict[tuple[int, int, int], str] = field(default_factory=dict)
-    interrupted: bool = False
-
-    def batches(self) -> list[Batch]:
-        """The work that is left."""
-        chosen = len(self.known)
-        seconds = max(plan.seconds for plan in self.plans)
-        size = CLUSTER_BATCH if self.how.dask else local_size(chosen, self.how.jobs, seconds)
-        return batches_of(self.plans, self.selection.part, self.known, size)
-
-    def results(self, batches: list[Batch]) -> Iterator[tuple[int, Results]]:
-        """The place and the results of each batch as it is done."""
-        if self.how.dask:
-            return run_dask(self.how.dask, self.how.dask_program or self.program.path, batches)
-        return run_local(self.program.path, batches, self.how.jobs)
-
-    def take(self, first: int, results: Results) -> None:
-        self.known[first : first + len(results)] = results
-
-    def run(self) -> None:
-        """Runs what is left; an interruption ends it with what is known so far."""
-        progress = Progress(len(self.known), self.how.quiet, len(self.plans))
-        progress.take([outcome for outcome in self.known if outcome], 0)
-        batches = self.batches()
-        try:
-            for place, results in self.results(batches):
-                batch = batches[place]
-                self.take(batch.first, results)
-                if self.journal:
-                    self.journal.add(batch.first, results)
-                progress.take(results, batch.number)
-            if self.how.instructions:
-                self.ask_instructions()
-        except KeyboardInterrupt:
-            self.interrupted = True
-        progress.end()
-
-    def ask_instructions(self) -> None:
-        """Asks which instruction stands at each place that was struck."""
-        for number, plan in enumerate(self.plans):
-            judge = judge_of(plan.report, plan.base, self.selection.part)
-            struck = [fault for fault in plan.faults if judge.strikes(fault)]
-            places = sorted({(fault["burst"], fault["after"]) for fault in struck})
-            probe = Probe(self.program, plan.base, self.selection.part)
-            for (burst, after), text in instructions(probe, places, self.how.jobs).items():
-                self.texts[number, burst, after] = text
-
-    def entries(self, number: int) -> list[Entry]:
-        """The faults of a base of which the outcome is known."""
-        plan = self.plans[number]
-        judge = judge_of(plan.report, plan.base, self.selection.part)
-        entries: list[Entry] = []
-        for fault, outcome in zip(plan.faults, self.known[plan.first :]):
-            if outcome is not None:
-                place = place_of(judge.burst(fault), plan.report, self.selection.part, len(self.plans) == 1)
-                text = self.texts.get((number, fault["burst"], fault["after"]), "")
-                entries.append(Entry(fault, outcome.name, outcome.cause, place, text, outcome.losses))
-        return entries
-
-    def runs(self) -> list[Swept]:
-        """What is known, base by base."""
-        return [
-            Swept(plan.base, plan.report, self.entries(number), own_outcome(plan.report, self.first), len(plan.faults))
-            for number, plan in enumerate(self.plans)
-        ]
 
 
 def scenario_of(program: Program, file: str) -> Scenario:
@@ -261,6 +167,15 @@ def fails(runs: Sequence[Swept], named: str) -> bool:
     return any(OUTCOMES.index(name) >= least for name in names)
 
 
+def interrupted_text(sweep: Sweep) -> str:
+    """How far an interrupted sweep came."""
+    done, chosen = sum(outcome is not None for outcome in sweep.known), len(sweep.known)
+    text = f"interrupted: {done:,} of {chosen:,} faults"
+    if done == chosen:
+        return f"{text}, and not all instructions are known"
+    return f"{text}; the same with --resume goes on" if sweep.journal else text
+
+
 def run(args: argparse.Namespace) -> int:
     sweep = sweep_of(args)
     runs = sweep.runs()
@@ -272,9 +187,7 @@ def run(args: argparse.Namespace) -> int:
     else:
         print(as_text(sweep, runs, args))
     if sweep.interrupted:
-        done = sum(outcome is not None for outcome in sweep.known)
-        more = "; the same with --resume goes on" if args.journal else ""
-        say(f"interrupted: {done:,} of {len(sweep.known):,} faults{more}")
+        say(interrupted_text(sweep))
         return INTERRUPTED
     return int(bool(args.fail_on) and fails(runs, args.fail_on))
 

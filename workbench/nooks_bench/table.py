@@ -21,7 +21,7 @@ LONGEST_LIST = 60
 @dataclass
 class Folded:
     """A row: how many faults, one of them, the turns at which they strike, what they lose at least and at most, and
-    where the draws of the schedules begin under which they come."""
+    the starts of the schedules under which they come."""
 
     outcome: str
     cause: str

@@ -5,10 +5,11 @@ from __future__ import annotations
 
 import math
 from dataclasses import dataclass, field
-from typing import Any, Callable, Iterable, Sequence
+from typing import Any, Callable, Iterable, Optional, Sequence
 
 from .model import Entry, Swept
-from .outcomes import MISSED, OUTCOMES, SAME, SHORT_NAMES, Losses, least_and_most
+from .outcomes import MISSED, OUTCOMES, SAME, SHORT_NAMES, Losses, bursts_of, least_and_most
+from .report import Event
 from .table import losses_json, losses_text
 from .words import counted, ranges_text
 
@@ -48,11 +49,11 @@ def coverage_of(runs: Sequence[Swept], part: int) -> Coverage:
     """The turns at which a fault struck, over all bases together."""
     struck = turns = bursts = 0
     for run in runs:
-        whole = {event.burst: event.turns for event in run.report.parts[part].bursts()}
+        bursts_here = bursts_of(run.report, part)
         places = {(each.fault["burst"], each.fault["after"]) for each in run.entries if each.outcome != MISSED}
         named = {burst for burst, _ in places}
         struck += len(places)
-        turns += sum(whole[burst] for burst in named)
+        turns += sum(bursts_here[burst].turns for burst in named)
         bursts += len(named)
     return Coverage(struck, turns, bursts)
 
@@ -125,9 +126,8 @@ def starts_text(starts: list[int], most: int = 60) -> str:
     return f"{text[: text.rindex(',', 0, most)]}, .. ({len(starts)} of them)"
 
 
-def call_of(run: Swept, entry: Entry, part: int) -> str:
+def call_of(run: Swept, entry: Entry, event: Event | None) -> str:
     """The call that a fault strikes, without the burst and the attempt; with its number, if there is one base."""
-    event = next((each for each in run.report.parts[part].bursts() if each.burst == entry.fault["burst"]), None)
     if event is None or event.call == 0:
         return "no call"
     text = entry.place.partition(" try ")[0]
@@ -135,24 +135,25 @@ def call_of(run: Swept, entry: Entry, part: int) -> str:
     return f"c{event.call} {rest}" if front == f"b{event.burst}" else text
 
 
-Key = Callable[[Swept, Entry, int], str]
+# The name of the group of an entry of a base, with the burst that its fault names.
+Key = Callable[[Swept, Entry, Optional[Event]], str]
 
 
 def named_key(key: str) -> Key:
     """A group for each number of a fault's key."""
-    return lambda run, entry, part: str(entry.fault.get(key, f"no {key}"))
+    return lambda run, entry, event: str(entry.fault.get(key, f"no {key}"))
 
 
 # What a sweep's faults may be grouped by.
 GROUPS: dict[str, Key] = {
     "call": call_of,
-    "burst": lambda run, entry, part: entry.place,
-    "instruction": lambda run, entry, part: entry.instruction or "not known",
+    "burst": lambda run, entry, event: entry.place,
+    "instruction": lambda run, entry, event: entry.instruction or "not known",
     "register": named_key("register"),
     "address": named_key("address"),
     "value": named_key("value"),
     "kind": named_key("kind"),
-    "schedule": lambda run, entry, part: str(run.start) if run.start is not None else "its own",
+    "schedule": lambda run, entry, event: str(run.start) if run.start is not None else "its own",
 }
 
 
@@ -176,8 +177,9 @@ def groups_of(runs: Sequence[Swept], part: int, by: str) -> list[Group]:
     """The groups in the order in which they come."""
     found: dict[str, Group] = {}
     for run in runs:
+        bursts = bursts_of(run.report, part)
         for entry in run.entries:
-            name = GROUPS[by](run, entry, part)
+            name = GROUPS[by](run, entry, bursts.get(entry.fault["burst"]))
             found.setdefault(name, Group(name)).entries.append(entry)
     if all(name.isdecimal() for name in found):
         return sorted(found.values(), key=lambda group: int(group.name))

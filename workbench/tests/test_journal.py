@@ -21,7 +21,7 @@ COMMAND = os.path.join(TOP, "workbench", "nooks-bench")
 CHOICE = ["--limit", "1", "--kind", "reg", "--kind", "trap", "--random", "300", "--seed", "4", "--jobs", "2", "--quiet"]
 
 # An end is awaited for so many seconds: much longer than it takes, for a machine that does other work.
-PATIENCE = 30
+PATIENCE = 90
 
 
 class Process(NamedTuple):
@@ -129,7 +129,7 @@ class Interrupted(unittest.TestCase):
                 process.send_signal(signal.SIGINT)
             begun = time.monotonic()
             out, err = process.communicate(timeout=PATIENCE)
-            self.assertLess(time.monotonic() - begun, 10)
+            self.assertLess(time.monotonic() - begun, 20)
             self.assertEqual(process.returncode, 130, err)
             done = sum(len(json.loads(line)["outcomes"]) for line in lines_of(journal)[1:])
         self.assertRegex(out, rf"(?m)^ *{done}  faults drawn, of 100,000: interrupted$")

@@ -1,15 +1,17 @@
 """map: a cell for each place that a sweep struck, with its outcome, and the strip of what the driver did there."""
 
+import contextlib
 import json
 import os
 import re
+import shlex
 import shutil
 import tempfile
 import unittest
 import xml.etree.ElementTree as ElementTree
 from unittest import mock
 
-from common import bench, example_path, example_text, file_of, program
+from common import TOP, bench, example_path, example_text, file_of, program
 
 SVG = "{http://www.w3.org/2000/svg}"
 
@@ -154,6 +156,27 @@ class Maps(unittest.TestCase):
         for wrong in [{"runs": 3}, {"runs": []}]:
             with file_of(wrong) as given:
                 self.assertEqual(bench("map", "--from", given)[0], 2)
+
+
+class Documented(unittest.TestCase):
+    """The maps of docs/WORKBENCH.md are those that the commands above them make, whatever the versions."""
+
+    def without_versions(self, text: str) -> str:
+        return re.sub(r">nooks-bench [0-9.]+[^<]*; scenario", ">; scenario", text)
+
+    def test_each_map(self):
+        with open(os.path.join(TOP, "docs/WORKBENCH.md"), encoding="utf-8") as file:
+            text = file.read()
+        section = text[text.index("## Maps of the reference drivers") :].split("\n## ")[0]
+        pairs = re.findall(r"(?m)^    nooks-bench (map .*)\n\n!\[.*?\]\((.*?)\)", section)
+        self.assertEqual(len(pairs), len(os.listdir(os.path.join(TOP, "docs/maps"))))
+        with contextlib.chdir(TOP):
+            for command, picture in pairs:
+                status, out, _ = bench(*shlex.split(command))
+                self.assertEqual(status, 0)
+                with open(os.path.join("docs", picture), encoding="utf-8") as file:
+                    same = self.without_versions(out) == self.without_versions(file.read())
+                self.assertTrue(same, f"{picture} is not what `{command}` makes")
 
 
 class Files(unittest.TestCase):

@@ -4,7 +4,6 @@ from __future__ import annotations
 
 import json
 import os
-import shutil
 import subprocess
 from dataclasses import dataclass
 from typing import Any
@@ -113,6 +112,8 @@ class Program:
 
 def installed() -> str | None:
     """The program `nooks` on the path. The repository's script of that name, which may begin a proof, is not taken."""
+    import shutil
+
     found = shutil.which("nooks")
     if found is None:
         return None

@@ -53,7 +53,7 @@ DIRECTIVES = {".class": "name", ".entry": "name imm", ".text": "", ".data": "", 
 MOST_IMMEDIATE = 65_535
 MOST_OF_DIRECTIVE = {".word": 4_294_967_295, ".entry": 2_047}
 
-WANTED = {"a": "a register (r0 to r15)", "b": "a register (r0 to r15)", "imm": "a number or a label", "name": "a name"}
+WANTED = {"a": "a register", "b": "a register", "imm": "a number or a label", "name": "a name"}
 
 NAME = re.compile(r"[A-Za-z_][A-Za-z0-9_]{0,31}")
 NUMBER = re.compile(r"[0-9]+|0x[0-9A-Fa-f]+")
@@ -177,13 +177,13 @@ def bad_token(line: Line, _: Text) -> Said | None:
     text = token.text
     hint = ""
     if NUMBER.fullmatch(text[1:]) and text[0] in "-+#$":
-        hint = ": a number has digits alone" + (", and is not negative" if text[0] == "-" else "")
+        hint = ": a number is digits alone" + (", and not negative" if text[0] == "-" else "")
     elif text.startswith(("//", "#", "--")):
         hint = ": a comment begins with ;"
     elif re.fullmatch(r"\.?[A-Za-z0-9_]+:?", text):
         long_name = len(text.strip(".:")) > 32
         hint = ": a name has at most 32 characters" if long_name else ": a name begins with a letter or _"
-    return Said(token.column, f"{text!r} is no name, definition, directive or number{hint}")
+    return Said(token.column, f"{text!r} is not a name, definition, directive or number{hint}")
 
 
 def unknown_name(line: Line, text: Text) -> Said | None:
@@ -193,26 +193,28 @@ def unknown_name(line: Line, text: Text) -> Said | None:
         return None
     if first.text == ".class" and line.operands:
         named = line.operands[0]
-        return Said(
-            named.column, f"{named.text!r} is no class, which is block, net or sound{nearest(named.text, CLASSES)}"
-        )
+        return Said(named.column, f"{named.text!r} is not a class: block, net or sound{nearest(named.text, CLASSES)}")
     if first.text == ".entry" and line.operands:
         named = line.operands[0]
         kind = text.kind(line.number)
         entries = ", ".join(CLASSES[kind]) if kind else ""
-        return Said(named.column, f"{named.text!r} is no entry of class {kind}, which has {entries}")
+        return Said(named.column, f"{named.text!r} is not an entry of class {kind}: {entries}")
     if first.text.upper() in FORMS:
-        return Said(first.column, f"{first.text!r} is no mnemonic: mnemonics are upper case, {first.text.upper()}")
+        return Said(first.column, f"{first.text!r} is not a mnemonic: mnemonics are upper case, {first.text.upper()}")
     if "." + first.text.lower() in DIRECTIVES:
-        return Said(first.column, f"{first.text!r} is no mnemonic (did you mean the directive .{first.text.lower()}?)")
+        return Said(
+            first.column, f"{first.text!r} is not a mnemonic (did you mean the directive .{first.text.lower()}?)"
+        )
     if first.text.endswith(":") or not first.is_name:
         return None
-    return Said(first.column, f"{first.text!r} is no mnemonic{nearest(first.text, FORMS)}")
+    return Said(first.column, f"{first.text!r} is not a mnemonic{nearest(first.text, FORMS)}")
 
 
 def operand_sorts(form: str) -> str:
     """The operands of a form, in words."""
     sorts = [WANTED[each] for each in form.split()]
+    if form.startswith("a b"):
+        sorts[:2] = ["two registers"]
     return " and ".join(filter(None, [", ".join(sorts[:-1]), sorts[-1]])) if sorts else "no operand"
 
 
@@ -223,37 +225,35 @@ def wrong_operand(line: Line, first: Token, form: str) -> Said | None:
     for token, sort in zip(line.operands, sorts):
         if not token.is_a(sort):
             named = "the register " if token.is_register else ""
-            return Said(token.column, f"{takes}, and here is {named}{token.text!r} where {WANTED[sort]} must stand")
+            return Said(token.column, f"expected {WANTED[sort]}, found {named}{token.text!r}; {takes}")
     if len(line.operands) < len(sorts):
-        return Said(first.column, f"{takes}, and here are only {len(line.operands)} of {len(sorts)} operands")
+        return Said(first.column, f"too few operands; {takes}")
     if len(line.operands) > len(sorts):
         extra = line.operands[len(sorts)]
-        return Said(extra.column, f"{takes}, and here is one operand too many: {extra.text!r}")
+        return Said(extra.column, f"one operand too many, {extra.text!r}; {takes}")
     return None
 
 
 def wrong_operands(line: Line, text: Text) -> Said | None:
     """Operands that a statement does not take, or a statement that may not stand there."""
     if line.definition is not None and REGISTER.fullmatch(line.definition.text[:-1]):
-        return Said(line.definition.column, f"{line.definition.text[:-1]!r} is a register, so it is no label")
+        return Said(line.definition.column, f"{line.definition.text[:-1]!r} is a register and cannot be a label")
     first = line.statement
     if first is None:
         return None
     if first.text in DIRECTIVES:
         if first.text == ".entry" and text.kind(line.number) is None:
-            return Said(first.column, "an entry stands here before the class: .class must come first")
+            return Said(first.column, ".entry before .class: the class must come first")
         return wrong_operand(line, first, DIRECTIVES[first.text])
     if first.text.startswith("."):
         names = ", ".join(DIRECTIVES)
-        return Said(
-            first.column, f"{first.text!r} is no directive, of which there are {names}{nearest(first.text, DIRECTIVES)}"
-        )
+        return Said(first.column, f"{first.text!r} is not a directive: {names}{nearest(first.text, DIRECTIVES)}")
     if first.text in FORMS:
         if text.is_data(line.number):
-            return Said(first.column, "an instruction stands here among the initial words: .text must come before it")
+            return Said(first.column, "an instruction in the data section: .text must come first")
         return wrong_operand(line, first, FORMS[first.text])
-    sort = "a second label" if first.defines is not None else f"{first.text!r}"
-    return Said(first.column, f"{sort} stands here where a mnemonic or a directive must stand")
+    found = "a second label" if first.defines is not None else f"{first.text!r}"
+    return Said(first.column, f"expected a mnemonic or a directive, found {found}")
 
 
 def number_range(line: Line, _: Text) -> Said | None:
@@ -265,9 +265,7 @@ def number_range(line: Line, _: Text) -> Said | None:
         if token.is_number and int(token.text, 0 if token.text.startswith("0x") else 10) > most:
             return Said(token.column, f"{token.text} is too large: {line.statement.text} takes at most {most}")
     for token in line.operands[-1:]:
-        return Said(
-            token.column, f"the label {token.text!r} stands too far on: {line.statement.text} takes at most {most}"
-        )
+        return Said(token.column, f"the label {token.text!r} is too far: {line.statement.text} takes at most {most}")
     return None
 
 
@@ -276,19 +274,15 @@ def second_time(line: Line, text: Text) -> Said | None:
     name = line.definition.defines if line.definition else None
     if line.definition and name is not None and text.labels[name] < line.number:
         first = text.labels[name]
-        return Said(
-            line.definition.column, f"the label {name!r} is defined a second time; the first is on line {first}"
-        )
+        return Said(line.definition.column, f"the label {name!r} is defined twice, first on line {first}")
     if line.statement is None:
         return None
     earlier = text.statements(line.statement.text, line.number)
     if line.statement.text == ".class" and earlier:
-        return Said(
-            line.statement.column, f"the class is named a second time; the first is on line {earlier[0].number}"
-        )
+        return Said(line.statement.column, f"the class is given twice, first on line {earlier[0].number}")
     same = [each for each in earlier if each.operands[:1] and each.operands[0].text == line.operands[0].text]
     if line.statement.text == ".entry" and same:
-        about = f"the entry {line.operands[0].text!r} is given a second time; the first is on line {same[0].number}"
+        about = f"the entry {line.operands[0].text!r} is given twice, first on line {same[0].number}"
         return Said(line.statement.column, about)
     return None
 
@@ -298,29 +292,29 @@ def missing_label(line: Line, text: Text) -> Said | None:
     used = line.operands[1:] if line.statement and line.statement.text == ".entry" else line.operands
     for token in used:
         if token.is_a("imm") and token.is_name and token.text not in text.labels:
-            return Said(token.column, f"no line defines the label {token.text!r}{nearest(token.text, text.labels)}")
+            return Said(token.column, f"undefined label {token.text!r}{nearest(token.text, text.labels)}")
     return None
 
 
 def text_too_long(line: Line, _: Text) -> Said | None:
-    return Said(first_column(line), f"this word of text is one too many: a driver has at most {MOST_WORDS}")
+    return Said(first_column(line), f"one word of text too many: a driver has at most {MOST_WORDS}")
 
 
 def data_too_long(line: Line, _: Text) -> Said | None:
-    return Said(first_column(line), f"this initial word is one too many: a driver has at most {MOST_WORDS}")
+    return Said(first_column(line), f"one initial word too many: a driver has at most {MOST_WORDS}")
 
 
 def missing_entry(_: Line, text: Text) -> Said | None:
     """The text has no class, or not all of its entries."""
     kind = text.kind()
     if kind is None:
-        return Said(1, "the text ends and has named no class: .class block, net or sound")
+        return Said(1, "the text ends without a class: .class block, net or sound")
     given = {line.operands[0].text for line in text.statements(".entry") if line.operands}
     missing = [name for name in CLASSES[kind] if name not in given]
     if not missing:
         return None
     entries = "entry" if len(missing) == 1 else "entries"
-    return Said(1, f"the text ends and has not given the {entries} {', '.join(missing)} of class {kind}")
+    return Said(1, f"the text ends without the {entries} {', '.join(missing)} of class {kind}")
 
 
 def first_column(line: Line) -> int:
@@ -329,12 +323,12 @@ def first_column(line: Line) -> int:
 
 # For each kind of fault what finds it, and what it is if that finds nothing.
 KINDS = {
-    1: (bad_token, "a run of bytes that is no token"),
+    1: (bad_token, "not a token"),
     2: (unknown_name, "an unknown name"),
     3: (wrong_operands, "wrong operands"),
     4: (number_range, "a number out of its range"),
-    5: (second_time, "a definition that is there already"),
-    6: (missing_label, "a label that no line defines"),
+    5: (second_time, "a second definition"),
+    6: (missing_label, "an undefined label"),
     7: (text_too_long, "too many words of text"),
     8: (data_too_long, "too many initial words"),
     9: (missing_entry, "an entry is missing"),

@@ -12,7 +12,7 @@ from .program import Mistake, Program, find_program
 from .refused import MOST_BYTES, explain_fault, parse_fault
 from .source import Misplaced, Node, read_source, read_text
 
-# A repetition has at most so many items: more than any list of a scenario may have.
+# The most items of a repetition: more than any list of a scenario may have.
 MOST_REPEATED = 65_536
 
 ABOUT = """Writes the scenario of FILE (- is standard input) as the program reads it. FILE is JSON that may also
@@ -43,7 +43,7 @@ class Builder:
         return Node(kept, node.place, node.keys)
 
     def driver(self, node: Node) -> Node:
-        """A driver: by its name in the table, and with its text where a file has it."""
+        """A driver: by its name in the table, and with its text if a file has it."""
         if isinstance(node.value, str):
             if node.value not in self.drivers:
                 names = ", ".join(self.drivers) or "none"
@@ -54,7 +54,7 @@ class Builder:
         if named is None:
             return node
         if not isinstance(named.value, str):
-            raise Misplaced(named.place, "the path of a file must stand here")
+            raise Misplaced(named.place, "expected the path of a file")
         path = os.path.normpath(os.path.join(self.folder, named.value))
         try:
             text = read_text(path)
@@ -64,14 +64,14 @@ class Builder:
         return Node({**others, "asm": Node(text, named.place, origin=path)}, node.place, node.keys)
 
     def items(self, node: Node) -> list[Node]:
-        """What an item of a list stands for: itself, or a value so many times."""
+        """What an item of a list stands for: itself, or a value several times."""
         if node.get("repeat") is None and node.get("of") is None:
             return [self.value(node)]
         times, each = node.get("repeat"), node.get("of")
         if times is None or each is None or len(node.value) != 2:
             raise Misplaced(node.place, 'a repetition is {"repeat": COUNT, "of": VALUE}, and nothing else')
         if type(times.value) is not int or not 0 <= times.value <= MOST_REPEATED:
-            raise Misplaced(times.place, f"a count from 0 to {MOST_REPEATED} must stand here")
+            raise Misplaced(times.place, f"expected a count from 0 to {MOST_REPEATED}")
         return [self.value(each)] * times.value
 
 

@@ -10,6 +10,7 @@ from dataclasses import dataclass
 from typing import Any
 
 from .asm_faults import named_class
+from .faults import check_range
 from .jsontext import json_text
 from .program import Mistake
 from .source import read_text
@@ -71,7 +72,7 @@ class Work:
         return self.beyond and self.draw.randrange(6) == 0
 
     def place(self, blocks: int) -> int:
-        """Where so many blocks may begin."""
+        """The first block of a read or a write of this length."""
         return self.blocks if self.is_beyond() else self.edge(0, self.blocks - blocks)
 
     def blocks_of_one(self) -> int:
@@ -167,12 +168,6 @@ def scenario_of(kind: str, asked: Asked, seed: int) -> dict[str, Any]:
     return {"version": 1, "notes": notes, "parts": [part], "threads": threads}
 
 
-def in_range(name: str, value: int, least: int, most: int) -> None:
-    """Ends with a mistake if an option's number is out of its range."""
-    if not least <= value <= most:
-        raise Mistake(f"{name} {value}: allowed is a whole number from {least} to {most}")
-
-
 def class_of(driver: str) -> str:
     """The class of a driver's text."""
     kind = named_class(read_text(driver))
@@ -189,10 +184,10 @@ def driver_from(driver: str, output: str | None) -> str:
 
 
 def run(args: argparse.Namespace) -> int:
-    in_range("--threads", args.threads, 1, MOST_THREADS)
-    in_range("--ops", args.ops, 1, MOST_OPS * args.threads)
-    in_range("--blocks", args.blocks, 1, MOST_DISK)
-    in_range("--limit", args.limit, 0, MOST_LIMIT)
+    check_range("threads", args.threads, (1, MOST_THREADS))
+    check_range("ops", args.ops, (1, MOST_OPS * args.threads))
+    check_range("blocks", args.blocks, (1, MOST_DISK))
+    check_range("limit", args.limit, (0, MOST_LIMIT))
     kind = class_of(args.driver)
     asked = Asked(driver_from(args.driver, args.output), args.ops, args.threads, args.blocks, args.limit, args.beyond)
     text = json_text(scenario_of(kind, asked, args.seed)) + "\n"

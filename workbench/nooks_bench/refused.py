@@ -15,7 +15,7 @@ from .source import Node, Place, deepest
 
 LINE = re.compile(r"fault (\d+) (\w+)(?: (\d+) line (\d+))? (/\S*)")
 
-# The program reads at most so many bytes of an input. The threads of a campaign's base have so many operations at most.
+# The most bytes of an input that the program reads, and the most operations of a campaign's base.
 MOST_BYTES = 1_048_576
 MOST_MEMBER_OPS = 64
 MOST_THREADS = 16
@@ -53,7 +53,7 @@ class Explained:
     @property
     def about(self) -> str:
         """All but the place."""
-        return self.wrong + (f"; allowed is {self.allowed}" if self.allowed else "")
+        return self.wrong + (f"; expected {self.allowed}" if self.allowed else "")
 
     def __str__(self) -> str:
         return f"{self.place}: {self.about}"
@@ -86,7 +86,7 @@ class Refused:
         return schemas_at(self.path, self.value)
 
     def above(self, steps: int) -> Any:
-        """The plain value so many steps above the fault's place."""
+        """The plain value some steps above the fault's place."""
         kept = self.path.split("/")[:-steps]
         return deepest(self.whole, "/".join(kept) or "/")[0].plain()
 
@@ -135,10 +135,10 @@ def unknown_key(refused: Refused) -> Explained:
     node = refused.node
     if isinstance(node.value, dict) and {"asm", "image"} <= set(node.value):
         second = max((node.keys.get(key, node.place) for key in ("asm", "image")), key=lambda at: (at.line, at.column))
-        return refused.told('a driver has either "asm" or "image", and here are both', "", second)
+        return refused.told('a driver has either "asm" or "image", and this one has both', "", second)
     unknown = unknown_keys(refused.path, refused.value)
     if not unknown:
-        return refused.told("a key that may not stand here")
+        return refused.told("unknown key")
     place = node.keys.get(unknown[0], node.place)
     version = refused.value.get("version") if isinstance(refused.value, dict) else None
     if unknown == ["bad"] and version == 1:
@@ -146,10 +146,8 @@ def unknown_key(refused: Refused) -> Explained:
         return refused.told(about, "", place)
     named = ", ".join(json.dumps(key) for key in unknown)
     hint = close_to(unknown[0], known_keys(refused.schemas))
-    keys = "a key" if len(unknown) == 1 else "keys"
-    return refused.told(
-        f"{keys} that {kind_of_object(refused.path, node.plain())} does not have: {named}{hint}", None, place
-    )
+    keys = "unknown key" if len(unknown) == 1 else "unknown keys"
+    return refused.told(f"{keys} {named} of {kind_of_object(refused.path, node.plain())}{hint}", None, place)
 
 
 def missing_key(refused: Refused) -> Explained:
@@ -157,10 +155,10 @@ def missing_key(refused: Refused) -> Explained:
     node, missing = deepest(refused.whole, refused.path)
     above = refused.path.split("/")[:-1]
     if missing == ["image"] and above[-1:] == ["driver"]:
-        return Explained(node.place, 'a driver has "asm" or "image", and here is neither', "")
+        return Explained(node.place, 'a driver has either "asm" or "image", and this one has neither', "")
     about = allowed_at(refused.path, refused.value)
     named = missing[0] if missing else refused.path
-    return Explained(node.place, f"the key {json.dumps(named)} is not there", about)
+    return Explained(node.place, f"missing key {json.dumps(named)}", about)
 
 
 def wrong_kind(refused: Refused) -> Explained:
@@ -168,15 +166,15 @@ def wrong_kind(refused: Refused) -> Explained:
     value = refused.node.plain()
     if isinstance(value, str) and of_key(refused.schemas, "enum"):
         names = [each for each in of_key(refused.schemas, "enum") if isinstance(each, str)]
-        return refused.told(f"{refused.shown} is none of the names{close_to(value, names)}")
+        return refused.told(f"unknown name {refused.shown}{close_to(value, names)}")
     if isinstance(value, str) and of_key(refused.schemas, "pattern"):
-        return refused.told(f"{refused.shown} has not the form of a name")
-    return refused.told(f"a value of the wrong kind: {refused.shown}")
+        return refused.told(f"{refused.shown} is not a valid name")
+    return refused.told(f"wrong kind of value: {refused.shown}")
 
 
 def places(count: int, of: str) -> str:
-    """The places of a list of so many."""
-    listed = "0 alone" if count == 1 else f"0 to {count - 1}"
+    """The places of a list of this length."""
+    listed = "0" if count == 1 else f"0 to {count - 1}"
     return f"{listed}, since there {'is' if count == 1 else 'are'} {count} {of}{'' if count == 1 else 's'}"
 
 
@@ -184,7 +182,7 @@ def number_range(refused: Refused) -> Explained:
     """A number out of its range, which another value may set; or a list with too few items."""
     value = refused.node.plain()
     if isinstance(value, list):
-        return refused.told(f"a list with too few items: it has {len(value)}")
+        return refused.told(f"the list is too short: {len(value)} items")
     steps = refused.path.split("/")
     about = None
     base = refused.value.get("base", refused.value) if isinstance(refused.value, dict) else {}
@@ -193,7 +191,7 @@ def number_range(refused: Refused) -> Explained:
         about = places(len(parts), "part")
     if steps[-1] == "block" and "bad" in steps:
         about = places(refused.above(3)["blocks"], "block")
-    return refused.told(f"a number out of its range: {refused.shown}", about)
+    return refused.told(f"{refused.shown} is out of range", about)
 
 
 def too_many(refused: Refused) -> Explained:
@@ -212,14 +210,14 @@ def too_many(refused: Refused) -> Explained:
     if "parts" in steps and steps[-1] == "faults" and isinstance(value, list) and len(value) == MOST_FAULTS:
         about = f"the struck part has {MOST_FAULTS} faults of its own; in a campaign it has at most {MOST_FAULTS - 1}"
         return refused.told(about, "")
-    return refused.told(f"a list that is too long: it has {len(value):,} items")
+    return refused.told(f"the list is too long: {len(value):,} items")
 
 
 def bad_image(refused: Refused) -> Explained:
     """A driver of another class than its part, or a word of an image that is none."""
     driver = refused.node.plain()
     if not isinstance(driver, dict):
-        return refused.told(f"{refused.shown} is no word of an image")
+        return refused.told(f"{refused.shown} is not a word of an image")
     part = refused.above(1)
     own = driver["image"].get("class") if isinstance(driver.get("image"), dict) else named_class(str(driver.get("asm")))
     kind = part.get("class") if isinstance(part, dict) else None
@@ -229,18 +227,18 @@ def bad_image(refused: Refused) -> Explained:
 def bad_class(refused: Refused) -> Explained:
     """A text that is no class."""
     names = [each for each in of_key(refused.schemas, "enum") or [] if isinstance(each, str)]
-    return refused.told(f"{refused.shown} is no class{close_to(str(refused.node.value), names)}")
+    return refused.told(f"{refused.shown} is not a class{close_to(str(refused.node.value), names)}")
 
 
 def double_name(refused: Refused) -> Explained:
     """A name that is there already."""
     kind = "thread" if "threads" in refused.path.split("/") else "part"
-    return refused.told(f"an earlier {kind} has the name {refused.shown}", "")
+    return refused.told(f"duplicate name {refused.shown}: an earlier {kind} has it", "")
 
 
 def not_json(refused: Refused) -> Explained:
     """What the workbench's own reader takes, and the program does not."""
-    about = "the program reads no JSON here: a comment, a comma too many, or lists too deep in each other"
+    about = "the program reads exact JSON: no comment, no comma after a last item, no deeper nesting than 127"
     return refused.told(about, "")
 
 

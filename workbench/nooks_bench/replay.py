@@ -14,7 +14,7 @@ from .report import SHADOW, Event, Report, parse_report
 from .scenario import Scenario, read_scenario, with_schedule
 from .source import read_text
 
-# A listed schedule has at most so many picks.
+# The most picks of a listed schedule.
 MOST_PICKS = 65_536
 
 ABOUT = """From a scenario and a report of it, of `run threads` or of `run`, the scenario with a listed schedule

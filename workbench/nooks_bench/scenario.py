@@ -11,7 +11,7 @@ from .program import Mistake
 Scenario = dict[str, Any]
 Fault = dict[str, Any]
 
-# A part has at most so many faults.
+# The most faults of a part.
 MOST_FAULTS = 64
 
 

@@ -68,7 +68,7 @@ def applying(schema: AnySchema, value: Any) -> list[AnySchema]:
 
 
 def inner(value: Any, step: str) -> Any:
-    """What stands under a step of a path; None if nothing does."""
+    """The value at a step of a path; None if there is none."""
     if isinstance(value, dict):
         return value.get(step)
     if isinstance(value, list) and step.isdigit() and int(step) < len(value):
@@ -77,7 +77,7 @@ def inner(value: Any, step: str) -> Any:
 
 
 def below(schema: AnySchema, value: Any, step: str) -> AnySchema | None:
-    """The schema of what stands under a step of a value; None if this one does not tell."""
+    """The schema of the value at a step; None if this schema has none."""
     if isinstance(schema, bool):
         return None
     found: AnySchema | None = schema.get("items") if isinstance(value, list) else schema.get("properties", {}).get(step)
@@ -134,7 +134,7 @@ def allowed_keys(schemas: Sequence[AnySchema]) -> str:
         return "an object with either " + " or ".join(known)
     needed = [key for key in known if key in needed_keys(schemas)]
     free = [key for key in known if key not in needed]
-    return f"an object with {', '.join(needed)}" + (f" and perhaps {', '.join(free)}" if free else "")
+    return f"an object with {', '.join(needed)}" + (f" and optionally {', '.join(free)}" if free else "")
 
 
 def allowed(schemas: Sequence[AnySchema]) -> str:

@@ -1,4 +1,4 @@
-"""JSON as people write it: comments, trailing commas, and each value with the place where it stands."""
+"""JSON as people write it: comments, trailing commas, and each value with its place."""
 
 from __future__ import annotations
 
@@ -10,7 +10,7 @@ from typing import Any, Iterator
 
 from .program import Mistake
 
-# How deep lists and objects may stand in each other, so that a bad file ends in a mistake with a place.
+# How deep lists and objects may be nested, so that a bad file ends in a mistake with a place.
 DEEPEST = 200
 
 BLANK = re.compile(r"(?:[ \t\r\n]+|//[^\n]*)*")
@@ -93,7 +93,7 @@ class Reader:
         self.starts = [0] + [place + 1 for place, letter in enumerate(text) if letter == "\n"]
 
     def place(self, at: int | None = None) -> Place:
-        """The place of an offset, or of where the reader stands."""
+        """The place of an offset, or of the next letter to read."""
         at = self.at if at is None else at
         low, high = 0, len(self.starts)
         while high - low > 1:
@@ -115,20 +115,20 @@ class Reader:
     def take(self, letter: str, where: str) -> None:
         if self.peek() != letter:
             found = repr(self.text[self.at]) if self.at < len(self.text) else "the end of the file"
-            raise self.fail(f"{letter!r} must stand {where}, and here is {found}")
+            raise self.fail(f"expected {letter!r} {where}, found {found}")
         self.at += 1
 
     def whole(self) -> Node:
         node = self.node(0)
         if self.peek():
-            raise self.fail("something stands after the value")
+            raise self.fail("unexpected text after the value")
         node.size = len(self.text.encode())
         return node
 
     def node(self, depth: int) -> Node:
         first = self.peek()
         if depth > DEEPEST:
-            raise self.fail("lists and objects stand too deep in each other")
+            raise self.fail("lists and objects are nested too deep")
         if first == "{":
             return self.object(depth)
         if first == "[":
@@ -145,7 +145,7 @@ class Reader:
     def number(self) -> int | float:
         found = NUMBER.match(self.text, self.at)
         if not found:
-            raise self.fail("a value must stand here")
+            raise self.fail("expected a value")
         self.at = found.end()
         number: int | float = json.loads(found.group())
         return number
@@ -185,10 +185,10 @@ class Reader:
         for _ in self.items("}", "between the keys of the object"):
             key_place = self.place()
             if self.peek() != '"':
-                raise self.fail("a key in double quotes must stand here")
+                raise self.fail("expected a key in double quotes")
             key = self.string()
             if key in found:
-                raise Misplaced(key_place, f"the key {key!r} stands here a second time")
+                raise Misplaced(key_place, f"duplicate key {key!r}")
             self.take(":", "after a key")
             found[key] = self.node(depth + 1)
             keys[key] = key_place

@@ -50,28 +50,28 @@ class Build(unittest.TestCase):
 
     def test_mistakes_of_the_file(self):
         cases = [
-            ('{"version": 1,\n "parts": [,]}', "2:12: a value must stand here"),
-            ('{"version": 1 "parts": []}', "1:15: ',' must stand between the keys of the object, and here is '\"'"),
-            ('{"version": 1', "1:14: ',' must stand between the keys of the object, and here is the end of the file"),
-            ('{"a": 1, "a": 2}', "1:10: the key 'a' stands here a second time"),
+            ('{"version": 1,\n "parts": [,]}', "2:12: expected a value"),
+            ('{"version": 1 "parts": []}', "1:15: expected ',' between the keys of the object, found '\"'"),
+            ('{"version": 1', "1:14: expected ',' between the keys of the object, found the end of the file"),
+            ('{"a": 1, "a": 2}', "1:10: duplicate key 'a'"),
             ('{"a": "x\ny"}', "1:7: this text does not end on its line"),
-            ('{} {}', "1:4: something stands after the value"),
+            ('{} {}', "1:4: unexpected text after the value"),
             ('[]', "1:1: a scenario is an object"),
-            ("[" * 300, "1:202: lists and objects stand too deep in each other"),
+            ("[" * 300, "1:202: lists and objects are nested too deep"),
         ]
         for text, told in cases:
             self.assertEqual(mistake(text), told)
 
     def test_mistakes_that_the_program_tells(self):
         cases = [
-            ('"limit": 2', '"limit": 22', "10:60: /parts/0/limit: a number out of its range: 22; allowed is a whole number from 0 to 16"),
-            ('"blocks": 8, ', "", '10:5: the key "blocks" is not there; allowed is a whole number from 1 to 256'),
-            ('"limit"', '"limmit"', '10:51: /parts/0: a key that a part of class block does not have: "limmit" (did you mean "limit"?)'),
+            ('"limit": 2', '"limit": 22', "10:60: /parts/0/limit: 22 is out of range; expected a whole number from 0 to 16"),
+            ('"blocks": 8, ', "", '10:5: missing key "blocks"; expected a whole number from 1 to 256'),
+            ('"limit"', '"limmit"', '10:51: /parts/0: unknown key "limmit" of a part of class block (did you mean "limit"?)'),
             ('"driver": "link"', '"driver": "lonk"', "11:46: there is no driver 'lonk' in the table"),
             ("block.asm", "nowhere.asm", "6:26: "),
-            ('"repeat": 3', '"repeat": -3', "11:79: a count from 0 to 65536 must stand here"),
-            ('"op": "recv"', '"op": "receive"', '19:27: /threads/0/ops/2/op: "receive" is none of the names (did you mean "recv"?); allowed is "read" or'),
-            ('"part": 1', '"part": 2', "19:18: /threads/0/ops/2/part: a number out of its range: 2; allowed is 0 to 1, since there are 2 parts"),
+            ('"repeat": 3', '"repeat": -3', "11:79: expected a count from 0 to 65536"),
+            ('"op": "recv"', '"op": "receive"', '19:27: /threads/0/ops/2/op: unknown name "receive" (did you mean "recv"?); expected "read" or'),
+            ('"part": 1', '"part": 2', "19:18: /threads/0/ops/2/part: 2 is out of range; expected 0 to 1, since there are 2 parts"),
         ]
         for old, new, told in cases:
             self.assertEqual(mistake(handmade().replace("../../..", TOP).replace(old, new))[: len(told)], told)
@@ -81,7 +81,7 @@ class Build(unittest.TestCase):
             text = handmade().replace("../../../examples/block.asm", asm).replace("../../..", TOP)
             with file_of(text) as path:
                 _, _, err = bench("build", path)
-        self.assertIn(f"{asm}:3:7: LI takes a register (r0 to r15) and a number or a label, and here are only 1 of 2 operands", err)
+        self.assertIn(f"{asm}:3:7: too few operands; LI takes a register and a number or a label", err)
         self.assertIn("'init: LI r1'", err)
 
 

@@ -65,11 +65,11 @@ class Explains(unittest.TestCase):
     def test_faults_at_their_places(self):
         text = json.dumps(example("write-cut.json"), indent=1)
         cases = [
-            ('"limit": 2', '"limit": null', '/parts/0/limit: a value of the wrong kind: null; allowed is a whole number from 0 to 16'),
+            ('"limit": 2', '"limit": null', '/parts/0/limit: wrong kind of value: null; expected a whole number from 0 to 16'),
             ('"limit": 2', '"limit": 2,', "this is no JSON: "),
-            ('"key": 1', '"kee": 1', '/threads/0/ops/0: a key that the operation set does not have: "kee" (did you mean "key"?)'),
-            ('"blocks": 16,', "", 'the key "blocks" is not there; allowed is a whole number from 1 to 256'),
-            ("LI r5 16", "LI r5", "line 11, column 7 of this assembler text: LI takes a register"),
+            ('"key": 1', '"kee": 1', '/threads/0/ops/0: unknown key "kee" of the operation set (did you mean "key"?)'),
+            ('"blocks": 16,', "", 'missing key "blocks"; expected a whole number from 1 to 256'),
+            ("LI r5 16", "LI r5", "line 11, column 7 of this assembler text: too few operands; LI takes a register"),
         ]
         for old, new, words in cases:
             changed = text.replace(old, new, 1)
@@ -81,14 +81,14 @@ class Explains(unittest.TestCase):
     def test_campaigns_images_and_texts(self):
         campaign = example("campaign-block.json")
         campaign["faults"][2]["kind"] = "trip"
-        self.assertIn('/faults/2/kind: "trip" is none of the names (did you mean "trap"?); allowed is "trap"', told(json.dumps(campaign), ["campaign"]))
+        self.assertIn('/faults/2/kind: unknown name "trip" (did you mean "trap"?); expected "trap"', told(json.dumps(campaign), ["campaign"]))
         campaign = example("campaign-block.json")
         campaign["base"]["parts"][0]["blocks"] = 0
-        self.assertIn("/parts/0/blocks: a number out of its range", told(json.dumps(campaign), ["campaign"]))
+        self.assertIn("/parts/0/blocks: 0 is out of range", told(json.dumps(campaign), ["campaign"]))
         image = json.loads(example_text("block.image"))
         image["text"][1] = "1600003"
-        self.assertIn('/text/1: "1600003" is no word of an image', told(json.dumps(image), ["dis"]))
-        self.assertIn("5:1: 'nope' is no mnemonic", told(".class block\n\n\n\nnope r1\n", ["asm"]))
+        self.assertIn('/text/1: "1600003" is not a word of an image', told(json.dumps(image), ["dis"]))
+        self.assertIn("5:1: 'nope' is not a mnemonic", told(".class block\n\n\n\nnope r1\n", ["asm"]))
 
     def test_a_fault_line_wants_its_input(self):
         with file_of("fault 1 not_json /\n", ".line") as path:

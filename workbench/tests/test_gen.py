@@ -81,9 +81,9 @@ class Generates(unittest.TestCase):
     def test_mistakes(self):
         disk = example_path("block.asm")
         cases = [
-            (("--ops", "600"), "--ops 600: allowed is a whole number from 1 to 512"),
-            (("--threads", "17"), "--threads 17: allowed is a whole number from 1 to 16"),
-            (("--blocks", "0"), "--blocks 0: allowed is a whole number from 1 to 256"),
+            (("--ops", "600"), "--ops 600: allowed is a number from 1 to 512"),
+            (("--threads", "17"), "--threads 17: allowed is a number from 1 to 16"),
+            (("--blocks", "0"), "--blocks 0: allowed is a number from 1 to 256"),
             (("--output", "/nowhere/x.json"), "/nowhere/x.json: No such file or directory"),
         ]
         for words, told in cases:

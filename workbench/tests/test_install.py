@@ -192,6 +192,12 @@ class Installed(unittest.TestCase):
                 self.assertIn(told, ended.stderr)
             ended = make("install", f"DESTDIR={other}", "BUILT=/nowhere/nooks_main")
             self.assertIn("the proved program is not built yet: ./nooks --version proves and builds it", ended.stderr)
+            old = os.path.join(other, "old")
+            shutil.copy(program().path, old)
+            os.utime(old, (0, 0))
+            ended = make("install", f"DESTDIR={other}/tree", f"BUILT={old}")
+            self.assertIn("a source is newer than the proved program", ended.stderr)
+            os.remove(old)
             self.assertEqual(os.listdir(other), [])
 
 

@@ -57,38 +57,38 @@ SENTENCES = [
      "/parts/0/driver: the driver is of class net, the part of class block"),
     ("block.json", [(("parts", 0, "driver"), {"image": json.loads(example_text("net.image"))})],
      "/parts/0/driver: the driver is of class net, the part of class block"),
-    ("block.json", [(("parts", 0, "driver", "image"), {})], '/parts/0/driver: a driver has either "asm" or "image", and here are both'),
-    ("block.json", [(("parts", 0, "driver"), {})], 'a driver has "asm" or "image", and here is neither'),
+    ("block.json", [(("parts", 0, "driver", "image"), {})], '/parts/0/driver: a driver has either "asm" or "image", and this one has both'),
+    ("block.json", [(("parts", 0, "driver"), {})], 'a driver has either "asm" or "image", and this one has neither'),
     ("block.json", [((*OP, "part"), 5)],
-     "/threads/0/ops/0/part: a number out of its range: 5; allowed is 0 alone, since there is 1 part"),
+     "/threads/0/ops/0/part: 5 is out of range; expected 0, since there is 1 part"),
     ("mirror-outlives.json", [(("threads",), [{"name": "t", "ops": [{"part": 5, "op": "recv"}]}])],
-     "/threads/0/ops/0/part: a number out of its range: 5; allowed is 0 to 1, since there are 2 parts"),
+     "/threads/0/ops/0/part: 5 is out of range; expected 0 to 1, since there are 2 parts"),
     ("media-errors.json", [(("parts", 0, "bad", 0, "block"), 200)],
-     "/parts/0/bad/0/block: a number out of its range: 200; allowed is 0 to 7, since there are 8 blocks"),
-    ("block.json", [(("parts",), [])], "/parts: a list with too few items: it has 0; allowed is a list of 1 to 8 items"),
+     "/parts/0/bad/0/block: 200 is out of range; expected 0 to 7, since there are 8 blocks"),
+    ("block.json", [(("parts",), [])], "/parts: the list is too short: 0 items; expected a list of 1 to 8 items"),
     ("block.json", [(("threads",), [{"name": f"x{place}", "ops": []} for place in range(17)])],
-     "/threads: a list that is too long: it has 17 items; allowed is a list of up to 16 items"),
+     "/threads: the list is too long: 17 items; expected a list of up to 16 items"),
     ("block.json", [(("parts", 0, "class"), "blok")],
-     '/parts/0/class: "blok" is no class (did you mean "block"?); allowed is "block" or "net" or "sound"'),
+     '/parts/0/class: "blok" is not a class (did you mean "block"?); expected "block" or "net" or "sound"'),
     ("block.json", [(("parts", 0, "limmit"), 1)],
-     '/parts/0: a key that a part of class block does not have: "limmit" (did you mean "limit"?); allowed is an object with '
-     "name, class, blocks, driver and perhaps limit, faults"),
+     '/parts/0: unknown key "limmit" of a part of class block (did you mean "limit"?); expected an object with '
+     "name, class, blocks, driver and optionally limit, faults"),
     ("block.json", [(("parts", 0, "faults"), [FAULT])],
-     '/parts/0/faults/0: a key that a fault of kind reg does not have: "address"; allowed is an object with '
+     '/parts/0/faults/0: unknown key "address" of a fault of kind reg; expected an object with '
      "burst, after, kind, register, value"),
     ("block.json", [((*OP, "first"), -1)],
-     "/threads/0/ops/0/first: a value of the wrong kind: -1; allowed is a whole number from 0 to 4294967295, in digits alone"),
+     "/threads/0/ops/0/first: wrong kind of value: -1; expected a whole number from 0 to 4294967295, in digits alone"),
     ("block.json", [(("parts", 0, "name"), "D 1")],
-     '/parts/0/name: "D 1" has not the form of a name; allowed is a text: 1 to 16 of a to z, 0 to 9 and _; no earlier one has it'),
+     '/parts/0/name: "D 1" is not a valid name; expected a text: 1 to 16 of a to z, 0 to 9 and _; no earlier one has it'),
     ("mirror-outlives.json", [(("parts", 1, "name"), example("mirror-outlives.json")["parts"][0]["name"])],
-     f'/parts/1/name: an earlier part has the name "{example("mirror-outlives.json")["parts"][0]["name"]}"'),
-    ("campaign-block.json", [(("faults",), [])], "/faults: a list with too few items: it has 0; allowed is a list of 1 to 4096 items: "
+     f'/parts/1/name: duplicate name "{example("mirror-outlives.json")["parts"][0]["name"]}": an earlier part has it'),
+    ("campaign-block.json", [(("faults",), [])], "/faults: the list is too short: 0 items; expected a list of 1 to 4096 items: "
      "one for each member"),
     ("campaign-block.json", [(("base", *OP[:3]), [{"part": 0, "op": "get", "key": 1}] * 70)],
      "/base/threads: the threads have 70 operations together; a campaign's base has at most 64"),
     ("campaign-block.json", [(("base", "parts", 0, "faults"), [{"burst": 1, "after": 0, "kind": "trap"}] * 64)],
      "/base/parts/0/faults: the struck part has 64 faults of its own; in a campaign it has at most 63"),
-    ("campaign-block.json", [(("part",), 1)], "/part: a number out of its range: 1; allowed is 0 alone, since there is 1 part"),
+    ("campaign-block.json", [(("part",), 1)], "/part: 1 is out of range; expected 0, since there is 1 part"),
 ]
 
 
@@ -99,7 +99,7 @@ class Sentences(unittest.TestCase):
 
     def test_none_says_two_things(self):
         for name, changes, _ in SENTENCES:
-            self.assertNotRegex(told(name, *changes).split("; allowed")[0], r", or ")
+            self.assertNotRegex(told(name, *changes).split("; expected")[0], r", or ")
 
     def test_an_input_of_two_megabytes(self):
         text = json.dumps(example("block.json")) + " " * 2_000_000
@@ -134,34 +134,34 @@ class Encodings(unittest.TestCase):
 
 
 ASM = [
-    (".class sound\n  li r1 0\n", 2, 3, "'li' is no mnemonic: mnemonics are upper case, LI"),
-    (".class sound\nADDD r1 r2\n", 2, 1, "'ADDD' is no mnemonic (did you mean ADD?)"),
-    ("class sound\n", 1, 1, "'class' is no mnemonic (did you mean the directive .class?)"),
-    (".class audio\n", 1, 8, "'audio' is no class, which is block, net or sound"),
-    (".class sound\n.entry read x\n", 2, 8, "'read' is no entry of class sound, which has init, open, play, close, get, set"),
-    (".class sound\n LI r1 -1\n", 2, 8, "'-1' is no name, definition, directive or number: a number has digits alone, and is not negative"),
-    (".class sound\n LI r1 1 // one\n", 2, 10, "'//' is no name, definition, directive or number: a comment begins with ;"),
-    (".class sound\nLI r1\n", 2, 1, "LI takes a register (r0 to r15) and a number or a label, and here are only 1 of 2 operands"),
-    (".class sound\nMOV r1 2\n", 2, 8, "MOV takes a register (r0 to r15) and a register (r0 to r15), and here is '2' where a register"),
-    (".class sound\nRET r1 r2\n", 2, 8, "RET takes a register (r0 to r15), and here is one operand too many: 'r2'"),
-    (".class sound\nJMP r3\n", 2, 5, "JMP takes a number or a label, and here is the register 'r3' where a number or a label must stand"),
-    (".class sound\nr1: RET r1\n", 2, 1, "'r1' is a register, so it is no label"),
-    (".entry init 0\n.class sound\n", 1, 1, "an entry stands here before the class: .class must come first"),
-    (".class sound\n.data\nRET r0\n", 3, 1, "an instruction stands here among the initial words: .text must come before it"),
-    (".class sound\n.org 3\n", 2, 1, "'.org' is no directive, of which there are .class, .entry, .text, .data, .word"),
-    (".class sound\na: b: RET r0\n", 2, 4, "a second label stands here where a mnemonic or a directive must stand"),
+    (".class sound\n  li r1 0\n", 2, 3, "'li' is not a mnemonic: mnemonics are upper case, LI"),
+    (".class sound\nADDD r1 r2\n", 2, 1, "'ADDD' is not a mnemonic (did you mean ADD?)"),
+    ("class sound\n", 1, 1, "'class' is not a mnemonic (did you mean the directive .class?)"),
+    (".class audio\n", 1, 8, "'audio' is not a class: block, net or sound"),
+    (".class sound\n.entry read x\n", 2, 8, "'read' is not an entry of class sound: init, open, play, close, get, set"),
+    (".class sound\n LI r1 -1\n", 2, 8, "'-1' is not a name, definition, directive or number: a number is digits alone, and not negative"),
+    (".class sound\n LI r1 1 // one\n", 2, 10, "'//' is not a name, definition, directive or number: a comment begins with ;"),
+    (".class sound\nLI r1\n", 2, 1, "too few operands; LI takes a register and a number or a label"),
+    (".class sound\nMOV r1 2\n", 2, 8, "expected a register, found '2'; MOV takes two registers"),
+    (".class sound\nRET r1 r2\n", 2, 8, "one operand too many, 'r2'; RET takes a register"),
+    (".class sound\nJMP r3\n", 2, 5, "expected a number or a label, found the register 'r3'; JMP takes a number or a label"),
+    (".class sound\nr1: RET r1\n", 2, 1, "'r1' is a register and cannot be a label"),
+    (".entry init 0\n.class sound\n", 1, 1, ".entry before .class: the class must come first"),
+    (".class sound\n.data\nRET r0\n", 3, 1, "an instruction in the data section: .text must come first"),
+    (".class sound\n.org 3\n", 2, 1, "'.org' is not a directive: .class, .entry, .text, .data, .word"),
+    (".class sound\na: b: RET r0\n", 2, 4, "expected a mnemonic or a directive, found a second label"),
     (".class sound\nLI r1 65536\n", 2, 7, "65536 is too large: LI takes at most 65535"),
     (".class sound\n.word 0x100000000\n", 2, 7, "0x100000000 is too large: .word takes at most 4294967295"),
-    (".class sound\n.data\nd: .word 1\n.entry init d\n", 4, 13, "the label 'd' stands too far on: .entry takes at most 2047"),
-    (".class sound\na: RET r0\na: RET r0\n", 3, 1, "the label 'a' is defined a second time; the first is on line 2"),
-    (".class sound\n.class net\n", 2, 1, "the class is named a second time; the first is on line 1"),
-    (".class sound\n.entry init 0\n.entry init 1\n", 3, 1, "the entry 'init' is given a second time; the first is on line 2"),
-    (".class sound\nagain: JMP agian\n", 2, 12, "no line defines the label 'agian' (did you mean again?)"),
-    (".class sound\n" + "RET r0\n" * 2049, 2050, 1, "this word of text is one too many: a driver has at most 2048"),
-    (".class sound\n.data\n" + ".word 0\n" * 2049, 2051, 1, "this initial word is one too many: a driver has at most 2048"),
-    ("RET r0\n", 2, 1, "the text ends and has named no class: .class block, net or sound"),
+    (".class sound\n.data\nd: .word 1\n.entry init d\n", 4, 13, "the label 'd' is too far: .entry takes at most 2047"),
+    (".class sound\na: RET r0\na: RET r0\n", 3, 1, "the label 'a' is defined twice, first on line 2"),
+    (".class sound\n.class net\n", 2, 1, "the class is given twice, first on line 1"),
+    (".class sound\n.entry init 0\n.entry init 1\n", 3, 1, "the entry 'init' is given twice, first on line 2"),
+    (".class sound\nagain: JMP agian\n", 2, 12, "undefined label 'agian' (did you mean again?)"),
+    (".class sound\n" + "RET r0\n" * 2049, 2050, 1, "one word of text too many: a driver has at most 2048"),
+    (".class sound\n.data\n" + ".word 0\n" * 2049, 2051, 1, "one initial word too many: a driver has at most 2048"),
+    ("RET r0\n", 2, 1, "the text ends without a class: .class block, net or sound"),
     (".class sound\n.entry init 0\n.entry open 0\nRET r0\n", 5, 1,
-     "the text ends and has not given the entries play, close, get, set of class sound"),
+     "the text ends without the entries play, close, get, set of class sound"),
 ]
 
 

@@ -10,7 +10,7 @@ import re
 from dataclasses import dataclass
 
 from .report import Event, Part
-from .words import counted, short
+from .words import counted
 
 HEAP = "heap"
 BORROW = "borrow"
@@ -99,9 +99,3 @@ def group_line(operation: str, group: list[Held]) -> str:
     whose = f"{counted(len(calls), 'call')} of {operation}" if operation else "its start"
     words = sum(each.words for each in group)
     return f"holds at the end {counted(words, 'word')} of the heap, taken in {whose}: {', '.join(named)}"
-
-
-def held_text(part: Part) -> str:
-    """The same, short."""
-    words = sum(each.words for each in held_at_end(part))
-    return short(f"holds {counted(words, 'word')} of the heap at the end") if words else ""

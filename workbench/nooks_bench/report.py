@@ -169,14 +169,3 @@ def parse_report(text: str) -> Report:
     if lines.report.status < 0:
         raise Mistake("the report has no line of its status: it is not whole")
     return lines.report
-
-
-def lost_of(part: Part) -> int:
-    """The sum of a part's losses: sends, samples, busy answers, and frames lost on their way in."""
-    total = 0
-    for line in part.losses:
-        words = line.split(" ")
-        named = dict(zip(words[1::2], words[2::2]))
-        wanted = ("sends", "samples", "busy", "reset", "full_ring", "full_queue")
-        total += sum(int(number) for name, number in named.items() if name in wanted)
-    return total

@@ -9,16 +9,16 @@ from dataclasses import dataclass
 
 from .jsontext import json_text
 from .program import Mistake, Program, find_program
-from .refused import explain_fault, parse_fault
+from .refused import MOST_BYTES, explain_fault, parse_fault
 from .source import Misplaced, Node, read_source, read_text
 
-# A repetition has at most so many items: more than any list of a scenario may have.
+# The most items of a repetition: more than any list of a scenario may have.
 MOST_REPEATED = 65_536
 
 ABOUT = """Writes the scenario of FILE (- is standard input) as the program reads it. FILE is JSON that may also
-have: comments from // to the line's end; a comma behind a last item; "notes" in any object, which are left out;
+have: comments from // to the line's end; a comma after a last item; "notes" in any object, which are left out;
 "asm_file": "PATH" in a driver, from the folder of FILE on; "drivers": {NAME: DRIVER} at the top, which a part
-names by "driver": "NAME"; {"repeat": 16, "of": 7} in any list. A mistake is told with file, line and column."""
+names by "driver": "NAME"; {"repeat": 16, "of": 7} in any list. A mistake is reported with file, line and column."""
 
 
 @dataclass(frozen=True)
@@ -43,7 +43,7 @@ class Builder:
         return Node(kept, node.place, node.keys)
 
     def driver(self, node: Node) -> Node:
-        """A driver: by its name in the table, and with its text where a file has it."""
+        """A driver: by its name in the table, and with its text if a file has it."""
         if isinstance(node.value, str):
             if node.value not in self.drivers:
                 names = ", ".join(self.drivers) or "none"
@@ -54,7 +54,7 @@ class Builder:
         if named is None:
             return node
         if not isinstance(named.value, str):
-            raise Misplaced(named.place, "the path of a file is wanted here")
+            raise Misplaced(named.place, "expected the path of a file")
         path = os.path.normpath(os.path.join(self.folder, named.value))
         try:
             text = read_text(path)
@@ -64,14 +64,14 @@ class Builder:
         return Node({**others, "asm": Node(text, named.place, origin=path)}, node.place, node.keys)
 
     def items(self, node: Node) -> list[Node]:
-        """What an item of a list stands for: itself, or a value so many times."""
+        """What an item of a list stands for: itself, or a value several times."""
         if node.get("repeat") is None and node.get("of") is None:
             return [self.value(node)]
         times, each = node.get("repeat"), node.get("of")
         if times is None or each is None or len(node.value) != 2:
             raise Misplaced(node.place, 'a repetition is {"repeat": COUNT, "of": VALUE}, and nothing else')
         if type(times.value) is not int or not 0 <= times.value <= MOST_REPEATED:
-            raise Misplaced(times.place, f"a count from 0 to {MOST_REPEATED} is wanted here")
+            raise Misplaced(times.place, f"expected a count from 0 to {MOST_REPEATED}")
         return [self.value(each)] * times.value
 
 
@@ -90,11 +90,16 @@ def built(file: str, text: str | None = None) -> Node:
 
 
 def check(program: Program, node: Node, text: str) -> None:
-    """Ends with a mistake at its place where the program would refuse the scenario."""
+    """Ends with a mistake at its place if the program would refuse the scenario."""
+    size = len(text.encode())
+    if size > MOST_BYTES:
+        raise Misplaced(
+            node.place, f"the scenario has {size:,} bytes as the program reads it; it reads at most {MOST_BYTES:,}"
+        )
     line = program.fault_of(text)
     if line is not None:
         explained = explain_fault(parse_fault(line), node)
-        raise Misplaced(explained.place, str(explained)[len(f"{explained.place}: ") :])
+        raise Misplaced(explained.place, explained.about)
 
 
 def run(args: argparse.Namespace) -> int:
@@ -106,7 +111,7 @@ def run(args: argparse.Namespace) -> int:
     return 0
 
 
-def add_to(commands: argparse._SubParsersAction) -> None:
+def add_to(commands: argparse._SubParsersAction[argparse.ArgumentParser]) -> None:
     parser = commands.add_parser("build", help="write a scenario's exact JSON", description=ABOUT)
     parser.add_argument("file", metavar="FILE")
     parser.add_argument("--no-check", action="store_true", help="do not ask the program whether it takes the scenario")

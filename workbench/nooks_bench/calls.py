@@ -6,12 +6,24 @@ from dataclasses import dataclass, field
 
 from .report import Event, Part, Report
 
-# Who answered a call.
-AT_ONCE = "at once"
+# Who answered a call. A wrong operation is answered at its invocation, whatever the driver does.
+REFUSED = "at once, as a wrong operation"
 AT_ENTER = "at its enter"
 BY_DRIVER = "by the driver"
 BY_SHADOW = "by the shadow"
+GONE = "with gone, since the part is given up"
 NOT = "not answered"
+
+# The answers of an operation that is wrong by itself (docs/REPORT.md).
+WRONG = ("bad_class", "bad_length", "bad_range", "bad_key", "bad_value")
+
+
+def answerer(answer: str) -> str:
+    """Who gave an answer outside the driver: at an invocation, or when the driver was stopped."""
+    word = answer.split(" ")[0]
+    if word in WRONG:
+        return REFUSED
+    return GONE if word == "gone" else BY_SHADOW
 
 
 @dataclass
@@ -32,7 +44,7 @@ class Call:
     entered: int = 0
 
     def leave(self, event: int) -> None:
-        """Ends its stay in the driver, where it is inside."""
+        """Ends its stay in the driver, if it is inside."""
         if self.entered:
             self.inside.append((self.entered, event))
             self.entered = 0
@@ -54,7 +66,7 @@ class Follower:
             call = Call(event.call, self.place, event.context, event.text, event.number)
             self.calls[event.call] = call
             if event.answer is not None:
-                call.close(event.number, event.answer, AT_ONCE)
+                call.close(event.number, event.answer, answerer(event.answer))
         elif event.kind == "enter":
             call = self.calls[event.call]
             call.entered = event.number
@@ -63,7 +75,7 @@ class Follower:
         elif event.kind == "burst":
             self.burst(event)
         for number, answer in event.replies:
-            self.calls[number].close(event.number, answer, BY_SHADOW)
+            self.calls[number].close(event.number, answer, answerer(answer))
 
     def burst(self, event: Event) -> None:
         if event.call in self.calls:

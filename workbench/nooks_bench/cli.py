@@ -17,13 +17,18 @@ from .program import Mistake, find_program
 # subcommand is asked for, so that each starts fast.
 SUBCOMMANDS = {
     "build": "write a scenario's exact JSON",
+    "gen": "operations to try one's own driver with",
     "sweep": "what becomes of each of a set of faults",
     "map": "a sweep as an SVG",
     "timeline": "a report as lanes, as an SVG or as text",
     "explain": "a report, or the line of a refused input, for people",
+    "trace": "one burst, turn by turn, beside the driver's source",
     "replay": "the schedule that gives a report of threads again",
     "shrink": "a smaller scenario of which the same holds",
 }
+
+# The module of a subcommand if it has another name: `map` is a builtin of Python.
+MODULES = {"map": "heatmap"}
 
 # The exit statuses, beside 0; sweep's --fail-on adds 1. 5 is the program's own for output that cannot be written.
 MISTAKEN = 2
@@ -46,7 +51,7 @@ def parser(wanted: list[str] | None = None) -> argparse.ArgumentParser:
     commands = made.add_subparsers(title="subcommands", dest="subcommand", metavar="SUBCOMMAND")
     for name, about in SUBCOMMANDS.items():
         if wanted is None or name in wanted:
-            importlib.import_module(f".{name}", __package__).add_to(commands)
+            importlib.import_module(f".{MODULES.get(name, name)}", __package__).add_to(commands)
             command = commands.choices[name]
             command.add_argument("--program", metavar="PATH", default=argparse.SUPPRESS, help="the program nooks")
         else:
@@ -71,6 +76,7 @@ def command(words: list[str]) -> int:
     made = parser(words)
     try:
         args = made.parse_args(words)
+        args.words = words
         if args.version:
             return versions(args.program)
         if args.subcommand is None:

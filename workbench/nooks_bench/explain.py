@@ -5,114 +5,17 @@ from __future__ import annotations
 import argparse
 import json
 
-from .calls import AT_ENTER, AT_ONCE, BY_DRIVER, BY_SHADOW, Call, calls_of, calls_of_threads
+from .build import built
+from .explain_report import report_lines
 from .program import Mistake
 from .refused import Explained, FaultLine, explain_asm, explain_fault, parse_fault
-from .report import Part, Report, Thread, parse_report
+from .report import parse_report
 from .source import Node, Place, Reader, read_text
-from .words import CLAUSES, counted, short
+from .unstruck import strikes_of_report
 
 ABOUT = """Explains what the program wrote. FILE (- is standard input) is a report, or the line `fault ..` of a
-refused input, which wants --input: the scenario, campaign, image or assembler text that was refused."""
-
-# Of what a part was left with so many lines are shown.
-MOST_LEFT = 16
-
-STATUSES = {
-    0: "no part was given up, and every driver kept its class's contract",
-    1: "a part was given up",
-    7: "a driver broke its class's contract",
-}
-
-
-def where(call: Call) -> str:
-    """Where and by whom a call was answered."""
-    cuts = f", cut by a failure at event {', '.join(map(str, call.cuts))}" if call.cuts else ""
-    told = {
-        AT_ONCE: f"answered at once, at event {call.answered}",
-        AT_ENTER: f"answered at its enter, event {call.answered}",
-        BY_DRIVER: f"answered by the driver at event {call.answered}",
-        BY_SHADOW: f"answered by the shadow at event {call.answered}",
-    }.get(call.by, "not answered")
-    return f"c{call.number} {told}{cuts}"
-
-
-def thread_lines(thread: Thread, calls: list[Call]) -> list[str]:
-    """A thread's operations, each with its answer and where that came from."""
-    asked = [f"p{call.part} {short(call.text)}" for call in calls]
-    given = [short(answer) for _, answer in thread.answers]
-    wide = [max(map(len, texts), default=0) for texts in (asked, given)]
-    lines = [f"thread {thread.place} {thread.name}: {counted(len(calls), 'operation')}"]
-    for number, (ask, answer, call) in enumerate(zip(asked, given, calls), 1):
-        lines.append(f"  {number:3}  {ask:{wide[0]}}  {answer:{wide[1]}}  {where(call)}")
-    return lines
-
-
-def answered_line(calls: list[Call]) -> str:
-    """How many calls were answered by whom."""
-    counts = {by: sum(call.by == by for call in calls) for by in (BY_DRIVER, BY_SHADOW, AT_ENTER, AT_ONCE)}
-    told = ", ".join(f"{number} {by}" for by, number in counts.items() if number)
-    return f"{counted(len(calls), 'call')}" + (f", answered: {told}" if told else "")
-
-
-def failure_lines(part: Part) -> list[str]:
-    """Each failure, with what the driver was at and what the part did."""
-    asked = {event.call: short(event.text) for event in part.events if event.kind == "invoke"}
-    lines: list[str] = []
-    for event in part.bursts():
-        if event.failed:
-            at = f"c{event.call} {asked[event.call]}" if event.call else "a stage of its start"
-            place = f"event {event.number}, burst {event.burst}, turn {event.turns}"
-            lines.append(f"failed at {place}, in {at}: {event.cause}")
-    return lines
-
-
-def recovery_lines(part: Part) -> list[str]:
-    """From which event to which the part was away."""
-    lines: list[str] = []
-    stopped = 0
-    for event in part.events:
-        if event.kind == "stage" and event.text == "stop":
-            stopped = stopped or event.number
-        if event.kind == "stage" and event.text == "resume" and stopped:
-            lines.append(f"recovered from event {stopped} to {event.number}")
-            stopped = 0
-    if part.given_up:
-        lines.append(f"given up at event {stopped}: {counted(part.failures, 'failure')}, and its limit is {part.limit}")
-    return lines
-
-
-def part_lines(part: Part) -> list[str]:
-    """A part's summary."""
-    head = f"part {part.place} {part.name}, {part.kind}, limit {part.limit}: {counted(len(part.events), 'event')}"
-    lines = [f"{head}, {counted(len(part.bursts()), 'burst')}, {counted(part.failures, 'failure')}"]
-    told = [answered_line(calls_of(part)), *failure_lines(part), *recovery_lines(part)]
-    arrived = [event for event in part.events if event.kind == "arrive"]
-    if arrived:
-        lost = sum(event.answer == "lost" for event in arrived)
-        told.append(f"{counted(len(arrived), 'frame')} arrived, {lost} of them lost at once")
-    told.extend(part.losses)
-    told.extend(short(line) for line in part.left[:MOST_LEFT])
-    if len(part.left) > MOST_LEFT:
-        told.append(f".. and {len(part.left) - MOST_LEFT} lines more of what is left")
-    told.append(f"config {part.config}")
-    if part.broken:
-        number, clause = part.broken
-        told.append(f"CONTRACT BROKEN at event {number}, clause {clause}: the driver {CLAUSES[clause]}")
-        told.append(f"  {short(part.event(number).line)}")
-    else:
-        told.append("contract kept")
-    return lines + ["  " + line for line in told]
-
-
-def report_lines(report: Report) -> list[str]:
-    """A report for people."""
-    lines = [f"status {report.status}: {STATUSES.get(report.status, 'unknown')}"]
-    for thread, calls in zip(report.threads, calls_of_threads(report)):
-        lines += ["", *thread_lines(thread, calls)]
-    for part in report.parts:
-        lines += ["", *part_lines(part)]
-    return lines
+refused input, which needs --input: the scenario, campaign, image or assembler text that was refused. For a report
+--input is its scenario, and then each fault of it is listed, with the burst that it struck or why it did not."""
 
 
 def not_json(file: str, text: str) -> Explained:
@@ -122,7 +25,7 @@ def not_json(file: str, text: str) -> Explained:
     except json.JSONDecodeError as error:
         return Explained(Place(file, error.lineno, error.colno), f"this is no JSON: {error.msg}", "")
     except RecursionError:
-        return Explained(Place(file, 1, 1), "lists and objects stand too deep in each other", "")
+        return Explained(Place(file, 1, 1), "lists and objects are nested too deeply", "")
     return Explained(Place(file, 1, 1), "the program reads no JSON here", "at most 127 levels of lists and objects")
 
 
@@ -162,16 +65,18 @@ def run(args: argparse.Namespace) -> int:
     text = read_text(args.file)
     if text.startswith("fault "):
         if not args.input:
-            raise Mistake("the line of a refused input wants --input, the file that was refused")
+            raise Mistake("the line of a refused input needs --input, the file that was refused")
         print(refused(text, args.input))
         return 0
-    print("\n".join(report_lines(parse_report(text))))
+    report = parse_report(text)
+    strikes = strikes_of_report(report, built(args.input).plain()) if args.input else None
+    print("\n".join(report_lines(report, strikes)))
     return 0
 
 
-def add_to(commands: argparse._SubParsersAction) -> None:
+def add_to(commands: argparse._SubParsersAction[argparse.ArgumentParser]) -> None:
     about = "a report, or the line of a refused input, for people"
     parser = commands.add_parser("explain", help=about, description=ABOUT)
     parser.add_argument("file", metavar="FILE", nargs="?", default="-")
-    parser.add_argument("--input", metavar="INPUT", help="the input that was refused")
+    parser.add_argument("--input", metavar="INPUT", help="the input that was refused, or the scenario of the report")
     parser.set_defaults(run=run)

@@ -9,7 +9,7 @@ WIDE = 100
 
 
 def json_text(value: Any, indent: int = 0) -> str:
-    """A value as JSON. What fits on a line, or is a list of plain values, stands on one."""
+    """A value as JSON. What fits on a line, or is a list of plain values, is written on one."""
     flat = json.dumps(value, ensure_ascii=False)
     is_plain = not isinstance(value, (dict, list)) or (
         isinstance(value, list) and not any(isinstance(item, (dict, list)) for item in value)

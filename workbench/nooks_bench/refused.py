@@ -1,41 +1,25 @@
-"""The line of a refused input, for people: where its place stands in a file, and what is allowed there."""
+"""The line of a refused input, for people: what is wrong, where it stands in a file, and what is allowed there."""
 
 from __future__ import annotations
 
+import difflib
 import json
 import re
 from dataclasses import dataclass
+from typing import Any
 
+from .asm_faults import asm_fault, named_class
 from .program import Mistake
-from .schema import allowed_at, unknown_keys
+from .schema import AnySchema, allowed, allowed_at, known_keys, of_key, schemas_at, unknown_keys
 from .source import Node, Place, deepest
 
 LINE = re.compile(r"fault (\d+) (\w+)(?: (\d+) line (\d+))? (/\S*)")
 
-# The assembler's kinds of fault, by their numbers (docs/ASSEMBLER.md).
-ASSEMBLER = {
-    1: "a run of bytes that is no token",
-    2: "a name that is no mnemonic, class or entry",
-    3: "wrong operands, or a statement that may not stand here",
-    4: "a number out of its range",
-    5: "a label, the class or an entry a second time",
-    6: "a label that no line defines",
-    7: "the 2,049th word of text",
-    8: "the 2,049th initial word",
-    9: "no class, or an entry of it is missing",
-}
-
-MEANT = {
-    "not_json": "this is no JSON",
-    "unknown_key": "a key that this kind of object does not have",
-    "missing_key": "a key that must be there is not",
-    "wrong_kind": "a value of the wrong kind",
-    "number_range": "a number out of its range, or a list with too few items",
-    "too_many": "a list that is too long",
-    "bad_image": "no eight hexadecimal digits, or a driver of another class than its part",
-    "bad_class": "no class",
-    "double_name": "a name that an earlier part, or an earlier thread, has",
-}
+# The most bytes of an input that the program reads, and the most operations of a campaign's base.
+MOST_BYTES = 1_048_576
+MOST_MEMBER_OPS = 64
+MOST_THREADS = 16
+MOST_FAULTS = 64
 
 
 @dataclass(frozen=True)
@@ -66,43 +50,216 @@ class Explained:
     wrong: str
     allowed: str
 
+    @property
+    def about(self) -> str:
+        """All but the place."""
+        return self.wrong + (f"; expected {self.allowed}" if self.allowed else "")
+
     def __str__(self) -> str:
-        return f"{self.place}: {self.wrong}" + (f"; allowed is {self.allowed}" if self.allowed else "")
+        return f"{self.place}: {self.about}"
+
+
+@dataclass(frozen=True)
+class Refused:
+    """A fault with the input that has it."""
+
+    fault: FaultLine
+    whole: Node
+
+    @property
+    def path(self) -> str:
+        return self.fault.path
+
+    @property
+    def value(self) -> Any:
+        """The whole input as a plain value."""
+        return self.whole.plain()
+
+    @property
+    def node(self) -> Node:
+        """The deepest value of the path that is there."""
+        return deepest(self.whole, self.path)[0]
+
+    @property
+    def schemas(self) -> list[AnySchema]:
+        """What the schema says of the place."""
+        return schemas_at(self.path, self.value)
+
+    def above(self, steps: int) -> Any:
+        """The plain value some steps above the fault's place."""
+        kept = self.path.split("/")[:-steps]
+        return deepest(self.whole, "/".join(kept) or "/")[0].plain()
+
+    def told(self, wrong: str, about: str | None = None, place: Place | None = None) -> Explained:
+        """What is wrong, after the path, with what is allowed there."""
+        name = f"{self.path}: " if self.path != "/" else ""
+        return Explained(place or self.node.place, name + wrong, allowed(self.schemas) if about is None else about)
+
+    @property
+    def shown(self) -> str:
+        """The value at the place, cut if it is long."""
+        found = json.dumps(self.node.plain(), ensure_ascii=False)
+        return found if len(found) <= 40 else found[:37] + "..."
 
 
 def explain_asm(fault: FaultLine, node: Node) -> Explained:
-    """A fault of an assembler text, at its line of the file where it comes from one."""
-    wrong = ASSEMBLER.get(fault.asm_kind or 0, "a fault of the assembler text")
-    lines = str(node.value).split("\n")
+    """A fault of an assembler text, at its line of the file if it comes from one."""
+    text = str(node.value)
     at = fault.asm_line or 1
+    said = asm_fault(fault.asm_kind, at, text)
+    lines = text.split("\n")
     quoted = f": {lines[at - 1].strip()!r}" if at <= len(lines) and lines[at - 1].strip() else ""
     if node.origin:
-        return Explained(Place(node.origin, at, 1), wrong + quoted, "")
-    return Explained(node.place, f"line {at} of this assembler text: {wrong}{quoted}", "")
+        return Explained(Place(node.origin, at, said.column), said.wrong + quoted, "")
+    where = f"line {at}, column {said.column} of this assembler text"
+    return Explained(node.place, f"{where}: {said.wrong}{quoted}", "")
+
+
+def close_to(name: str, known: list[str]) -> str:
+    """A hint at a key that is nearly this one."""
+    close = difflib.get_close_matches(name, known, 1, 0.6)
+    return f" (did you mean {json.dumps(close[0])}?)" if close else ""
+
+
+def kind_of_object(path: str, value: Any) -> str:
+    """What an object is, by the key that tells which keys it has."""
+    of_kind = "a schedule of kind {}" if path.endswith("/schedule") else "a fault of kind {}"
+    for key, text in (("class", "a part of class {}"), ("kind", of_kind), ("op", "the operation {}")):
+        if isinstance(value, dict) and isinstance(value.get(key), str):
+            return text.format(value[key])
+    return "this object"
+
+
+def unknown_key(refused: Refused) -> Explained:
+    """A key that may not stand there: since its version, its class or kind, or no kind has it."""
+    node = refused.node
+    if isinstance(node.value, dict) and {"asm", "image"} <= set(node.value):
+        second = max((node.keys.get(key, node.place) for key in ("asm", "image")), key=lambda at: (at.line, at.column))
+        return refused.told('a driver has either "asm" or "image", and this one has both', "", second)
+    unknown = unknown_keys(refused.path, refused.value)
+    if not unknown:
+        return refused.told("unknown key")
+    place = node.keys.get(unknown[0], node.place)
+    version = refused.value.get("version") if isinstance(refused.value, dict) else None
+    if unknown == ["bad"] and version == 1:
+        about = '"bad" needs version 2, and this scenario has version 1: write "version": 2'
+        return refused.told(about, "", place)
+    named = ", ".join(json.dumps(key) for key in unknown)
+    hint = close_to(unknown[0], known_keys(refused.schemas))
+    keys = "unknown key" if len(unknown) == 1 else "unknown keys"
+    return refused.told(f"{keys} {named} of {kind_of_object(refused.path, node.plain())}{hint}", None, place)
+
+
+def missing_key(refused: Refused) -> Explained:
+    """A key that must be there and is not."""
+    node, missing = deepest(refused.whole, refused.path)
+    above = refused.path.split("/")[:-1]
+    if missing == ["image"] and above[-1:] == ["driver"]:
+        return Explained(node.place, 'a driver has either "asm" or "image", and this one has neither', "")
+    about = allowed_at(refused.path, refused.value)
+    named = missing[0] if missing else refused.path
+    return Explained(node.place, f"missing key {json.dumps(named)}", about)
+
+
+def wrong_kind(refused: Refused) -> Explained:
+    """No value of the kind that must stand there; or a text that is none of the names, or no name at all."""
+    value = refused.node.plain()
+    if isinstance(value, str) and of_key(refused.schemas, "enum"):
+        names = [each for each in of_key(refused.schemas, "enum") if isinstance(each, str)]
+        return refused.told(f"unknown name {refused.shown}{close_to(value, names)}")
+    if isinstance(value, str) and of_key(refused.schemas, "pattern"):
+        return refused.told(f"{refused.shown} is not a valid name")
+    return refused.told(f"wrong kind of value: {refused.shown}")
+
+
+def places(count: int, of: str) -> str:
+    """The places of a list of this length."""
+    listed = "0" if count == 1 else f"0 to {count - 1}"
+    return f"{listed}, since there {'is' if count == 1 else 'are'} {count} {of}{'' if count == 1 else 's'}"
+
+
+def number_range(refused: Refused) -> Explained:
+    """A number out of its range, which another value may set; or a list with too few items."""
+    value = refused.node.plain()
+    if isinstance(value, list):
+        return refused.told(f"the list is too short: {len(value)} items")
+    steps = refused.path.split("/")
+    about = None
+    base = refused.value.get("base", refused.value) if isinstance(refused.value, dict) else {}
+    parts = base.get("parts") if isinstance(base, dict) else None
+    if steps[-1] == "part" and isinstance(parts, list) and parts:
+        about = places(len(parts), "part")
+    if steps[-1] == "block" and "bad" in steps:
+        about = places(refused.above(3)["blocks"], "block")
+    return refused.told(f"{refused.shown} is out of range", about)
+
+
+def too_many(refused: Refused) -> Explained:
+    """An input with too many bytes, or a list that is too long."""
+    if refused.path == "/":
+        size = f"{refused.whole.size:,} bytes" if refused.whole.size is not None else "too many bytes"
+        return Explained(refused.whole.place, f"the input has {size}; at most {MOST_BYTES:,} are read", "")
+    value = refused.node.plain()
+    steps = refused.path.split("/")[1:]
+    # Where a list is not too long by itself, a campaign's base asks for less.
+    if steps[-1:] == ["threads"] and isinstance(value, list) and len(value) <= MOST_THREADS:
+        count = sum(len(thread.get("ops", [])) for thread in value)
+        return refused.told(
+            f"the threads have {count} operations together; a campaign's base has at most {MOST_MEMBER_OPS}", ""
+        )
+    if "parts" in steps and steps[-1] == "faults" and isinstance(value, list) and len(value) == MOST_FAULTS:
+        about = f"the struck part has {MOST_FAULTS} faults of its own; in a campaign it has at most {MOST_FAULTS - 1}"
+        return refused.told(about, "")
+    return refused.told(f"the list is too long: {len(value):,} items")
+
+
+def bad_image(refused: Refused) -> Explained:
+    """A driver of another class than its part, or a word of an image that is none."""
+    driver = refused.node.plain()
+    if not isinstance(driver, dict):
+        return refused.told(f"{refused.shown} is not a word of an image")
+    part = refused.above(1)
+    own = driver["image"].get("class") if isinstance(driver.get("image"), dict) else named_class(str(driver.get("asm")))
+    kind = part.get("class") if isinstance(part, dict) else None
+    return refused.told(f"the driver is of class {own}, the part of class {kind}", "")
+
+
+def bad_class(refused: Refused) -> Explained:
+    """A text that is no class."""
+    names = [each for each in of_key(refused.schemas, "enum") or [] if isinstance(each, str)]
+    return refused.told(f"{refused.shown} is not a class{close_to(str(refused.node.value), names)}")
+
+
+def double_name(refused: Refused) -> Explained:
+    """A name that is there already."""
+    kind = "thread" if "threads" in refused.path.split("/") else "part"
+    return refused.told(f"duplicate name {refused.shown}: an earlier {kind} has it", "")
+
+
+def not_json(refused: Refused) -> Explained:
+    """What the workbench's own reader takes, and the program does not."""
+    about = "the program reads exact JSON: no comment, no comma after a last item, no deeper nesting than 127"
+    return refused.told(about, "")
+
+
+FINDERS = {
+    "not_json": not_json,
+    "unknown_key": unknown_key,
+    "missing_key": missing_key,
+    "wrong_kind": wrong_kind,
+    "number_range": number_range,
+    "too_many": too_many,
+    "bad_image": bad_image,
+    "bad_class": bad_class,
+    "double_name": double_name,
+}
 
 
 def explain_fault(fault: FaultLine, whole: Node) -> Explained:
-    """The fault of an input whose value is known with its places."""
-    node, missing = deepest(whole, fault.path)
-    value = whole.plain()
+    """The fault of an input, a scenario, a campaign or an image, whose value is known with its places."""
+    refused = Refused(fault, whole)
     if fault.name == "bad_asm":
-        return explain_asm(fault, node)
-    if fault.name == "missing_key" and missing:
-        about = allowed_at(fault.path, value)
-        return Explained(node.place, f"the key {json.dumps(missing[0])} is not there", about)
-    if fault.name == "unknown_key":
-        unknown = unknown_keys(fault.path, value)
-        place = node.keys.get(unknown[0], node.place) if unknown else node.place
-        named = ", ".join(json.dumps(key) for key in unknown) or "with another that may not stand beside it"
-        return Explained(place, f"{MEANT['unknown_key']}: {named}", allowed_at(fault.path, value))
-    found = json.dumps(node.plain())
-    shown = found if len(found) <= 40 else found[:37] + "..."
-    about = f"{key_of(fault.path)}{MEANT.get(fault.name, fault.name)}: {shown}"
-    if fault.path == "/" and fault.name == "not_json":
-        about = "the program reads no JSON here: a comment, a comma too many, or lists too deep in each other"
-    return Explained(node.place, about, allowed_at(fault.path, value))
-
-
-def key_of(path: str) -> str:
-    """The name of the place, for the front of a line."""
-    return f"{path}: " if path != "/" else ""
+        return explain_asm(fault, refused.node)
+    if fault.name not in FINDERS:
+        return refused.told(f"{fault.name}: {refused.shown}")
+    return FINDERS[fault.name](refused)

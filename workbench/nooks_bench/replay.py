@@ -14,7 +14,7 @@ from .report import SHADOW, Event, Report, parse_report
 from .scenario import Scenario, read_scenario, with_schedule
 from .source import read_text
 
-# A listed schedule has at most so many picks.
+# The most picks of a listed schedule.
 MOST_PICKS = 65_536
 
 ABOUT = """From a scenario and a report of it, of `run threads` or of `run`, the scenario with a listed schedule
@@ -81,7 +81,7 @@ def journals_and_answers(report: str) -> list[str]:
 
 
 def replayed(program: Program, scenario: Scenario, report: str) -> Scenario:
-    """The scenario with the schedule of a report; a mistake where there is none."""
+    """The scenario with the schedule of a report; a mistake if there is none."""
     text = json.dumps(scenario)
     refused = program.fault_of(text)
     if refused:
@@ -93,7 +93,7 @@ def replayed(program: Program, scenario: Scenario, report: str) -> Scenario:
     if journals_and_answers(program.report(made)) != journals_and_answers(report):
         if len(picks) > MOST_PICKS:
             raise Mistake(f"the report has {len(picks)} events, and a schedule lists at most {MOST_PICKS} picks: "
-                          "what comes behind them is another order")
+                          "what comes after them is another order")
         raise Mistake("the program gives another report under the listed schedule")
     return made
 
@@ -104,8 +104,8 @@ def run(args: argparse.Namespace) -> int:
     return 0
 
 
-def add_to(commands: argparse._SubParsersAction) -> None:
+def add_to(commands: argparse._SubParsersAction[argparse.ArgumentParser]) -> None:
     parser = commands.add_parser("replay", help="the schedule that gives a report of threads again", description=ABOUT)
-    parser.add_argument("file", metavar="SCENARIO")
+    parser.add_argument("file", metavar="SCENARIO", help="as exact JSON or as `build` takes it; - is standard input")
     parser.add_argument("report", metavar="REPORT", help="- is standard input")
     parser.set_defaults(run=run)

@@ -89,24 +89,25 @@ class Report:
 
 
 def parse_event(line: str) -> Event | None:
-    """The event of a line, None where it is none."""
+    """The event of a line, or None if it is none."""
     found = EVENT.fullmatch(line)
     if not found:
         return None
     number, kind, rest = int(found[1]), found[2], found[3]
-    if kind == "invoke" and (told := INVOKE.fullmatch(rest)):
-        return Event(number, kind, line, call=int(told[1]), context=int(told[2]), text=told[3], answer=told[4])
-    if kind == "enter" and (told := ENTER.fullmatch(rest)):
-        return Event(number, kind, line, call=int(told[1]), context=int(told[2]), attempt=int(told[3]), answer=told[4])
-    if kind == "burst" and (told := BURST.fullmatch(rest)):
-        end, *acts = told[5].split(" | ")
-        x, c, b, n = (int(told[place]) for place in (1, 2, 3, 4))
-        return Event(number, kind, line, c, x, 0, end, told[6], b, n, tuple(acts), told[7])
-    if kind == "stage" and (told := STAGE.fullmatch(rest)):
-        replies = tuple((int(call), answer) for call, answer in REPLY.findall(told[2]))
-        return Event(number, kind, line, text=told[1], replies=replies)
-    if kind == "arrive" and (told := ARRIVE.fullmatch(rest)):
-        return Event(number, kind, line, text=told[1], answer=told[2])
+    if kind == "invoke" and (match := INVOKE.fullmatch(rest)):
+        return Event(number, kind, line, call=int(match[1]), context=int(match[2]), text=match[3], answer=match[4])
+    if kind == "enter" and (match := ENTER.fullmatch(rest)):
+        call, context, attempt = (int(match[place]) for place in (1, 2, 3))
+        return Event(number, kind, line, call=call, context=context, attempt=attempt, answer=match[4])
+    if kind == "burst" and (match := BURST.fullmatch(rest)):
+        end, *acts = match[5].split(" | ")
+        x, c, b, n = (int(match[place]) for place in (1, 2, 3, 4))
+        return Event(number, kind, line, c, x, 0, end, match[6], b, n, tuple(acts), match[7])
+    if kind == "stage" and (match := STAGE.fullmatch(rest)):
+        replies = tuple((int(call), answer) for call, answer in REPLY.findall(match[2]))
+        return Event(number, kind, line, text=match[1], replies=replies)
+    if kind == "arrive" and (match := ARRIVE.fullmatch(rest)):
+        return Event(number, kind, line, text=match[1], answer=match[2])
     return None
 
 
@@ -160,7 +161,7 @@ class Lines:
 
 
 def parse_report(text: str) -> Report:
-    """The report of a text; a mistake where it is none."""
+    """The report of a text; a mistake if it is none."""
     lines = Lines()
     for line in text.split("\n"):
         if line:
@@ -168,14 +169,3 @@ def parse_report(text: str) -> Report:
     if lines.report.status < 0:
         raise Mistake("the report has no line of its status: it is not whole")
     return lines.report
-
-
-def lost_of(part: Part) -> int:
-    """The sum of a part's losses: sends, samples, busy answers, and frames lost on their way in."""
-    total = 0
-    for line in part.losses:
-        words = line.split(" ")
-        named = dict(zip(words[1::2], words[2::2]))
-        wanted = ("sends", "samples", "busy", "reset", "full_ring", "full_queue")
-        total += sum(int(number) for name, number in named.items() if name in wanted)
-    return total

@@ -1,35 +1,31 @@
-"""Scenarios as values: copies with a fault, a schedule or a limit more."""
+"""Scenarios as values: reading them, and copies with a fault, a schedule or a limit more."""
 
 from __future__ import annotations
 
 import copy
-import json
 from typing import Any
 
+from .build import built
 from .program import Mistake
-from .source import read_text
 
 Scenario = dict[str, Any]
 Fault = dict[str, Any]
 
-# A part has at most so many faults.
+# The most faults of a part.
 MOST_FAULTS = 64
 
 
 def read_scenario(file: str) -> Scenario:
-    """The scenario of a file, as exact JSON."""
-    text = read_text(file)
-    try:
-        value = json.loads(text)
-    except ValueError as error:
-        raise Mistake(f"{file} is no exact JSON ({error}); `nooks-bench build` makes it so") from error
+    """The scenario of a file, which is exact JSON or as `build` takes it."""
+    value = built(file).plain()
     if not isinstance(value, dict) or not isinstance(value.get("parts"), list):
-        raise Mistake(f"{file} is no scenario")
+        is_campaign = isinstance(value, dict) and "base" in value
+        raise Mistake(f"{file} is " + ("a campaign: its base is the scenario" if is_campaign else "no scenario"))
     return value
 
 
 def with_faults(scenario: Scenario, part: int, faults: list[Fault]) -> Scenario:
-    """The scenario with faults behind a part's own."""
+    """The scenario with faults after a part's own."""
     struck = dict(scenario["parts"][part])
     struck["faults"] = [*struck.get("faults", []), *faults]
     parts = list(scenario["parts"])
@@ -42,7 +38,7 @@ def with_schedule(scenario: Scenario, schedule: dict[str, Any]) -> Scenario:
 
 
 def with_limit(scenario: Scenario, part: int, limit: int) -> Scenario:
-    """The scenario in which a part is recovered so many times."""
+    """The scenario in which a part is recovered up to that many times."""
     changed = copy.deepcopy(scenario)
     changed["parts"][part]["limit"] = limit
     return changed

@@ -1,61 +1,74 @@
-"""What a scenario may have at a path, as scenario.schema.json says it."""
+"""What a scenario or a campaign may have at a path, as the schemas say it.
+
+Of JSON Schema this reads what the two schemas use: references, `allOf`, and if/then over keys with one value."""
 
 from __future__ import annotations
 
 import functools
 import json
-import os
-from typing import Any
+from importlib import resources
+from typing import Any, Sequence, Union
 
-from .program import TOP
 from .source import steps_of
 
 Schema = dict[str, Any]
+# A schema, or false: nothing may stand there.
+AnySchema = Union[Schema, bool]
 
-# The keys that tell which keys an object has.
-TELLING = ("class", "kind", "op")
+SCENARIO = "scenario.schema.json"
+CAMPAIGN = "campaign.schema.json"
 
 
 @functools.cache
+def schema_file(name: str) -> Schema:
+    """A schema of the package by its file's name, read once."""
+    text = resources.files(__package__).joinpath("schemas", name).read_text(encoding="utf-8")
+    read: Schema = json.loads(text)
+    return read
+
+
 def scenario_schema() -> Schema:
-    """The schema of a scenario, read once."""
-    with open(os.path.join(TOP, "workbench/scenario.schema.json"), encoding="utf-8") as file:
-        return json.load(file)
+    """The schema of a scenario."""
+    return schema_file(SCENARIO)
 
 
-def resolved(schema: Schema) -> Schema:
-    """The schema that a reference stands for."""
-    while "$ref" in schema:
-        schema = scenario_schema()["$defs"][schema["$ref"].split("/")[-1]]
-    return schema
+def campaign_schema() -> Schema:
+    """The schema of a campaign."""
+    return schema_file(CAMPAIGN)
 
 
-def variants(schema: Schema) -> list[Schema]:
-    """The kinds of value that a schema allows."""
-    schema = resolved(schema)
-    return [resolved(each) for each in schema["oneOf"]] if "oneOf" in schema else [schema]
+def referred(reference: str) -> Schema:
+    """The schema that a reference names: `#/$defs/NAME` of the scenario's schema, or a file and such a place in it."""
+    file, _, place = reference.partition("#")
+    found: Schema = schema_file(file or SCENARIO)
+    for step in steps_of(place):
+        found = found[step]
+    return found
 
 
-def meets(schema: Schema, value: Any) -> bool:
-    """Whether the keys that tell an object's kind are those of this one."""
+def holds(condition: Schema, value: Any) -> bool:
+    """Whether the condition of an if/then, keys with one value each, holds of a value."""
     if not isinstance(value, dict):
         return False
-    properties = schema.get("properties", {})
-    told = [key for key in TELLING if "const" in properties.get(key, {})]
-    if told:
-        return all(value.get(key) == properties[key]["const"] for key in told)
-    return any(key in properties for key in value)
+    return all(key in value and value[key] == each["const"] for key, each in condition["properties"].items())
 
 
-def narrowed(schema: Schema, value: Any) -> list[Schema]:
-    """The kinds that a value may be of: one, where the value tells it."""
-    kinds = variants(schema)
-    fitting = [kind for kind in kinds if meets(kind, value)]
-    return fitting[:1] or kinds
+def applying(schema: AnySchema, value: Any) -> list[AnySchema]:
+    """The schemas that a value must meet together: this one, what it refers to, and each `then` whose `if` holds."""
+    if isinstance(schema, bool):
+        return [schema]
+    found: list[AnySchema] = [schema]
+    if "$ref" in schema:
+        found += applying(referred(schema["$ref"]), value)
+    for each in schema.get("allOf", []):
+        found += applying(each, value)
+    if "if" in schema and holds(schema["if"], value):
+        found += applying(schema["then"], value)
+    return found
 
 
 def inner(value: Any, step: str) -> Any:
-    """What stands under a step of a path, None where nothing does."""
+    """The value at a step of a path; None if there is none."""
     if isinstance(value, dict):
         return value.get(step)
     if isinstance(value, list) and step.isdigit() and int(step) < len(value):
@@ -63,49 +76,94 @@ def inner(value: Any, step: str) -> Any:
     return None
 
 
-def schemas_at(path: str, value: Any) -> list[Schema]:
-    """The schemas of the value at a path of a scenario; none where the path leads out of the schema."""
-    found = narrowed(scenario_schema(), value)
-    for step in steps_of(path):
-        value = inner(value, step)
-        below = [each["items"] if "items" in each else each.get("properties", {}).get(step) for each in found]
-        found = [kind for each in below if each for kind in narrowed(each, value)]
+def below(schema: AnySchema, value: Any, step: str) -> AnySchema | None:
+    """The schema of the value at a step; None if this schema has none."""
+    if isinstance(schema, bool):
+        return None
+    found: AnySchema | None = schema.get("items") if isinstance(value, list) else schema.get("properties", {}).get(step)
     return found
 
 
-def counted(schema: Schema, low: str, high: str) -> str:
-    least, most = schema.get(low, 0), schema.get(high)
+def root_schema(value: Any) -> Schema:
+    """The schema of a whole input: a campaign has a base, an image has entries."""
+    if isinstance(value, dict) and "base" in value:
+        return campaign_schema()
+    return referred("#/$defs/image") if isinstance(value, dict) and "entries" in value else scenario_schema()
+
+
+def schemas_at(path: str, value: Any) -> list[AnySchema]:
+    """The schemas that the value at a path must meet all together; none if the path leads out of the schema."""
+    found = applying(root_schema(value), value)
+    for step in steps_of(path):
+        lower = [below(each, value, step) for each in found]
+        value = inner(value, step)
+        found = [kind for each in lower if each is not None for kind in applying(each, value)]
+    return found
+
+
+def of_key(schemas: Sequence[AnySchema], key: str) -> Any:
+    """The first value that some schemas give to a keyword."""
+    return next((each[key] for each in schemas if isinstance(each, dict) and key in each), None)
+
+
+def known_keys(schemas: Sequence[AnySchema]) -> list[str]:
+    """The keys that an object may have by schemas that it must meet all together."""
+    tables = [each["properties"] for each in schemas if isinstance(each, dict) and "properties" in each]
+    closed = [
+        each["properties"] for each in schemas if isinstance(each, dict) and each.get("additionalProperties") is False
+    ]
+    names = dict.fromkeys(key for table in closed or tables for key in table)
+    return [key for key in names if not any(table.get(key) is False for table in tables)]
+
+
+def needed_keys(schemas: Sequence[AnySchema]) -> list[str]:
+    """The keys that an object must have by schemas that it must meet all together."""
+    lists = [each["required"] for each in schemas if isinstance(each, dict) and "required" in each]
+    return list(dict.fromkeys(key for each in lists for key in each))
+
+
+def counted(least: int, most: int | None) -> str:
+    """How many items a list may have."""
     return f"{least} to {most}" if least else f"up to {most}"
 
 
-def allowed(schema: Schema) -> str:
-    """What a schema allows, in words."""
-    note = f": {schema['description']}" if "description" in schema else ""
-    if "const" in schema:
-        return json.dumps(schema["const"])
-    if "enum" in schema:
-        return " or ".join(json.dumps(each) for each in schema["enum"])
-    if schema.get("type") == "integer":
-        return f"a whole number from {schema['minimum']} to {schema['maximum']}, in digits alone{note}"
-    if schema.get("type") == "array":
-        return f"a list of {counted(schema, 'minItems', 'maxItems')} items{note}"
-    if schema.get("type") == "object":
-        needed = schema.get("required", [])
-        free = [key for key in schema["properties"] if key not in needed]
-        return f"an object with {', '.join(needed)}" + (f" and perhaps {', '.join(free)}" if free else "")
-    return f"a text{note}"
+def allowed_keys(schemas: Sequence[AnySchema]) -> str:
+    """The keys of an object, in words."""
+    known = known_keys(schemas)
+    if of_key(schemas, "maxProperties") == 1:
+        return "an object with either " + " or ".join(known)
+    needed = [key for key in known if key in needed_keys(schemas)]
+    free = [key for key in known if key not in needed]
+    return f"an object with {', '.join(needed)}" + (f" and optionally {', '.join(free)}" if free else "")
+
+
+def allowed(schemas: Sequence[AnySchema]) -> str:
+    """What schemas allow all together, in words; empty if they say nothing of it."""
+    about = of_key(schemas, "description")
+    note = f": {about}" if about else ""
+    constant, names, kind = (of_key(schemas, key) for key in ("const", "enum", "type"))
+    if constant is not None:
+        return json.dumps(constant)
+    if names is not None:
+        return " or ".join(json.dumps(each) for each in names)
+    if kind == "integer":
+        least, most = of_key(schemas, "minimum"), of_key(schemas, "maximum")
+        return f"a whole number from {least} to {most}, in digits alone{note}"
+    if kind == "array":
+        return f"a list of {counted(of_key(schemas, 'minItems') or 0, of_key(schemas, 'maxItems'))} items{note}"
+    if kind == "object":
+        return allowed_keys(schemas)
+    return f"a text{note}" if kind == "string" else ""
 
 
 def allowed_at(path: str, value: Any) -> str:
-    """What may stand at a path of a scenario, in words; empty where the schema does not tell."""
-    told = list(dict.fromkeys(allowed(each) for each in schemas_at(path, value)))
-    return ", or ".join(told)
+    """What may stand at a path of a scenario or a campaign, in words; empty if the schema does not tell."""
+    return allowed(schemas_at(path, value))
 
 
 def unknown_keys(path: str, value: Any) -> list[str]:
     """The keys of the object at a path that its schema does not have."""
-    found = schemas_at(path, value)
+    known = known_keys(schemas_at(path, value))
     for step in steps_of(path):
         value = inner(value, step)
-    known = {key for each in found for key in each.get("properties", {})}
     return [key for key in value if key not in known] if isinstance(value, dict) else []

@@ -27,7 +27,7 @@ class Shrinker:
     tries: int = 0
 
     def take(self, smaller: Scenario) -> bool:
-        """Tries one; it is the best from now on where the predicate holds of it."""
+        """Tries one; it is the best from now on if the predicate holds of it."""
         self.tries += 1
         if not self.holds(smaller):
             return False
@@ -90,15 +90,15 @@ class Shrinker:
 
 
 def at(value: Any, path: tuple[Any, ...]) -> Any:
-    """What stands at a path."""
+    """The value at a path."""
     for step in path:
         value = value[step]
     return value
 
 
 def is_smaller(value: Any, now: Any) -> bool:
-    """Whether a number is less, or a list or a text shorter, than what stands there by now."""
-    return value < now if isinstance(value, int) else len(value) < len(now)
+    """Whether a number is less, or a list or a text shorter, than the value that is there by now."""
+    return bool(value < now) if isinstance(value, int) else len(value) < len(now)
 
 
 @dataclass(frozen=True)
@@ -123,7 +123,7 @@ def size_text(scenario: Scenario) -> str:
 
 
 def shrunk(scenario: Scenario, holds: Callable[[Scenario], bool], quiet: bool) -> Scenario:
-    """The smallest scenario that was found; a mistake where the predicate does not hold of the whole."""
+    """The smallest scenario that was found; a mistake if the predicate does not hold of the whole."""
     if not holds(scenario):
         raise Mistake("what is asked does not hold of the scenario itself")
 
@@ -143,10 +143,10 @@ def run(args: argparse.Namespace) -> int:
     return 0
 
 
-def add_to(commands: argparse._SubParsersAction) -> None:
+def add_to(commands: argparse._SubParsersAction[argparse.ArgumentParser]) -> None:
     parser = commands.add_parser("shrink", help="a smaller scenario of which the same holds", description=ABOUT)
-    parser.add_argument("file", metavar="SCENARIO")
-    parser.add_argument("--status", type=int, metavar="S", help="the run's status: 7 where a contract is broken")
-    parser.add_argument("--text", action="append", metavar="TEXT", help="a text in the report; may come again")
+    parser.add_argument("file", metavar="SCENARIO", help="as exact JSON or as `build` takes it; - is standard input")
+    parser.add_argument("--status", type=int, metavar="S", help="the run's status: 7 if a contract is broken")
+    parser.add_argument("--text", action="append", metavar="TEXT", help="a text in the report; may be given again")
     parser.add_argument("--quiet", action="store_true", help="no progress on standard error")
     parser.set_defaults(run=run)

@@ -26,7 +26,7 @@ def replaced(value: Any, path: Path, new: Any) -> Any:
 
 
 def picked(scenario: Scenario, numbers: dict[int, int]) -> Scenario:
-    """The scenario with new numbers for those who take steps, where its schedule lists them."""
+    """The scenario with new numbers for those who take steps, if its schedule lists them."""
     schedule = scenario.get("schedule")
     if not schedule or schedule.get("kind") != "listed":
         return scenario
@@ -70,7 +70,7 @@ def lists_of(scenario: Scenario) -> Iterator[tuple[Path, int, int]]:
 
 
 def driver_lists(part: dict[str, Any], path: Path) -> Iterator[tuple[Path, int, int]]:
-    """A driver's initial words, where it is an image."""
+    """A driver's initial words, if it is an image."""
     if "image" in part["driver"]:
         yield (*path, "image", "data"), 0, 1
 

@@ -1,7 +1,8 @@
-"""JSON as people write it: comments, trailing commas, and each value with the place where it stands."""
+"""JSON as people write it: comments, trailing commas, and each value with its place."""
 
 from __future__ import annotations
 
+import codecs
 import json
 import re
 from dataclasses import dataclass, field
@@ -9,7 +10,7 @@ from typing import Any, Iterator
 
 from .program import Mistake
 
-# How deep lists and objects may stand in each other, so that a bad file ends in a mistake with a place.
+# How deep lists and objects may be nested, so that a bad file ends in a mistake with a place.
 DEEPEST = 200
 
 BLANK = re.compile(r"(?:[ \t\r\n]+|//[^\n]*)*")
@@ -41,12 +42,14 @@ class Misplaced(Mistake):
 @dataclass
 class Node:
     """A value with its place: `value` is a dict of nodes, a list of nodes, or a plain value. Of a dict, `keys` has the
-    places of the keys. `origin` is a file of lines from which a text was taken."""
+    places of the keys. `origin` is a file of lines from which a text was taken. Of a whole input, `size` is the number
+    of its bytes."""
 
     value: Any
     place: Place
     keys: dict[str, Place] = field(default_factory=dict)
     origin: str | None = None
+    size: int | None = None
 
     def plain(self) -> Any:
         """The value without places."""
@@ -57,8 +60,9 @@ class Node:
         return self.value
 
     def get(self, key: str) -> Node | None:
-        """The node under a key, where this is an object that has it."""
-        return self.value.get(key) if isinstance(self.value, dict) else None
+        """The node under a key, if this is an object that has it."""
+        found: Node | None = self.value.get(key) if isinstance(self.value, dict) else None
+        return found
 
 
 def steps_of(path: str) -> list[str]:
@@ -89,7 +93,7 @@ class Reader:
         self.starts = [0] + [place + 1 for place, letter in enumerate(text) if letter == "\n"]
 
     def place(self, at: int | None = None) -> Place:
-        """The place of an offset, or of where the reader stands."""
+        """The place of an offset, or of the next letter to read."""
         at = self.at if at is None else at
         low, high = 0, len(self.starts)
         while high - low > 1:
@@ -111,19 +115,20 @@ class Reader:
     def take(self, letter: str, where: str) -> None:
         if self.peek() != letter:
             found = repr(self.text[self.at]) if self.at < len(self.text) else "the end of the file"
-            raise self.fail(f"{letter!r} is wanted {where}, and here is {found}")
+            raise self.fail(f"expected {letter!r} {where}, found {found}")
         self.at += 1
 
     def whole(self) -> Node:
         node = self.node(0)
         if self.peek():
-            raise self.fail("something stands behind the value")
+            raise self.fail("unexpected text after the value")
+        node.size = len(self.text.encode())
         return node
 
     def node(self, depth: int) -> Node:
         first = self.peek()
         if depth > DEEPEST:
-            raise self.fail("lists and objects stand too deep in each other")
+            raise self.fail("lists and objects are nested too deep")
         if first == "{":
             return self.object(depth)
         if first == "[":
@@ -140,23 +145,24 @@ class Reader:
     def number(self) -> int | float:
         found = NUMBER.match(self.text, self.at)
         if not found:
-            raise self.fail("a value is wanted here")
+            raise self.fail("expected a value")
         self.at = found.end()
-        return json.loads(found.group())
+        number: int | float = json.loads(found.group())
+        return number
 
     def string(self) -> str:
         found = STRING.match(self.text, self.at)
         if not found:
             raise self.fail("this text does not end on its line")
         try:
-            value = json.loads(found.group())
+            value = str(json.loads(found.group()))
         except ValueError as error:
             raise self.fail(f"this text is not well-formed: {error}") from error
         self.at = found.end()
         return value
 
     def items(self, closing: str, where: str) -> Iterator[None]:
-        """Stops at each item of a list or an object; a comma may stand behind the last one."""
+        """Stops at each item of a list or an object; a comma may stand after the last one."""
         self.at += 1
         while self.peek() != closing:
             yield
@@ -179,25 +185,49 @@ class Reader:
         for _ in self.items("}", "between the keys of the object"):
             key_place = self.place()
             if self.peek() != '"':
-                raise self.fail("a key in double quotes is wanted here")
+                raise self.fail("expected a key in double quotes")
             key = self.string()
             if key in found:
-                raise Misplaced(key_place, f"the key {key!r} stands here a second time")
-            self.take(":", "behind a key")
+                raise Misplaced(key_place, f"duplicate key {key!r}")
+            self.take(":", "after a key")
             found[key] = self.node(depth + 1)
             keys[key] = key_place
         return Node(found, place, keys)
 
 
+SAVE = "save it as UTF-8 without a byte order mark"
+
+# Byte order marks, and how an editor names what begins with them. That of UTF-32 begins with that of UTF-16.
+MARKS = (
+    (codecs.BOM_UTF8, "begins with a byte order mark"),
+    (codecs.BOM_UTF32_LE, "is UTF-32"),
+    (codecs.BOM_UTF32_BE, "is UTF-32"),
+    (codecs.BOM_UTF16_LE, "is UTF-16"),
+    (codecs.BOM_UTF16_BE, "is UTF-16"),
+)
+
+
+def decoded(data: bytes, file: str) -> str:
+    """The text of bytes; a mistake if an editor saved them in another encoding than UTF-8, or with a mark."""
+    for mark, about in MARKS:
+        if data.startswith(mark):
+            raise Misplaced(Place(file, 1, 1), f"the file {about}: {SAVE}")
+    try:
+        return data.decode()
+    except UnicodeDecodeError as error:
+        before = data[: error.start]
+        line, column = before.count(b"\n") + 1, len(before) - before.rfind(b"\n")
+        raise Misplaced(Place(file, line, column), f"byte {error.start} is not UTF-8: {SAVE}") from error
+
+
 def read_text(file: str) -> str:
     """The text of a file; `-` is standard input."""
     try:
-        with open(0 if file == "-" else file, encoding="utf-8", closefd=file != "-") as opened:
-            return opened.read()
+        with open(0 if file == "-" else file, "rb", closefd=file != "-") as opened:
+            data = opened.read()
     except OSError as error:
         raise Mistake(f"{file}: {error.strerror}") from error
-    except UnicodeDecodeError as error:
-        raise Mistake(f"{file}: byte {error.start} is not UTF-8") from error
+    return decoded(data, file)
 
 
 def read_source(file: str, text: str | None = None) -> Node:

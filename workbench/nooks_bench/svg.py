@@ -1,4 +1,4 @@
-"""SVG texts: a canvas, and colours that can be told apart without colour vision."""
+"""SVG texts: a canvas, and colours that differ without colour vision."""
 
 from __future__ import annotations
 
@@ -12,12 +12,26 @@ ORANGE, RED, PURPLE = "#e69f00", "#d55e00", "#cc79a7"
 WHITE = "#ffffff"
 
 FONT = "font-family:'DejaVu Sans','Helvetica',sans-serif"
+# How wide letters are in the first of these fonts, as parts of its size; the others are no wider.
 LETTER = 0.62
+WIDTHS = {**dict.fromkeys("ijl|'", 0.3), **dict.fromkeys("fIt.,:;()[]/ -", 0.4), **dict.fromkeys("mwMW", 0.97),
+          **dict.fromkeys("ABCDGHNOQRUVXYZ=+<>", 0.76)}
 
 
 def text_width(text: str, size: float) -> float:
     """About how wide a text is; the fonts differ."""
-    return len(text) * size * LETTER
+    return sum(WIDTHS.get(letter, LETTER) for letter in text) * size
+
+
+def fitted(text: str, size: float, room: float) -> list[str]:
+    """A text in lines that fit into some room, as far as its words do."""
+    lines: list[str] = []
+    for word in text.split(" "):
+        if lines and text_width(f"{lines[-1]} {word}", size) <= room:
+            lines[-1] += f" {word}"
+        else:
+            lines.append(word)
+    return lines
 
 
 @dataclass
@@ -32,11 +46,11 @@ class Canvas:
     def reach(self, x: float, y: float) -> None:
         self.width, self.height = max(self.width, x), max(self.height, y)
 
-    def add(self, tag: str, title: str = "", inner: str = "", **attributes: object) -> None:
+    def add(self, tag: str, title: str = "", inner: str = "", /, **attributes: object) -> None:
         """An element; a title is what is shown under the pointer."""
-        told = told_of(attributes)
+        written = attributes_text(attributes)
         body = (f"<title>{escape(title)}</title>" if title else "") + escape(inner)
-        self.parts.append(f"<{tag}{told}>{body}</{tag}>" if body else f"<{tag}{told}/>")
+        self.parts.append(f"<{tag}{written}>{body}</{tag}>" if body else f"<{tag}{written}/>")
 
     def box(self, x: float, y: float, wide: float, high: float, fill: str, title: str = "", **more: object) -> None:
         self.reach(x + wide, y + high)
@@ -44,8 +58,8 @@ class Canvas:
 
     def group(self, **attributes: object) -> None:
         """Begins a group, whose elements share what is named; `end_group` ends it."""
-        told = told_of(attributes)
-        self.parts.append(f"<g{told}>")
+        written = attributes_text(attributes)
+        self.parts.append(f"<g{written}>")
 
     def end_group(self) -> None:
         self.parts.append("</g>")
@@ -61,11 +75,22 @@ class Canvas:
         self.reach(x + (text_width(text, size) if anchor == "start" else 0), y + 3)
         self.add("text", title, text, x=x, y=y, font_size=size, fill=fill, **more)
 
+    def grouped_words(self, x: float, y: float, text: str, **more: object) -> None:
+        """Words whose size and colour are those of the group around them."""
+        self.add("text", "", text, x=x, y=y, **more)
+
+    def lines(self, x: float, y: float, text: str, room: float, size: float = 11, fill: str = BLACK) -> float:
+        """A text in lines that fit into some room; how high they are."""
+        written = fitted(text, size, room)
+        for number, line in enumerate(written):
+            self.words(x, y + number * (size + 3), line, size, fill)
+        return len(written) * (size + 3)
+
     def shape(self, path: str, fill: str, title: str = "", **more: object) -> None:
         self.add("path", title, d=path, fill=fill, **more)
 
     def stripes(self, name: str, back: str, front: str, step: int = 6) -> str:
-        """A fill of stripes, so that a state is told by more than its colour."""
+        """A fill of stripes, so that a state differs by more than its colour."""
         ground = f'<rect width="{step}" height="{step}" fill="{back}"/>'
         inner = f'{ground}<path d="M0,0 L0,{step}" stroke="{front}" stroke-width="2"/>'
         self.definitions.append(
@@ -74,17 +99,18 @@ class Canvas:
         )
         return f"url(#{name})"
 
-    def text(self, title: str) -> str:
-        """The whole drawing."""
+    def text(self, title: str, scale: float = 1.0) -> str:
+        """The whole drawing; the scale makes all of it larger, the letters too."""
         wide, high = shown(self.width + 12), shown(self.height + 12)
-        size = f'width="{wide}" height="{high}" viewBox="0 0 {wide} {high}"'
+        sizes = [shown((side + 12) * scale) for side in (self.width, self.height)]
+        size = f'width="{sizes[0]}" height="{sizes[1]}" viewBox="0 0 {wide} {high}"'
         head = f'<svg xmlns="http://www.w3.org/2000/svg" {size} style="{FONT}">'
         ground = f'<rect width="{wide}" height="{high}" fill="{WHITE}"/>'
         definitions = f"<defs>{''.join(self.definitions)}</defs>" if self.definitions else ""
         return "\n".join([head, f"<title>{escape(title)}</title>", definitions, ground, *self.parts, "</svg>"]) + "\n"
 
 
-def told_of(attributes: dict[str, object]) -> str:
+def attributes_text(attributes: dict[str, object]) -> str:
     """Attributes as SVG writes them."""
     return "".join(f" {name.replace('_', '-')}={quoteattr(shown(value))}" for name, value in attributes.items())
 

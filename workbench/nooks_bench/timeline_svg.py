@@ -1,64 +1,145 @@
-"""A timeline as an SVG."""
+"""A timeline as an SVG. Long reports go on in further rows, each with all lanes."""
 
 from __future__ import annotations
 
-from .calls import AT_ENTER, AT_ONCE, BY_DRIVER, BY_SHADOW, Call
-from .svg import BLACK, BLUE, GREEN, GREY, ORANGE, PALE, RED, SKY, WHITE, Canvas, cross, diamond, text_width, triangle
-from .timeline import BOOT, GIVEN_UP, RECOVERS, SERVES, PartTimes
+import math
+from typing import Callable
+
+from .calls import AT_ENTER, BY_DRIVER, BY_SHADOW, GONE, REFUSED, Call
+from .folding import folded_lines, short_event
+from .picture import caption
+from .report import Event
+from .svg import BLACK, BLUE, GREEN, GREY, ORANGE, PALE, PURPLE, RED, SKY, WHITE, Canvas
+from .svg import cross, diamond, text_width, triangle
+from .times import ACTS, BOOT, GIVEN_UP, RECOVERS, SERVES, SEVERAL, STAGES, STRIKES, PartTimes, act_letter
 from .words import counted, short
 
-LEFT = 96
 LANE = 30
+LOW_LANE = 26
 BAR = 16
-TOP = 78
-BETWEEN = 34
+BETWEEN = 20
+
+# How wide an event is drawn: at most, so that names of stages fit, and at least, so that single
+# letters do.
+WIDEST, NARROWEST = 34, 18
+FEWEST_PIXELS = 9
 
 MODES = {BOOT: SKY, SERVES: PALE, RECOVERS: ORANGE, GIVEN_UP: GREY}
-# The stages that have another name here, so that it fits.
-STAGES = {"collect": "coll", "replay_set": "set", "replay_open": "open", "resume": "go"}
+STAGE_SIZE = 8
+ACT_NAMES = {letter: name for name, letter in ACTS.items()} | {SEVERAL: "several kinds"}
+STRIKE_NAMES = {letter: name for name, letter in STRIKES.items()} | {SEVERAL: "several"}
+ANSWERS = {
+    BY_DRIVER: "answered by the driver",
+    BY_SHADOW: "answered by the shadow",
+    AT_ENTER: "answered at its enter",
+    REFUSED: "answered at once, as a wrong operation",
+    GONE: "gone: the part is given up",
+}
+# Acts that reach beyond the device: what they did cannot be taken back.
+OUTWARD = "stpr"
+
+Mark = Callable[[float, float, str], None]
 
 
-def step_of(times: list[PartTimes]) -> float:
-    """How wide an event is: such that a long report stays handy, and each event can be seen."""
-    most = max((len(each.part.events) for each in times), default=1)
-    return float(min(34, max(4, 1500 // max(most, 1))))
+def rows_of(count: int, room: float, wrap: int | None) -> tuple[int, float]:
+    """How many events stand side by side, and how wide each is."""
+    per_row = wrap
+    if per_row is None:
+        rows = max(1, math.ceil(count * NARROWEST / room))
+        per_row = math.ceil(count / rows)
+    return max(per_row, 1), min(WIDEST, max(FEWEST_PIXELS, room / max(per_row, 1)))
 
 
 class Drawing:
     """Draws parts one below the other."""
 
-    def __init__(self, step: float) -> None:
+    def __init__(self, times: list[PartTimes], width: float, wrap: int | None) -> None:
         self.canvas = Canvas()
-        self.step = step
-        self.y = float(TOP)
+        self.times = times
+        self.width = width
+        names = ["contract", *(name for each in times for name in each.names.values())]
+        self.margin = 20 + max(text_width(name, 11) for name in names)
+        most = max((each.last - each.first + 1 for each in times), default=1)
+        self.per_row, self.step = rows_of(most, width - self.margin - 12, wrap)
         self.held = self.canvas.stripes("held", WHITE, GREY)
+        self.first = 1
+        self.last = 1
+        self.y = 12.0
 
     def left(self, event: int) -> float:
-        return LEFT + (event - 1) * self.step
+        return self.margin + (event - self.first) * self.step
 
     def middle(self, event: int) -> float:
         return self.left(event) + self.step / 2
 
+    def bounds(self, first: int, last: int) -> tuple[float, float]:
+        """Where events begin and how wide they are, as far as this row shows them."""
+        first, last = max(first, self.first), min(last, self.last)
+        return self.left(first), (last - first + 1) * self.step
+
+    def shows(self, event: int) -> bool:
+        return self.first <= event <= self.last
+
+    # The legend.
+
     def legend(self) -> None:
-        """What the colours and the marks mean, in two lines over the parts."""
+        """What the colours, the marks and the letters mean."""
+        modes = {span.mode for each in self.times for span in each.spans}
+        self.flow([(self.filled(fill), text) for fill, text in
+                   [(self.held, "held"), (BLUE, "inside the driver"),
+                    *((fill, mode) for mode, fill in MODES.items() if mode in modes)]])
+        by = {call.by for each in self.times for call in each.calls}
+        marks = [(mark, ANSWERS[whose]) for whose, mark in self.answer_marks().items() if whose in by]
+        if any(call.cuts for each in self.times for call in each.calls):
+            marks.append((self.mark_cut, "cut by a failure"))
+        marks.append((self.mark_burst, "burst"))
+        if any(each.events("arrive") for each in self.times):
+            marks += [(self.mark_kept, "frame kept"), (self.mark_lost, "frame lost")]
+        self.flow(marks)
+        self.flow(self.letters())
+        self.y += 14
+
+    def letters(self) -> list[tuple[Mark, str]]:
+        """The letters that are drawn, as a key."""
+        key: list[tuple[Mark, str]] = []
+        stages = {event.text.split(" ")[0] for each in self.times for event in each.events("stage")}
+        key += [(self.lettered(letter, PALE), name) for name, letter in STAGES.items()
+                if name in stages and self.stage_text(name) != name]
+        acts = {act_letter(event) for each in self.times for event in each.acting()}
+        key += [(self.lettered(letter, act_fill(letter)), name) for letter, name in ACT_NAMES.items() if letter in acts]
+        struck = {strike.fault["kind"] for each in self.times for strike in each.struck()}
+        key += [(self.lettered(letter, RED, WHITE), f"fault: {name}") for name, letter in STRIKES.items()
+                if name in struck]
+        return key
+
+    def flow(self, entries: list[tuple[Mark, str]]) -> None:
+        """Entries of the legend beside each other, on as many lines as they need."""
         x = 12.0
-        for fill, text in [(self.held, "held"), (BLUE, "inside the driver"), *[(MODES[mode], mode) for mode in MODES]]:
-            self.canvas.box(x, 12, 18, 12, fill, stroke=GREY, stroke_width=0.5)
-            self.canvas.words(x + 23, 22, text)
-            x += 40 + text_width(text, 11)
-        x = 12.0
-        for draw, text in [
-            (self.mark_driver, "answered by the driver"),
-            (self.mark_shadow, "by the shadow"),
-            (self.mark_once, "at once or at its enter"),
-            (self.mark_cut, "cut by a failure"),
-            (self.mark_burst, "burst"),
-            (self.mark_kept, "frame kept"),
-            (self.mark_lost, "frame lost"),
-        ]:
-            draw(x + 8, 42, "")
-            self.canvas.words(x + 20, 46, text)
-            x += 38 + text_width(text, 11)
+        for mark, text in entries:
+            wide = 38 + text_width(text, 11)
+            if x + wide > self.width and x > 12:
+                x, self.y = 12.0, self.y + 20
+            mark(x + 9, self.y + 6, "")
+            self.canvas.words(x + 22, self.y + 10, text)
+            x += wide
+        self.y += 20 if entries else 0
+
+    def filled(self, fill: str) -> Mark:
+        def mark(x: float, y: float, title: str) -> None:
+            self.canvas.box(x - 9, y - 6, 18, 12, fill, title, stroke=GREY, stroke_width=0.5)
+
+        return mark
+
+    def lettered(self, letter: str, fill: str, ink: str = BLACK) -> Mark:
+        """A letter in a box."""
+        def mark(x: float, y: float, title: str) -> None:
+            wide = min(self.step - 1, 13)
+            self.canvas.box(x - wide / 2, y - 6.5, wide, 13, fill, title, stroke=GREY, stroke_width=0.6, rx=2)
+            self.canvas.words(x, y + 3.2, letter, 9, ink, title, text_anchor="middle")
+
+        return mark
+
+    # Marks.
 
     def mark_driver(self, x: float, y: float, title: str) -> None:
         self.canvas.add("circle", title, cx=x, cy=y, r=5, fill=GREEN, stroke=WHITE)
@@ -68,6 +149,12 @@ class Drawing:
 
     def mark_once(self, x: float, y: float, title: str) -> None:
         self.canvas.box(x - 4, y - 4, 8, 8, WHITE, title, stroke=BLACK)
+
+    def mark_enter(self, x: float, y: float, title: str) -> None:
+        self.canvas.add("circle", title, cx=x, cy=y, r=4.5, fill=WHITE, stroke=BLACK)
+
+    def mark_gone(self, x: float, y: float, title: str) -> None:
+        self.canvas.box(x - 4, y - 4, 8, 8, BLACK, title, stroke=WHITE)
 
     def mark_cut(self, x: float, y: float, title: str) -> None:
         self.canvas.shape(cross(x, y, 5), "none", stroke=WHITE, stroke_width=5)
@@ -83,108 +170,188 @@ class Drawing:
         self.canvas.shape(triangle(x, y, 5), WHITE, title, stroke=RED, stroke_width=1.5)
 
     def lane_name(self, name: str) -> None:
-        self.canvas.words(LEFT - 8, self.y + BAR - 4, name, text_anchor="end")
+        self.canvas.words(self.margin - 8, self.y + BAR - 4, name, text_anchor="end")
+
+    # Parts.
 
     def part(self, times: PartTimes) -> None:
-        """All lanes of one part."""
+        """All of one part: its head, its rows, and what the lanes do not say."""
         part = times.part
-        events = len(part.events)
         head = f"part {part.place} {part.name}, {part.kind}: {counted(part.failures, 'failure')}, limit {part.limit}"
-        loss = f"; losses: {times.loss_text()}" if times.loss_text() else ""
-        broken = f"; CONTRACT BROKEN at event {part.broken[0]}, clause {part.broken[1]}" if part.broken else ""
-        self.canvas.words(12, self.y, head + loss + broken, 13, font_weight="bold")
-        self.y += 10
-        self.ruler(events)
+        self.canvas.words(12, self.y + 4, head, 13, font_weight="bold")
+        self.y += 12
+        for first in range(times.first, times.last + 1, self.per_row):
+            self.first, self.last = first, min(first + self.per_row - 1, times.last)
+            self.row(times)
+        for note in times.notes():
+            broken = note.startswith("CONTRACT")
+            self.y += self.canvas.lines(16, self.y + 4, note, self.width - 28, 10, RED if broken else BLACK) + 1
+        self.y += BETWEEN
+
+    def row(self, times: PartTimes) -> None:
+        """All lanes, over as many events as stand side by side."""
+        broken = times.broken()
+        broken = broken if broken and self.shows(broken.number) else None
+        self.y += 15 if broken else 0
+        self.ruler()
         top = self.y
         self.modes(times)
         for thread in times.threads:
             self.thread(times, thread)
+        low = self.y - 6
+        if times.acting():
+            self.device(times)
+        if times.struck():
+            self.faults(times)
         if times.events("arrive"):
             self.arrivals(times)
         for event in times.failures():
-            x = self.middle(event.number)
-            title = f"event {event.number}: {event.cause}"
-            low = self.y - LANE + BAR + 4
-            self.canvas.line(x, top - 4, x, low, RED, title, stroke_width=1.5, stroke_dasharray="4 2")
-        self.y += BETWEEN - (LANE - BAR)
+            if self.shows(event.number):
+                x = self.middle(event.number)
+                title = f"event {event.number}: {event.cause}"
+                self.canvas.line(x, top - 4, x, low, RED, title, stroke_width=1.5, stroke_dasharray="4 2")
+        if broken:
+            self.broken(times, broken, top, low)
+        self.y += 8
 
-    def ruler(self, events: int) -> None:
+    def broken(self, times: PartTimes, event: Event, top: float, low: float) -> None:
+        """A break of the contract: a line through all lanes, with a flag over it."""
+        clause = times.part.broken[1] if times.part.broken else 0
+        text = f"contract broken, clause {clause}"
+        title = f"{text}\n{short_event(event)}"
+        x, wide = self.middle(event.number), text_width(text, 9) + 8
+        flag = min(max(x - wide / 2, 4), max(self.left(self.last + 1) - wide, 4))
+        self.canvas.line(x, top - 16, x, low, PURPLE, title, stroke_width=2.5)
+        self.canvas.box(flag, top - 29, wide, 13, BLACK, title, rx=2)
+        self.canvas.words(flag + 4, top - 19, text, 9, WHITE, title)
+
+    def ruler(self) -> None:
         """Numbers of events."""
         every = next((each for each in (1, 2, 5, 10, 20, 50, 100, 200, 500) if each * self.step >= 28), 1000)
-        for event in range(1, events + 1):
-            if event % every == 0 or event == 1:
+        for event in range(self.first, self.last + 1):
+            if event % every == 0 or event == self.first:
                 self.canvas.words(self.middle(event), self.y + 8, str(event), 9, GREY, text_anchor="middle")
         self.y += 14
+
+    def stage_text(self, stage: str) -> str:
+        """A stage by its name if that and the common names fit into an event, else by its letter."""
+        fits = all(text_width(name, STAGE_SIZE) <= self.step for name in ("collect", "resume", stage))
+        return stage if fits else STAGES[stage]
 
     def modes(self, times: PartTimes) -> None:
         self.lane_name("part")
         for span in times.spans:
-            x, wide = self.left(span.first), self.left(span.last + 1) - self.left(span.first)
-            title = f"{span.mode}: events {span.first} to {span.last}"
-            self.canvas.box(x, self.y, wide, BAR, MODES[span.mode], title, stroke=GREY, stroke_width=0.5)
+            if span.first <= self.last and span.last >= self.first:
+                x, wide = self.bounds(span.first, span.last)
+                title = f"{span.mode}: events {span.first} to {span.last}"
+                self.canvas.box(x, self.y, wide, BAR, MODES[span.mode], title, stroke=GREY, stroke_width=0.5)
         for event in times.events("stage"):
-            stage = event.text.split(" ")[0]
-            name = STAGES.get(stage, stage)
-            left, middle = self.left(event.number), self.middle(event.number)
-            self.canvas.line(left, self.y, left, self.y + BAR, GREY, stroke_width=0.5)
-            if text_width(name, 9) <= self.step + 2:
-                self.canvas.words(middle, self.y + 11, name, 9, title=event.line, text_anchor="middle")
-            else:
-                self.canvas.box(middle - 1, self.y + 3, 2, BAR - 6, BLACK, event.line)
-        for event in times.part.bursts():
-            if event.call == 0:
-                self.mark_burst(self.middle(event.number), self.y + BAR / 2, short(event.line))
-        self.y += LANE
+            if self.shows(event.number):
+                left = self.left(event.number)
+                self.canvas.line(left, self.y, left, self.y + BAR, GREY, stroke_width=0.5)
+                name = self.stage_text(event.text.split(" ")[0])
+                size = 9 if len(name) == 1 else STAGE_SIZE
+                x = self.middle(event.number)
+                self.canvas.words(x, self.y + 11, name, size, title=event.line, text_anchor="middle")
+        for event in times.events("burst"):
+            if event.call == 0 and self.shows(event.number):
+                self.mark_burst(self.middle(event.number), self.y + BAR / 2, short_event(event))
+        self.y += LANE - 6
 
     def thread(self, times: PartTimes, thread: int) -> None:
         self.lane_name(times.names.get(thread, str(thread)))
         for call in times.lane(thread):
-            self.call(times, call)
+            if call.invoked <= self.last and (call.answered or times.last) >= self.first:
+                self.call(times, call)
         self.y += LANE
 
     def call(self, times: PartTimes, call: Call) -> None:
         """A call: striped while it is held, solid while it is inside, and marks for what happens to it."""
-        events = times.part.events
-        last = call.answered or len(events)
+        last = call.answered or times.last
         asked = f"c{call.number} {short(call.text)}"
         title = f"{asked}: {short(call.answer) or 'no answer'} ({call.by})"
-        wide = max(self.left(last) - self.left(call.invoked) + self.step * 0.9, 2)
-        fill = WHITE if call.by == AT_ONCE else self.held
-        self.canvas.box(self.left(call.invoked), self.y, wide, BAR, fill, title, stroke=GREY, rx=2)
+        x, wide = self.bounds(call.invoked, last)
+        at_once = call.answered == call.invoked
+        gap = self.step * 0.1 if self.shows(last) else 0
+        self.canvas.box(x, self.y, wide - gap, BAR, WHITE if at_once else self.held, title, stroke=GREY, rx=2)
         for first, end in call.inside:
-            wide = max(self.left(end) - self.left(first) + self.step * 0.9, 2)
-            self.canvas.box(self.left(first), self.y, wide, BAR, BLUE, f"{asked}: inside, events {first} to {end}")
-        marks = call.bursts if self.step >= 7 else []
-        for number in marks:
-            if number != call.answered and number not in call.cuts:
-                self.mark_burst(self.middle(number), self.y + BAR / 2, short(events[number - 1].line))
-        for number in call.cuts:
-            cut = f"{asked}: cut at event {number}: {events[number - 1].cause}"
-            self.mark_cut(self.middle(number), self.y + BAR / 2, cut)
-        self.answer(call, title)
-        room = (last - call.invoked + 1) * self.step
-        label = asked if text_width(asked, 8.5) <= room else asked.split(" ")[0]
-        if text_width(label, 8.5) <= room + 4:
-            self.canvas.words(self.left(call.invoked) + 1, self.y + BAR + 9, label, 8.5, title=title)
+            if first <= self.last and end >= self.first:
+                at, long = self.bounds(first, end)
+                gap = self.step * 0.1 if self.shows(end) else 0
+                self.canvas.box(at, self.y, long - gap, BAR, BLUE, f"{asked}: inside, events {first} to {end}")
+        self.marks(times, call, asked)
+        if call.by in self.answer_marks() and self.shows(call.answered):
+            self.answer_marks()[call.by](self.middle(call.answered), self.y + BAR / 2, title)
+        label = asked if text_width(asked, 8.5) <= wide else asked.split(" ")[0]
+        if text_width(label, 8.5) <= wide + 4:
+            self.canvas.words(x + 1, self.y + BAR + 9, label, 8.5, title=title)
 
-    def answer(self, call: Call, title: str) -> None:
-        at_once = dict.fromkeys((AT_ENTER, AT_ONCE), self.mark_once)
-        marks = {BY_DRIVER: self.mark_driver, BY_SHADOW: self.mark_shadow, **at_once}
-        if call.by in marks:
-            marks[call.by](self.middle(call.answered), self.y + BAR / 2, title)
+    def marks(self, times: PartTimes, call: Call, asked: str) -> None:
+        """A call's bursts and cuts."""
+        for number in call.bursts:
+            if self.shows(number) and number != call.answered and number not in call.cuts:
+                self.mark_burst(self.middle(number), self.y + BAR / 2, short_event(times.part.event(number)))
+        for number in call.cuts:
+            if self.shows(number):
+                cut = f"{asked}: cut at event {number}: {times.part.event(number).cause}"
+                self.mark_cut(self.middle(number), self.y + BAR / 2, cut)
+
+    def answer_marks(self) -> dict[str, Mark]:
+        return {
+            BY_DRIVER: self.mark_driver,
+            BY_SHADOW: self.mark_shadow,
+            AT_ENTER: self.mark_enter,
+            REFUSED: self.mark_once,
+            GONE: self.mark_gone,
+        }
+
+    def device(self, times: PartTimes) -> None:
+        """What each burst did to the device: a letter, and how often if more than once."""
+        self.lane_name("device")
+        for event in times.acting():
+            if self.shows(event.number):
+                letter = act_letter(event)
+                title = f"event {event.number}, b{event.burst}: " + ", ".join(folded_lines(list(event.acts)))
+                self.lettered(letter, act_fill(letter))(self.middle(event.number), self.y + BAR / 2, title)
+                if len(event.acts) > 1:
+                    at = self.middle(event.number)
+                    self.canvas.words(at, self.y + BAR + 7, str(len(event.acts)), 7, GREY, text_anchor="middle")
+        self.y += LOW_LANE
+
+    def faults(self, times: PartTimes) -> None:
+        """The faults that struck, at the events of their bursts."""
+        self.lane_name("faults")
+        texts: dict[int, list[str]] = {}
+        for strike in times.struck():
+            texts.setdefault(strike.event, []).append(strike.text)
+        kinds = {strike.event: STRIKES[strike.fault["kind"]] for strike in times.struck()}
+        for number, lines in texts.items():
+            if self.shows(number):
+                letter = kinds[number] if len(lines) == 1 else SEVERAL
+                self.lettered(letter, RED, WHITE)(self.middle(number), self.y + BAR / 2, "\n".join(lines))
+        self.y += LOW_LANE
 
     def arrivals(self, times: PartTimes) -> None:
         self.lane_name("frames")
         for event in times.events("arrive"):
-            mark = self.mark_kept if event.answer == "kept" else self.mark_lost
-            mark(self.middle(event.number), self.y + BAR / 2, short(event.line))
-        self.y += LANE
+            if self.shows(event.number):
+                mark = self.mark_kept if event.answer == "kept" else self.mark_lost
+                mark(self.middle(event.number), self.y + BAR / 2, short(event.line))
+        self.y += LOW_LANE
 
 
-def drawing(times: list[PartTimes]) -> str:
-    """The SVG of some parts' timelines."""
-    made = Drawing(step_of(times))
+def act_fill(letter: str) -> str:
+    """Acts that reach beyond the device are blue, a failed command is red, and reading is white."""
+    if letter == ACTS["failed"]:
+        return "#f6c9b0"
+    return "#cfe6f5" if letter in OUTWARD else WHITE
+
+
+def drawing(times: list[PartTimes], width: float, wrap: int | None, notes: list[str], scale: float) -> str:
+    """The SVG of some parts' timelines, with a caption."""
+    made = Drawing(times, width, wrap)
     made.legend()
     for each in times:
         made.part(each)
-    return made.canvas.text("Timeline of " + ", ".join(each.part.name for each in times))
+    caption(made.canvas, notes, width)
+    return made.canvas.text("Timeline of " + ", ".join(each.part.name for each in times), scale)

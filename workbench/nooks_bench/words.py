@@ -26,6 +26,34 @@ CLAUSES = {
     15: "replied that a block failed, and no command on that block failed in this attempt",
 }
 
+SERVICES = {
+    1: "alloc",
+    2: "free",
+    3: "register",
+    4: "borrow",
+    5: "give_back",
+    6: "net_rx",
+    7: "log",
+    8: "yield",
+}
+
+# docs/REPORT.md has these: why a driver failed. Each number of a cause has its name in braces.
+CAUSES = {
+    "trap bad_opcode": "a word was no instruction",
+    "trap bad_fetch": "its counter went past the end of the text",
+    "trap bad_read {address}": "it read past the end of memory, at address {address}",
+    "trap foreign_write {address}": "it wrote to address {address}, which is not its own",
+    "trap bad_port {port}": "its device has no port {port} in that direction",
+    "trap hang": "it ran 4,096 instructions without a call into the kernel",
+    "trap explicit": "it came to the instruction FAULT",
+    "trap injected": "a fault of the scenario stopped it",
+    "bad_param {service} {argument}": "argument {argument} of the service {service_name} failed its check",
+    "bad_param {service} 0": "it may not call the service {service_name}",
+    "too_many_crossings": "the 32nd burst of one attempt was no reply",
+    "bad_reply {status}": "it replied with status {status}, which this call does not have",
+    "bad_init {status}": "its init replied with status {status}, and it owes 0 and a register before",
+}
+
 LIST = re.compile(r"\[([0-9,]*)\]")
 
 
@@ -65,7 +93,7 @@ def ranges_text(numbers: Iterable[int]) -> str:
 
 
 def folded(words: list[str]) -> list[str]:
-    """Equal words beside each other as one: `7 x16`. Rising ones are left out in the middle: `1 to 16`."""
+    """Equal neighbours as one: `7 x16`. Rising ones are left out in the middle: `1 to 16`."""
     pieces: list[str] = []
     at = 0
     while at < len(words):
@@ -97,6 +125,27 @@ def short_list(words: list[str]) -> str:
 def short(text: str) -> str:
     """A text of a report with its lists shortened."""
     return LIST.sub(lambda found: short_list(found[1].split(",") if found[1] else []), text)
+
+
+def cause_pattern(form: str) -> str:
+    """The regular expression of a cause's form."""
+    return re.sub(r"\{(\w+)\}", r"(?P<\1>\\d+)", form)
+
+
+def service_name(number: int) -> str:
+    """A service by its name, or by its number if there is none of that number."""
+    return SERVICES.get(number, str(number))
+
+
+def cause_words(cause: str) -> str:
+    """Why a driver failed, in words; the cause itself if it is none of the known ones."""
+    forms = sorted(CAUSES, key=lambda form: form.count("{"))
+    for form in forms:
+        if found := re.fullmatch(cause_pattern(form), cause):
+            numbers = found.groupdict()
+            name = service_name(int(numbers.get("service", 0)))
+            return CAUSES[form].format(**numbers, service_name=name)
+    return cause
 
 
 def counted(number: int, noun: str) -> str:

@@ -17,6 +17,7 @@ sys.path.insert(0, os.path.dirname(HERE))
 from nooks_bench.cli import main  # noqa: E402
 from nooks_bench.program import TOP, Program, find_program  # noqa: E402
 
+SCHEMAS = os.path.join(TOP, "workbench/nooks_bench/schemas")
 DATA = os.path.join(HERE, "data")
 EXAMPLES = os.path.join(TOP, "examples")
 
@@ -39,6 +40,12 @@ def example(name: str) -> Any:
 def example_text(name: str) -> str:
     with open(example_path(name), encoding="utf-8") as file:
         return file.read()
+
+
+def schema_file(name: str) -> dict[str, Any]:
+    """A schema of the package, by the name of its file."""
+    with open(os.path.join(SCHEMAS, name), encoding="utf-8") as file:
+        return json.load(file)
 
 
 def bench(*words: str) -> tuple[int, str, str]:

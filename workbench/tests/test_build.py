@@ -6,6 +6,15 @@ import unittest
 
 from common import DATA, TOP, bench, example, example_path, example_text, file_of, program
 
+from nooks_bench.jsontext import json_text
+from nooks_bench.source import Misplaced, Reader
+
+try:
+    import hypothesis
+    from hypothesis import strategies
+except ImportError:
+    hypothesis = None
+
 HAND = os.path.join(DATA, "handmade.jsonc")
 
 
@@ -41,28 +50,28 @@ class Build(unittest.TestCase):
 
     def test_mistakes_of_the_file(self):
         cases = [
-            ('{"version": 1,\n "parts": [,]}', "2:12: a value is wanted here"),
-            ('{"version": 1 "parts": []}', "1:15: ',' is wanted between the keys of the object, and here is '\"'"),
-            ('{"version": 1', "1:14: ',' is wanted between the keys of the object, and here is the end of the file"),
-            ('{"a": 1, "a": 2}', "1:10: the key 'a' stands here a second time"),
+            ('{"version": 1,\n "parts": [,]}', "2:12: expected a value"),
+            ('{"version": 1 "parts": []}', "1:15: expected ',' between the keys of the object, found '\"'"),
+            ('{"version": 1', "1:14: expected ',' between the keys of the object, found the end of the file"),
+            ('{"a": 1, "a": 2}', "1:10: duplicate key 'a'"),
             ('{"a": "x\ny"}', "1:7: this text does not end on its line"),
-            ('{} {}', "1:4: something stands behind the value"),
+            ('{} {}', "1:4: unexpected text after the value"),
             ('[]', "1:1: a scenario is an object"),
-            ("[" * 300, "1:202: lists and objects stand too deep in each other"),
+            ("[" * 300, "1:202: lists and objects are nested too deep"),
         ]
         for text, told in cases:
             self.assertEqual(mistake(text), told)
 
     def test_mistakes_that_the_program_tells(self):
         cases = [
-            ('"limit": 2', '"limit": 22', "10:60: /parts/0/limit: a number out of its range"),
-            ('"blocks": 8, ', "", '10:5: the key "blocks" is not there; allowed is a whole number from 1 to 256'),
-            ('"limit"', '"limmit"', '10:51: a key that this kind of object does not have: "limmit"'),
+            ('"limit": 2', '"limit": 22', "10:60: /parts/0/limit: 22 is out of range; expected a whole number from 0 to 16"),
+            ('"blocks": 8, ', "", '10:5: missing key "blocks"; expected a whole number from 1 to 256'),
+            ('"limit"', '"limmit"', '10:51: /parts/0: unknown key "limmit" of a part of class block (did you mean "limit"?)'),
             ('"driver": "link"', '"driver": "lonk"', "11:46: there is no driver 'lonk' in the table"),
             ("block.asm", "nowhere.asm", "6:26: "),
-            ('"repeat": 3', '"repeat": -3', "11:79: a count from 0 to 65536 is wanted here"),
-            ('"op": "recv"', '"op": "receive"', "19:27: /threads/0/ops/2/op: a value of the wrong kind"),
-            ('"part": 1', '"part": 2', "19:18: /threads/0/ops/2/part: a number out of its range"),
+            ('"repeat": 3', '"repeat": -3', "11:79: expected a count from 0 to 65536"),
+            ('"op": "recv"', '"op": "receive"', '19:27: /threads/0/ops/2/op: unknown name "receive" (did you mean "recv"?); expected "read" or'),
+            ('"part": 1', '"part": 2', "19:18: /threads/0/ops/2/part: 2 is out of range; expected 0 to 1, since there are 2 parts"),
         ]
         for old, new, told in cases:
             self.assertEqual(mistake(handmade().replace("../../..", TOP).replace(old, new))[: len(told)], told)
@@ -72,8 +81,44 @@ class Build(unittest.TestCase):
             text = handmade().replace("../../../examples/block.asm", asm).replace("../../..", TOP)
             with file_of(text) as path:
                 _, _, err = bench("build", path)
-        self.assertIn(f"{asm}:3:1: wrong operands", err)
+        self.assertIn(f"{asm}:3:7: too few operands; LI takes a register and a number or a label", err)
         self.assertIn("'init: LI r1'", err)
+
+
+@unittest.skipUnless(hypothesis, "python3-hypothesis is not installed")
+class Texts(unittest.TestCase):
+    """Whatever the value, the writer's text is JSON of it, and the reader reads it as Python's own does."""
+
+    def test_any_value_comes_back(self):
+        texts = strategies.text(strategies.characters(blacklist_categories=["Cs"]), max_size=9)
+        plain = strategies.none() | strategies.booleans() | strategies.integers() | texts
+        values = strategies.recursive(
+            plain, lambda inner: strategies.lists(inner, max_size=4) | strategies.dictionaries(texts, inner, max_size=4)
+        )
+
+        @hypothesis.settings(max_examples=200, deadline=None)
+        @hypothesis.given(values)
+        def holds(value):
+            text = json_text(value)
+            self.assertEqual(json.loads(text), value)
+            self.assertEqual(Reader(text, "f").whole().plain(), value)
+
+        holds()
+
+    def test_any_text_is_read_or_refused_with_a_place_in_it(self):
+        pieces = strategies.sampled_from(['{"a": ', "[1", ", ", "]", "}", '"', "// x\n", "\n", "nul", "true", "-0", "1e9", "\\u00", " "])
+
+        @hypothesis.settings(max_examples=200, deadline=None)
+        @hypothesis.given(strategies.lists(pieces | strategies.text(max_size=3), max_size=12).map("".join))
+        def holds(text):
+            try:
+                Reader(text, "f").whole()
+            except Misplaced as mistake:
+                lines = text.split("\n")
+                self.assertLessEqual(mistake.place.line, len(lines))
+                self.assertLessEqual(mistake.place.column, len(lines[mistake.place.line - 1]) + 1)
+
+        holds()
 
 
 if __name__ == "__main__":

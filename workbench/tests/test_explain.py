@@ -1,11 +1,14 @@
 """explain: reports and lines of refused inputs, for people."""
 
 import json
+import os
+import re
 import unittest
 
-from common import bench, example, example_path, example_text, file_of, program
+from common import TOP, bench, example, example_path, example_text, file_of, program
 
-from nooks_bench.words import folded, parse_ranges, ranges_text, short
+from nooks_bench.folding import folded_lines
+from nooks_bench.words import CLAUSES, SERVICES, cause_words, folded, parse_ranges, ranges_text, short
 
 
 def told(scenario: str, words: list[str]) -> str:
@@ -25,9 +28,10 @@ class Explains(unittest.TestCase):
             "status 0: no part was given up, and every driver kept its class's contract",
             "    2  p0 write 9 [11 x16, 12 x16, 13 x16]  done  c3 answered by the driver at event 29, cut by a failure at event 15",
             "    2  p0 get 1      value 6        c4 answered by the shadow at event 16",
-            "    3  p0 get 1      value 6        c5 answered at once, at event 17",
-            "  6 calls, answered: 4 by the driver, 1 by the shadow, 1 at once",
-            "  failed at event 15, burst 5, turn 205, in c3 write 9 [11 x16, 12 x16, 13 x16]: trap injected",
+            "    3  p0 get 1      value 6        c5 answered by the shadow at event 17",
+            "  6 calls, answered: 4 by the driver, 2 by the shadow",
+            "  failed at event 15, burst 5, turn 205, in c3 write 9 [11 x16, 12 x16, 13 x16]: "
+            "trap injected (a fault of the scenario stopped it)",
             "  recovered from event 16 to 27",
         ]:
             self.assertIn(line, out.split("\n"))
@@ -37,6 +41,22 @@ class Explains(unittest.TestCase):
         self.assertIn("CONTRACT BROKEN at event 8, clause 3: the driver replied that a write is done, and a block", out)
         self.assertIn("    8 burst x0 c1 b3 n175 reply 0 | store 1 [51 x16] -> done", out)
 
+    def test_who_answers_at_once(self):
+        _, out, _ = bench("explain", example_path("block.report"))
+        self.assertIn("bad_range          c5 answered at once, as a wrong operation, event ", out)
+        _, out, _ = bench("explain", example_path("given-up.report"))
+        self.assertIn("gone 2  c3 answered with gone, since the part is given up, event 23", out)
+        self.assertIn("4 calls, answered: 4 with gone, since the part is given up", out)
+
+    def test_repeated_lines_are_folded(self):
+        _, out, _ = bench("explain", example_path("sound-skips.report"))
+        self.assertIn("  played [61 to 65] 44100 3\n  played [71, 72] 44100 4\n", out)
+        played = [f"played {word} 8000 5" for word in (1, 2, 2, 2)] + ["played 3 8000 6"]
+        self.assertEqual(folded_lines(played), ["played [1, 2 x3] 8000 5", "played 3 8000 6"])
+        self.assertEqual(folded_lines(["wire [4]", "wire [4]", "wire [5]"]), ["wire [4] x2", "wire [5]"])
+        blocks = [f"disk {block} [7,7,7]" for block in (1, 2, 3, 9)]
+        self.assertEqual(folded_lines(blocks), ["disk 1-3 [7 x3]", "disk 9 [7 x3]"])
+
     def test_every_example_and_a_generated_one(self):
         for name in ["given-up", "link-loses", "media-errors", "borrowed-object", "sound-skips"]:
             status, out, _ = bench("explain", example_path(name + ".report"))
@@ -45,11 +65,11 @@ class Explains(unittest.TestCase):
     def test_faults_at_their_places(self):
         text = json.dumps(example("write-cut.json"), indent=1)
         cases = [
-            ('"limit": 2', '"limit": null', '/parts/0/limit: a value of the wrong kind: null; allowed is a whole number from 0 to 16'),
+            ('"limit": 2', '"limit": null', '/parts/0/limit: wrong kind of value: null; expected a whole number from 0 to 16'),
             ('"limit": 2', '"limit": 2,', "this is no JSON: "),
-            ('"key": 1', '"kee": 1', 'a key that this kind of object does not have: "kee"; allowed is an object with part, op, key'),
-            ('"blocks": 16,', "", 'the key "blocks" is not there; allowed is a whole number from 1 to 256'),
-            ("LI r5 16", "LI r5", "line 11 of this assembler text: wrong operands"),
+            ('"key": 1', '"kee": 1', '/threads/0/ops/0: unknown key "kee" of the operation set (did you mean "key"?)'),
+            ('"blocks": 16,', "", 'missing key "blocks"; expected a whole number from 1 to 256'),
+            ("LI r5 16", "LI r5", "line 11, column 7 of this assembler text: too few operands; LI takes a register"),
         ]
         for old, new, words in cases:
             changed = text.replace(old, new, 1)
@@ -61,14 +81,14 @@ class Explains(unittest.TestCase):
     def test_campaigns_images_and_texts(self):
         campaign = example("campaign-block.json")
         campaign["faults"][2]["kind"] = "trip"
-        self.assertIn('/faults/2/kind: a value of the wrong kind: "trip"; allowed is "trap"', told(json.dumps(campaign), ["campaign"]))
+        self.assertIn('/faults/2/kind: unknown name "trip" (did you mean "trap"?); expected "trap"', told(json.dumps(campaign), ["campaign"]))
         campaign = example("campaign-block.json")
         campaign["base"]["parts"][0]["blocks"] = 0
-        self.assertIn("/parts/0/blocks: a number out of its range", told(json.dumps(campaign), ["campaign"]))
+        self.assertIn("/parts/0/blocks: 0 is out of range", told(json.dumps(campaign), ["campaign"]))
         image = json.loads(example_text("block.image"))
         image["text"][1] = "1600003"
-        self.assertIn('/text/1: no eight hexadecimal digits', told(json.dumps(image), ["dis"]))
-        self.assertIn("5:1: a name that is no mnemonic", told(".class block\n\n\n\nnope r1\n", ["asm"]))
+        self.assertIn('/text/1: "1600003" is not a word of an image', told(json.dumps(image), ["dis"]))
+        self.assertIn("5:1: 'nope' is not a mnemonic", told(".class block\n\n\n\nnope r1\n", ["asm"]))
 
     def test_a_fault_line_wants_its_input(self):
         with file_of("fault 1 not_json /\n", ".line") as path:
@@ -76,6 +96,31 @@ class Explains(unittest.TestCase):
 
 
 class Words(unittest.TestCase):
+    def table(self, head: str) -> list[list[str]]:
+        """The rows of a table of docs/REPORT.md."""
+        with open(os.path.join(TOP, "docs/REPORT.md"), encoding="utf-8") as file:
+            text = file.read()
+        rows = text[text.index(head) :].split("\n\n")[0].split("\n")[2:]
+        return [[cell.strip() for cell in row.strip("|").split("|")] for row in rows]
+
+    def test_every_cause_has_words(self):
+        rows = [row[0].strip("`") for row in self.table("| Cause |")]
+        self.assertEqual(len(rows), 12)
+        for row in rows:
+            cause = re.sub(r"\b[ASP]\b", "1", row)
+            self.assertNotEqual(cause_words(cause), cause)
+        self.assertEqual(cause_words("bad_param 2 1"), "argument 1 of the service free failed its check")
+        self.assertEqual(cause_words("bad_param 12 0"), "it may not call the service 12")
+        self.assertEqual(cause_words("trap foreign_write 7691"), "it wrote to address 7691, which is not its own")
+        self.assertEqual(cause_words("trap unheard_of"), "trap unheard_of")
+
+    def test_every_service_and_clause_is_named(self):
+        with open(os.path.join(TOP, "docs/DRIVER_MACHINE.md"), encoding="utf-8") as file:
+            named = re.findall(r"(?m)^\| (\d+) \| (\w+) \|", file.read())
+        self.assertEqual({int(number): name for number, name in named}, SERVICES)
+        clauses = {int(number): words.replace("such a block", "a block") for number, words in self.table("| Clause |")}
+        self.assertEqual(clauses, CLAUSES)
+
     def test_lists_are_shortened(self):
         self.assertEqual(folded("7 7 7 7 1 2".split()), ["7 x4", "1", "2"])
         self.assertEqual(short("write 5 [1,2,3,4,5] -> done"), "write 5 [1 to 5] -> done")

@@ -6,8 +6,9 @@ import unittest
 
 from common import example_path, example_text
 
+from nooks_bench.outcomes import Losses, losses_of_part
 from nooks_bench.program import Mistake
-from nooks_bench.report import lost_of, parse_report
+from nooks_bench.report import parse_report
 
 
 class Reports(unittest.TestCase):
@@ -29,7 +30,7 @@ class Reports(unittest.TestCase):
         self.assertEqual((cut.burst, cut.turns, cut.text, cut.cause), (9, 24, "trap", "trap injected"))
         self.assertEqual(cut.acts[0], "played 61 44100 3")
         self.assertEqual(part.event(28).replies, ((7, "done"), (8, "busy stop")))
-        self.assertEqual(lost_of(part), 4)
+        self.assertEqual(losses_of_part(part), Losses(samples=3, busy=1))
 
     def test_replies_with_words(self):
         part = parse_report(example_text("given-up.report")).parts[0]

@@ -1,10 +1,11 @@
 """shrink: what is asked holds of what is left, and what is left is small."""
 
 import json
+import os
 import unittest
 
 import drawn
-from common import bench, example, example_path, file_of, program
+from common import DATA, bench, example, example_path, file_of, program
 
 from nooks_bench.scenario import operations
 from nooks_bench.smaller import without_part, without_thread
@@ -59,6 +60,16 @@ class Shrinks(unittest.TestCase):
         given["schedule"] = {"kind": "listed", "picks": [0, 1, 2, 3, 4, 5, 9]}
         self.assertEqual(without_thread(given, 0)["schedule"]["picks"], [0, 1, 2, 3, 4])
         self.assertEqual(without_part(given, 0)["schedule"]["picks"], [0, 1, 2, 3])
+
+    def test_a_scenario_as_people_write_it(self):
+        status, out, err = bench("shrink", os.path.join(DATA, "handmade.jsonc"), "--quiet", "--text", "frame [5,5,5]")
+        self.assertEqual((status, err), (0, ""))
+        self.assertIn("frame [5,5,5]", program().report(json.loads(out)))
+
+    def test_a_campaign_is_none(self):
+        status, _, err = bench("shrink", example_path("campaign-block.json"), "--status", "7")
+        self.assertEqual(status, 2)
+        self.assertIn("is a campaign: its base is the scenario", err)
 
     def test_mistakes(self):
         self.assertEqual(bench("shrink", example_path("block.json"))[0], 2)

@@ -7,14 +7,20 @@ import xml.etree.ElementTree as ElementTree
 from common import bench, example_path, example_text, file_of
 
 from nooks_bench.report import parse_report
-from nooks_bench.timeline import BOOT, GIVEN_UP, RECOVERS, SERVES, times_of
 from nooks_bench.timeline_text import lanes_of
+from nooks_bench.times import BOOT, GIVEN_UP, RECOVERS, SERVES, times_of
 
 SVG = "{http://www.w3.org/2000/svg}"
 
 
 def shapes(text: str) -> list[ElementTree.Element]:
     return list(ElementTree.fromstring(text).iter())
+
+
+def texts_of(text: str) -> list[str]:
+    """The words that are drawn, without what the pointer is told."""
+    elements = [each for each in shapes(text) if each.tag == SVG + "text"]
+    return [(each.text or "") + "".join(inner.tail or "" for inner in each) for each in elements]
 
 
 class Timelines(unittest.TestCase):
@@ -47,6 +53,74 @@ class Timelines(unittest.TestCase):
             failures = sum(event.failed for part in report.parts for event in part.bursts())
             self.assertGreaterEqual(sum(": cut at event" in title or " trap " in title for title in titles), failures)
             self.assertIn("Timeline of", titles[0])
+
+    def test_the_shadow_answers_in_a_recovery(self):
+        times = times_of(parse_report(example_text("write-cut.report")))[0]
+        lanes = dict(lanes_of(times))
+        self.assertEqual(lanes["reader"][15:17], "HH")
+        _, out, _ = bench("timeline", example_path("write-cut.report"))
+        self.assertIn("<title>c5 get 1: value 6 (by the shadow)</title>", out)
+
+    def test_a_break_is_marked(self):
+        path = example_path("contract-broken.report")
+        _, text, _ = bench("timeline", "--text", path)
+        self.assertRegex(text, r"\ncontract {9}\*\n")
+        self.assertIn("  CONTRACT BROKEN at event 8, clause 3: the driver replied that a write is done", text)
+        _, svg, _ = bench("timeline", path)
+        titles = [each.text or "" for each in shapes(svg) if each.tag == SVG + "title"]
+        marks = [title for title in titles if title.startswith("contract broken, clause 3\n8 burst")]
+        self.assertEqual(len(marks), 3)
+        self.assertNotIn("contract", bench("timeline", "--text", example_path("block.report"))[1])
+
+    def test_acts_are_shown(self):
+        times = times_of(parse_report(example_text("write-cut.report")))[0]
+        lane = dict(lanes_of(times))["device"]
+        self.assertEqual({at + 1: letter for at, letter in enumerate(lane) if letter != " "},
+                         {9: "r", 15: "s", 26: "r", 29: "s", 31: "l"})
+        _, svg, _ = bench("timeline", example_path("link-loses.report"))
+        self.assertIn("<title>event 43, b6: sent [45]</title>", svg)
+
+    def test_some_events(self):
+        path = example_path("write-cut.report")
+        _, text, _ = bench("timeline", "--text", "--events", "14-18", path)
+        self.assertIn("\npart      --S~C\n", text)
+        lanes = [line for line in text.split("\n") if line.startswith("reader")]
+        self.assertEqual(lanes, ["reader    i.HH"])
+        _, svg, _ = bench("timeline", "--events", "14-18", path)
+        self.assertNotIn("c1 set", svg)
+        for wrong in ("9-3", "0-4", "x", "400"):
+            self.assertEqual(bench("timeline", "--events", wrong, path)[0], 2)
+
+    def test_long_reports_are_wrapped(self):
+        path = example_path("link-loses.report")
+        _, wide, _ = bench("timeline", path)
+        _, high, _ = bench("timeline", "--wrap", "20", path)
+        sizes = [ElementTree.fromstring(out).attrib for out in (wide, high)]
+        self.assertLess(float(sizes[1]["width"]), float(sizes[0]["width"]))
+        self.assertGreater(float(sizes[1]["height"]), 2 * float(sizes[0]["height"]) - 200)
+        words = texts_of(high)
+        self.assertEqual([words.count(name) for name in ("sender", "listener", "part")], [3, 3, 3])
+        large = ElementTree.fromstring(bench("timeline", "--font-size", "22", "--width", "900", path)[1])
+        self.assertAlmostEqual(float(large.get("width")), 900, delta=1)
+        self.assertAlmostEqual(float(large.get("viewBox").split(" ")[2]), 450, delta=1)
+
+    def test_each_stage_has_its_name_or_a_key(self):
+        for words in ([], ["--wrap", "60"]):
+            _, out, _ = bench("timeline", example_path("link-loses.report"), *words)
+            texts = texts_of(out)
+            for name, letter in zip(["stop", "collect", "reset", "load", "init", "resume"], "SCRLIU"):
+                self.assertIn(name, texts)
+                self.assertTrue(letter in texts or texts.count(name) >= 1)
+        small = bench("timeline", example_path("write-cut.report"), "--events", "14-28")[1]
+        texts = texts_of(small)
+        self.assertEqual([texts.count(name) for name in ("collect", "C")], [1, 0])
+
+    def test_the_caption(self):
+        words = ["--wrap", "20", example_path("block.report")]
+        _, out, _ = bench("timeline", *words)
+        texts = texts_of(out)
+        self.assertEqual(texts[-2], "nooks-bench timeline " + " ".join(words))
+        self.assertRegex(texts[-1], r"nooks-bench [0-9.]+; report [0-9a-f]{12}, status 0")
 
     def test_parts_one_below_the_other(self):
         one = example_text("block.report")

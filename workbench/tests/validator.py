@@ -1,13 +1,16 @@
-"""As much of JSON Schema 2020-12 as scenario.schema.json uses."""
+"""As much of JSON Schema 2020-12 as the schemas of the package use."""
 
 from __future__ import annotations
 
 import re
 from typing import Any
 
+from common import schema_file
+
 KNOWN = {
     "$schema", "$id", "$defs", "$ref", "$comment", "title", "description", "type", "const", "enum", "minimum", "maximum",
-    "minItems", "maxItems", "items", "properties", "required", "additionalProperties", "oneOf", "pattern", "if", "then",
+    "minItems", "maxItems", "items", "properties", "required", "additionalProperties", "minProperties", "maxProperties",
+    "allOf", "pattern", "if", "then", "else",
 }
 TYPES = {"object": dict, "array": list, "string": str}
 
@@ -18,28 +21,34 @@ def is_type(value: Any, name: str) -> bool:
     return isinstance(value, TYPES[name])
 
 
-def of_object(schema: dict[str, Any], value: dict[str, Any], whole: dict[str, Any]) -> bool:
+def of_object(schema: dict[str, Any], value: dict[str, Any], file: str) -> bool:
     properties = schema.get("properties", {})
     if any(key not in value for key in schema.get("required", [])):
         return False
-    if schema.get("additionalProperties") is False and any(key not in properties for key in value):
+    if not schema.get("minProperties", 0) <= len(value) <= schema.get("maxProperties", len(value)):
         return False
-    return all(valid(properties[key], each, whole) for key, each in value.items() if key in properties)
+    others = schema.get("additionalProperties", True)
+    return all(valid(properties.get(key, others), each, file) for key, each in value.items())
 
 
-def of_list(schema: dict[str, Any], value: list[Any], whole: dict[str, Any]) -> bool:
+def of_list(schema: dict[str, Any], value: list[Any], file: str) -> bool:
     if not schema.get("minItems", 0) <= len(value) <= schema.get("maxItems", len(value)):
         return False
-    return all(valid(schema.get("items", True), each, whole) for each in value)
+    return all(valid(schema.get("items", True), each, file) for each in value)
+
+
+def same(value: Any, other: Any) -> bool:
+    """Whether two values are the same as JSON: true is not 1."""
+    return value == other and isinstance(value, bool) == isinstance(other, bool)
 
 
 def plain(schema: dict[str, Any], value: Any) -> bool:
     """The keywords that look at the value alone."""
     if "type" in schema and not is_type(value, schema["type"]):
         return False
-    if "const" in schema and (value != schema["const"] or type(value) is not type(schema["const"])):
+    if "const" in schema and not same(value, schema["const"]):
         return False
-    if "enum" in schema and not any(value == each and type(value) is type(each) for each in schema["enum"]):
+    if "enum" in schema and not any(same(value, each) for each in schema["enum"]):
         return False
     if "pattern" in schema and isinstance(value, str) and not re.search(schema["pattern"], value):
         return False
@@ -48,19 +57,28 @@ def plain(schema: dict[str, Any], value: Any) -> bool:
     return True
 
 
-def valid(schema: Any, value: Any, whole: dict[str, Any]) -> bool:
-    """Whether a value is one of a schema's."""
+def referred(reference: str, file: str) -> tuple[dict[str, Any], str]:
+    """The schema that a reference of a file names, and the file that it stands in."""
+    named, _, place = reference.partition("#")
+    found = schema_file(named or file)
+    for step in place.split("/")[1:]:
+        found = found[step]
+    return found, named or file
+
+
+def valid(schema: Any, value: Any, file: str) -> bool:
+    """Whether a value is one of a schema's, which stands in a file of the package."""
     if isinstance(schema, bool):
         return schema
     assert set(schema) <= KNOWN, set(schema) - KNOWN
-    if "$ref" in schema and not valid(whole["$defs"][schema["$ref"].split("/")[-1]], value, whole):
+    if "$ref" in schema and not valid(referred(schema["$ref"], file)[0], value, referred(schema["$ref"], file)[1]):
         return False
-    if "oneOf" in schema and sum(valid(each, value, whole) for each in schema["oneOf"]) != 1:
+    if not all(valid(each, value, file) for each in schema.get("allOf", [])):
         return False
-    if "if" in schema and valid(schema["if"], value, whole) and not valid(schema["then"], value, whole):
+    if "if" in schema and not valid(schema.get("then" if valid(schema["if"], value, file) else "else", True), value, file):
         return False
-    if isinstance(value, dict) and not of_object(schema, value, whole):
+    if isinstance(value, dict) and not of_object(schema, value, file):
         return False
-    if isinstance(value, list) and not of_list(schema, value, whole):
+    if isinstance(value, list) and not of_list(schema, value, file):
         return False
     return plain(schema, value)

@@ -1,0 +1,354 @@
+"""What is wrong with a line of an assembler text, in one sentence with a column.
+
+The assembler says the kind of fault and the line (docs/ASSEMBLER.md). Which token it is, and which of the things that a
+kind stands for, this finds from the text alone."""
+
+from __future__ import annotations
+
+import difflib
+import re
+from dataclasses import dataclass, field
+from typing import Iterable, Sequence
+
+MOST_WORDS = 2_048
+
+CLASSES = {
+    "block": ("init", "read", "write", "get", "set"),
+    "net": ("init", "send", "poll", "get", "set"),
+    "sound": ("init", "open", "play", "close", "get", "set"),
+}
+
+# The operands of each instruction: `a` and `b` are registers, `imm` is a number or a label.
+FORMS = {
+    "LI": "a imm",
+    "LUI": "a imm",
+    "MOV": "a b",
+    "ADD": "a b",
+    "SUB": "a b",
+    "AND": "a b",
+    "OR": "a b",
+    "XOR": "a b",
+    "SHL": "a b",
+    "SHR": "a b",
+    "ADDI": "a b imm",
+    "LD": "a b imm",
+    "ST": "a b imm",
+    "JMP": "imm",
+    "BEQ": "a b imm",
+    "BNE": "a b imm",
+    "BLT": "a b imm",
+    "JAL": "a imm",
+    "JR": "a",
+    "IN": "a imm",
+    "OUT": "a imm",
+    "KCALL": "imm",
+    "RET": "a",
+    "FAULT": "",
+}
+
+# The operands of each directive.
+DIRECTIVES = {".class": "name", ".entry": "name imm", ".text": "", ".data": "", ".word": "imm"}
+
+# The greatest number that may stand in an instruction, and in the directives that have one.
+MOST_IMMEDIATE = 65_535
+MOST_OF_DIRECTIVE = {".word": 4_294_967_295, ".entry": 2_047}
+
+WANTED = {"a": "a register", "b": "a register", "imm": "a number or a label", "name": "a name"}
+
+NAME = re.compile(r"[A-Za-z_][A-Za-z0-9_]{0,31}")
+NUMBER = re.compile(r"[0-9]+|0x[0-9A-Fa-f]+")
+REGISTER = re.compile(r"r(?:[0-9]|1[0-5])")
+RUN = re.compile(r"[^ \t\r,]+")
+
+
+@dataclass(frozen=True)
+class Token:
+    """A run of bytes between spaces and commas, with its column from 1."""
+
+    text: str
+    column: int
+
+    @property
+    def is_name(self) -> bool:
+        return bool(NAME.fullmatch(self.text))
+
+    @property
+    def is_register(self) -> bool:
+        return bool(REGISTER.fullmatch(self.text))
+
+    @property
+    def is_number(self) -> bool:
+        return bool(NUMBER.fullmatch(self.text))
+
+    @property
+    def defines(self) -> str | None:
+        """The label that it defines, if it is a definition."""
+        return self.text[:-1] if self.text.endswith(":") and NAME.fullmatch(self.text[:-1]) else None
+
+    @property
+    def is_token(self) -> bool:
+        """Whether the assembler's language has such a run of bytes."""
+        bare = self.text[1:] if self.text.startswith(".") else self.text
+        return self.is_name or self.is_number or self.defines is not None or bool(NAME.fullmatch(bare))
+
+    def is_a(self, sort: str) -> bool:
+        """Whether it is an operand of a sort: `a`, `b`, `imm` or `name`."""
+        if sort in ("a", "b"):
+            return self.is_register
+        if sort == "name":
+            return self.is_name
+        return self.is_number or (self.is_name and not self.is_register)
+
+
+@dataclass(frozen=True)
+class Line:
+    """A line: a definition perhaps, a statement perhaps, and the statement's operands."""
+
+    number: int
+    tokens: tuple[Token, ...]
+    definition: Token | None
+    statement: Token | None
+    operands: tuple[Token, ...]
+
+
+def parse_line(number: int, text: str) -> Line:
+    """The tokens of a line by what they are for."""
+    tokens = tuple(Token(found.group(), found.start() + 1) for found in RUN.finditer(text.split(";")[0]))
+    definition = tokens[0] if tokens and tokens[0].defines is not None else None
+    rest = tokens[1:] if definition else tokens
+    return Line(number, tokens, definition, rest[0] if rest else None, rest[1:])
+
+
+@dataclass(frozen=True)
+class Said:
+    """What is wrong, and in which column."""
+
+    column: int
+    wrong: str
+
+
+@dataclass
+class Text:
+    """An assembler text by its lines."""
+
+    lines: list[Line]
+    labels: dict[str, int] = field(default_factory=dict)
+
+    @classmethod
+    def of(cls, text: str) -> Text:
+        made = cls([parse_line(number, line) for number, line in enumerate(text.split("\n"), 1)])
+        for line in made.lines:
+            if line.definition is not None and line.definition.defines is not None:
+                made.labels.setdefault(line.definition.defines, line.number)
+        return made
+
+    def statements(self, name: str, before: int | None = None) -> list[Line]:
+        """The lines with a directive, perhaps only those before a line."""
+        here = [line for line in self.lines if line.statement is not None and line.statement.text == name]
+        return [line for line in here if before is None or line.number < before]
+
+    def kind(self, before: int | None = None) -> str | None:
+        """The class that the text names, if it names one."""
+        named = [line.operands[0].text for line in self.statements(".class", before) if line.operands]
+        return next((name for name in named if name in CLASSES), None)
+
+    def is_data(self, number: int) -> bool:
+        """Whether a line stands among the initial words."""
+        changes = [
+            line for line in self.lines[: number - 1] if line.statement and line.statement.text in (".text", ".data")
+        ]
+        whole = [line for line in changes if not line.operands and line.statement]
+        return bool(whole) and whole[-1].statement is not None and whole[-1].statement.text == ".data"
+
+
+def nearest(name: str, known: Iterable[str]) -> str:
+    """A hint at a name that is nearly this one; empty if there is none."""
+    names = list(known)
+    same = [each for each in names if each.lower() == name.lower()]
+    close = same or difflib.get_close_matches(name, names, 1, 0.6)
+    return f" (did you mean {close[0]}?)" if close else ""
+
+
+def bad_token(line: Line, _: Text) -> Said | None:
+    """A run of bytes that is no token."""
+    token = next((token for token in line.tokens if not token.is_token), None)
+    if token is None:
+        return None
+    text = token.text
+    hint = ""
+    if NUMBER.fullmatch(text[1:]) and text[0] in "-+#$":
+        hint = ": a number is digits alone" + (", and not negative" if text[0] == "-" else "")
+    elif text.startswith(("//", "#", "--")):
+        hint = ": a comment begins with ;"
+    elif re.fullmatch(r"\.?[A-Za-z0-9_]+:?", text):
+        long_name = len(text.strip(".:")) > 32
+        hint = ": a name has at most 32 characters" if long_name else ": a name begins with a letter or _"
+    return Said(token.column, f"{text!r} is not a name, definition, directive or number{hint}")
+
+
+def unknown_name(line: Line, text: Text) -> Said | None:
+    """A name that is no mnemonic, no class, or no entry of the class."""
+    first = line.statement
+    if first is None:
+        return None
+    if first.text == ".class" and line.operands:
+        named = line.operands[0]
+        return Said(named.column, f"{named.text!r} is not a class: block, net or sound{nearest(named.text, CLASSES)}")
+    if first.text == ".entry" and line.operands:
+        named = line.operands[0]
+        kind = text.kind(line.number)
+        entries = ", ".join(CLASSES[kind]) if kind else ""
+        return Said(named.column, f"{named.text!r} is not an entry of class {kind}: {entries}")
+    if first.text.upper() in FORMS:
+        return Said(first.column, f"{first.text!r} is not a mnemonic: mnemonics are upper case, {first.text.upper()}")
+    if "." + first.text.lower() in DIRECTIVES:
+        return Said(
+            first.column, f"{first.text!r} is not a mnemonic (did you mean the directive .{first.text.lower()}?)"
+        )
+    if first.text.endswith(":") or not first.is_name:
+        return None
+    return Said(first.column, f"{first.text!r} is not a mnemonic{nearest(first.text, FORMS)}")
+
+
+def operand_sorts(form: str) -> str:
+    """The operands of a form, in words."""
+    sorts = [WANTED[each] for each in form.split()]
+    if form.startswith("a b"):
+        sorts[:2] = ["two registers"]
+    return " and ".join(filter(None, [", ".join(sorts[:-1]), sorts[-1]])) if sorts else "no operand"
+
+
+def wrong_operand(line: Line, first: Token, form: str) -> Said | None:
+    """The first operand that is not what the statement takes there."""
+    sorts = form.split()
+    takes = f"{first.text} takes {operand_sorts(form)}"
+    for token, sort in zip(line.operands, sorts):
+        if not token.is_a(sort):
+            named = "the register " if token.is_register else ""
+            return Said(token.column, f"expected {WANTED[sort]}, found {named}{token.text!r}; {takes}")
+    if len(line.operands) < len(sorts):
+        return Said(first.column, f"too few operands; {takes}")
+    if len(line.operands) > len(sorts):
+        extra = line.operands[len(sorts)]
+        return Said(extra.column, f"one operand too many, {extra.text!r}; {takes}")
+    return None
+
+
+def wrong_operands(line: Line, text: Text) -> Said | None:
+    """Operands that a statement does not take, or a statement that may not stand there."""
+    if line.definition is not None and REGISTER.fullmatch(line.definition.text[:-1]):
+        return Said(line.definition.column, f"{line.definition.text[:-1]!r} is a register and cannot be a label")
+    first = line.statement
+    if first is None:
+        return None
+    if first.text in DIRECTIVES:
+        if first.text == ".entry" and text.kind(line.number) is None:
+            return Said(first.column, ".entry before .class: the class must come first")
+        return wrong_operand(line, first, DIRECTIVES[first.text])
+    if first.text.startswith("."):
+        names = ", ".join(DIRECTIVES)
+        return Said(first.column, f"{first.text!r} is not a directive: {names}{nearest(first.text, DIRECTIVES)}")
+    if first.text in FORMS:
+        if text.is_data(line.number):
+            return Said(first.column, "an instruction in the data section: .text must come first")
+        return wrong_operand(line, first, FORMS[first.text])
+    found = "a second label" if first.defines is not None else f"{first.text!r}"
+    return Said(first.column, f"expected a mnemonic or a directive, found {found}")
+
+
+def number_range(line: Line, _: Text) -> Said | None:
+    """A number that is too large for its place."""
+    if line.statement is None:
+        return None
+    most = MOST_OF_DIRECTIVE.get(line.statement.text, MOST_IMMEDIATE)
+    for token in line.operands:
+        if token.is_number and int(token.text, 0 if token.text.startswith("0x") else 10) > most:
+            return Said(token.column, f"{token.text} is too large: {line.statement.text} takes at most {most}")
+    for token in line.operands[-1:]:
+        return Said(token.column, f"the label {token.text!r} is too far: {line.statement.text} takes at most {most}")
+    return None
+
+
+def second_time(line: Line, text: Text) -> Said | None:
+    """A label, the class or an entry that is there already."""
+    name = line.definition.defines if line.definition else None
+    if line.definition and name is not None and text.labels[name] < line.number:
+        first = text.labels[name]
+        return Said(line.definition.column, f"the label {name!r} is defined twice, first on line {first}")
+    if line.statement is None:
+        return None
+    earlier = text.statements(line.statement.text, line.number)
+    if line.statement.text == ".class" and earlier:
+        return Said(line.statement.column, f"the class is given twice, first on line {earlier[0].number}")
+    same = [each for each in earlier if each.operands[:1] and each.operands[0].text == line.operands[0].text]
+    if line.statement.text == ".entry" and same:
+        about = f"the entry {line.operands[0].text!r} is given twice, first on line {same[0].number}"
+        return Said(line.statement.column, about)
+    return None
+
+
+def missing_label(line: Line, text: Text) -> Said | None:
+    """A label that no line defines."""
+    used = line.operands[1:] if line.statement and line.statement.text == ".entry" else line.operands
+    for token in used:
+        if token.is_a("imm") and token.is_name and token.text not in text.labels:
+            return Said(token.column, f"undefined label {token.text!r}{nearest(token.text, text.labels)}")
+    return None
+
+
+def text_too_long(line: Line, _: Text) -> Said | None:
+    return Said(first_column(line), f"one word of text too many: a driver has at most {MOST_WORDS}")
+
+
+def data_too_long(line: Line, _: Text) -> Said | None:
+    return Said(first_column(line), f"one initial word too many: a driver has at most {MOST_WORDS}")
+
+
+def missing_entry(_: Line, text: Text) -> Said | None:
+    """The text has no class, or not all of its entries."""
+    kind = text.kind()
+    if kind is None:
+        return Said(1, "the text ends without a class: .class block, net or sound")
+    given = {line.operands[0].text for line in text.statements(".entry") if line.operands}
+    missing = [name for name in CLASSES[kind] if name not in given]
+    if not missing:
+        return None
+    entries = "entry" if len(missing) == 1 else "entries"
+    return Said(1, f"the text ends without the {entries} {', '.join(missing)} of class {kind}")
+
+
+def first_column(line: Line) -> int:
+    return line.tokens[0].column if line.tokens else 1
+
+
+# For each kind of fault what finds it, and what it is if that finds nothing.
+KINDS = {
+    1: (bad_token, "not a token"),
+    2: (unknown_name, "an unknown name"),
+    3: (wrong_operands, "wrong operands"),
+    4: (number_range, "a number out of its range"),
+    5: (second_time, "a second definition"),
+    6: (missing_label, "an undefined label"),
+    7: (text_too_long, "too many words of text"),
+    8: (data_too_long, "too many initial words"),
+    9: (missing_entry, "an entry is missing"),
+}
+
+
+def asm_fault(kind: int | None, number: int, source: str) -> Said:
+    """What is wrong on a line of a text, by the assembler's kind of fault."""
+    text = Text.of(source)
+    line = text.lines[number - 1] if 1 <= number <= len(text.lines) else Line(number, (), None, None, ())
+    find, general = KINDS.get(kind or 0, (None, "a fault of the assembler text"))
+    said = find(line, text) if find else None
+    return said or Said(first_column(line), general)
+
+
+def named_class(source: str) -> str | None:
+    """The class that an assembler text names."""
+    return Text.of(source).kind()
+
+
+def entries_of(kind: str) -> Sequence[str]:
+    """The entries of a class, in its order."""
+    return CLASSES[kind]

@@ -1,0 +1,334 @@
+"""A map as an SVG. Each burst has its own turns, a strip of its instructions over them, and its rows below."""
+
+from __future__ import annotations
+
+import math
+from collections import Counter
+from dataclasses import dataclass
+
+from .heatmap_rows import Cell, Group, Line
+from .outcomes import BROKEN, CHANGED, GIVEN_UP, LOSSES, MISSED, NO_TRACE, OUTCOMES, RECOVERED
+from .picture import caption
+from .strip import Step, Strip, Strips
+from .svg import BLACK, BLUE, GREEN, GREY, ORANGE, PALE, PURPLE, SKY, WHITE, YELLOW, Canvas, text_width
+from .times import ACTS
+from .words import CLAUSES
+
+ROW = 14
+STRIP_LETTERS = 7.5
+RULER = 12
+ACT_ROW = 12
+WIDEST_CELL, READABLE_CELL, NARROWEST_CELL = 12, 8, 3
+# A burst goes on in at most this many rows before its cells get narrower.
+MOST_ROWS = 4
+
+# Behind the place of a burst whose turns go on in a further row.
+AGAIN = ", on"
+
+# How much of an instruction a strip shows.
+MNEMONICS, INSTRUCTIONS, COLOURS, NO_STRIP = "mnemonics", "instructions", "colours", "none"
+STRIPS = (MNEMONICS, INSTRUCTIONS, COLOURS, NO_STRIP)
+
+# What is worse is darker.
+FILLS = {MISSED: WHITE, NO_TRACE: PALE, CHANGED: YELLOW, RECOVERED: SKY, LOSSES: ORANGE, GIVEN_UP: BLUE, BROKEN: BLACK}
+# Losses from the least to the most, and the colour of a number on them.
+SHADES = (("#fbe0a8", BLACK), ("#f3b942", BLACK), ("#cf8600", BLACK), ("#955b00", WHITE), ("#5f3900", WHITE))
+# Hatches by which clauses differ if a number does not fit.
+HATCHES = (BLACK, "#ffffff", "#f0e442", "#56b4e9", "#e69f00", "#cc79a7")
+
+# What an instruction is about, by the background of its place in the strip.
+KINDS = {**dict.fromkeys(("IN", "OUT"), "#cfe6f5"), **dict.fromkeys(("KCALL", "RET", "FAULT"), "#f6d9c6"),
+         **dict.fromkeys(("JMP", "BEQ", "BNE", "BLT", "JAL", "JR"), "#e3e3e3"),
+         **dict.fromkeys(("LD", "ST"), "#dff0e8")}
+
+
+@dataclass(frozen=True)
+class Look:
+    """How a map is drawn: its width in units, the turns of a row if they are named, and the kind of strip."""
+
+    width: float
+    wrap: int | None
+    strip: str
+
+
+@dataclass(frozen=True)
+class Entry:
+    """An entry of the legend: boxes with the number in each, and what they mean."""
+
+    boxes: tuple[tuple[str, str], ...]
+    text: str
+
+
+class Map:
+    """Draws the groups of a map."""
+
+    def __init__(self, groups: list[Group], strips: Strips, look: Look) -> None:
+        self.groups = groups
+        self.strips = strips if look.strip != NO_STRIP else {}
+        self.look = look
+        self.canvas = Canvas()
+        self.y = 12.0
+        self.labelled = len({line.strikes for group in groups for line in group.lines}) > 1
+        self.left = 20 + max(self.label_width(group) for group in groups)
+        self.fit, self.cell = self.sizes(look.width - self.left - 12)
+        amounts = [cell.lost for cell in self.cells() if cell.outcome == LOSSES]
+        self.amounts = sorted(set(amounts))
+        self.shades = [self.shade_fill(place) for place in range(len(SHADES))]
+        self.counts = Counter(kind for cell in self.cells() for kind in cell.kinds)
+        self.clauses = sorted(clause for name, clause in self.counts if name == BROKEN)
+        self.hatched = {clause: self.hatch(place) for place, clause in enumerate(self.clauses)}
+        self.given_up = self.canvas.stripes("given_up", BLUE, PURPLE)
+
+    def cells(self) -> list[Cell]:
+        return [cell for group in self.groups for line in group.lines for cell in line.cells.values()]
+
+    def label_width(self, group: Group) -> float:
+        names = [text_width(line.strikes, 9) for line in group.lines] if self.labelled else []
+        again = AGAIN if self.look.wrap or group.turns > MOST_ROWS * WIDEST_CELL else ""
+        return max([text_width(group.place + again, 10), *names])
+
+    def sizes(self, room: float) -> tuple[int, float]:
+        """How many turns fit side by side, and how wide a cell is."""
+        turns = max(group.turns for group in self.groups)
+        if self.look.wrap:
+            fit = min(self.look.wrap, turns)
+            return fit, float(max(NARROWEST_CELL, min(WIDEST_CELL, room / fit)))
+        rows = min(max(1, math.ceil(turns * WIDEST_CELL / room)), MOST_ROWS)
+        rows = max(rows, math.ceil(turns * NARROWEST_CELL / room))
+        cell = max(NARROWEST_CELL, min(WIDEST_CELL, room / math.ceil(turns / rows)))
+        return max(int(room / cell), 1), float(cell)
+
+    def per_row(self, group: Group) -> int:
+        """How many turns of a burst stand side by side: its rows are of one length, but for --wrap."""
+        if self.look.wrap:
+            return self.fit
+        return math.ceil(group.turns / math.ceil(group.turns / self.fit))
+
+    @property
+    def readable(self) -> bool:
+        """Whether a number and a mnemonic fit into the width of a cell."""
+        return self.cell >= READABLE_CELL
+
+    # Fills.
+
+    def shade_fill(self, place: int) -> str:
+        """A shade of losses, striped if no number says how much."""
+        return SHADES[place][0] if self.readable else self.canvas.stripes(f"losses{place}", SHADES[place][0], WHITE)
+
+    def hatch(self, place: int) -> str:
+        """The fill of a clause: black, with a hatch of its own if no number fits."""
+        if self.readable or place == 0:
+            return BLACK
+        return self.canvas.stripes(f"clause{place}", BLACK, HATCHES[place % len(HATCHES)], 4 + 2 * (place % 3))
+
+    def shade(self, lost: int) -> int:
+        """The place of an amount among the shades."""
+        most = self.amounts[-1] if self.amounts else 0
+        return 1 if most <= 0 or len(self.amounts) == 1 else round((len(SHADES) - 1) * max(lost, 0) / most)
+
+    def fill(self, cell: Cell) -> str:
+        if cell.outcome == LOSSES:
+            return self.shades[self.shade(cell.lost)]
+        if cell.outcome == BROKEN:
+            return self.hatched.get(cell.clause, BLACK)
+        return self.given_up if cell.outcome == GIVEN_UP else FILLS[cell.outcome]
+
+    def number(self, cell: Cell) -> tuple[str, str]:
+        """The text in a cell, and its colour: the clause, or how much was lost."""
+        if cell.outcome == BROKEN and cell.clause:
+            return str(cell.clause), WHITE
+        if cell.outcome == LOSSES and cell.lost > 0:
+            return str(cell.lost), SHADES[self.shade(cell.lost)][1]
+        return "", BLACK
+
+    # The legend.
+
+    def legend(self, title: str) -> None:
+        """The outcomes that there are, each with how many faults had it."""
+        self.canvas.words(12, self.y + 8, title, 14, font_weight="bold")
+        self.y += 20
+        entries: list[Entry] = []
+        for name in OUTCOMES:
+            count = self.counts[name, 0]
+            if count and name == LOSSES:
+                entries.append(self.loss_entry(count))
+            elif name == BROKEN:
+                entries += [self.clause_entry(clause) for clause in self.clauses]
+            elif count:
+                entries.append(Entry(((self.given_up if name == GIVEN_UP else FILLS[name], ""),), f"{name} ({count})"))
+        self.flow(entries)
+        acts = {step.letter for strip in self.strips.values() for step in strip.values() if step.letter}
+        if acts:
+            named = ", ".join(f"{letter} {name}" for name, letter in ACTS.items() if letter in acts)
+            self.act(21, self.y, sorted(acts)[0], "")
+            self.text(35, f"the instruction that acts on the device: {named}", 11, BLACK)
+        strip = "; over the cells the instruction that comes next" if self.strips else ""
+        self.text(12, "across: the turns of the burst before the fault" + strip, 9, GREY)
+        self.y += 4
+
+    def text(self, x: float, text: str, size: float, fill: str) -> None:
+        """Words of the legend, in as many lines as they need."""
+        self.y += self.canvas.lines(x, self.y + 9, text, self.look.width - x - 12, size, fill) + 4
+
+    def loss_entry(self, count: int) -> Entry:
+        """Losses, with the least and the most of them."""
+        if not self.amounts or self.amounts[-1] <= 0:
+            return Entry(((self.shades[1], ""),), f"{LOSSES} ({count})")
+        ends = sorted({self.amounts[0], self.amounts[-1]})
+        boxes = tuple((self.shades[self.shade(amount)], str(amount)) for amount in ends)
+        amounts = f"{ends[0]}" if len(ends) == 1 else f"from {ends[0]} to {ends[1]}"
+        return Entry(boxes, f"{LOSSES}: {amounts} ({count})")
+
+    def clause_entry(self, clause: int) -> Entry:
+        number = str(clause) if self.readable and clause else ""
+        words = f", clause {clause}: {CLAUSES[clause]}" if clause else ""
+        return Entry(((self.hatched[clause], number),), f"{BROKEN}{words} ({self.counts[BROKEN, clause]})")
+
+    def flow(self, entries: list[Entry]) -> None:
+        """Entries of the legend beside each other, on as many lines as they need."""
+        x = 12.0
+        for entry in entries:
+            front = 22.0 * len(entry.boxes)
+            wide = front + 20 + text_width(entry.text, 11)
+            if x + wide > self.look.width and x > 12:
+                x, self.y = 12.0, self.y + 18
+            for place, (fill, number) in enumerate(entry.boxes):
+                self.swatch(x + 22 * place, fill, number)
+            high = self.canvas.lines(x + front + 1, self.y + 10, entry.text, self.look.width - x - front - 12)
+            self.y += high - 14
+            x += wide
+        self.y += 20
+
+    def swatch(self, x: float, fill: str, number: str) -> None:
+        """A box of the legend, with the number that a cell of this look has."""
+        self.canvas.box(x, self.y, 18, 12, fill, stroke=GREY, stroke_width=0.6)
+        ink = WHITE if fill == BLACK else next((ink for shade, ink in SHADES if shade == fill), BLACK)
+        if number and self.readable:
+            self.canvas.words(x + 9, self.y + 9.5, number, 9, ink, text_anchor="middle")
+
+    # Groups.
+
+    def group(self, group: Group) -> None:
+        """The rows of a burst, in pieces that stand one below the other."""
+        strip = self.strips.get((group.run, group.burst), {})
+        step = self.per_row(group)
+        for first in range(0, group.turns, step):
+            last = min(first + step, group.turns) - 1
+            self.piece(group, strip, first, last)
+            self.y += 4
+        self.y += 6
+
+    def piece(self, group: Group, strip: Strip, first: int, last: int) -> None:
+        """Some turns of a burst: their numbers, the strip, and the rows."""
+        steps = {turn: strip[turn] for turn in range(first, last + 1) if turn in strip}
+        self.ruler(first, last)
+        tops = {turn for turn, step in steps.items() if step.acts}
+        top = self.y
+        if tops:
+            for turn in tops:
+                self.act(self.x(turn, first) + self.cell / 2, self.y, steps[turn].letter, step_title(turn, steps[turn]))
+            self.y += ACT_ROW
+        self.strip(steps, first)
+        label = group.place + (AGAIN if first else "")
+        if self.labelled:
+            self.canvas.words(10, self.y - 3, label, 10)
+        for line in group.lines:
+            if not self.labelled:
+                self.canvas.words(10, self.y + ROW - 4, label, 10)
+            self.line(line, first, last)
+        for turn in tops:
+            x = self.x(turn + 1, first)
+            self.canvas.line(x, top + ACT_ROW, x, self.y, WHITE, stroke_width=2.2)
+            self.canvas.line(x, top + ACT_ROW, x, self.y, GREEN, step_title(turn, steps[turn]), stroke_width=1.2)
+
+    def x(self, turn: int, first: int) -> float:
+        return self.left + (turn - first) * self.cell
+
+    def ruler(self, first: int, last: int) -> None:
+        """The turns that come before the fault."""
+        every = next((each for each in (1, 2, 5, 10, 20, 50, 100, 200, 500) if each * self.cell >= 26), 1000)
+        for turn in range(first, last + 1):
+            if turn % every == 0:
+                x = self.x(turn, first) + self.cell / 2
+                self.canvas.words(x, self.y + 8, str(turn), 8.5, GREY, text_anchor="middle")
+                self.canvas.line(x, self.y + 10, x, self.y + RULER, GREY, stroke_width=0.6)
+        self.y += RULER
+
+    def act(self, x: float, y: float, letter: str, title: str) -> None:
+        """The letter of an act."""
+        wide = max(min(self.cell, 11), 7)
+        self.canvas.box(x - wide / 2, y, wide, 11, WHITE, title, stroke=GREEN, stroke_width=1, rx=2)
+        self.canvas.words(x, y + 8.5, letter, 8.5, BLACK, title, text_anchor="middle")
+
+    def strip_height(self) -> float:
+        """How high a strip is, by the longest text in it."""
+        texts = [self.strip_text(step) for strip in self.strips.values() for step in strip.values()]
+        longest = max((len(text) for text in texts), default=0)
+        return 6 + longest * STRIP_LETTERS * 0.62 if longest else 6
+
+    def strip_text(self, step: Step) -> str:
+        if not self.readable or self.look.strip == COLOURS:
+            return ""
+        return step.mnemonic if self.look.strip == MNEMONICS else step.words
+
+    def strip(self, steps: Strip, first: int) -> None:
+        """The instructions that come after the fault."""
+        if not steps:
+            return
+        high = self.strip_height()
+        self.canvas.group(stroke=GREY, stroke_width=0.3)
+        for turn, step in steps.items():
+            fill = KINDS.get(step.mnemonic, WHITE)
+            self.canvas.box(self.x(turn, first), self.y, self.cell, high, fill, step_title(turn, step))
+        self.canvas.end_group()
+        self.canvas.group(font_size=STRIP_LETTERS, fill=BLACK, pointer_events="none")
+        for turn, step in steps.items():
+            if text := self.strip_text(step):
+                x, y = self.x(turn, first) + self.cell / 2 + STRIP_LETTERS / 3, self.y + high - 3
+                self.canvas.grouped_words(0.0, 0.0, text, transform=f"translate({x:.1f},{y:.1f}) rotate(-90)")
+        self.canvas.end_group()
+        self.y += high
+
+    def line(self, line: Line, first: int, last: int) -> None:
+        """One row: what strikes, and its cells."""
+        if self.labelled:
+            self.canvas.words(self.left - 6, self.y + ROW - 4, line.strikes, 9, GREY, text_anchor="end")
+        wide = line.span()
+        shown = [(turn, cell) for turn, cell in sorted(line.cells.items()) if turn + wide > first and turn <= last]
+        self.canvas.group(stroke=GREY, stroke_width=0.3)
+        for turn, cell in shown:
+            begin, end = max(turn, first), min(turn + wide, last + 1)
+            title = "\n\n".join(cell.texts)
+            self.canvas.box(self.x(begin, first), self.y, (end - begin) * self.cell, ROW, self.fill(cell), title)
+        self.canvas.end_group()
+        if self.readable:
+            self.numbers([(max(turn, first), min(turn + wide, last + 1), cell) for turn, cell in shown], first)
+        self.y += ROW
+
+    def numbers(self, shown: list[tuple[int, int, Cell]], first: int) -> None:
+        """The numbers in some cells, each from a turn to before another."""
+        for ink in (BLACK, WHITE):
+            self.canvas.group(font_size=8, fill=ink, text_anchor="middle", pointer_events="none")
+            for begin, end, cell in shown:
+                text, own = self.number(cell)
+                room = (end - begin) * self.cell
+                if text and own == ink and text_width(text, 8) <= room + 1:
+                    self.canvas.grouped_words(self.x(begin, first) + room / 2, self.y + 10.2, text)
+            self.canvas.end_group()
+
+
+def step_title(turn: int, step: Step) -> str:
+    """What the pointer over a step shows."""
+    acts = f"\n{step.acts[0]}" if step.acts else ""
+    source = f"\n{step.source}" if step.source else ""
+    return f"after {turn}: {step.instruction}{source}{acts}"
+
+
+def drawing(groups: list[Group], strips: Strips, look: Look, title: str, notes: list[str], scale: float) -> str:
+    """The SVG of some groups, with a caption."""
+    made = Map(groups, strips, look)
+    made.legend(title)
+    for group in groups:
+        made.group(group)
+    caption(made.canvas, notes, look.width)
+    return made.canvas.text(title, scale)

@@ -1,0 +1,58 @@
+"""The ports of the devices, as docs/DEVICES.md names them."""
+
+from __future__ import annotations
+
+# For each class the ports that it has by direction, with what each is.
+PORTS: dict[str, dict[tuple[str, int], str]] = {
+    "block": {
+        ("OUT", 0): "command",
+        ("IN", 1): "block register",
+        ("OUT", 1): "block register",
+        ("IN", 2): "buffer word",
+        ("OUT", 2): "buffer word",
+        ("IN", 3): "status",
+    },
+    "net": {
+        ("OUT", 0): "command",
+        ("IN", 1): "transmit length",
+        ("OUT", 1): "transmit length",
+        ("OUT", 2): "transmit buffer word",
+        ("IN", 3): "length of the ring's first frame",
+        ("IN", 4): "word of the ring's first frame",
+    },
+    "sound": {("OUT", 0): "sample"},
+}
+
+# The commands of port 0.
+COMMANDS: dict[str, dict[int, str]] = {
+    "block": {1: "load", 2: "store"},
+    "net": {1: "send", 2: "take the ring's first frame out"},
+    "sound": {},
+}
+
+# The registers of ports 8 to 11, with what they are after a reset.
+FIRST_REGISTER = 8
+REGISTERS: dict[str, tuple[tuple[str, int], ...]] = {
+    "block": (("cache", 0), ("ahead", 0), ("label", 0), ("label", 0)),
+    "net": (("speed", 100), ("duplex", 1), ("filter", 0), ("label", 0)),
+    "sound": (("rate", 8000), ("volume", 5), ("channels", 1), ("label", 0)),
+}
+
+# The port whose word lasts until the next OUT or a reset, which makes it 0.
+LASTING: dict[str, int] = {"block": 1, "net": 1}
+
+
+def port_name(kind: str, direction: str, port: int) -> str:
+    """What a port is; empty if the device has no such port."""
+    registers = REGISTERS[kind]
+    if FIRST_REGISTER <= port < FIRST_REGISTER + len(registers):
+        number = port - FIRST_REGISTER
+        return f"register {number}, {registers[number][0]}"
+    return PORTS[kind].get((direction, port), "")
+
+
+def command_name(kind: str, port: int, word: int) -> str:
+    """What a word means at a port of commands; empty at any other port."""
+    if PORTS[kind].get(("OUT", port)) != "command":
+        return ""
+    return COMMANDS[kind].get(word, "no command: nothing happens")

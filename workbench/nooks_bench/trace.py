@@ -1,0 +1,218 @@
+"""trace: one burst, turn by turn, beside the driver's source."""
+
+from __future__ import annotations
+
+import argparse
+import json
+
+from .build import built
+from .folding import short_event
+from .listing import Source, source_of
+from .ports import LASTING, REGISTERS, command_name, port_name
+from .program import Mistake, Program, Refusal, find_program
+from .report import Event, Part, parse_report
+from .scenario import Scenario
+from .trace_text import Struck, Trace, Turn, parse_trace
+from .unstruck import Strike, strikes_of
+from .words import cause_words, service_name, short
+
+ABOUT = """Shows burst B of part P turn by turn: the instruction, the words that it reads and changes, what goes to
+and comes from the device's ports, and beside it the line of the driver's text that made it. SCENARIO is exact JSON
+or as `build` takes it. The turns are those of the program's own `trace P B`."""
+
+# How far back the last word of a port is looked for.
+MOST_BURSTS_BACK = 256
+COMPARED = {"BEQ": "=", "BNE": "!=", "BLT": "<"}
+# Where the source begins at the latest; a turn that says more than fits moves its own.
+MOST_WIDE = 72
+
+
+def traced(program: Program, scenario: Scenario, part: int, burst: int) -> Trace:
+    """The trace of a burst; a mistake if the run has none of that number."""
+    words = ["trace", str(part), str(burst)]
+    try:
+        return parse_trace(program.answer(words, json.dumps(scenario)).out)
+    except Refusal as refusal:
+        if "no_such_burst" in refusal.line:
+            raise Mistake(f"the run has no burst {burst} of part {part}") from refusal
+        raise
+
+
+def since_reset(part: Part, event: Event) -> list[Event]:
+    """The bursts of a part before an event, back to the last reset of the device."""
+    found: list[Event] = []
+    for each in part.events[: event.number - 1]:
+        if each.kind == "stage" and each.text == "reset":
+            found = []
+        if each.kind == "burst":
+            found.append(each)
+    return found
+
+
+def register_lines(part: Part, before: list[Event]) -> list[str]:
+    """The device's registers that are not as a reset leaves them, by the acts of the report."""
+    known: dict[int, tuple[int, int]] = {}
+    for event in before:
+        for act in event.acts:
+            if act.startswith("register "):
+                _, number, word = act.split(" ")
+                known[int(number)] = (int(word), event.burst)
+    named = REGISTERS[part.kind]
+    return [f"register {number}, {named[number][0]} = {word} (set in b{burst})"
+            for number, (word, burst) in sorted(known.items()) if word != named[number][1]]
+
+
+def port_line(program: Program, scenario: Scenario, part: Part, before: list[Event]) -> list[str]:
+    """The word that a lasting port got last, by the traces of the bursts before."""
+    port = LASTING.get(part.kind)
+    if port is None:
+        return []
+    name = port_name(part.kind, "OUT", port)
+    for event in reversed(before[-MOST_BURSTS_BACK:]):
+        for turn in reversed(traced(program, scenario, part.place, event.burst).turns()):
+            if turn.mnemonic == "OUT" and turn.operands[1] == str(port):
+                return [f"{name} = {turn.value(0)} (set in b{event.burst}, context {event.context})"]
+    if len(before) > MOST_BURSTS_BACK:
+        return [f"{name}: not set in the {MOST_BURSTS_BACK} bursts before"]
+    return [f"{name} = 0 (not set since the reset)"]
+
+
+def effect(turn: Turn, kind: str) -> str:
+    """What a turn did, with the words that it read."""
+    pieces: list[str] = []
+    mnemonic, operands = turn.mnemonic, turn.operands
+    if mnemonic == "OUT":
+        pieces.append(out_text(turn, kind))
+    elif mnemonic == "IN" and turn.register:
+        name = port_name(kind, "IN", int(operands[1]))
+        pieces.append(f"{operands[0]} = {turn.register[1]} from {name}")
+    elif mnemonic == "KCALL":
+        first, second = (turn.before.get(register, 0) for register in (1, 2))
+        pieces.append(f"calls {service_name(int(operands[0]))}, r1 = {first}, r2 = {second}")
+    elif mnemonic == "RET":
+        pieces.append(f"replies {turn.value(0)}")
+    elif mnemonic in COMPARED:
+        compared = f"{turn.value(0)} {COMPARED[mnemonic]} {turn.value(1)}"
+        pieces.append(compared if turn.goto is not None else f"not {compared}")
+    elif mnemonic in ("LD", "ST") and not turn.register and not turn.stored:
+        pieces.append(refused_text(turn))
+    elif turn.register:
+        pieces.append(f"r{turn.register[0]} = {turn.register[1]}")
+    if turn.stored:
+        pieces.append(f"[{turn.stored[0]}] = {turn.stored[1]}")
+    if turn.goto is not None:
+        pieces.append(f"goto {turn.goto}")
+    return ", ".join(pieces) + "".join(f" | {short(act)}" for act in turn.acts)
+
+
+def refused_text(turn: Turn) -> str:
+    """A load or a store that stopped the driver."""
+    address = (turn.value(1) + int(turn.operands[2])) % 2**32
+    return f"would store {turn.value(0)} at {address}" if turn.mnemonic == "ST" else f"would load from {address}"
+
+
+def strike_text(text: str) -> str:
+    """A fault of a trace in words."""
+    kind, *words = text.split(" ")
+    refused = ", refused: nothing is changed" if words[-1:] == ["refused"] else ""
+    if kind == "reg":
+        return f"r{words[0]} = {words[1]}"
+    if kind == "poke":
+        return f"[{words[0]}] = {words[1]}{refused}"
+    if kind == "code":
+        return f"the text at {words[0]} = {words[1]}{refused}"
+    return kind
+
+
+def out_text(turn: Turn, kind: str) -> str:
+    """The word that an OUT gives, and to what."""
+    port, word = int(turn.operands[1]), turn.value(0)
+    name = port_name(kind, "OUT", port)
+    if not name:
+        return f"{word} to port {port}, which the device does not have"
+    means = command_name(kind, port, word)
+    return f"{word} to {name}" + (f" ({means})" if means else "")
+
+
+def source_text(turn: Turn, source: Source) -> str:
+    """The line that made a turn's word; and the word itself where it is another one now."""
+    made = source.words.get(turn.address)
+    number, line = source.lines.get(turn.address, (0, ""))
+    text = f"{number:4}  {line}" if number else "      " + (source.words.get(turn.address, ""))
+    if made is not None and made != turn.instruction:
+        text += f"   <- overwritten: the text has {made} here"
+    elif made is None and turn.instruction != "-":
+        text += "outside the driver's text"
+    return text
+
+
+def rows_of(trace: Trace, source: Source, kind: str) -> list[tuple[str, str]]:
+    """The lines: what stands on the left, and the source beside it."""
+    rows: list[tuple[str, str]] = []
+    for item in trace.items:
+        if isinstance(item, Struck):
+            rows.append((f"  -- fault strikes after {item.after}: {strike_text(item.text)}", ""))
+            continue
+        rows.extend(("", f"      {name}:") for name in source.shown_names(item.address))
+        rows.append((f"{item.number:4}  {item.address:4}  {item.instruction:16}  {effect(item, kind)}".rstrip(),
+                     source_text(item, source)))
+    return rows
+
+
+def end_lines(trace: Trace, event: Event, strikes: list[Strike]) -> list[str]:
+    """How the burst ended, and the faults of it that did not strike."""
+    lines = [f"end   {short_event(event)}"]
+    if event.cause:
+        lines.append(f"      {event.cause}: {cause_words(event.cause)}")
+    lines.extend(strike.line for strike in strikes if strike.why and strike.fault["burst"] == trace.burst)
+    return lines
+
+
+def head_lines(trace: Trace, part: Part, event: Event, source: Source) -> list[str]:
+    """What the burst is, and the registers as it begins."""
+    asked = {each.call: short(each.text) for each in part.events if each.kind == "invoke"}
+    whose = f"c{trace.call} {asked[trace.call]}" if trace.call else "a stage of its start"
+    registers = "".join(f", r{number} = {word}" for number, word in trace.registers.items())
+    near = source.near(trace.counter)
+    at = f"{trace.counter} ({near})" if near else str(trace.counter)
+    return [
+        f"part {trace.part} {trace.name}, {part.kind}, burst {trace.burst}, event {event.number}, "
+        f"context {trace.context}: {whose}",
+        f"start at {at}{registers}; all other registers 0",
+    ]
+
+
+def trace_lines(program: Program, scenario: Scenario, place: int, burst: int) -> list[str]:
+    """The whole text."""
+    report = parse_report(program.report(scenario))
+    if not 0 <= place < len(report.parts):
+        raise Mistake(f"there is no part {place}")
+    part = report.parts[place]
+    event = next((each for each in part.bursts() if each.burst == burst), None)
+    if event is None:
+        raise Mistake(f"the run has no burst {burst} of part {place}: it has {len(part.bursts())}")
+    trace = traced(program, scenario, place, burst)
+    source = source_of(program, scenario["parts"][place]["driver"])
+    before = since_reset(part, event)
+    device = [*port_line(program, scenario, part, before), *register_lines(part, before)]
+    lines = head_lines(trace, part, event, source)
+    lines += [f"device: {'; '.join(device)}"] if device else []
+    rows = rows_of(trace, source, part.kind)
+    wide = min(max((len(left) for left, _ in rows), default=0), MOST_WIDE)
+    rows = [("turn    at  instruction       what it does", "line  source"), *rows]
+    lines += ["", *(f"{left:{wide}}  {right}".rstrip() for left, right in rows), ""]
+    return lines + end_lines(trace, event, strikes_of(part, scenario["parts"][place].get("faults", [])))
+
+
+def run(args: argparse.Namespace) -> int:
+    scenario = built(args.file).plain()
+    print("\n".join(trace_lines(find_program(args.program), scenario, args.part, args.burst)))
+    return 0
+
+
+def add_to(commands: argparse._SubParsersAction[argparse.ArgumentParser]) -> None:
+    parser = commands.add_parser("trace", help="one burst, turn by turn, beside the driver's source", description=ABOUT)
+    parser.add_argument("part", type=int, metavar="P", help="the place of the part in the scenario")
+    parser.add_argument("burst", type=int, metavar="B", help="the number of the burst in the report (b3 is 3)")
+    parser.add_argument("file", metavar="SCENARIO", help="a scenario; - is standard input")
+    parser.set_defaults(run=run)

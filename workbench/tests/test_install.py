@@ -1,0 +1,243 @@
+"""The installed tree of `make install`, and the package that pip installs."""
+
+import glob
+import gzip
+import json
+import os
+import re
+import shutil
+import stat
+import subprocess
+import tempfile
+import unittest
+
+from common import TOP, example_path, program
+
+from nooks_bench import __version__
+
+# Where Debian has the wheels that a package is built with, so that no network is needed.
+WHEELS = "/usr/share/python-wheels"
+
+FILES = """
+usr/bin/nooks 755
+usr/share/nooks/nooks-bench 755
+usr/share/nooks/nooks_bench/cli.py 644
+usr/share/nooks/nooks_bench/schemas/campaign.schema.json 644
+usr/share/nooks/nooks_bench/schemas/scenario.schema.json 644
+usr/share/nooks/vscode/nooks-asm/package.json 644
+usr/share/nooks/vscode/nooks-asm/schemas/scenario.schema.json 644
+usr/share/man/man1/nooks.1.gz 644
+usr/share/man/man1/nooks-bench.1.gz 644
+usr/share/bash-completion/completions/nooks 644
+usr/share/bash-completion/completions/nooks-bench 644
+usr/share/zsh/vendor-completions/_nooks 644
+usr/share/zsh/vendor-completions/_nooks-bench 644
+usr/share/vim/vimfiles/syntax/nooksasm.vim 644
+usr/share/vim/vimfiles/ftdetect/nooksasm.vim 644
+usr/share/doc/nooks/README.md 644
+usr/share/doc/nooks/changelog.gz 644
+usr/share/doc/nooks/docs/WORKBENCH.md 644
+usr/share/doc/nooks/docs/maps/block-traps.svg 644
+usr/share/doc/nooks/examples/block.json 644
+"""
+
+FOLDERS = ("bin", "share/bash-completion", "share/doc/nooks", "share/man/man1", "share/nooks", "share/vim", "share/zsh")
+
+
+def run(words: list[str], **more) -> subprocess.CompletedProcess:
+    return subprocess.run(words, stdin=subprocess.DEVNULL, capture_output=True, text=True, check=False, **more)
+
+
+def make(*words: str) -> subprocess.CompletedProcess:
+    return run(["make", "-s", "-C", TOP, *words])
+
+
+@unittest.skipUnless(shutil.which("make"), "there is no make")
+class Installed(unittest.TestCase):
+    @classmethod
+    def setUpClass(cls) -> None:
+        cls.holder = tempfile.TemporaryDirectory()
+        cls.tree = cls.holder.name
+        cls.words = ["PREFIX=/usr", f"DESTDIR={cls.tree}", f"PROGRAM={program().path}"]
+        ended = make("install", *cls.words)
+        assert ended.returncode == 0, ended.stderr
+
+    @classmethod
+    def tearDownClass(cls) -> None:
+        cls.holder.cleanup()
+
+    def path(self, name: str) -> str:
+        return os.path.join(self.tree, name)
+
+    def text(self, name: str) -> str:
+        with (gzip.open if name.endswith(".gz") else open)(self.path(name), "rt", encoding="utf-8") as file:
+            return file.read()
+
+    def files(self) -> set[str]:
+        found = (os.path.join(folder, name) for folder, _, names in os.walk(self.tree) for name in names)
+        return {os.path.relpath(path, self.tree) for path in found}
+
+    def test_files_with_their_modes(self):
+        for line in FILES.strip().split("\n"):
+            name, mode = line.split(" ")
+            self.assertEqual(oct(stat.S_IMODE(os.stat(self.path(name)).st_mode)), f"0o{mode}", name)
+
+    def test_nothing_stands_elsewhere(self):
+        for name in self.files():
+            self.assertTrue(name.startswith(tuple(f"usr/{folder}/" for folder in FOLDERS)), name)
+            self.assertNotIn("__pycache__", name)
+
+    def test_links_stay_in_the_tree(self):
+        for name in ("usr/bin/nooks-bench", "usr/share/nooks/schemas"):
+            target = os.readlink(self.path(name))
+            self.assertFalse(os.path.isabs(target))
+            self.assertTrue(os.path.exists(self.path(name)))
+        for folder, folders, names in os.walk(self.path("usr/share/nooks/vscode")):
+            self.assertFalse([name for name in folders + names if os.path.islink(os.path.join(folder, name))])
+
+    def test_all_modules_and_pages_are_there(self):
+        for pattern, folder in [
+            ("workbench/nooks_bench/*.py", "usr/share/nooks/nooks_bench"),
+            ("docs/*.md", "usr/share/doc/nooks/docs"),
+            ("examples/*", "usr/share/doc/nooks/examples"),
+        ]:
+            for path in glob.glob(os.path.join(TOP, pattern)):
+                self.assertTrue(os.path.exists(self.path(os.path.join(folder, os.path.basename(path)))), path)
+
+    def test_the_installed_commands_run(self):
+        path = f"{self.path('usr/bin')}:/usr/bin:/bin"
+        environment = {"PATH": path, "PYTHONDONTWRITEBYTECODE": "1"}
+        with open(example_path("block.json"), encoding="utf-8") as given:
+            ended = subprocess.run([self.path("usr/bin/nooks"), "run"], stdin=given, capture_output=True, check=False)
+        with open(example_path("block.report"), "rb") as report:
+            self.assertEqual((ended.returncode, ended.stdout), (0, report.read()))
+        built = run(["nooks-bench", "build", example_path("block.json")], env=environment, cwd="/")
+        self.assertEqual((built.returncode, built.stderr), (0, ""))
+        swept = run(["nooks-bench", "sweep", example_path("block.json"), "--quiet"], env=environment, cwd="/")
+        self.assertEqual(swept.returncode, 0, swept.stderr)
+        self.assertIn("faults", swept.stdout)
+        self.assertFalse([name for name in self.files() if "__pycache__" in name])
+
+    def test_man_pages(self):
+        nooks, workbench = (self.text(f"usr/share/man/man1/{name}.1.gz") for name in ("nooks", "nooks-bench"))
+        for line in program().ask(["--help"], "").out.splitlines():
+            about = re.split("  +", line, maxsplit=1)[1]
+            self.assertIn(about.replace("-", "\\-").replace("'", "\\(aq"), nooks)
+        listed = run([os.path.join(TOP, "workbench/nooks-bench"), "--help"]).stdout
+        for name in re.findall(r"(?m)^    ([a-z]+)", listed):
+            self.assertIn(f".SS {name}\n", workbench)
+            told = run([os.path.join(TOP, "workbench/nooks-bench"), name, "--help"]).stdout
+            for option in set(re.findall(r"--[a-z-]+", told)) - {"--help"}:
+                self.assertIn(option.replace("-", "\\-"), workbench)
+
+    @unittest.skipUnless(shutil.which("man"), "there is no man")
+    def test_man_shows_the_pages_without_a_warning(self):
+        for name in ("nooks", "nooks-bench"):
+            shown = run(["man", "--warnings", "-l", self.path(f"usr/share/man/man1/{name}.1.gz")])
+            self.assertEqual((shown.returncode, shown.stderr), (0, ""))
+            self.assertIn(f"{name.upper()}(1)", shown.stdout)
+            self.assertIn(f"nooks {__version__}", shown.stdout)
+
+    def completed(self, command: str, *words: str) -> set[str]:
+        """What bash offers for the last of some words."""
+        script = f"""
+            source {self.path(f"usr/share/bash-completion/completions/{command}")}
+            COMP_WORDS=({command} {" ".join(f"'{word}'" for word in words)}); COMP_CWORD={len(words)}
+            _{command.replace("-", "_")}; printf '%s\\n' "${{COMPREPLY[@]}}" """
+        ended = run(["bash", "-c", script])
+        self.assertEqual((ended.returncode, ended.stderr), (0, ""))
+        return set(ended.stdout.split())
+
+    def test_bash_completions(self):
+        self.assertLessEqual({"run", "audit", "gen", "trace", "--version"}, self.completed("nooks", ""))
+        self.assertEqual(self.completed("nooks", "run", ""), {"threads"})
+        self.assertEqual(self.completed("nooks", "gen", "7", ""), {"scenario"})
+        self.assertEqual(self.completed("nooks", "gen", "7", "scenario", ""), set())
+        self.assertLessEqual({"build", "sweep", "shrink", "--program"}, self.completed("nooks-bench", ""))
+        self.assertEqual(self.completed("nooks-bench", "shr"), {"shrink"})
+        self.assertEqual(self.completed("nooks-bench", "--program", "x", "shr"), {"shrink"})
+        self.assertLessEqual({"--status", "--text"}, self.completed("nooks-bench", "shrink", "--"))
+        self.assertIn("hang", self.completed("nooks-bench", "sweep", "--kind", ""))
+        self.assertEqual(self.completed("nooks-bench", "sweep", ""), set())
+
+    @unittest.skipUnless(shutil.which("zsh"), "there is no zsh")
+    def test_zsh_reads_the_completions(self):
+        for name in ("_nooks", "_nooks-bench"):
+            ended = run(["zsh", "-n", self.path(f"usr/share/zsh/vendor-completions/{name}")])
+            self.assertEqual((ended.returncode, ended.stderr), (0, ""))
+            self.assertTrue(self.text(f"usr/share/zsh/vendor-completions/{name}").startswith(f"#compdef {name[1:]}\n"))
+
+    def test_vs_code_has_the_schemas(self):
+        folder = self.path("usr/share/nooks/vscode/nooks-asm")
+        with open(os.path.join(folder, "package.json"), encoding="utf-8") as file:
+            for each in json.load(file)["contributes"]["jsonValidation"]:
+                self.assertTrue(os.path.isfile(os.path.join(folder, each["url"])))
+
+    def test_a_second_install_changes_nothing_and_uninstall_leaves_nothing(self):
+        before = self.files()
+        self.assertEqual(make("install", *self.words).returncode, 0)
+        self.assertEqual(self.files(), before)
+        with tempfile.TemporaryDirectory() as other:
+            words = ["PREFIX=/usr/local", f"DESTDIR={other}", f"PROGRAM={program().path}"]
+            self.assertEqual(make("install", *words).returncode, 0)
+            self.assertTrue(os.path.exists(os.path.join(other, "usr/local/share/zsh/site-functions/_nooks")))
+            self.assertEqual(make("uninstall", *words).returncode, 0)
+            self.assertEqual([name for _, _, names in os.walk(other) for name in names], [])
+
+    def test_what_is_no_program_is_refused(self):
+        with tempfile.TemporaryDirectory() as other:
+            for named, told in [("/bin/true", "/bin/true is no program nooks"), ("/nowhere", "/nowhere is no program")]:
+                ended = make("install", f"DESTDIR={other}", f"PROGRAM={named}")
+                self.assertNotEqual(ended.returncode, 0)
+                self.assertIn(told, ended.stderr)
+            ended = make("install", f"DESTDIR={other}", "BUILT=/nowhere/nooks_main")
+            self.assertIn("the proved program is not built yet: ./nooks --version proves and builds it", ended.stderr)
+            old = os.path.join(other, "old")
+            shutil.copy(program().path, old)
+            os.utime(old, (0, 0))
+            ended = make("install", f"DESTDIR={other}/tree", f"BUILT={old}")
+            self.assertIn("a source is newer than the proved program", ended.stderr)
+            os.remove(old)
+            self.assertEqual(os.listdir(other), [])
+
+
+class Versions(unittest.TestCase):
+    def test_the_workbench_has_the_programs_version(self):
+        with open(os.path.join(TOP, "crates/nooks/src/texts.rt"), encoding="utf-8") as file:
+            found = re.search(r'VERSION: &\[u8\] = b"nooks (\S+),', file.read())
+        self.assertEqual(found.group(1), __version__)
+
+    def test_the_extension_has_no_other_schemas(self):
+        names = sorted(os.listdir(os.path.join(TOP, "workbench/nooks_bench/schemas")))
+        self.assertEqual(names, sorted(os.listdir(os.path.join(TOP, "workbench/editors/vscode/schemas"))))
+
+
+@unittest.skipUnless(glob.glob(f"{WHEELS}/setuptools-*.whl") and glob.glob(f"{WHEELS}/wheel-*.whl"),
+                     "python3-setuptools-whl and python3-wheel-whl are not installed")
+class Pip(unittest.TestCase):
+    """`pip install .` in a fresh virtual environment of Debian's Python, of a copy, which the build writes into."""
+
+    def test_a_fresh_environment(self):
+        with tempfile.TemporaryDirectory() as folder:
+            source, environment = os.path.join(folder, "source"), os.path.join(folder, "environment")
+            tracked = run(["git", "-C", TOP, "ls-files", "workbench", "pyproject.toml", "docs/WORKBENCH.md"]).stdout.split()
+            for name in tracked or self.fail("this is no clone of git"):
+                os.makedirs(os.path.dirname(os.path.join(source, name)), exist_ok=True)
+                shutil.copy2(os.path.join(TOP, name), os.path.join(source, name), follow_symlinks=False)
+            self.assertEqual(run(["/usr/bin/python3", "-m", "venv", environment]).returncode, 0)
+            offline = {**os.environ, "PIP_FIND_LINKS": WHEELS, "PIP_NO_INDEX": "1"}
+            ended = run([f"{environment}/bin/pip", "install", "-q", source], env=offline)
+            self.assertEqual(ended.returncode, 0, ended.stderr)
+            command = f"{environment}/bin/nooks-bench"
+            away = {"PATH": "/usr/bin:/bin", "NOOKS": program().path}
+            self.assertIn(__version__, run([command, "--version"], env=away, cwd=folder).stdout)
+            swept = run([command, "sweep", example_path("block.json"), "--quiet"], env=away, cwd=folder)
+            self.assertEqual((swept.returncode, swept.stderr), (0, ""))
+            self.assertIn(" faults\n", swept.stdout)
+            os.symlink(program().path, os.path.join(folder, "nooks"))
+            on_path = {"PATH": f"{folder}:/usr/bin:/bin"}
+            self.assertEqual(run([command, "build", example_path("block.json")], env=on_path, cwd=folder).returncode, 0)
+
+
+if __name__ == "__main__":
+    unittest.main()

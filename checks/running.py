@@ -19,6 +19,9 @@ BUILT = os.path.join(TOP, "crates/nooks_main/out/nooks_main")
 UNPROVED = os.path.join(TOP, "out/unproved/nooks")
 PLAIN = os.path.join(TOP, "out/plain/nooks")
 
+# Standard error after the line of a refused input.
+EXPLAINED = b"nooks: `nooks-bench explain --input FILE`, given this line, shows the place in the input\n"
+
 # A run that takes longer than this many seconds counts as one that hangs.
 PATIENCE = 60
 
@@ -94,6 +97,11 @@ def generated(size: int) -> bytes:
 def handed(scenario: bytes, report: bytes) -> bytes:
     """The input of `audit`: the scenario's length, a line feed, the scenario, and the report."""
     return b"%d\n" % len(scenario) + scenario + report
+
+
+def said_again(line: bytes) -> bytes:
+    """Standard error of an input that was refused with a line, if standard output is no terminal."""
+    return b"nooks: " + line + EXPLAINED
 
 
 def program_from(words: Sequence[str]) -> str:

@@ -26,6 +26,10 @@ EXPLAINED = b"nooks: `nooks-bench explain --input FILE`, given this line, shows 
 PATIENCE = 60
 
 
+# A program by its name and its path.
+Named = tuple[str, str]
+
+
 @dataclass
 class Ended:
     """How a run ended: its status, and what it wrote. A run that hangs or is killed by a signal has a negative status."""
@@ -144,3 +148,14 @@ def find_plain() -> str | None:
     if not os.access(PLAIN, os.X_OK):
         sys.exit(f"./nooks-plain built no {PLAIN}: {ended.stderr.decode(errors='replace')}")
     return PLAIN
+
+
+def with_plain(program: str) -> list[Named]:
+    """A program, and the plain one beside it if it is another and there is a rustc."""
+    programs = [("the program", program)]
+    plain = None if is_plain(program) else find_plain()
+    if plain is not None:
+        programs.append(("the plain program", plain))
+    elif not is_plain(program):
+        print("there is no rustc, so the plain program is left out")
+    return programs

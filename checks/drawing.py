@@ -308,6 +308,14 @@ def scenario(random):
     return given
 
 
+def campaign(random):
+    """A campaign over a scenario, of few faults; now and then of none, or of a part that is not there."""
+    base = scenario(random)
+    count = random.choice([1, 3, 3, 10, 40, 0])
+    place = random.randrange(len(base["parts"]) + (random.random() < 0.1))
+    return {"base": base, "part": place, "faults": [fault(random) for _ in range(count)]}
+
+
 def disk(random, place, version):
     """A part that is a disk."""
     while True:
@@ -409,7 +417,11 @@ def nearly_valid(random):
     """JSON that is a scenario but for a few changes, which may leave it one."""
     if random.random() < 0.02:
         return deep(random)
-    given = scenario(random)
+    return changed(random, scenario(random))
+
+
+def changed(random, given):
+    """A value as JSON, with a few changes."""
     for _ in range(random.choice([0, 1, 1, 1, 2])):
         thing = random.choice([thing for thing in containers(given) if thing])
         (change_object if isinstance(thing, dict) else change_list)(random, thing)

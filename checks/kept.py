@@ -1,4 +1,4 @@
-"""Holds a program against the files of checks/runs, the tables of inputs.py, and what it computes here. checks/golden calls it.
+"""Holds programs against the files of checks/runs, the tables of inputs.py, and what it computes here. checks/golden calls it.
 
 runs/README.md says what the files are. Each scenario and each text has at least one file beside it, and each of those
 has its scenario or text. An audit of each report by its scenario has to be a yes. Besides, inputs that are cut off are
@@ -11,17 +11,13 @@ import re
 
 import inputs
 import running
-from running import Tally, run
+from running import Named, Tally, run
 
 RUNS = os.path.join(running.TOP, "checks/runs")
 
 # The files that stand beside a scenario, and those beside a text.
 BESIDE_SCENARIO = (".report", ".mirror", ".trace")
 BESIDE_TEXT = (".image", ".text", ".list")
-
-# A program by its name and its path.
-Named = tuple[str, str]
-
 
 def kept(name: str) -> bytes:
     """The bytes of a file of checks/runs."""
@@ -48,52 +44,51 @@ def check_files(tally: Tally) -> None:
     tally.same("checks/runs: texts, and those with a file beside them", names(".asm"), sorted(texts))
 
 
-def check_reports(tally: Tally, programs: list[Named], form: str, ending: str) -> None:
+def check_reports(tally: Tally, whose: str, program: str, form: str, ending: str) -> None:
     """Each report and its status."""
     for name in names(ending):
         wanted = kept(name + ending)
-        for whose, program in programs:
-            ended = run(program, [form], kept(name + ".json"))
-            tally.same(f"runs/{name}: the report of {whose}", ended.out, wanted)
-            tally.same(f"runs/{name}: the status of {whose}", ended.status, status_of(wanted))
+        ended = run(program, [form], kept(name + ".json"))
+        tally.same(f"runs/{name}: the report of {whose}", ended.out, wanted)
+        tally.same(f"runs/{name}: the status of {whose}", ended.status, status_of(wanted))
 
 
-def check_audits(tally: Tally, program: str) -> None:
+def check_audits(tally: Tally, whose: str, program: str) -> None:
     """The verdict on each report of a run."""
     for name in names(".report"):
         ended = run(program, ["audit"], running.handed(kept(name + ".json"), kept(name + ".report")))
-        tally.same(f"runs/{name}: the verdict on its report", (ended.status, ended.out), (0, b"audit yes\n"))
+        tally.same(f"runs/{name}: the verdict of {whose}", (ended.status, ended.out), (0, b"audit yes\n"))
 
 
-def check_traces(tally: Tally, program: str) -> None:
+def check_traces(tally: Tally, whose: str, program: str) -> None:
     """Each trace. The name tells the part and the burst; a trace that is a fault has the status of a refused input."""
     for whole in names(".trace"):
         name, part, burst = whole.split(".")
         wanted = kept(whole + ".trace")
         ended = run(program, ["trace", part, burst], kept(name + ".json"))
-        tally.same(f"runs/{whole}: the trace", ended.out, wanted)
-        tally.same(f"runs/{whole}: the status", ended.status, 3 if wanted.startswith(b"fault ") else 0)
+        tally.same(f"runs/{whole}: the trace of {whose}", ended.out, wanted)
+        tally.same(f"runs/{whole}: the status of {whose}", ended.status, 3 if wanted.startswith(b"fault ") else 0)
 
 
-def check_texts(tally: Tally, program: str) -> None:
+def check_texts(tally: Tally, whose: str, program: str) -> None:
     """What is made of each driver's text: its image, the text of that image, and its list."""
     for name in names(".asm"):
         given, image = kept(name + ".asm"), kept(name + ".image")
-        tally.same(f"runs/{name}: its image", run(program, ["asm"], given).out, image)
-        tally.same(f"runs/{name}: the text of its image", run(program, ["dis"], image).out, kept(name + ".text"))
-        tally.same(f"runs/{name}: its list", run(program, ["list"], given).out, kept(name + ".list"))
+        tally.same(f"runs/{name}: its image of {whose}", run(program, ["asm"], given).out, image)
+        tally.same(f"runs/{name}: the text of its image, of {whose}", run(program, ["dis"], image).out, kept(name + ".text"))
+        tally.same(f"runs/{name}: its list of {whose}", run(program, ["list"], given).out, kept(name + ".list"))
 
 
-def check_inputs(tally: Tally, program: str) -> None:
+def check_inputs(tally: Tally, whose: str, program: str) -> None:
     """Each input of the tables, with the line of its fault; one that is right ends otherwise."""
     for given, wanted in inputs.scenarios():
         ended = run(program, ["run"], given)
         found = ended.out.decode() if ended.status == 3 else "right"
-        tally.same(f"run over {shown(given)}", found, "right" if wanted == "right" else f"fault {wanted}\n")
+        tally.same(f"run of {whose} over {shown(given)}", found, "right" if wanted == "right" else f"fault {wanted}\n")
     for given, wanted in inputs.texts():
         for form in ("asm", "list"):
             ended = run(program, [form], given)
-            tally.same(f"{form} over {shown(given)}", (ended.status, ended.out), (3, f"fault {wanted}\n".encode()))
+            tally.same(f"{form} of {whose} over {shown(given)}", (ended.status, ended.out), (3, f"fault {wanted}\n".encode()))
 
 
 # The forms that read JSON, and the one line of each over an input that is cut off.
@@ -104,13 +99,13 @@ CUT_OFF = [([form], "1 not_json /") for form in ("run", "dis", "campaign", "mirr
 ]
 
 
-def check_fronts(tally: Tally, program: str) -> None:
+def check_fronts(tally: Tally, whose: str, program: str) -> None:
     """An example's scenario, cut off at each thirteenth byte and before its last bracket."""
     whole = running.example("write-and-read.json").rstrip()
     for length in [*range(0, len(whole), 13), len(whole) - 1]:
         for words, line in CUT_OFF:
             ended = run(program, words, whole[:length])
-            name = f"{' '.join(words)} over the first {length} bytes of write-and-read"
+            name = f"{' '.join(words)} of {whose} over the first {length} bytes of write-and-read"
             tally.same(name, (ended.status, ended.out), (3, f"fault {line}\n".encode()))
 
 
@@ -118,21 +113,21 @@ def check_fronts(tally: Tally, program: str) -> None:
 NO_FORMS = [["list", "me"], ["gen", "257", "scenario"], ["gen", "1", "report"], ["--help", "me"], ["run", "run"]]
 
 
-def check_usage(tally: Tally, program: str) -> None:
+def check_usage(tally: Tally, whose: str, program: str) -> None:
     """Other words give the line that every word of no form gives."""
     line = run(program, ["walk"]).out
     for words in NO_FORMS:
         ended = run(program, words)
-        tally.same(" ".join(words), (ended.status, ended.out), (2, line))
+        tally.same(f"{' '.join(words)} of {whose}", (ended.status, ended.out), (2, line))
 
 
-def check_generated(tally: Tally, program: str) -> None:
+def check_generated(tally: Tally, whose: str, program: str) -> None:
     """The generated scenario of 12 runs as the one that bench/run makes of the same size."""
     given = run(program, ["gen", "12", "scenario"]).out
     found = run(program, ["run"], given)
     wanted = run(program, ["run"], running.generated(12))
-    tally.same("the generated scenario of 12: the report", found.out, wanted.out)
-    tally.same("the generated scenario of 12: the statuses", (found.status, wanted.status), (0, 0))
+    tally.same(f"the generated scenario of 12: the report of {whose}", found.out, wanted.out)
+    tally.same(f"the generated scenario of 12: the statuses of {whose}", (found.status, wanted.status), (0, 0))
 
 
 # The rows of three faults of one write: in its burst, in the driver's start, and in a burst that never comes. Without a
@@ -155,12 +150,12 @@ def campaign(count: int) -> tuple[bytes, bytes]:
     return json.dumps({"base": base, "part": 0, "faults": faults}).encode(), (table + last).encode()
 
 
-def check_campaigns(tally: Tally, program: str) -> None:
+def check_campaigns(tally: Tally, whose: str, program: str) -> None:
     """Tables of one row, of as many as are run at a time and one more, and of the most."""
     for count in (1, 1024, 1025, 4096):
         given, wanted = campaign(count)
         ended = run(program, ["campaign"], given)
-        tally.same(f"a campaign of {count} faults", (ended.status, ended.out), (0, wanted))
+        tally.same(f"a campaign of {count} faults of {whose}", (ended.status, ended.out), (0, wanted))
 
 
 def shown(given: bytes) -> str:
@@ -168,17 +163,23 @@ def shown(given: bytes) -> str:
     return repr(given if len(given) < 120 else b".." + given[-120:])
 
 
-def check_kept(tally: Tally, program: str, plain: str | None) -> None:
-    """All of it; the plain program is asked for the reports alone, and left out if there is none."""
-    programs = [("the program", program)] + ([] if plain is None else [("the plain program", plain)])
+CHECKS = [
+    check_audits,
+    check_traces,
+    check_texts,
+    check_inputs,
+    check_fronts,
+    check_usage,
+    check_generated,
+    check_campaigns,
+]
+
+
+def check_kept(tally: Tally, programs: list[Named]) -> None:
+    """All of it, by each of the programs."""
     check_files(tally)
-    check_reports(tally, programs, "run", ".report")
-    check_reports(tally, programs, "mirror", ".mirror")
-    check_audits(tally, program)
-    check_traces(tally, program)
-    check_texts(tally, program)
-    check_inputs(tally, program)
-    check_fronts(tally, program)
-    check_usage(tally, program)
-    check_generated(tally, program)
-    check_campaigns(tally, program)
+    for whose, program in programs:
+        check_reports(tally, whose, program, "run", ".report")
+        check_reports(tally, whose, program, "mirror", ".mirror")
+        for check in CHECKS:
+            check(tally, whose, program)

@@ -19,8 +19,15 @@ BUILT = os.path.join(TOP, "crates/nooks_main/out/nooks_main")
 UNPROVED = os.path.join(TOP, "out/unproved/nooks")
 PLAIN = os.path.join(TOP, "out/plain/nooks")
 
+# Standard error after the line of a refused input.
+EXPLAINED = b"nooks: `nooks-bench explain --input FILE`, given this line, shows the place in the input\n"
+
 # A run that takes longer than this many seconds counts as one that hangs.
 PATIENCE = 60
+
+
+# A program by its name and its path.
+Named = tuple[str, str]
 
 
 @dataclass
@@ -96,6 +103,11 @@ def handed(scenario: bytes, report: bytes) -> bytes:
     return b"%d\n" % len(scenario) + scenario + report
 
 
+def said_again(line: bytes) -> bytes:
+    """Standard error of an input that was refused with a line, if standard output is no terminal."""
+    return b"nooks: " + line + EXPLAINED
+
+
 def program_from(words: Sequence[str]) -> str:
     """The program whose path is the only word, or the proved one if there is no word."""
     if len(words) > 1:
@@ -136,3 +148,14 @@ def find_plain() -> str | None:
     if not os.access(PLAIN, os.X_OK):
         sys.exit(f"./nooks-plain built no {PLAIN}: {ended.stderr.decode(errors='replace')}")
     return PLAIN
+
+
+def with_plain(program: str) -> list[Named]:
+    """A program, and the plain one beside it if it is another and there is a rustc."""
+    programs = [("the program", program)]
+    plain = None if is_plain(program) else find_plain()
+    if plain is not None:
+        programs.append(("the plain program", plain))
+    elif not is_plain(program):
+        print("there is no rustc, so the plain program is left out")
+    return programs

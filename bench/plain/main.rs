@@ -54,6 +54,7 @@ use std::ffi::OsString;
 use std::fs::File;
 use std::io::{self, BufWriter, IsTerminal, Write};
 use std::os::fd::AsFd;
+use std::path::Path;
 use std::process::ExitCode;
 
 #[global_allocator]
@@ -87,34 +88,44 @@ fn main() -> ExitCode {
         .collect();
     let words = words.unwrap_or_default();
     let words: Vec<&str> = words.iter().map(String::as_str).collect();
-    ExitCode::from(answer(Form::of(&words)).unwrap_or_else(report_stop))
+    ExitCode::from(answer(&words).unwrap_or_else(report_stop))
 }
 
 /// Writes what the words ask for, and returns the status.
-fn answer(form: Option<Form>) -> Result<u8, Stop> {
+fn answer(words: &[&str]) -> Result<u8, Stop> {
     // The library's own standard output takes writes to one that cannot be written for done.
     let mut out = BufWriter::new(File::from(io::stdout().as_fd().try_clone_to_owned()?));
-    let status = match form {
+    let status = match Form::of(words) {
         Some(form) => match serve::serve(form, &mut out) {
             Err(Stop::Refused(refusal)) => refuse(&refusal, &mut out)?,
             status => status?,
         },
-        None => {
-            out.write_all(texts::USAGE.as_bytes())?;
-            2
-        }
+        None => write_usage(words, &mut out)?,
     };
     out.flush()?;
     Ok(status)
 }
 
-/// Writes the line of a refused input. Standard error has it too, so that a redirection does not hide it.
+/// Writes the usage line. Standard error says where all forms are listed, and how a file is given.
+fn write_usage(words: &[&str], out: &mut impl Write) -> io::Result<u8> {
+    out.write_all(texts::USAGE.as_bytes())?;
+    out.flush()?;
+    say(texts::FORMS);
+    if words.iter().any(|word| Path::new(word).is_file()) {
+        say(texts::STANDARD_INPUT);
+    }
+    Ok(2)
+}
+
+/// Writes the line of a refused input. Standard error has it too, so that a redirection does not hide it, and says what
+/// shows the place.
 fn refuse(refusal: &Refusal, out: &mut impl Write) -> io::Result<u8> {
     writeln!(out, "{refusal}")?;
     out.flush()?;
     if !io::stdout().is_terminal() {
         say(&format!("nooks: {refusal}\n"));
     }
+    say(texts::EXPLAIN);
     Ok(3)
 }
 

@@ -35,6 +35,16 @@ pub const VERSION: &str = "nooks 0.11.0 plain, nothing proved\n";
 
 pub const AUDIT_YES: &str = "audit yes\n";
 
+/// Standard error, after the usage line.
+pub const FORMS: &str = "nooks: `nooks --help` lists every form of words\n";
+
+/// Standard error, after the usage line if a word is the path of a file.
+pub const STANDARD_INPUT: &str = "nooks: input comes from standard input: nooks run < FILE\n";
+
+/// Standard error, after the line of a refused input.
+pub const EXPLAIN: &str =
+    "nooks: `nooks-bench explain --input FILE`, given this line, shows the place in the input\n";
+
 pub const READ_FAILED: &str = "nooks: reading standard input failed; nothing was written\n";
 pub const WRITE_FAILED: &str =
     "nooks: writing standard output failed; a front of the output was written\n";

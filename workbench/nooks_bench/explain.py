@@ -8,7 +8,7 @@ import json
 from .build import built
 from .explain_report import report_lines
 from .program import Mistake
-from .refused import Explained, FaultLine, explain_asm, explain_fault, parse_fault
+from .refused import Explained, explain_asm, explain_fault, parse_fault
 from .report import parse_report
 from .source import Node, Place, Reader, read_text
 from .unstruck import strikes_of_report
@@ -37,28 +37,7 @@ def refused(line: str, file: str) -> Explained:
         return not_json(file, text)
     if fault.name == "bad_asm" and not text.lstrip().startswith("{"):
         return explain_asm(fault, Node(text, Place(file, 1, 1), origin=file))
-    return explained_in(fault, Reader(text, file).whole())
-
-
-def explained_in(fault: FaultLine, whole: Node) -> Explained:
-    """A fault in a value: a scenario, the base of a campaign or a fault of it, or an image."""
-    base = whole.get("base")
-    if base is not None and fault.path.startswith("/base/"):
-        return explain_fault(FaultLine(fault.number, fault.name, fault.path[5:], fault.asm_kind, fault.asm_line), base)
-    if base is not None and fault.path.startswith("/faults/"):
-        # A campaign's faults are written like a part's: it is explained as one.
-        inner = FaultLine(fault.number, fault.name, "/parts/0" + fault.path)
-        part = Node({"class": Node("sound", whole.place), "faults": whole.value["faults"]}, whole.place)
-        told = explain_fault(inner, Node({"parts": Node([part], whole.place)}, whole.place))
-        return Explained(told.place, told.wrong.replace(inner.path, fault.path), told.allowed)
-    if whole.get("entries") is not None:
-        inner = FaultLine(fault.number, fault.name, "/parts/0/driver/image" + fault.path)
-        kind = whole.get("class") or Node("block", whole.place)
-        driver = Node({"image": whole}, whole.place)
-        part = Node({"class": kind, "driver": driver}, whole.place)
-        told = explain_fault(inner, Node({"parts": Node([part], whole.place)}, whole.place))
-        return Explained(told.place, told.wrong.replace(inner.path, fault.path), told.allowed)
-    return explain_fault(fault, whole)
+    return explain_fault(fault, Reader(text, file).whole())
 
 
 def run(args: argparse.Namespace) -> int:

@@ -10,9 +10,9 @@ from dataclasses import dataclass
 from typing import Any
 
 from .asm_faults import named_class
+from .faults import check_range
 from .jsontext import json_text
 from .program import Mistake
-from .selection import check_range
 from .source import read_text
 
 ABOUT = """Writes a scenario with operations for the driver of an assembler text, as `build` takes it. The operations

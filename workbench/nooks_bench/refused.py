@@ -76,6 +76,13 @@ class Refused:
         return self.whole.plain()
 
     @property
+    def scenario(self) -> dict[str, Any]:
+        """The scenario, or that of a campaign; empty if there is none."""
+        value = self.value
+        found = value.get("base", value) if isinstance(value, dict) else {}
+        return found if isinstance(found, dict) else {}
+
+    @property
     def node(self) -> Node:
         """The deepest value of the path that is there."""
         return deepest(self.whole, self.path)[0]
@@ -140,8 +147,7 @@ def unknown_key(refused: Refused) -> Explained:
     if not unknown:
         return refused.told("unknown key")
     place = node.keys.get(unknown[0], node.place)
-    version = refused.value.get("version") if isinstance(refused.value, dict) else None
-    if unknown == ["bad"] and version == 1:
+    if unknown == ["bad"] and refused.scenario.get("version") == 1:
         about = '"bad" needs version 2, and this scenario has version 1: write "version": 2'
         return refused.told(about, "", place)
     named = ", ".join(json.dumps(key) for key in unknown)
@@ -185,8 +191,7 @@ def number_range(refused: Refused) -> Explained:
         return refused.told(f"the list is too short: {len(value)} items")
     steps = refused.path.split("/")
     about = None
-    base = refused.value.get("base", refused.value) if isinstance(refused.value, dict) else {}
-    parts = base.get("parts") if isinstance(base, dict) else None
+    parts = refused.scenario.get("parts")
     if steps[-1] == "part" and isinstance(parts, list) and parts:
         about = places(len(parts), "part")
     if steps[-1] == "block" and "bad" in steps:

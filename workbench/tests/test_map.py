@@ -160,10 +160,7 @@ class Maps(unittest.TestCase):
 
 
 class Documented(unittest.TestCase):
-    """The maps of docs/WORKBENCH.md are those that the commands above them make, whatever the versions."""
-
-    def without_versions(self, text: str) -> str:
-        return re.sub(r">nooks-bench [0-9.]+[^<]*; scenario", ">; scenario", text)
+    """The maps of docs/WORKBENCH.md are those that the commands above them make, by whichever program."""
 
     def test_each_map(self):
         with open(os.path.join(TOP, "docs/WORKBENCH.md"), encoding="utf-8") as file:
@@ -171,13 +168,15 @@ class Documented(unittest.TestCase):
         section = text[text.index("## Maps of the reference drivers") :].split("\n## ")[0]
         pairs = re.findall(r"(?m)^    nooks-bench (map .*)\n\n!\[.*?\]\((.*?)\)", section)
         self.assertEqual(len(pairs), len(os.listdir(os.path.join(TOP, "docs/maps"))))
-        with contextlib.chdir(TOP):
-            for command, picture in pairs:
+        for command, picture in pairs:
+            with open(os.path.join(TOP, "docs", picture), encoding="utf-8") as file:
+                drawn = file.read()
+            # The caption has the versions that drew the map, which may be wider than the map and give it its width.
+            versions = re.search(r">(nooks-bench [^<]*); scenario", drawn)[1]
+            with contextlib.chdir(TOP), mock.patch("nooks_bench.picture.version_of", return_value=versions):
                 status, out, _ = bench(*shlex.split(command))
-                self.assertEqual(status, 0)
-                with open(os.path.join("docs", picture), encoding="utf-8") as file:
-                    same = self.without_versions(out) == self.without_versions(file.read())
-                self.assertTrue(same, f"{picture} is not what `{command}` makes")
+            self.assertEqual(status, 0)
+            self.assertTrue(out == drawn, f"{picture} is not what `{command}` makes")
 
 
 class Files(unittest.TestCase):

@@ -88,11 +88,22 @@ SENTENCES = [
      "/base/threads: the threads have 70 operations together; a campaign's base has at most 64"),
     ("campaign-block.json", [(("base", "parts", 0, "faults"), [{"burst": 1, "after": 0, "kind": "trap"}] * 64)],
      "/base/parts/0/faults: the struck part has 64 faults of its own; in a campaign it has at most 63"),
+    ("campaign-block.json", [(("faults", 0), {"burst": 1, "after": 0, "kind": "trap", "value": 3})],
+     '/faults/0: unknown key "value" of a fault of kind trap; expected an object with burst, after, kind'),
+    ("campaign-block.json", [(("base", "version"), 1), (("base", "parts", 0, "bad"), [])],
+     '/base/parts/0: "bad" needs version 2, and this scenario has version 1: write "version": 2'),
     ("campaign-block.json", [(("part",), 1)], "/part: 1 is out of range; expected 0, since there is 1 part"),
 ]
 
 
 class Sentences(unittest.TestCase):
+    def test_an_image_has_its_own_paths(self):
+        given = json.loads(example_text("block.image"))
+        given["text"][2] = "0000000g"
+        text = json.dumps(given)
+        said = str(explain_fault(parse_fault(program().ask(["dis"], text).out), Reader(text, "f").whole()))
+        self.assertRegex(said, r'^f:1:\d+: /text/2: "0000000g" is not a word of an image; expected a text: exactly eight')
+
     def test_each_says_one_thing(self):
         for name, changes, sentence in SENTENCES:
             self.assertEqual(told(name, *changes)[: len(sentence)], sentence)

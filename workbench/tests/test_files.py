@@ -2,6 +2,7 @@
 
 import copy
 import glob
+import filecmp
 import json
 import os
 import random
@@ -232,7 +233,8 @@ class Editors(unittest.TestCase):
             path = os.path.join(EDITORS, "vscode", each["url"])
             with open(path, encoding="utf-8") as file:
                 self.assertEqual(json.load(file), schema_file(name))
-            self.assertTrue(os.path.samefile(path, os.path.join(SCHEMAS, name)))
+            # An extension reaches no file outside its folder, and the repository has no links: so it has copies.
+            self.assertTrue(filecmp.cmp(path, os.path.join(SCHEMAS, name), shallow=False), name)
             self.assertTrue(each["fileMatch"])
 
 

@@ -1,1 +1,6 @@
+pub mod BurstBounds
+mod Fronts
+mod FirstBreak
+mod GivenUp
+mod Away
 pub mod Safe

@@ -1,15 +1,30 @@
-use Rattle.std.proofs.Common.{List}
+use Rattle.std.proofs.Common.{◌≡◌, ◌-◌, Bool, true, false, Some, None, List, [], ◌∷◌, ◌++◌, take, sym, ap, subst, ◌∙◌}
 use Rattle.nook_data.specs.declared.steps.Event.{Event}
+use Rattle.nook_data.specs.declared.steps.Event.TheVariants as event
 use Rattle.nook_data.specs.declared.scenario.PartSpec.{PartSpec}
-use Rattle.part_defs.specs.Runs.{IsRun}
+use Rattle.nook_data.specs.declared.verdicts.Break.{Break}
 use Rattle.nook_data.specs.Valid.{IsValidPart}
+use Rattle.promise_defs.specs.Contract.{first_break, known_first}
+use Rattle.part_defs.specs.Runs.{IsRun, IsRunFrom, state_after, state_from, state_of, step_of}
+use Rattle.part_defs.specs.State.{PartState}
+use Rattle.part_defs.specs.Steps.{opening}
+use Rattle.part_laws.proofs.Counts.{run_measured}
+use Rattle.part_laws.proofs.DeviceStays.{run_spec}
+use Rattle.part_laws.proofs.Places.{split}
 use Rattle.part_laws.proofs.ReadAloud.{kept_agrees, kept_licensed, kept_shows_one_run}
 use Rattle.part_laws.proofs.RunBound.{run_bound}
 use Rattle.part_laws.proofs.StepsFit.{run_collecting, run_isolated}
 use Rattle.part_laws.proofs.ValidFits.{valid_fits}
+use Rattle.part_laws.specs.Bound.{failures_of, is_burst}
+use Rattle.part_laws.specs.Facts.{is_dead}
 use Rattle.part_laws.specs.Fit.{IsFitSpec}
+use Rattle.part_laws.specs.Recovery.{Gone, IsKeptRun}
+use Rattle.headline_laws.proofs.Away.{short_away}
+use Rattle.headline_laws.proofs.FirstBreak.{before_break, broken_at}
+use Rattle.headline_laws.proofs.Fronts.{IsFrontOf, front_of, state_parts}
+use Rattle.headline_laws.proofs.GivenUp.{dead_gone, given_up_from, gives_up, gone_bursts}
+use Rattle.headline_laws.specs.GivenUp.{IsGivingUp}
 use Rattle.headline_laws.specs.Headline.{IsSafe, IsTransparent}
-use Rattle.part_laws.specs.Recovery.{IsKeptRun}
 
 -- The laws of parts joined to one.
 
@@ -20,6 +35,23 @@ kept_transparent spec journal kept = record {
   agrees = λ device shown. kept_agrees spec journal device kept shown;
 }
 
+-- the part behind one event more
+one_further : (p : PartState) (front : List Event) (e : Event) → state_from p (front ++ e ∷ []) ≡ state_after (state_from p front) (step_of e)
+unfolding state_from
+one_further p front e = state_parts p front (e ∷ [])
+
+-- the event that gives a part up
+giving_up_in : (spec : PartSpec) (front back : List Event) (e : Event) → IsFitSpec spec → IsFrontOf spec front (e ∷ back)
+    → is_dead (state_of spec front).mode ≡ false → is_dead (state_of spec (front ++ e ∷ [])).mode ≡ true
+    → IsGivingUp (state_of spec front) (failures_of front) e
+unfolding IsRunFrom
+giving_up_in spec front back e fits f alive dead =
+    let p : PartState = state_of spec front in
+    let now : is_dead (state_after p (step_of e)).mode ≡ true =
+    ap (λ (q : PartState). is_dead q.mode) (sym (one_further (opening spec) front e)) ∙ dead in
+    subst (λ (n : ℕ). IsGivingUp p n e) (run_measured spec front fits f.run).failures
+    (subst (λ (x : Event). IsGivingUp p p.failures x) f.more.1 (gives_up p (step_of e) alive now))
+
 pub run_safe : (spec : PartSpec) (journal : List Event) → IsValidPart spec → IsRun spec journal → IsSafe spec journal
 run_safe spec journal valid run =
     let fits : IsFitSpec spec = valid_fits spec valid in
@@ -28,5 +60,38 @@ run_safe spec journal valid run =
       isolated = run_isolated spec journal fits run;
       collecting = run_collecting spec journal fits run;
       bounded = run_bound spec journal fits run;
-      transparent = λ kept alive. kept_transparent spec journal (record { run = run; contract = kept; alive = alive });
+      recovery = λ front back parts.
+          let f = front_of spec journal front back fits run parts in
+          short_away (state_of spec front) back f.fit f.tied f.more;
+      fronts = λ front back parts kept alive.
+          let f = front_of spec journal front back fits run parts in
+          kept_transparent spec front (record { run = f.run; contract = kept; alive = alive });
+      giving_up = λ front back e parts alive dead.
+          giving_up_in spec front back e fits (front_of spec journal front (e ∷ back) fits run parts) alive dead;
+      given_up = λ front back parts dead.
+          let f = front_of spec journal front back fits run parts in
+          given_up_from spec (failures_of front) (state_of spec front) back (dead_gone (state_of spec front) f.tied dead)
+          (run_spec spec front f.run) (run_measured spec front fits f.run).failures f.more;
     }
+
+-- a part in which a burst may be taken was not given up
+burst_alive : (spec : PartSpec) (front back : List Event) (e : Event) → IsFrontOf spec front (e ∷ back) → is_burst e ≡ true
+    → is_dead (state_of spec front).mode ≡ false
+unfolding IsRunFrom
+burst_alive spec front back (event.Burst context call burst count end acts a failure) f b = split (is_dead (state_of spec front).mode)
+    (λ dead. absurd (gone_bursts (state_of spec front) context (dead_gone (state_of spec front) f.tied dead) f.more.0))
+    (λ alive. alive)
+burst_alive spec front back (event.Invoke call t o a) f b = absurd cc
+burst_alive spec front back (event.Enter call t attempt a) f b = absurd cc
+burst_alive spec front back (event.Stage s answers released) f b = absurd cc
+burst_alive spec front back (event.Arrive frame kept) f b = absurd cc
+
+-- up to the event before the first break the applications saw the never-failing device
+pub transparent_before : (spec : PartSpec) (journal : List Event) (b : Break) → IsValidPart spec → IsRun spec journal
+    → first_break spec.class spec.blocks journal ≡ Some b → IsTransparent spec (take (b.event - 1) journal)
+unfolding first_break
+transparent_before spec journal b valid run broken =
+    let x = broken_at 1 (known_first spec.class spec.blocks) journal b broken in
+    let f = front_of spec journal x.front (x.event ∷ x.back) (valid_fits spec valid) run x.parts in
+    subst (IsTransparent spec) (sym (before_break spec.class spec.blocks journal b x))
+    (kept_transparent spec x.front (record { run = f.run; contract = x.kept; alive = burst_alive spec x.front x.back x.event f x.burst }))

@@ -1,5 +1,6 @@
 -- What is claimed of each part of a run.
-use Rattle.std.specs.Prelude.{◌≡◌, ◌≤◌, false, None, List, [], ◌∷◌, length}
+use Rattle.std.specs.Prelude.{◌≡◌, ◌≤◌, true, false, None, List, [], ◌∷◌, ◌++◌, length}
+use Rattle.std.specs.List.{AllByRecursion}
 use Rattle.nook_data.specs.declared.steps.Event.{Event}
 use Rattle.nook_data.specs.declared.scenario.PartSpec.{PartSpec}
 use Rattle.promise_defs.specs.Contract.{first_break}
@@ -8,10 +9,12 @@ use Rattle.promise_defs.specs.Isolation.{IsIsolated}
 use Rattle.promise_defs.specs.Licence.{IsLicensed}
 use Rattle.part_defs.specs.Runs.{IsRun, state_of}
 use Rattle.promise_defs.specs.Trace.{trace}
-use Rattle.part_laws.specs.Bound.{most_events}
+use Rattle.part_laws.specs.Bound.{failures_of, most_events}
 use Rattle.part_laws.specs.Collection.{IsCollecting}
 use Rattle.part_laws.specs.Facts.{is_dead}
 use Rattle.part_laws.specs.Recovery.{Agrees, ShowsDevice}
+use Rattle.headline_laws.specs.GivenUp.{IsGivingUp, IsOfGivenUp}
+use Rattle.headline_laws.specs.Recoveries.{IsShort, while_away}
 
 -- to its applications a part is a device that never fails
 pub record IsTransparent (spec : PartSpec) (journal : List Event) : Type 0 where
@@ -34,10 +37,22 @@ pub record IsSafe (spec : PartSpec) (journal : List Event) : Type 0 where
   pub collecting : IsCollecting spec journal
   -- the journal has no more events than its calls, failures and arrivals are worth, so every recovery ends
   pub bounded : length journal ≤ most_events journal
-  -- where the drivers kept the class's contract and the part was not given up, the applications saw a device that never
-  -- fails
-  pub transparent : first_break spec.class spec.blocks journal ≡ None → is_dead (state_of spec journal).mode ≡ false
-      → IsTransparent spec journal
+  -- behind every front of the journal, be it one that ends with a failure, the driver is soon back: until the part is
+  -- Running or Dead, or fails once more, it takes at most 11 stages and 192 bursts, each of at most 4,096 turns
+  pub recovery : (front back : List Event) → journal ≡ front ++ back
+      → IsShort (while_away (state_of spec front) back)
+  -- behind every front in which the drivers kept the class's contract, and at whose end the part was not given up, the
+  -- applications saw a device that never fails; the whole journal is one of its fronts
+  pub fronts : (front back : List Event) → journal ≡ front ++ back
+      → first_break spec.class spec.blocks front ≡ None → is_dead (state_of spec front).mode ≡ false
+      → IsTransparent spec front
+  -- the event that gives the part up answers each open call Gone
+  pub giving_up : (front back : List Event) (e : Event) → journal ≡ front ++ e ∷ back
+      → is_dead (state_of spec front).mode ≡ false → is_dead (state_of spec (front ++ e ∷ [])).mode ≡ true
+      → IsGivingUp (state_of spec front) (failures_of front) e
+  -- and from then on each operation is answered at once, by the static check or Gone, and nothing runs
+  pub given_up : (front back : List Event) → journal ≡ front ++ back → is_dead (state_of spec front).mode ≡ true
+      → AllByRecursion (IsOfGivenUp spec (failures_of front)) back
 
 -- so it is of each part, in order; there is one journal a part
 unfoldable pub AreSafe : List PartSpec → List (List Event) → Type 0

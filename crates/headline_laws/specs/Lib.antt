@@ -1,1 +1,3 @@
+pub mod GivenUp
+pub mod Recoveries
 pub mod Headline

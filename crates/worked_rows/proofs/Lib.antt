@@ -3,7 +3,6 @@ pub mod FailingDiskCases
 pub mod LinkCases
 pub mod StreamCases
 pub mod ClassLaws
-pub mod BurstBounds
 pub mod OtherClasses
 pub mod ClauseCases
 mod OnLiterals

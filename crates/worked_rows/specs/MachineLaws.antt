@@ -1,13 +1,7 @@
-use Rattle.std.specs.Prelude.{◌≡◌, ℕ, ◌≤◌, Bool, true, false, List, [], ◌∷◌, length}
+use Rattle.std.specs.Prelude.{◌≡◌, ℕ, Bool, true, false, List, [], ◌∷◌}
 use Rattle.nook_data.specs.declared.entries.Entry.{Entry}
 use Rattle.nook_data.specs.declared.entries.Entry.TheVariants as entry
-use Rattle.machine_defs.specs.Burst.{Burst}
 use Rattle.machine_defs.specs.Pages.{may_write}
-
--- a burst has at most 4,096 turns and at most 64 acts
-pub record IsBounded (b : Burst) : Type 0 where
-  pub turns : b.count ≤ 4096
-  pub acts : length b.acts ≤ 64
 
 -- what a driver may write, address by address at the edges of the table of pages: the text, the data, the stacks, the
 -- buffer of context 0, of which the last word is 5,311, the last buffer, and the kernel objects

@@ -5,7 +5,8 @@ ghost use Rattle.nook_data.specs.declared.entries.Entry.{Entry};
 ghost use Rattle.nook_data.specs.declared.scenario.Fault.{Fault};
 ghost use Rattle.machine_defs.specs.Burst.{burst};
 ghost use Rattle.machine_defs.specs.Turn.{Machine};
-ghost use Rattle.worked_rows.specs.MachineLaws.{IsBounded, IsLentBuffer, IsPageTable};
+ghost use Rattle.headline_laws.specs.Recoveries.{IsBounded};
+ghost use Rattle.worked_rows.specs.MachineLaws.{IsLentBuffer, IsPageTable};
 
 /// Whatever the machine runs, and whatever faults strike, a burst has at most 4,096 turns and at most 64 acts.
 pub fn bursts_are_bounded()

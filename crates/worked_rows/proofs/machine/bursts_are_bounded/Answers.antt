@@ -1,4 +1,4 @@
-use Rattle.worked_rows.proofs.BurstBounds.{burst_bounded}
+use Rattle.headline_laws.proofs.BurstBounds.{burst_bounded}
 use Rattle.worked_rows.proofs.machine.bursts_are_bounded.Goals as goal
 
 -- src/machine.rt:11:1

@@ -8,7 +8,7 @@ use Rattle.nook_data.specs.declared.machine.TrapCause.TheVariants as trap
 use Rattle.machine_defs.specs.Burst.{Struck, acts_of, burst, burst_from, count_at, strikes_at}
 use Rattle.machine_defs.specs.Turn.{Machine, Turn, turn}
 use Rattle.machine_defs.proofs.BurstTurns.{turn_cases}
-use Rattle.worked_rows.specs.MachineLaws.{IsBounded}
+use Rattle.headline_laws.specs.Recoveries.{IsBounded}
 
 -- one act more
 one_more : (acts : List Act) (a : Option Act) → length acts < 64 → length (acts ++ acts_of a) ≤ 64

@@ -1,0 +1,7 @@
+use Rattle.std.proofs.Common.{refl}
+use Rattle.worked_rows.proofs.OnLiterals.{nook_on_literals}
+use Rattle.worked_rows.proofs.fronts.link_lies_late.Goals as goal
+
+pub returns : goal.returns
+unfolding nook_on_literals
+returns c = refl

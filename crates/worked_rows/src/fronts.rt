@@ -1,0 +1,53 @@
+//! Runs that go wrong late: what their fronts promise, what a part answers that is given up, and the longest recovery.
+#![tactic(auto, unfolding(crate::proofs::OnLiterals::nook_on_literals))]
+
+ghost use Rattle.std.specs.Prelude.{[], ◌∷◌, ◌≡◌, Some, count_by, false, true};
+ghost use Rattle.headline_laws.specs.Recoveries.{is_stage};
+ghost use Rattle.nook_data.specs.declared.calls.Answer.TheVariants as answer;
+ghost use Rattle.part_laws.specs.Bound.{is_burst};
+ghost use Rattle.worked_rows.specs.Fronts.{busy_stream, busy_stream_ops, early_end, first_recovery, frail_disk};
+ghost use Rattle.worked_rows.specs.Fronts.{frail_disk_ops, journal_of, late_break, lying_disk, lying_disk_ops};
+ghost use Rattle.worked_rows.specs.Fronts.{lying_link, lying_link_ops, lying_stream, lying_stream_ops, transparent};
+
+/// A disk's driver stores nothing in its last Write: event 14 breaks clause 3, and the Read behind it shows no disk. The
+/// 13 events before are one run of a disk that never fails.
+pub fn disk_lies_late()
+    ensures { late_break lying_disk (journal_of lying_disk lying_disk_ops) ≡ record {
+        broken = Some (record { event = 14; clause = 3 });
+        before = transparent 0;
+        all = record { failures = 0; kept = false; one_run = false; licensed = true };
+    } }
+{}
+
+/// A link's driver sends nothing in its last Send: event 11 breaks clause 7, and the loss is not licensed.
+pub fn link_lies_late()
+    ensures { late_break lying_link (journal_of lying_link lying_link_ops) ≡ record {
+        broken = Some (record { event = 11; clause = 7 });
+        before = transparent 0;
+        all = record { failures = 0; kept = false; one_run = true; licensed = false };
+    } }
+{}
+
+/// A stream's driver plays nothing in its last Play: event 14 breaks clause 11, and the loss is not licensed.
+pub fn stream_lies_late()
+    ensures { late_break lying_stream (journal_of lying_stream lying_stream_ops) ≡ record {
+        broken = Some (record { event = 14; clause = 11 });
+        before = transparent 0;
+        all = record { failures = 0; kept = false; one_run = true; licensed = false };
+    } }
+{}
+
+/// A disk is given up at its first failure, in a Read. The events before are one run of a disk that never fails; that
+/// Read and the Get behind it are answered Gone, and a Read past the disk's end by the static check.
+pub fn disk_is_given_up()
+    ensures { early_end frail_disk (journal_of frail_disk frail_disk_ops) ≡ record {
+        before = transparent 1;
+        answers = (2, answer.Gone 1) ∷ (3, answer.BadRange) ∷ (4, answer.Gone 1) ∷ [];
+    } }
+{}
+
+/// A stream with all four keys set recovers while it is open: this takes every stage that there is, eleven.
+pub fn stream_recovers_in_eleven_stages()
+    ensures stages { count_by is_stage (first_recovery busy_stream (journal_of busy_stream busy_stream_ops)) ≡ 11 }
+    ensures bursts { count_by is_burst (first_recovery busy_stream (journal_of busy_stream busy_stream_ops)) ≡ 7 }
+{}

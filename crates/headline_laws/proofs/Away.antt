@@ -1,10 +1,9 @@
-use Rattle.std.proofs.Common.{◌≡◌, ℕ, zero, suc, ◌+◌, ◌-◌, ◌*◌, ◌<◌, ◌≤◌, ◌==◌, ◌&&◌, not, is_some, if◌then◌else◌, cond, count_by, Bool, true, false, Option, Some, None, Result, Ok, Err, List, [], ◌∷◌, length, replicate, slice_index, slice_set, refl, sym, ap, ◌∙◌, subst, arith, true≢false, eqb-true}
+use Rattle.std.proofs.Common.{◌≡◌, ℕ, zero, suc, ◌+◌, ◌-◌, ◌*◌, ◌<◌, ◌≤◌, ◌==◌, not, is_some, if◌then◌else◌, cond, count_by, Bool, true, false, Option, Some, None, Result, Ok, Err, List, [], ◌∷◌, length, slice_index, slice_set, refl, sym, ap, ◌∙◌, subst, arith, true≢false, eqb-true}
 use Rattle.std.specs.List.{AllByRecursion}
 use Rattle.std.proofs.lemmas.Bool.{and_parts}
 use Rattle.std.proofs.lemmas.List.{length-set}
 use Rattle.nook_data.specs.declared.calls.Answer.{Answer}
 use Rattle.nook_data.specs.declared.calls.Op.{Op}
-use Rattle.nook_data.specs.declared.calls.Op.TheVariants as op
 use Rattle.nook_data.specs.declared.entries.Entry.{Entry}
 use Rattle.nook_data.specs.declared.steps.End.{End}
 use Rattle.nook_data.specs.declared.steps.Event.{Event}
@@ -33,13 +32,13 @@ use Rattle.part_defs.specs.Crossing.{next_mode, next_stage}
 use Rattle.part_defs.specs.Domain.{after_burst, collected_domain, context_of, domain_burst, entered_domain, first_argument}
 use Rattle.part_defs.specs.Domain.{left_domain, loaded_domain, machine_of, plainly_entered, result_set, second_argument}
 use Rattle.part_defs.specs.Domain.{stopped_domain}
-use Rattle.part_defs.specs.Log.{CallLog, call_of_thread, next_replay, replay_after}
+use Rattle.part_defs.specs.Log.{call_of_thread, next_replay, replay_after}
 use Rattle.part_defs.proofs.PartCases.{burst_by, burst_step, bursts_of, invoked_by, no_context, replay_stream, serve_by}
 use Rattle.part_defs.proofs.PartCases.{with_burst, with_result}
 use Rattle.part_defs.specs.Runs.{IsRunFrom, event_of, state_after, step_of}
 use Rattle.part_defs.specs.Stages.{collects, gives_up_part, inits, is_given_up, loads_image, replays_open, replays_set}
 use Rattle.part_defs.specs.Stages.{resets, resumes, stage_due, stage_step, stage_stepped, stops}
-use Rattle.part_defs.specs.State.{DomainState, PartState}
+use Rattle.part_defs.specs.State.{CallLog, DomainState, PartState}
 use Rattle.part_defs.specs.Steps.{after_arrival, burst_stepped, can_burst, enabled, is_driven, is_inside, is_ready, is_running, stepped}
 use Rattle.part_laws.proofs.RunBound.{count_more}
 use Rattle.part_laws.proofs.Stages.{with_mode}
@@ -483,16 +482,17 @@ each_away : (P : Event → Type 0)
     → (p : PartState) (events : List Event) → IsRunFrom p events → AllByRecursion P (while_away p events)
 unfolding IsRunFrom while_away
 each_away P holds p [] r = tt
-each_away P holds p (e ∷ events) r = by_away (is_away p.mode) (carries_failure e) refl
+each_away P holds p (e ∷ events) r =
+    by_away (is_away p.mode) (carries_failure e) refl (each_away P holds (state_after p (step_of e)) events r.2)
   where
     q : PartState
     q = state_after p (step_of e)
 
-    by_away : (away failed : Bool) → is_away p.mode ≡ away
+    by_away : (away failed : Bool) → is_away p.mode ≡ away → AllByRecursion P (while_away q events)
         → AllByRecursion P (if away then e ∷ (if failed then [] else while_away q events) else [])
-    by_away false failed same = tt
-    by_away true true same = (holds p e same r.0 r.1, tt)
-    by_away true false same = (holds p e same r.0 r.1, each_away P holds q events r.2)
+    by_away false failed same more = tt
+    by_away true true same more = (holds p e same r.0 r.1, tt)
+    by_away true false same more = (holds p e same r.0 r.1, more)
 
 -- ---- the bound
 

@@ -1,4 +1,4 @@
-use Rattle.std.specs.Prelude.{◌≡◌, ℕ, zero, suc, ◌+◌, ◌-◌, ◌<◌, ◌≤◌, Option, Some, None, List, [], ◌∷◌, ◌++◌, length}
+use Rattle.std.specs.Prelude.{ℕ, zero, suc, ◌-◌, ◌<◌, ◌≤◌, Option, Some, None, List, [], ◌++◌, length}
 use Rattle.std.proofs.Common.{arith, refl, length-append}
 use Rattle.nook_data.specs.declared.machine.Act.{Act}
 use Rattle.nook_data.specs.declared.entries.Entry.{Entry}

@@ -1,4 +1,4 @@
-use Rattle.std.proofs.Common.{◌≡◌, ℕ, suc, ◌+◌, ◌-◌, Bool, true, false, Some, None, List, [], ◌∷◌, ◌++◌, length, take, refl, sym, ap, ◌∙◌, subst, arith}
+use Rattle.std.proofs.Common.{◌≡◌, ℕ, suc, ◌+◌, ◌-◌, true, Some, None, List, [], ◌∷◌, ◌++◌, length, take, refl, sym, ap, ◌∙◌, subst, arith}
 use Rattle.std.proofs.lemmas.List.{take_at}
 use Rattle.nook_data.specs.declared.clause.Clause.{Clause}
 use Rattle.nook_data.specs.declared.classes.Class.{Class}
@@ -33,12 +33,14 @@ only_bursts k (event.Arrive frame kept) clause more h = absurd cc
 pub broken_at : (place : ℕ) (k : Known) (events : List Event) (b : Break) → break_from place k events ≡ Some b → IsBrokenAt place k events b
 unfolding break_from
 broken_at place k [] b h = absurd cc
-broken_at place k (e ∷ events) b h = by_clauses (broken k e) refl h
+broken_at place k (e ∷ events) b h =
+    by_clauses (broken k e) refl h (λ later. broken_at (suc place) (known_after k e) events b later)
   where
     by_clauses : (cs : List Clause) → broken k e ≡ cs → break_or place cs (break_from (suc place) (known_after k e) events) ≡ Some b
+        → (break_from (suc place) (known_after k e) events ≡ Some b → IsBrokenAt (suc place) (known_after k e) events b)
         → IsBrokenAt place k (e ∷ events) b
-    by_clauses [] same told =
-        let later : IsBrokenAt (suc place) (known_after k e) events b = broken_at (suc place) (known_after k e) events b told in
+    by_clauses [] same told more =
+        let later : IsBrokenAt (suc place) (known_after k e) events b = more told in
         let n : b.event ≡ suc place + length later.front = later.number in
         record {
           front = e ∷ later.front;
@@ -51,7 +53,7 @@ broken_at place k (e ∷ events) b h = by_clauses (broken k e) refl h
               ∙ later.next;
           burst = later.burst;
         }
-    by_clauses (clause ∷ more) same told =
+    by_clauses (clause ∷ others) same told more =
         let n : place ≡ b.event = ap (λ (x : Break). x.event) (same_inside told) in
         record {
           front = [];
@@ -61,7 +63,7 @@ broken_at place k (e ∷ events) b h = by_clauses (broken k e) refl h
           number = omega arith;
           kept = refl;
           next = ap (λ (cs : List Clause). break_or place cs None) same ∙ told;
-          burst = only_bursts k e clause more same;
+          burst = only_bursts k e clause others same;
         }
 
 -- the events before the first break are those of the front
@@ -77,7 +79,7 @@ one_more (x ∷ front) back e = ap (λ (l : List Event). x ∷ l) (one_more fron
 
 one_longer : (front : List Event) (e : Event) → length (front ++ e ∷ []) ≡ length front + 1
 one_longer [] e = refl
-one_longer (x ∷ front) e = ap suc (one_longer front e)
+one_longer (x ∷ front) e = let more : length (front ++ e ∷ []) ≡ length front + 1 = one_longer front e in omega arith
 
 with_break : (class : Class) (size : ℕ) (events : List Event) (b : Break)
     → (x : IsBrokenAt 1 (known_first class size) events b) → take b.event events ≡ x.front ++ x.event ∷ []

@@ -1,4 +1,4 @@
-use Rattle.std.proofs.Common.{◌≡◌, ℕ, ◌==◌, ◌&&◌, eqb, not, if◌then◌else◌, is_some, unwrap_or, Bool, true, false, Option, Some, None, Result, Ok, Err, List, [], ◌∷◌, ◌+◌, length, cond, refl, sym, ap, subst, ◌∙◌, true≢false, arith}
+use Rattle.std.proofs.Common.{◌≡◌, ℕ, ◌==◌, ◌&&◌, eqb, not, if◌then◌else◌, is_some, unwrap_or, Bool, true, false, Option, Some, None, Result, Ok, Err, List, [], ◌∷◌, ◌+◌, ◌≤◌, length, cond, refl, sym, ap, subst, ◌∙◌, true≢false, arith}
 use Rattle.std.specs.List.{AllByRecursion}
 use Rattle.std.proofs.lemmas.Bool.{and_parts, cond-false, cond-true}
 use Rattle.nook_data.specs.declared.classes.Accept.{Accept}
@@ -34,7 +34,7 @@ use Rattle.part_defs.specs.Crossing.{Crossed, after_crossing, call_replied, clos
 use Rattle.part_defs.specs.Crossing.{is_accepted, is_last, kernel_call, next_mode, next_stage, refused_service}
 use Rattle.part_defs.specs.Crossing.{shadow_fault, shadow_replied, stage_in}
 use Rattle.part_defs.specs.Domain.{context_of, domain_burst, first_argument, second_argument, stopped_domain}
-use Rattle.part_defs.specs.Log.{call_of_thread, gone_answers}
+use Rattle.part_defs.specs.Log.{call_of_thread}
 use Rattle.part_defs.specs.Runs.{IsRunFrom, event_of, state_after, state_from, step_of}
 use Rattle.part_defs.specs.Stages.{collects, gives_up_part, inits, is_given_up, loads_image, replays_open, replays_set}
 use Rattle.part_defs.specs.Stages.{resets, resumes, stage_due, stage_stepped, stops}
@@ -253,6 +253,10 @@ no_failure p (event.Burst context call burst count end acts a failure) g may = a
 no_failure p (event.Stage s answers released) g may = refl
 no_failure p (event.Arrive frame kept) g may = refl
 
+none_counted : (b : Bool) → b ≡ false → cond b 1 0 ≤ 0
+none_counted true h = absurd cc
+none_counted false h = omega arith
+
 -- its count of failures stays
 same_failures : (p : PartState) (e : Event) → Gone p → enabled p (step_of e) ≡ true → event_of p (step_of e) ≡ e
     → (state_after p (step_of e)).failures ≡ p.failures
@@ -260,7 +264,7 @@ unfolding IsRunFrom state_from
 same_failures p e g may same =
     let counted : (state_after p (step_of e)).failures ≡ p.failures + failures_of (e ∷ []) = (counted_from p (e ∷ []) (may, same, tt)).failures' in
     let one : failures_of (e ∷ []) ≡ cond (carries_failure e) 1 0 + failures_of [] = count_more carries_failure e [] in
-    let none : cond (carries_failure e) 1 0 ≡ 0 = ap (λ (b : Bool). cond b 1 0) (no_failure p e g may) in
+    let none : cond (carries_failure e) 1 0 ≤ 0 = none_counted (carries_failure e) (no_failure p e g may) in
     let rest : failures_of [] ≡ 0 = refl in
     omega arith
 

@@ -1,4 +1,4 @@
-use Rattle.std.proofs.Common.{◌≡◌, ◌-◌, Bool, true, false, Some, None, List, [], ◌∷◌, ◌++◌, take, sym, ap, subst, ◌∙◌}
+use Rattle.std.proofs.Common.{◌≡◌, ℕ, ◌-◌, true, false, Some, List, [], ◌∷◌, ◌++◌, take, sym, ap, subst, ◌∙◌}
 use Rattle.nook_data.specs.declared.steps.Event.{Event}
 use Rattle.nook_data.specs.declared.steps.Event.TheVariants as event
 use Rattle.nook_data.specs.declared.scenario.PartSpec.{PartSpec}
@@ -18,7 +18,7 @@ use Rattle.part_laws.proofs.ValidFits.{valid_fits}
 use Rattle.part_laws.specs.Bound.{failures_of, is_burst}
 use Rattle.part_laws.specs.Facts.{is_dead}
 use Rattle.part_laws.specs.Fit.{IsFitSpec}
-use Rattle.part_laws.specs.Recovery.{Gone, IsKeptRun}
+use Rattle.part_laws.specs.Recovery.{IsKeptRun}
 use Rattle.headline_laws.proofs.Away.{short_away}
 use Rattle.headline_laws.proofs.FirstBreak.{before_break, broken_at}
 use Rattle.headline_laws.proofs.Fronts.{IsFrontOf, front_of, state_parts}

@@ -1,4 +1,4 @@
-use Rattle.std.specs.Prelude.{◌≡◌, ℕ, Some, [], List, ◌∷◌, unwrap_or}
+use Rattle.std.specs.Prelude.{◌≡◌, ℕ, Some, [], unwrap_or}
 use Rattle.nook_data.specs.Types.{Answer, Event, Op, PartSpec}
 use Rattle.nook_data.specs.declared.calls.Answer.TheVariants as answer
 use Rattle.nook_data.specs.declared.steps.Event.TheVariants as event

@@ -1,4 +1,4 @@
-use Rattle.std.specs.Prelude.{ℕ, ◌-◌, ◌++◌, if◌then◌else◌, Bool, true, false, Option, Some, None, List, [], ◌∷◌, length, take}
+use Rattle.std.specs.Prelude.{ℕ, ◌-◌, ◌++◌, if◌then◌else◌, true, Option, Some, None, List, [], ◌∷◌, length, take}
 use Rattle.std.specs.Prelude.{codes, drop, replicate}
 use Rattle.nook_data.specs.Answers.{answers_of}
 use Rattle.nook_data.specs.declared.calls.Answer.{Answer}

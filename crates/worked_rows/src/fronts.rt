@@ -13,27 +13,27 @@ ghost use Rattle.worked_rows.specs.Fronts.{lying_link, lying_link_ops, lying_str
 /// 13 events before are one run of a disk that never fails.
 pub fn disk_lies_late()
     ensures { late_break lying_disk (journal_of lying_disk lying_disk_ops) ≡ record {
-        broken = Some (record { event = 14; clause = 3 });
-        before = transparent 0;
-        all = record { failures = 0; kept = false; one_run = false; licensed = true };
+      broken = Some (record { event = 14; clause = 3 });
+      before = transparent 0;
+      all = record { failures = 0; kept = false; one_run = false; licensed = true };
     } }
 {}
 
 /// A link's driver sends nothing in its last Send: event 11 breaks clause 7, and the loss is not licensed.
 pub fn link_lies_late()
     ensures { late_break lying_link (journal_of lying_link lying_link_ops) ≡ record {
-        broken = Some (record { event = 11; clause = 7 });
-        before = transparent 0;
-        all = record { failures = 0; kept = false; one_run = true; licensed = false };
+      broken = Some (record { event = 11; clause = 7 });
+      before = transparent 0;
+      all = record { failures = 0; kept = false; one_run = true; licensed = false };
     } }
 {}
 
 /// A stream's driver plays nothing in its last Play: event 14 breaks clause 11, and the loss is not licensed.
 pub fn stream_lies_late()
     ensures { late_break lying_stream (journal_of lying_stream lying_stream_ops) ≡ record {
-        broken = Some (record { event = 14; clause = 11 });
-        before = transparent 0;
-        all = record { failures = 0; kept = false; one_run = true; licensed = false };
+      broken = Some (record { event = 14; clause = 11 });
+      before = transparent 0;
+      all = record { failures = 0; kept = false; one_run = true; licensed = false };
     } }
 {}
 
@@ -41,8 +41,8 @@ pub fn stream_lies_late()
 /// Read and the Get behind it are answered Gone, and a Read past the disk's end by the static check.
 pub fn disk_is_given_up()
     ensures { early_end frail_disk (journal_of frail_disk frail_disk_ops) ≡ record {
-        before = transparent 1;
-        answers = (2, answer.Gone 1) ∷ (3, answer.BadRange) ∷ (4, answer.Gone 1) ∷ [];
+      before = transparent 1;
+      answers = (2, answer.Gone 1) ∷ (3, answer.BadRange) ∷ (4, answer.Gone 1) ∷ [];
     } }
 {}
 

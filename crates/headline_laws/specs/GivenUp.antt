@@ -13,7 +13,7 @@ use Rattle.part_defs.specs.State.{PartState}
 abbrev pub IsGivingUp : PartState → ℕ → Event → Type 0
 IsGivingUp p failures e = e ≡ event.Stage stage.Stop (gone_answers failures p.log.pending) []
 
--- the answer of a part that was given up behind so many failures: the static check's, where it has one, else Gone
+-- the answer of a part that was given up after so many failures: that of the static check, if it has one, else Gone
 abbrev pub answer_given_up : PartSpec → ℕ → Op → Answer
 answer_given_up spec failures o = unwrap_or (static_check spec.class spec.blocks o) (answer.Gone failures)
 

@@ -37,11 +37,11 @@ pub record IsSafe (spec : PartSpec) (journal : List Event) : Type 0 where
   pub collecting : IsCollecting spec journal
   -- the journal has no more events than its calls, failures and arrivals are worth, so every recovery ends
   pub bounded : length journal ≤ most_events journal
-  -- behind every front of the journal, be it one that ends with a failure, the driver is soon back: until the part is
-  -- Running or Dead, or fails once more, it takes at most 11 stages and 192 bursts, each of at most 4,096 turns
+  -- after every front of the journal, one that ends with a failure among them, the driver is soon back: until the part
+  -- is Running or Dead, or fails again, it takes at most 11 stages and 192 bursts, each of at most 4,096 turns
   pub recovery : (front back : List Event) → journal ≡ front ++ back
       → IsShort (while_away (state_of spec front) back)
-  -- behind every front in which the drivers kept the class's contract, and at whose end the part was not given up, the
+  -- after every front in which the drivers kept the class's contract, and at whose end the part was not given up, the
   -- applications saw a device that never fails; the whole journal is one of its fronts
   pub fronts : (front back : List Event) → journal ≡ front ++ back
       → first_break spec.class spec.blocks front ≡ None → is_dead (state_of spec front).mode ≡ false
@@ -50,7 +50,7 @@ pub record IsSafe (spec : PartSpec) (journal : List Event) : Type 0 where
   pub giving_up : (front back : List Event) (e : Event) → journal ≡ front ++ e ∷ back
       → is_dead (state_of spec front).mode ≡ false → is_dead (state_of spec (front ++ e ∷ [])).mode ≡ true
       → IsGivingUp (state_of spec front) (failures_of front) e
-  -- and from then on each operation is answered at once, by the static check or Gone, and nothing runs
+  -- from then on each operation is answered at its invocation, as the static check says or Gone, and nothing runs
   pub given_up : (front back : List Event) → journal ≡ front ++ back → is_dead (state_of spec front).mode ≡ true
       → AllByRecursion (IsOfGivenUp spec (failures_of front)) back
 

@@ -18,7 +18,7 @@ is_away mode.Running = false
 is_away (mode.Recovering s) = true
 is_away (mode.Dead collected) = false
 
--- the events while the driver is away: up to and with the one behind which the part is Running or Dead, or up to and
+-- the events while the driver is away: up to and with the one after which the part is Running or Dead, or up to and
 -- with the next failure
 unfoldable pub while_away : PartState → List Event → List Event
 while_away p [] = []
@@ -36,7 +36,7 @@ abbrev pub turns_of : Event → ℕ
 turns_of (event.Burst context call burst count e acts answer failure) = count
 turns_of _ = 0
 
--- an event while the driver is away: no call enters, and no driver runs but for the shadow
+-- an event while the driver is away: no call enters, and the driver runs for the shadow alone
 abbrev pub IsShadows : Event → Type 0
 IsShadows (event.Enter call thread attempt answer) = ⊥
 IsShadows (event.Burst context call burst count e acts answer failure) = context ≡ SHADOW

@@ -50,7 +50,7 @@ journal_after m = journal_at m (choices_of m)
 abbrev pub journal_of : PartSpec → List Op → List Event
 journal_of spec ops = journal_after (runs 1000 (begins (alone spec ops)))
 
--- from there on the driver's entry at this address replies at once that all is done
+-- the driver's entry at this address replies at once that all is done, from that burst on
 abbrev pub lies_at : ℕ → FaultKind
 lies_at address = fault.Code address 0x17000000
 

@@ -9,7 +9,7 @@ ghost use Rattle.worked_rows.specs.Fronts.{busy_stream, busy_stream_ops, early_e
 ghost use Rattle.worked_rows.specs.Fronts.{frail_disk_ops, journal_of, late_break, lying_disk, lying_disk_ops};
 ghost use Rattle.worked_rows.specs.Fronts.{lying_link, lying_link_ops, lying_stream, lying_stream_ops, transparent};
 
-/// A disk's driver stores nothing in its last Write: event 14 breaks clause 3, and the Read behind it shows no disk. The
+/// A disk's driver stores nothing in its last Write: event 14 breaks clause 3, and the Read after it shows no disk. The
 /// 13 events before are one run of a disk that never fails.
 pub fn disk_lies_late()
     ensures { late_break lying_disk (journal_of lying_disk lying_disk_ops) ≡ record {
@@ -38,7 +38,7 @@ pub fn stream_lies_late()
 {}
 
 /// A disk is given up at its first failure, in a Read. The events before are one run of a disk that never fails; that
-/// Read and the Get behind it are answered Gone, and a Read past the disk's end by the static check.
+/// Read and the Get after it are answered Gone, and a Read past the disk's end by the static check.
 pub fn disk_is_given_up()
     ensures { early_end frail_disk (journal_of frail_disk frail_disk_ops) ≡ record {
       before = transparent 1;

@@ -126,17 +126,6 @@ step_taken blocks present (Set key value) lefts rights z e = absurd cc
 
 -- ---- a step that uses up all its answers
 
--- more answers are left over
-pub step_more : (blocks : ℕ) (present : Presence) (o : Op) (lefts rights l r : List Answer) (x : Outcome)
-    → mirror_step blocks present o lefts rights ≡ Some (record { outcome = x; left = []; right = [] })
-    → mirror_step blocks present o (lefts ++ l) (rights ++ r) ≡ Some (record { outcome = x; left = l; right = r })
-step_more blocks present o lefts rights l r x e = by_step (step_taken blocks present o lefts rights (record { outcome = x; left = []; right = [] }) e)
-  where
-    by_step : Asks blocks present o lefts rights (record { outcome = x; left = []; right = [] }) ⊎ Refuses blocks present o lefts rights (record { outcome = x; left = []; right = [] })
-        → mirror_step blocks present o (lefts ++ l) (rights ++ r) ≡ Some (record { outcome = x; left = l; right = r })
-    by_step (inl k) = k.more l r ∙ ap (λ (z : MirrorStep). Some (record { outcome = z.outcome; left = z.left ++ l; right = z.right ++ r })) k.is
-    by_step (inr k) = k.more l r ∙ ap (λ (z : MirrorStep). Some (record { outcome = z.outcome; left = z.left ++ l; right = z.right ++ r })) k.is
-
 -- an operation that some side answered passed the static check
 pub step_checks : (blocks : ℕ) (present : Presence) (o : Op) (lefts rights : List Answer) (x : Outcome)
     → mirror_step blocks present o lefts rights ≡ Some (record { outcome = x; left = []; right = [] })

@@ -204,7 +204,7 @@ module _ (o : Op) (disk : is_disk_op o ≡ true) where
 
   crossing_tells : (context : ℕ) (e : BurstEnd) (p : PartState) → OnlyOp o p.log.pending → Tells (after_crossing context e p)
   unfolding after_crossing
-  crossing_tells context (ends.Trap cause) p h a k = absurd cc
+  crossing_tells context (ends.Trap cause) p h = λ a k. absurd cc
   crossing_tells context (ends.Kcall number) p h =
       by_either Tells (is_last context p) (failed_crossing p (refused_service number context p) fail.TooManyCrossings) (kernel_call number context p) (λ a k. absurd cc)
       (serve_tells number context p (checked number (first_argument context p.domain) (second_argument context p.domain) p.spec.class p.domain.entries))
@@ -295,19 +295,19 @@ module _ (o : Op) (disk : is_disk_op o ≡ true) where
 
   among_may : (call : ℕ) (xs : List (ℕ × Answer)) (a : Answer) → AllMay o xs → answer_among call xs ≡ Some a → MayAnswer a o
   among_may call [] a h e = absurd cc
-  among_may call (x ∷ xs) a h e = by_test (x.0 == call) e
+  among_may call (x ∷ xs) a h e = by_test (x.0 == call) e (among_may call xs a h.1)
     where
-      by_test : (b : Bool) → (if b then Some x.1 else answer_among call xs) ≡ Some a → MayAnswer a o
-      by_test true k = subst (λ (y : Answer). MayAnswer y o) (some_same x.1 a k) h.0
-      by_test false k = among_may call xs a h.1 k
+      by_test : (b : Bool) → (if b then Some x.1 else answer_among call xs) ≡ Some a → (answer_among call xs ≡ Some a → MayAnswer a o) → MayAnswer a o
+      by_test true k later = subst (λ (y : Answer). MayAnswer y o) (some_same x.1 a k) h.0
+      by_test false k later = later k
 
   first_may : (call : ℕ) (events : List Event) (a : Answer) → AllByRecursion (λ e. AllMay o (answers_of e)) events → first_answer call events ≡ Some a → MayAnswer a o
   first_may call [] a h k = absurd cc
-  first_may call (e ∷ events) a h k = by_first (answer_at call e) refl k
+  first_may call (e ∷ events) a h k = by_first (answer_at call e) refl k (first_may call events a h.1)
     where
-      by_first : (x : Option Answer) → answer_at call e ≡ x → or_later x (first_answer call events) ≡ Some a → MayAnswer a o
-      by_first None q later = first_may call events a h.1 later
-      by_first (Some b) q same = subst (λ (y : Answer). MayAnswer y o) (some_same b a same) (among_may call (answers_of e) b h.0 q)
+      by_first : (x : Option Answer) → answer_at call e ≡ x → or_later x (first_answer call events) ≡ Some a → (first_answer call events ≡ Some a → MayAnswer a o) → MayAnswer a o
+      by_first None q k later = later k
+      by_first (Some b) q same later = subst (λ (y : Answer). MayAnswer y o) (some_same b a same) (among_may call (answers_of e) b h.0 q)
 
 -- a call that passed the static check is answered so
 pub called_may : (spec : PartSpec) (old new : DeskView) (call : ℕ) (o : Op) → is_disk_op o ≡ true → spec.class ≡ Block → IsRun spec new.seen

@@ -105,8 +105,8 @@ module _ {D : Type 0} (spec : D → PartSpec) where
   one_exchange old between x h l r = record {
     left = l.asked;
     right = r.asked;
-    step = ap (λ (as : List Answer). mirror_step old.blocks old.present x.op as (answers_given x.right)) l.given
-        ∙ ap (λ (as : List Answer). mirror_step old.blocks old.present x.op (answers_gained old.left between.left) as) r.given ∙ h.step;
+    step = ap (λ (said : List Answer). mirror_step old.blocks old.present x.op said (answers_given x.right)) l.given
+        ∙ ap (λ (said : List Answer). mirror_step old.blocks old.present x.op (answers_gained old.left between.left) said) r.given ∙ h.step;
     lost = λ e.
         let k = h.lost e in
         (subst (SaysGone old.present.left) (sym l.given) k.0, subst (SaysGone old.present.right) (sym r.given) k.1);

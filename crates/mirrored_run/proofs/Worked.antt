@@ -33,7 +33,10 @@ abbrev first_asked : List Invocation → ℕ
 first_asked [] = 0
 first_asked (i ∷ invoked) = first_of_op i.op
 
+apart : (n : ℕ) → n ≡ 2 → n ≡ 1 → ⊥
+apart n h k = omega arith
+
 -- no exchange of a read of block 1 is one in which the right side was asked for block 2
 other_block : (before after : Presence) (left : List Event) (a : MirrorAnswer)
     → IsExchange 4 before (record { op = Read 1 1; left = left; right = event.Invoke 2 0 (Read 2 1) (Some (answered.Blocks twos)) ∷ []; answer = a }) after → ⊥
-other_block before after left a h = let e : 2 ≡ 1 = ap first_asked h.right.1 in omega arith
+other_block before after left a h = apart 2 refl (ap first_asked h.right.1)

@@ -35,7 +35,7 @@ use Rattle.machine_defs.specs.Services.{checked}
 use Rattle.part_defs.specs.Calls.{Stepped, after_admit, after_enter, after_invoke, answer_in, invoked_with, queue_in}
 use Rattle.part_defs.specs.Crossing.{Crossed, after_crossing, call_replied, failed_crossing, goes_on, is_accepted, is_last, kernel_call, next_stage, refused_service, reply_answer, shadow_fault, shadow_replied, stage_in}
 use Rattle.part_defs.specs.Domain.{domain_burst, first_argument, second_argument}
-use Rattle.part_defs.specs.Log.{after_entering, call_of_thread, gone_answers, held_call, is_call, is_held, queue_after, shadow_answer, stop_answers, with_answer, with_answered_call, with_call}
+use Rattle.part_defs.specs.Log.{after_entering, call_of_thread, gone_answers, held_call, is_held, queue_after, shadow_answer, stop_answers, with_answer, with_answered_call, with_call}
 use Rattle.part_defs.specs.Runs.{IsRun, IsRunFrom, event_of, state_after, state_from, state_of, step_of}
 use Rattle.part_defs.specs.Stages.{collects, gives_up_part, inits, is_given_up, loads_image, replays_open, replays_set}
 use Rattle.part_defs.specs.Stages.{resets, resumes, stage_done, stage_due, stage_stepped, stops}

@@ -1,5 +1,5 @@
 -- What the never-failing disk shows while one call is made on a side.
-use Rattle.std.proofs.Common.{◌≡◌, ◌⊎◌, ℕ, zero, suc, ◌&&◌, ◌||◌, not, Bool, true, false, Option, Some, None, List, [], ◌∷◌, ◌++◌, length, set, slice_get, subst, sym, refl, ap, ◌∙◌, inl, inr, arith, true≢false, eqb-true}
+use Rattle.std.proofs.Common.{◌≡◌, ◌⊎◌, ℕ, zero, suc, ◌&&◌, not, Bool, true, false, Option, Some, None, List, [], ◌∷◌, ◌++◌, length, set, slice_get, subst, sym, refl, ap, ◌∙◌, inl, inr, arith, true≢false, eqb-true}
 use Rattle.std.specs.Prelude.{if◌then◌else◌, ◌==◌, option_and_then, bytes_eq}
 use Rattle.std.specs.List.{AllByRecursion, list_all}
 use Rattle.std.proofs.lemmas.Bool.{and_parts}

@@ -1,7 +1,7 @@
 -- The answers of a mirror are those of one plain disk while both drivers keep the contract and some side is left, and each
 -- side that is present at the end has that disk.
 use Rattle.std.proofs.Common.{◌≡◌, ◌⊎◌, inl, inr, ℕ, ◌||◌, Bool, true, false, None, Some, List, [], ◌∷◌, ◌++◌, map, refl, sym, ap, subst, ◌∙◌, append-nil, append_assoc, true≢false}
-use Rattle.std.specs.List.{AllByRecursion, list_any}
+use Rattle.std.specs.List.{list_any}
 use Rattle.std.proofs.lemmas.Bool.{or_left}
 use mathlib.Core.List.{IsPrefix}
 use Rattle.nook_data.specs.declared.calls.Answer.{Answer}
@@ -20,7 +20,6 @@ use Rattle.promise_defs.specs.Contract.{first_break, known_first}
 use Rattle.promise_defs.specs.Ideal.{Ideal, IsClassRun, never_failing, ran}
 use Rattle.promise_defs.specs.Trace.{trace, trace_from}
 use Rattle.part_defs.specs.Runs.{IsRun, state_from, state_of}
-use Rattle.part_defs.specs.State.{PartState}
 use Rattle.part_defs.specs.Steps.{opening}
 use Rattle.part_laws.specs.Recovery.{has_write, is_write_call}
 use Rattle.desk_like.specs.Desks.{DeskView}

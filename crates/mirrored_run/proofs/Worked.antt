@@ -3,7 +3,6 @@ use Rattle.std.proofs.Common.{◌≡◌, ℕ, false, Some, List, [], ◌∷◌, 
 use Rattle.std.specs.Prelude.{replicate}
 use Rattle.nook_data.specs.Classes.{first_of_op}
 use Rattle.nook_data.specs.declared.calls.Answer.TheVariants as answered
-use Rattle.nook_data.specs.declared.calls.Op.{Op}
 use Rattle.nook_data.specs.declared.calls.Op.TheVariants.{Read, Write}
 use Rattle.nook_data.specs.declared.mirror.MirrorAnswer.{MirrorAnswer}
 use Rattle.nook_data.specs.declared.mirror.MirrorAnswer.TheVariants as mirror
@@ -11,7 +10,7 @@ use Rattle.nook_data.specs.declared.steps.Event.{Event}
 use Rattle.nook_data.specs.declared.steps.Event.TheVariants as event
 use Rattle.mirror_block.specs.Rule.{Presence, both_present, mirrored}
 use Rattle.mirror_block.specs.Sides.{Invocation}
-use Rattle.mirrored_run.specs.Exchanges.{Exchange, IsExchange}
+use Rattle.mirrored_run.specs.Exchanges.{IsExchange}
 
 abbrev ones : List ℕ
 ones = replicate 16 1

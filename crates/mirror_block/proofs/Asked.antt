@@ -2,6 +2,7 @@
 use Rattle.std.proofs.Common.{◌≡◌, ◌⊎◌, ℕ, suc, ◌+◌, ◌-◌, ◌<◌, ◌≤◌, true, false, Option, Some, None, Ok, Err, List, [], ◌∷◌, length, slice_get, subst, sym, refl, ap, ◌∙◌, inl, inr, arith}
 use Rattle.nook_data.specs.declared.calls.Answer.{Answer}
 use Rattle.nook_data.specs.declared.calls.CallEntry.{CallEntry}
+use Rattle.nook_data.specs.declared.classes.Class.TheVariants.{Block}
 use Rattle.nook_data.specs.declared.desks.DeskRefused.{DeskRefused}
 use Rattle.nook_data.specs.declared.desks.DeskRefused.TheVariants as refused
 use Rattle.nook_data.specs.declared.steps.Event.{Event}
@@ -9,16 +10,18 @@ use Rattle.nook_data.specs.declared.steps.Event.TheVariants as event
 use Rattle.nook_data.specs.declared.calls.Op.{Op}
 use Rattle.nook_data.specs.declared.scenario.PartSpec.{PartSpec}
 use Rattle.nook_data.specs.declared.desks.Receipt.{Receipt}
+use Rattle.nook_data.specs.Classes.{static_check}
 use Rattle.part_defs.specs.Log.{call_of_thread}
 use Rattle.nook_data.specs.Places.{at_number}
 use Rattle.part_defs.specs.Runs.{IsRun, state_of}
 use Rattle.part_defs.specs.State.{PartState}
 use Rattle.shares.specs.Shares.{IsWhole}
 use Rattle.desk_like.specs.Desks.{Accounts, CallEnds, DeskView, HasOpen}
-use Rattle.mirror_block.specs.Disk.{IsShown}
+use Rattle.mirror_block.specs.Disk.{IsShown, MayAnswer}
 use Rattle.mirror_block.specs.Rule.{is_disk_op}
 use Rattle.mirror_block.specs.Sides.{IsAsked, IsFull, IsSide, WantsMemory, and_more, answers_gained}
 use Rattle.mirror_block.proofs.Calls.{answered_once, asked, calls_counted, closed_behind, given, open_unanswered}
+use Rattle.mirror_block.proofs.DiskAnswers.{called_may}
 use Rattle.mirror_block.proofs.Gains.{IsCalled, called, nothing_added, place_behind}
 use Rattle.mirror_block.proofs.Plain.{call_shown, served_by}
 
@@ -55,6 +58,7 @@ module _ (spec : PartSpec) (old new : DeskView) (o : Op) (side : IsSide spec spe
 
   pub said : (receipt : Receipt) → is_disk_op o ≡ true → CallEnds spec old new 0 o (Ok receipt)
       → IsAsked old new o × (answers_gained old new ≡ receipt.answer ∷ []) × IsSide spec spec.blocks false new × IsShown spec.blocks old.seen new.seen o receipt.answer
+      × (static_check Block spec.blocks o ≡ None → MayAnswer receipt.answer o)
   said receipt disk_op ends =
       let c : IsCalled old new receipt.call o = called old new receipt.call o receipt.at_invoke side.alone ends.0 in
       let low : length old.seen < receipt.at_invoke = ends.0.adds.rising.0 in
@@ -73,6 +77,7 @@ module _ (spec : PartSpec) (old new : DeskView) (o : Op) (side : IsSide spec spe
           idle = λ e device shows. (served_by spec.blocks old new receipt.call o disk_op c receipt.answer first (side.idle refl) device shows).over;
         },
         call_shown spec.blocks old new receipt.call o disk_op c receipt.answer first (side.idle refl),
+        λ e. called_may spec old new receipt.call o disk_op side.class run none c e receipt.answer first,
       )
 
   pub no_memory : (which : Option ℕ) → CallEnds spec old new 0 o (Err (refused.NoMemory which)) → WantsMemory old new o × IsSide spec spec.blocks true new

@@ -1,5 +1,6 @@
 pub mod Asked
 pub mod Calls
+pub mod DiskAnswers
 pub mod Gains
 pub mod Mirrored
 pub mod NewMirror

@@ -1,12 +1,14 @@
 -- An operation of a mirror, by how asking its sides ends.
-use Rattle.std.proofs.Common.{◌≡◌, ℕ, ◌||◌, Bool, true, false, Option, Some, None, Ok, Err, is_some, List, [], length, subst, sym, refl, ap, ◌∙◌, inl, inr, arith}
+use Rattle.std.proofs.Common.{◌≡◌, ℕ, ◌||◌, Bool, true, false, Option, Some, None, Ok, Err, is_some, List, [], ◌∷◌, length, subst, sym, refl, ap, ◌∙◌, inl, inr, arith, true≢false}
 use Rattle.std.specs.Prelude.{if◌then◌else◌, option_and_then}
 use Rattle.std.proofs.lemmas.Bool.{and_parts}
 use Rattle.std.proofs.lemmas.List.{drop_all}
 use Rattle.nook_data.specs.declared.calls.Answer.{Answer}
+use Rattle.nook_data.specs.declared.calls.Answer.TheVariants as answered
 use Rattle.nook_data.specs.declared.classes.Class.TheVariants.{Block}
 use Rattle.nook_data.specs.declared.steps.Event.{Event}
 use Rattle.nook_data.specs.declared.mirror.MirrorAnswer.{MirrorAnswer}
+use Rattle.nook_data.specs.declared.mirror.MirrorAnswer.TheVariants as mirror_answer
 use Rattle.nook_data.specs.declared.calls.Op.{Op}
 use Rattle.nook_data.specs.declared.calls.Op.TheVariants.{Read, Write, Send, Recv, Open, Play, Close, Get, Set}
 use Rattle.nook_data.specs.declared.scenario.PartSpec.{PartSpec}
@@ -16,11 +18,11 @@ use Rattle.promise_defs.specs.Trace.{trace}
 use Rattle.desk_like.specs.Desks.{DeskView}
 use Rattle.mirror_block.specs.declared.stop.MirrorStop.{MirrorStop}
 use Rattle.mirror_block.specs.declared.stop.MirrorStop.TheVariants as stop
-use Rattle.mirror_block.specs.Disk.{IsShown, Serves, ServesBy, ServesSaid, ShowsDevice, ShowsDisk}
-use Rattle.mirror_block.specs.Mirrors.{AreClassRuns, Ends, IsAnswered, IsDisk, IsMirror, MirrorView, SameSides, StopsAt}
+use Rattle.mirror_block.specs.Disk.{IsShown, MayAnswer, Serves, ServesBy, ServesSaid, ShowsDevice, ShowsDisk}
+use Rattle.mirror_block.specs.Mirrors.{AreClassRuns, Ends, IsMirrorAnswer, IsDisk, IsMirror, MirrorView, SameSides, StopsAt}
 use Rattle.mirror_block.specs.Rule.{Outcome, Presence, Said, MirrorStep, after_asking, asked_next, asked_of_two, asked_unless, asks_right, first_said, is_disk_op, lacks_answer, mirror_step, says, step_asking, step_checked, mirror_step_of}
-use Rattle.mirror_block.specs.Sides.{AskBothEnds, IsAskedFor, IsCut, IsFull, IsLeftCut, IsSaid, IsServed, IsSide, Sides, WantsMemory, answers_gained, answers_given}
-use Rattle.mirror_block.proofs.Outcomes.{Changes, both_same, outcome_serves, stayed}
+use Rattle.mirror_block.specs.Sides.{AskBothEnds, IsAskedFor, IsCut, IsFull, IsLeftCut, IsSaid, IsServed, IsSide, SaysGone, Sides, WantsMemory, answers_gained, answers_given}
+use Rattle.mirror_block.proofs.Outcomes.{Changes, both_gone, both_same, outcome_serves, stayed}
 use Rattle.mirror_block.proofs.Plain.{same_device}
 
 abbrev Disk : Type 0
@@ -75,6 +77,14 @@ side_stopped spec n b v s = record {
 said_side : (spec : PartSpec) (n : ℕ) (old new : DeskView) (asked : Bool) (o : Op) (l : Option Answer) → IsSide spec n false old → IsSaid spec old new asked o l → IsSide spec n false new
 said_side spec n old new asked o None s h = subst (IsSide spec n false) (sym h.1) s
 said_side spec n old new asked o (Some a) s h = side_resized spec spec.blocks n false new s.size h.3
+
+-- where each answer of a side would be Gone, it was asked if it was present, and answered Gone
+said_gone : (spec : PartSpec) (old new : DeskView) (asked present : Bool) (o : Op) (l : Option Answer) → static_check Block spec.blocks o ≡ None
+    → IsSaid spec old new asked o l → (present ≡ true → asked ≡ true) → ((a : Answer) → l ≡ Some a → MayAnswer a o → (failures : ℕ) × (a ≡ answered.Gone failures))
+    → SaysGone present (answers_gained old new)
+said_gone spec old new asked present o None check h asks gone here = absurd (true≢false (sym (asks here) ∙ h.0))
+said_gone spec old new asked present o (Some a) check h asks gone here =
+    let k = gone a refl (h.5 check) in (k.0, h.2 ∙ ap (λ (x : Answer). x ∷ []) k.1)
 
 -- ---- the disk of one side
 
@@ -182,7 +192,17 @@ module _ {D : Type 0} (spec : D → PartSpec) (m : MirrorView D) (o : Op) (ln rn
         (said_unasked (spec m.right_desk) m.right rn (asks_right m.present o l) o r hr)
         some)
 
-    pub answered_ends : IsAnswered m (after out.present false) o out.answer
+    -- both are lost only where each side that was present answered Gone
+    lost : out.answer ≡ mirror_answer.BothLost → SaysGone m.present.left (answers_gained m.left ln) × SaysGone m.present.right (answers_gained m.right rn)
+    lost e =
+        let k = both_gone m.present o l r disk_op e in
+        let left_checked : static_check Block (spec m.left_desk).blocks o ≡ None = ap (λ (n : ℕ). static_check Block n o) mirror.left.size ∙ checked in
+        let right_checked : static_check Block (spec m.right_desk).blocks o ≡ None = ap (λ (n : ℕ). static_check Block n o) mirror.right.size ∙ checked in (
+          said_gone (spec m.left_desk) m.left ln m.present.left m.present.left o l left_checked hl (λ here. here) k.left,
+          said_gone (spec m.right_desk) m.right rn (asks_right m.present o l) m.present.right o r right_checked hr k.asks k.right,
+        )
+
+    pub answered_ends : IsMirrorAnswer m (after out.present false) o out.answer
     answered_ends = record {
       goes = goes;
       goes_on = refl;
@@ -193,6 +213,7 @@ module _ {D : Type 0} (spec : D → PartSpec) (m : MirrorView D) (o : Op) (ln rn
           (says_so (spec m.left_desk) m.left ln m.present.left o l hl) (says_so (spec m.right_desk) m.right rn (asks_right m.present o l) o r hr);
       left = served_so (spec m.left_desk) m.left ln m.present.left o l hl;
       right = served_so (spec m.right_desk) m.right rn (asks_right m.present o l) o r hr;
+      lost = lost;
       serves = serves;
     }
 
@@ -385,16 +406,16 @@ module _ {D : Type 0} (spec : D → PartSpec) (ld rd : D) (lo ln ro rn : DeskVie
       → p ≡ (after_asking (record { left = here'; right = there' }) o l r).present.left
       → q ≡ (after_asking (record { left = here'; right = there' }) o l r).present.right
       → a ≡ (after_asking (record { left = here'; right = there' }) o l r).answer
-      → IsAnswered m (mirror_of ld' rd' ln rn p q n b) o a × IsMirror spec (mirror_of ld' rd' ln rn p q n b)
+      → IsMirrorAnswer m (mirror_of ld' rd' ln rn p q n b) o a × IsMirror spec (mirror_of ld' rd' ln rn p q n b)
   answered_by l r said ld' rd' p q here' there' a el er eh et ep eq ea =
       let out : Outcome = after_asking (record { left = here; right = there }) o l r in
       let e : after_asking (record { left = here'; right = there' }) o l r ≡ out =
       ap (λ (x : Bool). after_asking (record { left = x; right = there' }) o l r) eh ∙ ap (λ (x : Bool). after_asking (record { left = here; right = x }) o l r) et in
       let new : mirror_of ld' rd' ln rn p q n b ≡ mirror_of ld rd ln rn out.present.left out.present.right n false =
       same_fields ld' rd' p q out.present.left out.present.right b false el er (ep ∙ ap (λ (x : Outcome). x.present.left) e) (eq ∙ ap (λ (x : Outcome). x.present.right) e) going in (
-        subst (λ (x : MirrorView D). IsAnswered x (mirror_of ld' rd' ln rn p q n b) o a) is
-            (subst (λ (x : MirrorView D). IsAnswered own x o a) (sym new)
-            (subst (λ (x : MirrorAnswer). IsAnswered own (mirror_of ld rd ln rn out.present.left out.present.right n false) o x) (sym (ea ∙ ap (λ (x : Outcome). x.answer) e))
+        subst (λ (x : MirrorView D). IsMirrorAnswer x (mirror_of ld' rd' ln rn p q n b) o a) is
+            (subst (λ (x : MirrorView D). IsMirrorAnswer own x o a) (sym new)
+            (subst (λ (x : MirrorAnswer). IsMirrorAnswer own (mirror_of ld rd ln rn out.present.left out.present.right n false) o x) (sym (ea ∙ ap (λ (x : Outcome). x.answer) e))
             (answered_ends spec own o ln rn own_mirror going disk_op own_checked l r said.0 said.1))),
         subst (IsMirror spec) (sym new) (answered_keeps spec own o ln rn own_mirror going disk_op own_checked l r said.0 said.1),
       )

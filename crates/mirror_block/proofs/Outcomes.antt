@@ -10,7 +10,7 @@ use Rattle.nook_data.specs.Classes.{is_write, static_check}
 use Rattle.nook_data.specs.declared.classes.Class.TheVariants.{Block}
 use Rattle.nook_data.specs.declared.mirror.MirrorAnswer.{MirrorAnswer}
 use Rattle.part_laws.proofs.Places.{some_same}
-use Rattle.mirror_block.specs.Disk.{ServesChecked, ServesSaid}
+use Rattle.mirror_block.specs.Disk.{MayAnswer, ServesChecked, ServesSaid}
 use Rattle.mirror_block.specs.Rule.{Outcome, Presence, Said, MirrorStep, after_asking, after_failed_write, after_read, after_write, asks_right, failed_block, failed_read, is_disk_op, is_done, mirror_step, outcome, read_answer, refusal_of, says, stays_after_read, step_checked, step_refused, mirror_step_of, words_read}
 
 abbrev Blocks : Type 0
@@ -249,3 +249,65 @@ mirror_keeps n present (Play samples) lefts rights s h = absurd cc
 mirror_keeps n present Close lefts rights s h = absurd cc
 mirror_keeps n present (Get key) lefts rights s h = absurd cc
 mirror_keeps n present (Set key value) lefts rights s h = absurd cc
+
+-- ---- where no side is left
+
+gone_write : (a : Answer) (first : ℕ) (words : List ℕ) → MayAnswer a (Write first words) → is_done (Some a) ≡ false → failed_block (Some a) ≡ None
+    → (failures : ℕ) × (a ≡ answered.Gone failures)
+gone_write answered.Done first words m d f = absurd cc
+gone_write (answered.IoError block) first words m d f = absurd cc
+gone_write (answered.Gone failures) first words m d f = (failures, refl)
+gone_write a first words m d f = absurd m
+
+gone_read : (a : Answer) (first count : ℕ) → MayAnswer a (Read first count) → words_read (Some a) ≡ None → failed_block (Some a) ≡ None
+    → (failures : ℕ) × (a ≡ answered.Gone failures)
+gone_read (answered.Blocks words) first count m w f = absurd cc
+gone_read (answered.IoError block) first count m w f = absurd cc
+gone_read (answered.Gone failures) first count m w f = (failures, refl)
+gone_read a first count m w f = absurd m
+
+none_wrote : (dl dr : Bool) (fl fr : Option ℕ) → (if dl || dr then outcome dl dr mirror.Done else after_failed_write fl fr).answer ≡ mirror.BothLost
+    → (dl ≡ false) × (dr ≡ false) × (fl ≡ None) × (fr ≡ None)
+none_wrote true dr fl fr h = absurd cc
+none_wrote false true fl fr h = absurd cc
+none_wrote false false (Some block) fr h = absurd cc
+none_wrote false false None (Some block) h = absurd cc
+none_wrote false false None None h = (refl, refl, refl, refl)
+
+none_read : (wl wr : Option (List ℕ)) (fl fr : Option ℕ) → read_answer wl wr (failed_read fl fr) ≡ mirror.BothLost
+    → (wl ≡ None) × (wr ≡ None) × (fl ≡ None) × (fr ≡ None)
+none_read (Some words) wr fl fr h = absurd cc
+none_read None (Some words) fl fr h = absurd cc
+none_read None None (Some block) fr h = absurd cc
+none_read None None None (Some block) h = absurd cc
+none_read None None None None h = (refl, refl, refl, refl)
+
+-- each side that is present is asked, and answers Gone if it gives an answer to the operation
+pub record BothGone (present : Presence) (o : Op) (l r : Option Answer) : Type 0 where
+  pub left : (a : Answer) → l ≡ Some a → MayAnswer a o → (failures : ℕ) × (a ≡ answered.Gone failures)
+  pub right : (a : Answer) → r ≡ Some a → MayAnswer a o → (failures : ℕ) × (a ≡ answered.Gone failures)
+  pub asks : present.right ≡ true → asks_right present o l ≡ true
+
+pub both_gone : (present : Presence) (o : Op) (l r : Option Answer) → is_disk_op o ≡ true → (after_asking present o l r).answer ≡ mirror.BothLost
+    → BothGone present o l r
+both_gone present (Read first count) l r d h =
+    let k = none_read (words_read l) (words_read r) (failed_block l) (failed_block r) h in
+    record {
+      left = λ a e m. gone_read a first count m (ap words_read (sym e) ∙ k.0) (ap failed_block (sym e) ∙ k.2);
+      right = λ a e m. gone_read a first count m (ap words_read (sym e) ∙ k.1) (ap failed_block (sym e) ∙ k.3);
+      asks = λ here. ap (λ (b : Bool). b && (false || not (is_some (words_read l)))) here ∙ ap (λ (w : Option (List ℕ)). true && (false || not (is_some w))) k.0;
+    }
+both_gone present (Write first words) l r d h =
+    let k = none_wrote (is_done l) (is_done r) (failed_block l) (failed_block r) h in
+    record {
+      left = λ a e m. gone_write a first words m (ap is_done (sym e) ∙ k.0) (ap failed_block (sym e) ∙ k.2);
+      right = λ a e m. gone_write a first words m (ap is_done (sym e) ∙ k.1) (ap failed_block (sym e) ∙ k.3);
+      asks = λ here. ap (λ (b : Bool). b && (true || not (is_some (words_read l)))) here;
+    }
+both_gone present (Send frame) l r d h = absurd cc
+both_gone present Recv l r d h = absurd cc
+both_gone present Open l r d h = absurd cc
+both_gone present (Play samples) l r d h = absurd cc
+both_gone present Close l r d h = absurd cc
+both_gone present (Get key) l r d h = absurd cc
+both_gone present (Set key value) l r d h = absurd cc

@@ -1,5 +1,5 @@
 -- What the never-failing disk shows while one call is made on a side.
-use Rattle.std.proofs.Common.{◌≡◌, ◌⊎◌, ℕ, zero, suc, ◌&&◌, ◌||◌, not, Bool, true, false, Option, Some, None, List, [], ◌∷◌, ◌++◌, length, set, slice_get, subst, sym, refl, ap, ◌∙◌, inl, inr, arith, true≢false, eqb-true}
+use Rattle.std.proofs.Common.{◌≡◌, ◌⊎◌, ℕ, zero, suc, ◌&&◌, not, Bool, true, false, Option, Some, None, List, [], ◌∷◌, ◌++◌, length, set, slice_get, subst, sym, refl, ap, ◌∙◌, inl, inr, arith, true≢false, eqb-true}
 use Rattle.std.specs.Prelude.{if◌then◌else◌, ◌==◌, option_and_then, bytes_eq}
 use Rattle.std.specs.List.{AllByRecursion, list_all}
 use Rattle.std.proofs.lemmas.Bool.{and_parts}
@@ -489,3 +489,14 @@ call_shown size old new call o disk_op c a given idle = record {
       subst (λ (d : List (List ℕ)). ServesSaid disk o a d) is.disk_is
       (subst (λ (d : List (List ℕ)). ServesSaid d o a is.device.blocks) (ap (λ (x : Ideal). x.blocks) same ∙ was.disk_is) (k.serves checked));
 }
+
+-- where no call waits behind events, more of them without an invocation or an arrival show nothing
+pub nothing_more : (size : ℕ) (xs ys : List Event) (device : Ideal) → IsIdleBehind size xs → AllByRecursion IsOther ys → ShowsDevice size (xs ++ ys) device
+    → ShowsDevice size xs device
+nothing_more size xs ys device idle others h =
+    let c = continues size xs ys device h in
+    let kept : Kept (never_failing Block size) c.between = kept_ran (never_failing Block size) (trace xs) c.between c.shows_between in
+    let none : trace_from c.tracks ys ≡ [] =
+    idle_ran c.between device (trace_from c.tracks ys) kept.0 (idle c.between c.shows_between) (trace_answering ys c.tracks others) c.ran_on in
+    let same : c.between ≡ device = ran_none c.between device (ap (ran c.between) (sym none) ∙ c.ran_on) in
+    subst (ShowsDevice size xs) same c.shows_between

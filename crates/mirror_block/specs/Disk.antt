@@ -81,3 +81,12 @@ pub record IsShown (size : ℕ) (before seen : List Event) (o : Op) (a : Answer)
   pub continues : (device : Ideal) → ShowsDevice size seen device → (earlier : Ideal) × ShowsDevice size before earlier
   pub serves : static_check Block size o ≡ None → (disk after : List (List ℕ)) → ShowsDisk size before disk
       → ShowsDisk size seen after → ServesSaid disk o a after
+
+-- a part of class block answers an operation that passes the static check so and no otherwise: with what was asked for,
+-- with a block that failed, or with Gone
+abbrev pub MayAnswer : Answer → Op → Type 0
+MayAnswer (answered.Blocks words) (Read first count) = Unit {0}
+MayAnswer answered.Done (Write first words) = Unit {0}
+MayAnswer (answered.IoError block) o = Unit {0}
+MayAnswer (answered.Gone failures) o = Unit {0}
+MayAnswer a o = ⊥

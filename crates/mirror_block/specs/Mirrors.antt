@@ -14,7 +14,7 @@ use Rattle.mirror_block.specs.declared.stop.MirrorStop.{MirrorStop}
 use Rattle.mirror_block.specs.declared.stop.MirrorStop.TheVariants as stop
 use Rattle.mirror_block.specs.Disk.{Serves, ShowsDisk}
 use Rattle.mirror_block.specs.Rule.{Presence, asked_next, both_present, mirror_step}
-use Rattle.mirror_block.specs.Sides.{IsFull, IsServed, IsSide, WantsMemory, answers_gained}
+use Rattle.mirror_block.specs.Sides.{IsFull, IsServed, IsSide, SaysGone, WantsMemory, answers_gained}
 
 -- A mirror over two desks: what the seat at each knows, which sides are present, the blocks of the disk, and whether it
 -- stopped, since memory was wanting or a side had all the calls that a part may have.
@@ -70,9 +70,10 @@ pub record SameSides {D : Type 0} (old new : MirrorView D) : Type 0 where
   pub blocks : new.blocks ≡ old.blocks
 
 -- The operation is answered. Who is asked, who stays and the answer are one step of the rule over the answers that the
--- sides' seats saw, which are used up. Where a side stays, the answer is one that a plain disk with bad blocks may
--- give, and leaves what that disk would be.
-pub record IsAnswered {D : Type 0} (old new : MirrorView D) (o : Op) (a : MirrorAnswer) : Type 0 where
+-- sides' seats saw, which are used up. It is BothLost only where each side that was present was asked and answered
+-- Gone. Where a side stays, the answer is one that a plain disk with bad blocks may give, and leaves what that disk
+-- would be.
+pub record IsMirrorAnswer {D : Type 0} (old new : MirrorView D) (o : Op) (a : MirrorAnswer) : Type 0 where
   pub goes : old.stopped ≡ false
   pub goes_on : new.stopped ≡ false
   pub same : SameSides old new
@@ -81,6 +82,8 @@ pub record IsAnswered {D : Type 0} (old new : MirrorView D) (o : Op) (a : Mirror
       ≡ Some (record { outcome = record { present = new.present; answer = a }; left = []; right = [] })
   pub left : IsServed old.left new.left o
   pub right : IsServed old.right new.right o
+  pub lost : a ≡ mirror.BothLost → SaysGone old.present.left (answers_gained old.left new.left)
+      × SaysGone old.present.right (answers_gained old.right new.right)
   pub serves : (disk after : List (List ℕ)) → (new.present.left || new.present.right) ≡ true
       → IsDisk old disk → IsDisk new after
       → Serves old.blocks disk o a after
@@ -116,7 +119,7 @@ pub record IsStopped {D : Type 0} (old new : MirrorView D) : Type 0 where
 
 -- how an operation of the mirror ends
 abbrev pub Ends : {D : Type 0} → MirrorView D → MirrorView D → Op → Result MirrorAnswer MirrorStop → Type 0
-Ends old new o (Ok a) = IsAnswered old new o a
+Ends old new o (Ok a) = IsMirrorAnswer old new o a
 Ends old new o (Err (stop.NoMemory None)) = StopsAlone old new o
 Ends old new o (Err (stop.NoMemory (Some side))) = StopsAt old new o side WantsMemory
 Ends old new o (Err (stop.TooManyCalls side)) = StopsAt old new o side IsFull
@@ -129,5 +132,5 @@ Ends old new o (Err stop.Stopped) = IsStopped old new
 abbrev pub AreServed : {D : Type 0} → (D → PartSpec) → MirrorView D → List (Op × MirrorAnswer) → MirrorView D → Type 0
 AreServed {D} spec old [] new = new ≡ old
 AreServed {D} spec old (s ∷ served) new =
-    (between : MirrorView D) × IsAnswered old between s.0 s.1 × IsMirror spec between × AreClassRuns between
+    (between : MirrorView D) × IsMirrorAnswer old between s.0 s.1 × IsMirror spec between × AreClassRuns between
     × (s.1 ≡ mirror.BothLost → ⊥) × AreServed spec between served new

@@ -3,17 +3,19 @@ use Rattle.std.specs.Prelude.{◌≡◌, ℕ, ◌<◌, ◌⊎◌, Bool, true, fa
 use Rattle.std.specs.Prelude.{Result, Ok, Err}
 use mathlib.Core.List.{IsPrefix}
 use Rattle.nook_data.specs.declared.calls.Answer.{Answer}
+use Rattle.nook_data.specs.declared.calls.Answer.TheVariants as answered
 use Rattle.nook_data.specs.declared.classes.Class.TheVariants as class
 use Rattle.nook_data.specs.declared.steps.Event.{Event}
 use Rattle.nook_data.specs.declared.steps.Event.TheVariants as event
 use Rattle.nook_data.specs.declared.calls.Op.{Op}
 use Rattle.nook_data.specs.declared.scenario.PartSpec.{PartSpec}
 use Rattle.part_defs.specs.Runs.{IsRun, state_of}
+use Rattle.nook_data.specs.Classes.{static_check}
 use Rattle.nook_data.specs.Answers.{answer_at}
 use Rattle.desk_like.specs.Desks.{Accounts, DeskView, IsAlone}
 use Rattle.mirror_block.specs.declared.stop.MirrorStop.{MirrorStop}
 use Rattle.mirror_block.specs.declared.stop.MirrorStop.TheVariants as stop
-use Rattle.mirror_block.specs.Disk.{IsIdleBehind, IsShown}
+use Rattle.mirror_block.specs.Disk.{IsIdleBehind, IsShown, MayAnswer}
 use Rattle.mirror_block.specs.Rule.{Presence, asks_right}
 
 -- ---- what a seat has seen
@@ -106,14 +108,19 @@ WantsMemory old new o = (new ≡ old) ⊎ (IsAsked old new o × (answers_gained 
 abbrev pub IsFull : DeskView → DeskView → Op → Type 0
 IsFull old new o = (new ≡ old) × (length (invocations old.seen) ≡ 100000)
 
+-- where the side was present, it was asked and answered Gone
+abbrev pub SaysGone : Bool → List Answer → Type 0
+SaysGone present answers = present ≡ true → (failures : ℕ) × (answers ≡ answered.Gone failures ∷ [])
+
 -- ---- how asking the sides ends
 
--- The side was asked exactly where it should be, and said this. No call is open at it.
+-- The side was asked exactly where it should be, and said this, which is an answer to the operation. No call is open at
+-- it.
 abbrev pub IsSaid : PartSpec → DeskView → DeskView → Bool → Op → Option Answer → Type 0
 IsSaid spec old new asked o None = (asked ≡ false) × (new ≡ old)
 IsSaid spec old new asked o (Some a) =
     (asked ≡ true) × IsAsked old new o × (answers_gained old new ≡ a ∷ []) × IsSide spec spec.blocks false new
-    × IsShown spec.blocks old.seen new.seen o a
+    × IsShown spec.blocks old.seen new.seen o a × (static_check class.Block spec.blocks o ≡ None → MayAnswer a o)
 
 -- the side, 0 or 1, was asked and cut off
 abbrev pub IsCut : PartSpec → DeskView → DeskView → ℕ → Bool → Op → MirrorStop → Type 0

@@ -1,14 +1,17 @@
 -- Events that are added to what a side's seat has seen: the answers and the invocations in them.
-use Rattle.std.proofs.Common.{◌≡◌, ◌⊎◌, inl, inr, ℕ, suc, ◌≤◌, Option, Some, None, List, [], ◌∷◌, ◌++◌, length, refl, sym, ap, ◌∙◌, arith, append-nil, length-append}
+use Rattle.std.proofs.Common.{◌≡◌, ◌⊎◌, inl, inr, ℕ, suc, ◌≤◌, Option, Some, None, List, [], ◌∷◌, ◌++◌, length, refl, sym, ap, subst, ◌∙◌, arith, append-nil, length-append}
 use Rattle.std.specs.List.{AllByRecursion}
 use Rattle.nook_data.specs.declared.calls.Answer.{Answer}
 use Rattle.nook_data.specs.declared.steps.Event.{Event}
 use Rattle.nook_data.specs.declared.steps.Event.TheVariants as event
 use Rattle.nook_data.specs.declared.calls.Op.{Op}
+use Rattle.nook_data.specs.declared.classes.Class.TheVariants.{Block}
+use Rattle.nook_data.specs.Classes.{static_check}
 use Rattle.desk_like.specs.Desks.{DeskView, IsOther}
-use Rattle.mirror_block.specs.Sides.{Invocation, IsAskedFor, IsServed, and_more, answers_gained, answers_given, first_answer, invocations, or_later}
+use Rattle.mirror_block.specs.Sides.{Invocation, IsAskedFor, IsServed, and_more, answers_gained, answers_given, first_answer, gained, invocations, or_later}
 use Rattle.mirror_block.proofs.Gains.{gained_is}
-use Rattle.mirrored_run.proofs.ClassRuns.{invoked_parts}
+use Rattle.mirrored_run.specs.Exchanges.{IsAsking}
+use Rattle.mirrored_run.proofs.ClassRuns.{AreChecked, invoked_parts}
 
 -- each call that is invoked in these events is answered in them
 abbrev pub AllAnswered : List Event → Type 0
@@ -81,43 +84,43 @@ others_given (event.Arrive frame kept ∷ events) h = absurd h.0
 
 -- ---- what one operation adds to what a side has seen
 
--- the call that was invoked for an operation
-abbrev pub owned : ℕ → Op → Invocation
-owned call o = record { call = call; thread = 0; op = o }
-
-pub record Grows (old new : DeskView) (o : Op) (answers : List Answer) : Type 0 where
-  pub more : List Event
+-- an operation added these events
+pub record Grows (old new : DeskView) (o : Op) (more : List Event) : Type 0 where
   pub seen : old.seen ++ more ≡ new.seen
-  pub given : answers_given more ≡ answers
+  pub given : answers_given more ≡ answers_gained old new
   pub all : AllAnswered more
-  pub asked : ((answers ≡ []) × (invocations more ≡ [])) ⊎ ((a : Answer) × (call : ℕ) × (answers ≡ a ∷ []) × (invocations more ≡ owned call o ∷ []))
+  pub asked : IsAsking o more (answers_given more)
 
-pub grows : (old new : DeskView) (o : Op) → IsServed old new o → Grows old new o (answers_gained old new)
+pub grows : (old new : DeskView) (o : Op) → IsServed old new o → (more : List Event) × Grows old new o more
 grows old new o h = by_answers (answers_gained old new) refl h
   where
-    only : (a : Answer) (answers : List Answer) → length (a ∷ answers) ≤ 1 → a ∷ answers ≡ a ∷ []
-    only a [] l = refl
-    only a (b ∷ answers) l = absurd (omega arith)
-
-    by_answers : (answers : List Answer) → answers_gained old new ≡ answers → IsAskedFor old new o answers → Grows old new o answers
-    by_answers [] e h = record {
-      more = [];
-      seen = append-nil old.seen ∙ ap (λ (v : DeskView). v.seen) (sym h);
-      given = refl;
-      all = refl;
-      asked = inl (refl, refl);
-    }
+    by_answers : (answers : List Answer) → answers_gained old new ≡ answers → IsAskedFor old new o answers → (more : List Event) × Grows old new o more
+    by_answers [] e h = ([], record { seen = append-nil old.seen ∙ ap (λ (v : DeskView). v.seen) (sym h); given = sym e; all = refl; asked = refl })
     by_answers (a ∷ answers) e h =
-        let gained = gained_is old new h.seen.0 h.seen.1 in
-        let given : answers_given h.seen.0 ≡ a ∷ answers = ap answers_given (sym gained) ∙ e in
-        let invoked : invocations h.seen.0 ≡ owned h.call o ∷ [] = ap invocations (sym gained) ∙ h.invoked in
-        let few = answers_fewer h.seen.0 in
-        let one : length (invocations h.seen.0) ≡ 1 = ap (λ (l : List Invocation). length l) invoked in
-        let long : length (answers_given h.seen.0) ≡ suc (length answers) = ap (λ (l : List Answer). length l) given in
-        record {
-          more = h.seen.0;
-          seen = h.seen.1;
-          given = given;
-          all = omega arith;
-          asked = inr (a, h.call, only a answers (omega arith), invoked);
-        }
+        let more : List Event = h.seen.0 in
+        let is : gained old new ≡ more = gained_is old new more h.seen.1 in
+        let given : answers_given more ≡ answers_gained old new = ap answers_given (sym is) in
+        let invoked : invocations more ≡ record { call = h.call; thread = 0; op = o } ∷ [] = ap invocations (sym is) ∙ h.invoked in
+        let few = answers_fewer more in
+        let one : length (invocations more) ≡ 1 = ap (λ (l : List Invocation). length l) invoked in
+        let long : length (answers_given more) ≡ suc (length answers) = ap (λ (l : List Answer). length l) (given ∙ e) in (
+          more,
+          record {
+            seen = h.seen.1;
+            given = given;
+            all = omega arith;
+            asked = subst (IsAsking o more) (sym (given ∙ e)) (h.call, invoked);
+          },
+        )
+
+-- a side was asked at most once
+pub asked_once : (o : Op) (more : List Event) (answers : List Answer) → IsAsking o more answers → length (invocations more) ≤ 1
+asked_once o more [] h = let none : length (invocations more) ≡ 0 = ap (λ (l : List Event). length (invocations l)) h in omega arith
+asked_once o more (a ∷ answers) h = let one : length (invocations more) ≡ 1 = ap (λ (l : List Invocation). length l) h.1 in omega arith
+
+-- the static check passes the call that it was asked, if it was
+pub own_checked : (blocks : ℕ) (o : Op) (more : List Event) (answers : List Answer) → IsAsking o more answers → (static_check Block blocks o ≡ None) ⊎ (answers ≡ [])
+    → AreChecked blocks (invocations more)
+own_checked blocks o more [] h check = subst (λ (l : List Event). AreChecked blocks (invocations l)) (sym h) tt
+own_checked blocks o more (a ∷ answers) h (inl c) = subst (AreChecked blocks) (sym h.1) (c, tt)
+own_checked blocks o more (a ∷ answers) h (inr none) = absurd cc

@@ -1,7 +1,7 @@
 -- A disk whose driver kept the contract and that answered no call Gone shows one run of the class's never-failing disk,
 -- also where its part was given up with no call open.
 use Rattle.std.proofs.Common.{◌≡◌, inl, inr, ℕ, ◌+◌, ◌<◌, ◌≤◌, ◌&&◌, not, is_some, nat_le, nat_lt, eqb, true, false, Option, Some, None, List, [], ◌∷◌, ◌++◌, length, eq-eqb, refl, sym, ap, subst, ◌∙◌, arith, true≢false}
-use Rattle.std.specs.List.{AllByRecursion}
+use Rattle.std.specs.List.{AllByRecursion, list_any}
 use Rattle.std.proofs.lemmas.Bool.{and_parts, cond-false, cond-true, leb-false, leb-true}
 use Rattle.nook_data.specs.declared.calls.Answer.{Answer}
 use Rattle.nook_data.specs.declared.calls.Answer.TheVariants as answered
@@ -20,12 +20,14 @@ use Rattle.part_defs.specs.Calls.{answer_in, after_invoke}
 use Rattle.part_defs.proofs.PartCases.{invoked_by}
 use Rattle.nook_data.specs.Classes.{same_class, static_check}
 use Rattle.promise_defs.specs.Contract.{first_break, known_first}
-use Rattle.promise_defs.specs.Ideal.{IsClassRun}
+use Rattle.promise_defs.specs.Ideal.{Ideal, IsClassRun, class_run, never_failing, ran}
 use Rattle.part_defs.specs.Log.{call_of_thread, gone_answers, opening_log}
 use Rattle.part_defs.specs.Views.CallLogs.{IsNumbered}
 use Rattle.nook_data.specs.Answers.{one_answer}
 use Rattle.part_defs.specs.Runs.{IsRun, IsRunFrom, event_of, state_after, state_from, state_of, step_of}
 use Rattle.nook_data.specs.Answers.{answer_at, answer_among}
+use Rattle.machine_defs.specs.Devices.{medium_of}
+use Rattle.part_defs.specs.Domain.{collected_domain}
 use Rattle.part_defs.specs.Stages.{collects, stage_due, stage_stepped}
 use Rattle.part_defs.specs.State.{PartState}
 use Rattle.part_defs.specs.Steps.{enabled, is_driven, is_inside, is_ready, is_running, opening, stepped}
@@ -35,15 +37,16 @@ use Rattle.part_laws.proofs.UnansweredCalls.{open_after}
 use Rattle.part_laws.proofs.DeviceStays.{spec_after, run_spec}
 use Rattle.part_laws.specs.Bound.{calls_of, is_invoke}
 use Rattle.part_laws.specs.Facts.{is_dead}
-use Rattle.part_laws.specs.Recovery.{Gone}
+use Rattle.part_laws.specs.Views.{ideal_of, view_of}
+use Rattle.part_laws.specs.Recovery.{Gone, IsKeptRun, ShowsDevice, has_write, is_write_call}
 use Rattle.part_laws.proofs.Counts.{counted_from}
 use Rattle.part_laws.proofs.Places.{split}
-use Rattle.part_laws.proofs.ReadAloud.{kept_shows_one_run}
+use Rattle.part_laws.proofs.ReadAloud.{kept_agrees, kept_facts}
 use Rattle.part_laws.proofs.Recovered.{gone_stays}
 use Rattle.part_laws.proofs.RunBound.{count_more}
 use Rattle.part_laws.proofs.Stages.{with_mode}
 use Rattle.mirror_block.specs.Sides.{Invocation, and_more, answers_given, first_answer, invocations, or_later}
-use Rattle.mirror_block.proofs.Calls.{run_parts, invoke_number}
+use Rattle.mirror_block.proofs.Calls.{invoke_number, run_parts, state_parts}
 use Rattle.mirrored_run.proofs.GivingUp.{GivenUp, StopsAll, given_up_in, gives_up, gone_given, has_gone, more_gone, trace_ends, unbroken_before}
 
 -- the static check of a disk of so many blocks passes each
@@ -103,6 +106,14 @@ dead_stage (mode.Boot s) p d e = absurd cc
 dead_stage mode.Running p d s = absurd cc
 dead_stage (mode.Recovering s) p d e = absurd cc
 
+dead_stage_device : (m : Mode) (p : PartState) → is_dead m ≡ true → is_some (stage_due m) ≡ true → (stage_stepped (with_mode m p)).state.domain.device ≡ p.domain.device
+unfolding stage_stepped collects collected_domain
+dead_stage_device (mode.Dead false) p d s = refl
+dead_stage_device (mode.Dead true) p d s = absurd cc
+dead_stage_device (mode.Boot s) p d e = absurd cc
+dead_stage_device mode.Running p d s = absurd cc
+dead_stage_device (mode.Recovering s) p d e = absurd cc
+
 no_arrival : (p : PartState) (frame : List ℕ) → p.spec.class ≡ class.Block → enabled p (step.Arrive frame) ≡ true → ⊥
 unfolding enabled
 no_arrival p frame b e =
@@ -130,6 +141,21 @@ module _ (spec : PartSpec) (block : spec.class ≡ class.Block) where
       ap (λ (xs : List (ℕ × Answer)). shown_answers xs ts ++ trace_from ts events) none
       ∙ nothing_shown events (state_after p step.Stage) (gone_stays p step.Stage g r.0) (spec_after p step.Stage ∙ s) r.2 c n ts
   nothing_shown (event.Arrive frame kept ∷ events) p g s r c n ts = absurd (no_arrival p frame (ap (λ (x : PartSpec). x.class) s ∙ block) r.0)
+
+  -- nor does the device change
+  device_stays : (events : List Event) (p : PartState) → Gone p → p.spec ≡ spec → IsRunFrom p events → AreChecked spec.blocks (invocations events)
+      → has_gone (answers_given events) ≡ false → (state_from p events).domain.device ≡ p.domain.device
+  unfolding IsRunFrom state_from enabled stepped
+  device_stays [] p g s r c n = refl
+  device_stays (event.Invoke k t o a ∷ events) p g s r c n =
+      absurd (true≢false (sym (gone_first k t p.failures o a events (dead_invoke p k t o a g.0 (checked_so p o s c.0) r.1)) ∙ n))
+  device_stays (event.Enter k t attempt a ∷ events) p g s r c n =
+      absurd (dead_runs p.mode g.0 (and_parts (is_running p.mode) (is_ready p (call_of_thread t p.log.pending)) r.0).0)
+  device_stays (event.Burst context k burst count end acts a failure ∷ events) p g s r c n = absurd (dead_bursts p context g r.0)
+  device_stays (event.Stage st answers released ∷ events) p g s r c n =
+      device_stays events (state_after p step.Stage) (gone_stays p step.Stage g r.0) (spec_after p step.Stage ∙ s) r.2 c n
+      ∙ dead_stage_device p.mode p g.0 (and_parts (is_some (stage_due p.mode)) (not (is_driven p)) r.0).0
+  device_stays (event.Arrive frame kept ∷ events) p g s r c n = absurd (no_arrival p frame (ap (λ (x : PartSpec). x.class) s ∙ block) r.0)
 
 -- ---- a call that was open where the part was given up
 
@@ -248,14 +274,38 @@ stop_shows spec block q behind ts e h =
     → Gone (state_after q (step_of x)) → (state_after q (step_of x)).spec ≡ spec → trace_from ts (x ∷ behind) ≡ [])
     (sym h) (λ r c n g s. nothing_shown spec block behind (state_after q step.Stage) g s r.2 c n ts)
 
-pub one_run : (spec : PartSpec) (seen : List Event) → spec.class ≡ class.Block → IsRun spec seen → first_break spec.class spec.blocks seen ≡ None
-    → AreChecked spec.blocks (invocations seen) → has_gone (answers_given seen) ≡ false → IsClassRun spec.class spec.blocks (trace seen)
+-- a Stop that answers nothing, and what is behind it, leaves the device alone
+stop_device : (spec : PartSpec) → spec.class ≡ class.Block → (q : PartState) (behind : List Event) (e : Event) → e ≡ event.Stage stage.Stop [] []
+    → IsRunFrom q (e ∷ behind) → AreChecked spec.blocks (invocations (e ∷ behind)) → has_gone (answers_given (e ∷ behind)) ≡ false
+    → Gone (state_after q (step_of e)) → (state_after q (step_of e)).spec ≡ spec → (state_after q (step_of e)).domain.device ≡ q.domain.device
+    → (state_from q (e ∷ behind)).domain.device ≡ q.domain.device
+unfolding IsRunFrom state_from
+stop_device spec block q behind e h =
+    subst (λ (x : Event). IsRunFrom q (x ∷ behind) → AreChecked spec.blocks (invocations (x ∷ behind)) → has_gone (answers_given (x ∷ behind)) ≡ false
+    → Gone (state_after q (step_of x)) → (state_after q (step_of x)).spec ≡ spec → (state_after q (step_of x)).domain.device ≡ q.domain.device
+    → (state_from q (x ∷ behind)).domain.device ≡ q.domain.device)
+    (sym h) (λ r c n g s d. device_stays spec block behind (state_after q step.Stage) g s r.2 c n ∙ d)
+
+-- events show one run of the never-failing disk, whose blocks the part's medium has where no Write is open
+pub record ShowsOne (spec : PartSpec) (seen : List Event) : Type 0 where
+  pub device : Ideal
+  pub shows : ShowsDevice spec seen device
+  pub medium : has_write (state_of spec seen) ≡ false → medium_of (state_of spec seen).domain.device ≡ device.blocks
+
+shows_kept : (spec : PartSpec) (seen : List Event) → IsKeptRun spec seen → ShowsOne spec seen
+shows_kept spec seen kept =
+    let f = kept_facts spec seen kept in
+    let device : Ideal = ideal_of (view_of (state_of spec seen)) f.past in
+    record { device = device; shows = f.shown; medium = (kept_agrees spec seen device kept f.shown).medium }
+
+pub shows_one : (spec : PartSpec) (seen : List Event) → spec.class ≡ class.Block → IsRun spec seen → first_break spec.class spec.blocks seen ≡ None
+    → AreChecked spec.blocks (invocations seen) → has_gone (answers_given seen) ≡ false → ShowsOne spec seen
 unfolding first_break trace IsRunFrom
-one_run spec seen block run contract checked none = split (is_dead (state_of spec seen).mode)
+shows_one spec seen block run contract checked none = split (is_dead (state_of spec seen).mode)
     (λ t. by_parts (given_up_in seen (opening spec) (opening_alive spec) t))
-    (λ t. kept_shows_one_run spec seen (record { run = run; contract = contract; alive = t }))
+    (λ t. shows_kept spec seen (record { run = run; contract = contract; alive = t }))
   where
-    by_parts : GivenUp (opening spec) seen → IsClassRun spec.class spec.blocks (trace seen)
+    by_parts : GivenUp (opening spec) seen → ShowsOne spec seen
     by_parts k = by_pending q.log.pending refl
       where
         q : PartState
@@ -270,8 +320,8 @@ one_run spec seen block run contract checked none = split (is_dead (state_of spe
         event_is : k.event ≡ event.Stage stage.Stop (gone_answers q.failures q.log.pending) []
         event_is = sym parts.1.1 ∙ stops.0
 
-        before_run : IsClassRun spec.class spec.blocks (trace k.before)
-        before_run = kept_shows_one_run spec k.before (record {
+        before : ShowsOne spec k.before
+        before = shows_kept spec k.before (record {
           run = parts.0;
           contract = unbroken_before 1 (known_first spec.class spec.blocks) k.before (k.event ∷ k.behind)
               (ap (λ (l : List Event). first_break spec.class spec.blocks l) k.parts ∙ contract);
@@ -293,14 +343,32 @@ one_run spec seen block run contract checked none = split (is_dead (state_of spe
             (λ t. absurd (true≢false (sym (gone_behind k.before (k.event ∷ k.behind) t) ∙ ap (λ (l : List Event). has_gone (answers_given l)) k.parts ∙ none)))
             (λ t. t)
 
-        nothing : q.log.pending ≡ [] → (ts : List Track) → trace_from ts (k.event ∷ k.behind) ≡ []
-        nothing h ts =
-            stop_shows spec block q k.behind ts k.event (event_is ∙ ap (λ (xs : List CallEntry). event.Stage stage.Stop (gone_answers q.failures xs) []) h)
-            parts.1 checked_rest none_rest gone same
+        stops_so : q.log.pending ≡ [] → k.event ≡ event.Stage stage.Stop [] []
+        stops_so h = event_is ∙ ap (λ (xs : List CallEntry). event.Stage stage.Stop (gone_answers q.failures xs) []) h
 
-        by_pending : (xs : List CallEntry) → q.log.pending ≡ xs → IsClassRun spec.class spec.blocks (trace seen)
+        nothing : q.log.pending ≡ [] → (ts : List Track) → trace_from ts (k.event ∷ k.behind) ≡ []
+        nothing h ts = stop_shows spec block q k.behind ts k.event (stops_so h) parts.1 checked_rest none_rest gone same
+
+        same_trace : q.log.pending ≡ [] → trace seen ≡ trace k.before
+        same_trace h = ap (trace_from []) (sym k.parts) ∙ trace_ends k.before (k.event ∷ k.behind) [] (nothing h)
+
+        same_device : q.log.pending ≡ [] → (state_of spec seen).domain.device ≡ q.domain.device
+        same_device h =
+            ap (λ (l : List Event). (state_of spec l).domain.device) (sym k.parts)
+            ∙ ap (λ (p : PartState). p.domain.device) (state_parts (opening spec) k.before (k.event ∷ k.behind))
+            ∙ stop_device spec block q k.behind k.event (stops_so h) parts.1 checked_rest none_rest gone same stops.2
+
+        by_pending : (xs : List CallEntry) → q.log.pending ≡ xs → ShowsOne spec seen
         by_pending (c ∷ cs) h = absurd (true≢false (sym
             (open_gone spec k.before k.behind k.event c cs q.failures parts.0 h (event_is ∙ ap (λ (xs : List CallEntry). event.Stage stage.Stop (gone_answers q.failures xs) []) h))
             ∙ ap (λ (l : List Event). has_gone (answers_given l)) k.parts ∙ none))
-        by_pending [] h = subst (IsClassRun spec.class spec.blocks)
-            (sym (trace_ends k.before (k.event ∷ k.behind) [] (nothing h)) ∙ ap (trace_from []) k.parts) before_run
+        by_pending [] h = record {
+          device = before.device;
+          shows = ap (ran (never_failing spec.class spec.blocks)) (same_trace h) ∙ before.shows;
+          medium = λ w. ap medium_of (same_device h) ∙ before.medium (ap (list_any is_write_call) h);
+        }
+
+pub one_run : (spec : PartSpec) (seen : List Event) → spec.class ≡ class.Block → IsRun spec seen → first_break spec.class spec.blocks seen ≡ None
+    → AreChecked spec.blocks (invocations seen) → has_gone (answers_given seen) ≡ false → IsClassRun spec.class spec.blocks (trace seen)
+unfolding class_run
+one_run spec seen block run contract checked none = ap is_some (shows_one spec seen block run contract checked none).shows

@@ -176,9 +176,9 @@ crossed_lives context (ends.Reply status) p h =
     (failed_crossing p (end.Reply status) (shadow_fault status (stage_in p.mode))) (next_mode_lives p.mode p h) refl)
     (reply_mode status p (call_of_thread context p.log.pending) h)
 
--- a step is a Stop that answers all open calls Gone, and nothing is driven behind it
+-- a step is a Stop that answers all open calls Gone; nothing is driven behind it, and the device is as it was
 abbrev pub StopsAll : PartState → Stepped → Type 0
-StopsAll p t = (t.event ≡ event.Stage stage.Stop (gone_answers p.failures p.log.pending) []) × (is_driven t.state ≡ false)
+StopsAll p t = (t.event ≡ event.Stage stage.Stop (gone_answers p.failures p.log.pending) []) × (is_driven t.state ≡ false) × (t.state.domain.device ≡ p.domain.device)
 
 stop_gives_up : (p : PartState) → is_dead (if is_given_up p then gives_up_part p else stops p).state.mode ≡ true
     → StopsAll p (if is_given_up p then gives_up_part p else stops p)
@@ -186,7 +186,7 @@ unfolding gives_up_part stops stopped_domain
 stop_gives_up p d = by_test (is_given_up p) d
   where
     by_test : (b : Bool) → is_dead (if b then gives_up_part p else stops p).state.mode ≡ true → StopsAll p (if b then gives_up_part p else stops p)
-    by_test true d = (refl, refl)
+    by_test true d = (refl, refl, refl)
     by_test false d = absurd cc
 
 stage_gives_up : (m : Mode) (p : PartState) → is_dead m ≡ false → is_dead (stage_stepped (with_mode m p)).state.mode ≡ true

@@ -6,3 +6,4 @@ pub mod Plain
 pub mod Room
 pub mod Stepping
 pub mod Whole
+pub mod Worked

@@ -1,33 +1,43 @@
--- The answers of a mirror are those of one plain disk where both drivers kept the contract and some side is always left.
-use Rattle.std.proofs.Common.{◌≡◌, ◌⊎◌, inl, inr, ℕ, ◌||◌, Bool, true, false, None, List, [], ◌∷◌, ◌++◌, zip, refl, sym, ap, subst, ◌∙◌, append_assoc, true≢false}
+-- The answers of a mirror are those of one plain disk while both drivers keep the contract and some side is left, and each
+-- side that is present at the end has that disk.
+use Rattle.std.proofs.Common.{◌≡◌, ◌⊎◌, inl, inr, ℕ, ◌||◌, Bool, true, false, None, Some, List, [], ◌∷◌, ◌++◌, map, refl, sym, ap, subst, ◌∙◌, append-nil, append_assoc, true≢false}
 use Rattle.std.specs.List.{list_any}
 use Rattle.std.proofs.lemmas.Bool.{or_left}
 use mathlib.Core.List.{IsPrefix}
 use Rattle.nook_data.specs.declared.calls.Answer.{Answer}
+use Rattle.nook_data.specs.declared.calls.CallEntry.{CallEntry}
 use Rattle.nook_data.specs.declared.classes.Class.{Class}
 use Rattle.nook_data.specs.declared.classes.Class.TheVariants as class
 use Rattle.nook_data.specs.declared.steps.Event.{Event}
 use Rattle.nook_data.specs.declared.mirror.MirrorAnswer.{MirrorAnswer}
 use Rattle.nook_data.specs.declared.mirror.MirrorAnswer.TheVariants as mirror
 use Rattle.nook_data.specs.declared.calls.Op.{Op}
+use Rattle.nook_data.specs.declared.calls.Op.TheVariants.{Read}
 use Rattle.nook_data.specs.declared.scenario.PartSpec.{PartSpec}
 use Rattle.promise_defs.specs.Blocks.{blank_blocks}
-use Rattle.nook_data.specs.Classes.{static_check}
+use Rattle.nook_data.specs.Classes.{is_write, static_check}
 use Rattle.promise_defs.specs.Contract.{first_break, known_first}
-use Rattle.promise_defs.specs.Ideal.{IsClassRun, never_failing, ran}
+use Rattle.promise_defs.specs.Ideal.{Ideal, IsClassRun, never_failing, ran}
 use Rattle.promise_defs.specs.Trace.{trace, trace_from}
+use Rattle.part_defs.specs.Runs.{IsRun, state_from, state_of}
+use Rattle.part_defs.specs.Steps.{opening}
+use Rattle.part_laws.specs.Recovery.{has_write, is_write_call}
 use Rattle.desk_like.specs.Desks.{DeskView}
-use Rattle.mirror_block.specs.Disk.{ServesAll, ShowsDisk}
-use Rattle.mirror_block.specs.Mirrors.{AreClassRuns, AreServed, IsAnswered, IsDisk, IsMirror, MirrorView}
-use Rattle.mirror_block.specs.Sides.{IsSide, answers_gained, answers_given, invocations}
+use Rattle.mirror_block.specs.Disk.{ShowsDevice, ShowsDisk}
+use Rattle.mirror_block.specs.Mirrors.{AreClassRuns, AreServed, IsDisk, IsMirror, IsMirrorAnswer, MirrorView}
+use Rattle.mirror_block.specs.Sides.{Invocation, IsSide, answers_gained, answers_given, invocations}
+use Rattle.mirror_block.proofs.Calls.{run_parts, state_parts}
+use Rattle.mirror_block.proofs.DiskAnswers.{OnlyOp, others_only}
 use Rattle.mirror_block.proofs.OneDisk.{one_disk_serves}
-use Rattle.mirrored_run.specs.Mirrors.{is_lost}
-use Rattle.mirrored_run.specs.Serving.{AreServedBy}
-use Rattle.mirrored_run.proofs.Adding.{AllAnswered, Grows, answered_parts, given_parts, grows}
-use Rattle.mirrored_run.proofs.Behind.{behind, checked_parts, own_checked, stays_on}
-use Rattle.mirrored_run.proofs.ClassRuns.{AreChecked, one_run}
+use Rattle.mirror_block.proofs.Plain.{nothing_more, same_device}
+use Rattle.mirrored_run.specs.Exchanges.{ArePlain, Exchange, answers_of, left_events, right_events}
+use Rattle.mirrored_run.specs.Mirrors.{end_medium, is_lost}
+use Rattle.mirrored_run.proofs.Adding.{AllAnswered, Grows, answered_parts, given_parts, others_given, others_invoke, own_checked}
+use Rattle.mirrored_run.proofs.Behind.{Exchanged, checked_parts, left_seen, right_seen, same_sides, stays_on}
+use Rattle.mirrored_run.proofs.ClassRuns.{AreChecked, ShowsOne, invoked_parts, one_run, shows_one}
 use Rattle.mirrored_run.proofs.GivingUp.{has_gone, unbroken_before}
 use Rattle.mirrored_run.proofs.Stepping.{StaysBy, step_checks, step_stays}
+use Rattle.threaded_run.specs.Leaving.{GoesOn}
 
 -- ---- one side
 
@@ -40,22 +50,26 @@ pub record IsClean (size : ℕ) (present : Bool) (seen : List Event) : Type 0 wh
 pub clean_first : (size : ℕ) (present : Bool) (seen : List Event) → seen ≡ [] → IsClean size present seen
 clean_first size present seen e = subst (IsClean size present) (sym e) (record { all = refl; checked = tt; none = λ h. refl })
 
-clean_next : (size : ℕ) (was is : Bool) (old new : DeskView) (o : Op) (answers : List Answer) → Grows old new o answers → StaysBy is was answers
-    → (static_check class.Block size o ≡ None) ⊎ (answers ≡ []) → IsClean size was old.seen → IsClean size is new.seen
-clean_next size was is old new o answers g stays check c = subst (IsClean size is) g.seen (record {
-  all = answered_parts old.seen g.more c.all g.all;
-  checked = checked_parts size old.seen g.more c.checked (own_checked old new o answers g size check);
+clean_next : (size : ℕ) (was is : Bool) (old new : DeskView) (o : Op) (more : List Event) → Grows old new o more → StaysBy is was (answers_gained old new)
+    → (static_check class.Block size o ≡ None) ⊎ (answers_gained old new ≡ []) → IsClean size was old.seen → IsClean size is new.seen
+clean_next size was is old new o more g stays check c = subst (IsClean size is) g.seen (record {
+  all = answered_parts old.seen more c.all g.all;
+  checked = checked_parts size old.seen more c.checked (own_checked size o more (answers_given more) g.asked (by_check check));
   none = λ h.
-      let given : answers_given (old.seen ++ g.more) ≡ answers_given old.seen ++ answers =
-      given_parts old.seen g.more c.all ∙ ap (λ (l : List Answer). answers_given old.seen ++ l) g.given in
-      ap has_gone given ∙ (stays_on true was is (answers_given old.seen) answers (λ w. (refl, c.none w)) stays h).1;
+      let given : answers_given (old.seen ++ more) ≡ answers_given old.seen ++ answers_gained old new =
+      given_parts old.seen more c.all ∙ ap (λ (l : List Answer). answers_given old.seen ++ l) g.given in
+      ap has_gone given ∙ (stays_on true was is (answers_given old.seen) (answers_gained old new) (λ w. (refl, c.none w)) stays h).1;
 })
+  where
+    by_check : (static_check class.Block size o ≡ None) ⊎ (answers_gained old new ≡ []) → (static_check class.Block size o ≡ None) ⊎ (answers_given more ≡ [])
+    by_check (inl k) = inl k
+    by_check (inr k) = inr (g.given ∙ k)
 
 -- the driver kept the contract over a journal that begins so
-abbrev Unbroken : PartSpec → List Event → Type 0
+abbrev pub Unbroken : PartSpec → List Event → Type 0
 Unbroken s seen = first_break s.class s.blocks seen ≡ None
 
-before_unbroken : (s : PartSpec) (seen journal : List Event) → IsPrefix seen journal → Unbroken s journal → Unbroken s seen
+pub before_unbroken : (s : PartSpec) (seen journal : List Event) → IsPrefix seen journal → Unbroken s journal → Unbroken s seen
 unfolding first_break
 before_unbroken s seen journal p h =
     unbroken_before 1 (known_first s.class s.blocks) seen p.0 (ap (λ (l : List Event). first_break s.class s.blocks l) p.1 ∙ h)
@@ -76,28 +90,28 @@ record AreClean {D : Type 0} (m : MirrorView D) : Type 0 where
   left : IsClean m.blocks m.present.left m.left.seen
   right : IsClean m.blocks m.present.right m.right.seen
 
-clean_after : {D : Type 0} (old new : MirrorView D) (o : Op) (a : MirrorAnswer) → IsAnswered old new o a → AreClean old → AreClean new
-clean_after old new o a h c = record {
+clean_after : {D : Type 0} (old new : MirrorView D) (x : Exchange) → IsMirrorAnswer old new x.op x.answer → Grows old.left new.left x.op x.left
+    → Grows old.right new.right x.op x.right → AreClean old → AreClean new
+clean_after old new x h gl gr c = record {
   left = subst (λ (n : ℕ). IsClean n new.present.left new.left.seen) (sym h.same.blocks)
-      (clean_next old.blocks old.present.left new.present.left old.left new.left o (answers_gained old.left new.left) (grows old.left new.left o h.left)
-      (step_stays old.blocks old.present o (answers_gained old.left new.left) (answers_gained old.right new.right) (record { present = new.present; answer = a }) h.step).0
-      (left_checks checks) c.left);
+      (clean_next old.blocks old.present.left new.present.left old.left new.left x.op x.left gl stays.0 (left_checks checks) c.left);
   right = subst (λ (n : ℕ). IsClean n new.present.right new.right.seen) (sym h.same.blocks)
-      (clean_next old.blocks old.present.right new.present.right old.right new.right o (answers_gained old.right new.right) (grows old.right new.right o h.right)
-      (step_stays old.blocks old.present o (answers_gained old.left new.left) (answers_gained old.right new.right) (record { present = new.present; answer = a }) h.step).1
-      (right_checks checks) c.right);
+      (clean_next old.blocks old.present.right new.present.right old.right new.right x.op x.right gr stays.1 (right_checks checks) c.right);
 }
   where
-    checks : (static_check class.Block old.blocks o ≡ None) ⊎ ((answers_gained old.left new.left ≡ []) × (answers_gained old.right new.right ≡ []))
-    checks = step_checks old.blocks old.present o (answers_gained old.left new.left) (answers_gained old.right new.right) (record { present = new.present; answer = a }) h.step
+    stays : StaysBy new.present.left old.present.left (answers_gained old.left new.left) × StaysBy new.present.right old.present.right (answers_gained old.right new.right)
+    stays = step_stays old.blocks old.present x.op (answers_gained old.left new.left) (answers_gained old.right new.right) (record { present = new.present; answer = x.answer }) h.step
 
-    left_checks : (static_check class.Block old.blocks o ≡ None) ⊎ ((answers_gained old.left new.left ≡ []) × (answers_gained old.right new.right ≡ []))
-        → (static_check class.Block old.blocks o ≡ None) ⊎ (answers_gained old.left new.left ≡ [])
+    checks : (static_check class.Block old.blocks x.op ≡ None) ⊎ ((answers_gained old.left new.left ≡ []) × (answers_gained old.right new.right ≡ []))
+    checks = step_checks old.blocks old.present x.op (answers_gained old.left new.left) (answers_gained old.right new.right) (record { present = new.present; answer = x.answer }) h.step
+
+    left_checks : (static_check class.Block old.blocks x.op ≡ None) ⊎ ((answers_gained old.left new.left ≡ []) × (answers_gained old.right new.right ≡ []))
+        → (static_check class.Block old.blocks x.op ≡ None) ⊎ (answers_gained old.left new.left ≡ [])
     left_checks (inl k) = inl k
     left_checks (inr k) = inr k.0
 
-    right_checks : (static_check class.Block old.blocks o ≡ None) ⊎ ((answers_gained old.left new.left ≡ []) × (answers_gained old.right new.right ≡ []))
-        → (static_check class.Block old.blocks o ≡ None) ⊎ (answers_gained old.right new.right ≡ [])
+    right_checks : (static_check class.Block old.blocks x.op ≡ None) ⊎ ((answers_gained old.left new.left ≡ []) × (answers_gained old.right new.right ≡ []))
+        → (static_check class.Block old.blocks x.op ≡ None) ⊎ (answers_gained old.right new.right ≡ [])
     right_checks (inl k) = inl k
     right_checks (inr k) = inr k.1
 
@@ -108,44 +122,55 @@ rest_kept : (b : Bool) (c : Bool) → (b || c) ≡ false → c ≡ false
 rest_kept true c h = absurd cc
 rest_kept false c h = h
 
-module _ {D : Type 0} (spec : D → PartSpec) (l r : List Event) where
-  -- what the sides have seen begins two journals over which both drivers kept the contract
-  record Begins (m : MirrorView D) : Type 0 where
+abbrev served : List Exchange → List (Op × MirrorAnswer)
+served xs = map (λ x. (x.op, x.answer)) xs
+
+module _ {D : Type 0} (spec : D → PartSpec) where
+  -- what a mirror between has seen begins what its sides have seen at the end
+  record Begins (l r : List Event) (m : MirrorView D) : Type 0 where
     left : IsPrefix m.left.seen l
     right : IsPrefix m.right.seen r
     left_kept : Unbroken (spec m.left_desk) l
     right_kept : Unbroken (spec m.right_desk) r
 
-  runs_so : (m : MirrorView D) → IsMirror spec m → AreClean m → Begins m → AreClassRuns m
-  runs_so m is clean b = record {
+  runs_so : (l r : List Event) (m : MirrorView D) → IsMirror spec m → AreClean m → Begins l r m → AreClassRuns m
+  runs_so l r m is clean b = record {
     left = side_runs (spec m.left_desk) m.blocks m.stopped m.present.left m.left is.left clean.left (before_unbroken (spec m.left_desk) m.left.seen l b.left b.left_kept);
     right = side_runs (spec m.right_desk) m.blocks m.stopped m.present.right m.right is.right clean.right (before_unbroken (spec m.right_desk) m.right.seen r b.right b.right_kept);
   }
 
-  begins_before : (old new : MirrorView D) (ops : List Op) (answers : List MirrorAnswer) → AreServedBy spec old ops answers new → Begins new → Begins old
-  begins_before old new ops answers h b =
-      let k = behind spec old ops answers new h in
+  begins_before : (l r : List Event) (old : MirrorView D) (xs : List Exchange) (new : MirrorView D) → Exchanged spec old xs new → Begins l r new → Begins l r old
+  begins_before l r old xs new h b =
+      let same = same_sides spec old xs new h in
       record {
-        left = prefix_through old.left.seen new.left.seen l (k.left, k.left_seen) b.left;
-        right = prefix_through old.right.seen new.right.seen r (k.right, k.right_seen) b.right;
-        left_kept = subst (λ (d : D). Unbroken (spec d) l) k.same.left_desk b.left_kept;
-        right_kept = subst (λ (d : D). Unbroken (spec d) r) k.same.right_desk b.right_kept;
+        left = prefix_through old.left.seen new.left.seen l (left_events xs, left_seen spec old xs new h) b.left;
+        right = prefix_through old.right.seen new.right.seen r (right_events xs, right_seen spec old xs new h) b.right;
+        left_kept = subst (λ (d : D). Unbroken (spec d) l) same.left_desk b.left_kept;
+        right_kept = subst (λ (d : D). Unbroken (spec d) r) same.right_desk b.right_kept;
       }
 
-  are_served : (old : MirrorView D) (ops : List Op) (answers : List MirrorAnswer) (new : MirrorView D) → AreServedBy spec old ops answers new → AreClean old → Begins new
-      → list_any is_lost answers ≡ false → AreServed spec old (zip ops answers) new
-  are_served old [] [] new h c b n = h
-  are_served old [] (a ∷ answers) new h c b n = absurd h
-  are_served old (o ∷ ops) [] new h c b n = absurd h
-  are_served old (o ∷ ops) (a ∷ answers) new h c b n =
-      let clean : AreClean h.0 = clean_after old h.0 o a h.1 c in (
+  are_served : (l r : List Event) (old : MirrorView D) (xs : List Exchange) (new : MirrorView D) → Exchanged spec old xs new → AreClean old → Begins l r new
+      → list_any is_lost (answers_of xs) ≡ false → AreServed spec old (served xs) new
+  are_served l r old [] new h c b n = h
+  are_served l r old (x ∷ xs) new h c b n =
+      let clean : AreClean h.0 = clean_after old h.0 x h.1 h.3 h.4 c in (
         h.0,
         h.1,
         h.2,
-        runs_so h.0 h.2 clean (begins_before h.0 new ops answers h.3 b),
-        not_lost a answers n,
-        are_served h.0 ops answers new h.3 clean b (rest_kept (is_lost a) (list_any is_lost answers) n),
+        runs_so l r h.0 h.2 clean (begins_before l r h.0 xs new h.5 b),
+        not_lost x.answer (answers_of xs) n,
+        are_served l r h.0 xs new h.5 clean b (rest_kept (is_lost x.answer) (list_any is_lost (answers_of xs)) n),
       )
+
+  clean_behind : (old : MirrorView D) (xs : List Exchange) (new : MirrorView D) → Exchanged spec old xs new → AreClean old → AreClean new
+  clean_behind old [] new h c = subst AreClean (sym h) c
+  clean_behind old (x ∷ xs) new h c = clean_behind h.0 xs new h.5 (clean_after old h.0 x h.1 h.3 h.4 c)
+
+  clean_at_first : (m : MirrorView D) → m.left.seen ≡ [] → m.right.seen ≡ [] → AreClean m
+  clean_at_first m fl fr = record {
+    left = clean_first m.blocks m.present.left m.left.seen fl;
+    right = clean_first m.blocks m.present.right m.right.seen fr;
+  }
 
 -- before the first operation both sides show the blank disk
 blank : (size : ℕ) (seen : List Event) → seen ≡ [] → ShowsDisk size seen (blank_blocks class.Block size)
@@ -156,18 +181,66 @@ blank size seen e = subst (λ (s : List Event). ShowsDisk size s (blank_blocks c
   disk_is = refl;
 })
 
-pub plain_answers : {D : Type 0} (spec : D → PartSpec) (old : MirrorView D) (ops : List Op) (answers : List MirrorAnswer) (new : MirrorView D) (l r : List Event)
-    → AreServedBy spec old ops answers new → old.left.seen ≡ [] → old.right.seen ≡ [] → old.present.left ≡ true
-    → IsPrefix new.left.seen l → IsPrefix new.right.seen r
-    → first_break (spec new.left_desk).class (spec new.left_desk).blocks l ≡ None → first_break (spec new.right_desk).class (spec new.right_desk).blocks r ≡ None
-    → list_any is_lost answers ≡ false
-    → (after : List (List ℕ)) × ServesAll old.blocks (blank_blocks class.Block old.blocks) (zip ops answers) after
-plain_answers spec old ops answers new l r h fl fr here pl pr kl kr n =
-    let clean : AreClean old = record {
-      left = clean_first old.blocks old.present.left old.left.seen fl;
-      right = clean_first old.blocks old.present.right old.right.seen fr;
+pub plain_answers : {D : Type 0} (spec : D → PartSpec) (old : MirrorView D) (xs : List Exchange) (new : MirrorView D) → Exchanged spec old xs new
+    → old.left.seen ≡ [] → old.right.seen ≡ [] → old.present.left ≡ true → Unbroken (spec new.left_desk) new.left.seen → Unbroken (spec new.right_desk) new.right.seen
+    → list_any is_lost (answers_of xs) ≡ false → (disk : List (List ℕ)) × IsDisk new disk × ArePlain old.blocks xs disk
+plain_answers spec old xs new h fl fr here kl kr n =
+    let ends : Begins spec new.left.seen new.right.seen new = record {
+      left = ([], append-nil new.left.seen);
+      right = ([], append-nil new.right.seen);
+      left_kept = kl;
+      right_kept = kr;
     } in
-    let served = are_served spec l r old ops answers new h clean (record { left = pl; right = pr; left_kept = kl; right_kept = kr }) n in
     let disk : IsDisk old (blank_blocks class.Block old.blocks) = record { left = λ e. blank old.blocks old.left.seen fl; right = λ e. blank old.blocks old.right.seen fr } in
-    let k = one_disk_serves spec old new (zip ops answers) (blank_blocks class.Block old.blocks) (or_left old.present.left old.present.right here) disk served in
-    (k.0, k.2)
+    one_disk_serves spec old new (served xs) (blank_blocks class.Block old.blocks) (or_left old.present.left old.present.right here) disk
+    (are_served spec new.left.seen new.right.seen old xs new h (clean_at_first spec old fl fr) ends n)
+
+-- ---- the medium at the end
+
+no_writes : (xs : List CallEntry) → OnlyOp (Read 0 1) xs → list_any is_write_call xs ≡ false
+no_writes [] h = refl
+no_writes (x ∷ xs) h = ap (λ (b : Bool). b || list_any is_write_call xs) (ap is_write h.0) ∙ no_writes xs h.1
+
+-- the disk that a side's seat saw is what the medium has where the part has no step left
+side_ends : (s : PartSpec) (size : ℕ) (v : DeskView) (journal : List Event) (disk : List (List ℕ)) → IsSide s size false v → IsClean size true v.seen
+    → GoesOn v.seen journal → IsRun s journal → Unbroken s journal → ShowsDisk size v.seen disk → end_medium s journal ≡ disk
+side_ends s size v journal disk side clean g run kept is =
+    let invoked : invocations journal ≡ invocations v.seen =
+    ap invocations (sym g.begins) ∙ invoked_parts v.seen g.rest ∙ ap (λ (l : List Invocation). invocations v.seen ++ l) (others_invoke g.rest g.others)
+    ∙ append-nil (invocations v.seen) in
+    let given : answers_given journal ≡ answers_given v.seen =
+    ap answers_given (sym g.begins) ∙ given_parts v.seen g.rest clean.all ∙ ap (λ (l : List Answer). answers_given v.seen ++ l) (others_given g.rest g.others)
+    ∙ append-nil (answers_given v.seen) in
+    let checked : AreChecked s.blocks (invocations journal) =
+    subst (AreChecked s.blocks) (sym invoked) (subst (λ (n : ℕ). AreChecked n (invocations v.seen)) (sym side.size) clean.checked) in
+    let one : ShowsOne s journal = shows_one s journal side.class run kept checked (ap has_gone given ∙ clean.none refl) in
+    let shows : ShowsDevice size journal one.device =
+    subst (λ (c : Class). ran (never_failing c size) (trace journal) ≡ Some one.device) side.class
+    (subst (λ (n : ℕ). ran (never_failing s.class n) (trace journal) ≡ Some one.device) side.size one.shows) in
+    let seen : ShowsDevice size v.seen one.device =
+    nothing_more size v.seen g.rest one.device (side.idle refl) g.others (subst (λ (l : List Event). ShowsDevice size l one.device) (sym g.begins) shows) in
+    let same : one.device ≡ is.device = same_device size v.seen one.device is.device seen is.shows in
+    let rest = (run_parts (opening s) v.seen g.rest (subst (IsRun s) (sym g.begins) run)).1 in
+    let only : OnlyOp (Read 0 1) (state_from (state_of s v.seen) g.rest).log.pending =
+    others_only (Read 0 1) refl g.rest (state_of s v.seen) (subst (OnlyOp (Read 0 1)) (sym (side.none_open refl)) tt) g.others rest in
+    let end : state_of s journal ≡ state_from (state_of s v.seen) g.rest =
+    ap (λ (l : List Event). state_of s l) (sym g.begins) ∙ state_parts (opening s) v.seen g.rest in
+    let writes : has_write (state_of s journal) ≡ false = ap has_write end ∙ no_writes (state_from (state_of s v.seen) g.rest).log.pending only in
+    one.medium writes ∙ ap (λ (d : Ideal). d.blocks) same ∙ is.disk_is
+
+-- so it is of each side of a mirror that is present behind exchanges
+pub left_ends : {D : Type 0} (spec : D → PartSpec) (old : MirrorView D) (xs : List Exchange) (new : MirrorView D) (journal : List Event) (disk : List (List ℕ))
+    → Exchanged spec old xs new → old.left.seen ≡ [] → old.right.seen ≡ [] → IsMirror spec new → new.stopped ≡ false → IsDisk new disk
+    → GoesOn new.left.seen journal → IsRun (spec new.left_desk) journal → Unbroken (spec new.left_desk) journal → new.present.left ≡ true
+    → end_medium (spec new.left_desk) journal ≡ disk
+left_ends spec old xs new journal disk h fl fr m goes is g run kept here =
+    side_ends (spec new.left_desk) new.blocks new.left journal disk (subst (λ (b : Bool). IsSide (spec new.left_desk) new.blocks b new.left) goes m.left)
+    (subst (λ (b : Bool). IsClean new.blocks b new.left.seen) here (clean_behind spec old xs new h (clean_at_first spec old fl fr)).left) g run kept (is.left here)
+
+pub right_ends : {D : Type 0} (spec : D → PartSpec) (old : MirrorView D) (xs : List Exchange) (new : MirrorView D) (journal : List Event) (disk : List (List ℕ))
+    → Exchanged spec old xs new → old.left.seen ≡ [] → old.right.seen ≡ [] → IsMirror spec new → new.stopped ≡ false → IsDisk new disk
+    → GoesOn new.right.seen journal → IsRun (spec new.right_desk) journal → Unbroken (spec new.right_desk) journal → new.present.right ≡ true
+    → end_medium (spec new.right_desk) journal ≡ disk
+right_ends spec old xs new journal disk h fl fr m goes is g run kept here =
+    side_ends (spec new.right_desk) new.blocks new.right journal disk (subst (λ (b : Bool). IsSide (spec new.right_desk) new.blocks b new.right) goes m.right)
+    (subst (λ (b : Bool). IsClean new.blocks b new.right.seen) here (clean_behind spec old xs new h (clean_at_first spec old fl fr)).right) g run kept (is.right here)

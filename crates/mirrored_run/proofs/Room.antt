@@ -7,11 +7,11 @@ use Rattle.nook_data.specs.declared.mirror.MirrorAnswer.{MirrorAnswer}
 use Rattle.nook_data.specs.declared.calls.Op.{Op}
 use Rattle.nook_data.specs.declared.calls.Op.TheVariants as op
 use Rattle.nook_data.specs.declared.scenario.PartSpec.{PartSpec}
-use Rattle.mirror_block.specs.Mirrors.{IsAnswered, IsMirror, MirrorView}
+use Rattle.mirror_block.specs.Mirrors.{IsMirrorAnswer, IsMirror, MirrorView}
 use Rattle.mirror_block.specs.Rule.{is_disk_op}
 use Rattle.mirrored_run.specs.Mirrors.{is_mirrored_op}
 use Rattle.mirrored_run.specs.Serving.{AreServedBy, HasAsked}
-use Rattle.mirrored_run.proofs.Behind.{asked_so, behind, served_more}
+use Rattle.mirrored_run.proofs.Behind.{asked_so, served_more}
 
 -- ---- the operations so far
 
@@ -27,7 +27,7 @@ module _ {D : Type 0} where
       → AreServedBy spec old (map (λ o. o.1) (take i ops)) answers now → HasAsked 256 now
   room_so spec i ops answers old now h few served =
       room_for (length ops) (length (map (λ o. o.1) (take i ops))) few (fewer i ops) now
-      (asked_so (map (λ o. o.1) (take i ops)) answers old now 0 (behind spec old (map (λ o. o.1) (take i ops)) answers now served) h)
+      (asked_so spec old (map (λ o. o.1) (take i ops)) answers now 0 served h)
     where
       fewer : (i : ℕ) (xs : List (ℕ × Op)) → length (map (λ o. o.1) (take i xs)) ≤ length xs
       fewer zero xs = omega arith
@@ -36,7 +36,7 @@ module _ {D : Type 0} where
 
   pub served_next : (spec : D → PartSpec) (i : ℕ) (ops : List (ℕ × Op)) (o : ℕ × Op) (answers more : List MirrorAnswer) (a : MirrorAnswer) (old now new : MirrorView D)
       → i < length ops → o ≡ get_or ops i o → more ≡ answers ++ a ∷ [] → AreServedBy spec old (map (λ o. o.1) (take i ops)) answers now
-      → IsAnswered now new o.1 a → IsMirror spec new → AreServedBy spec old (map (λ o. o.1) (take (i + 1) ops)) more new
+      → IsMirrorAnswer now new o.1 a → IsMirror spec new → AreServedBy spec old (map (λ o. o.1) (take (i + 1) ops)) more new
   served_next spec i ops o answers more a old now new within is pushed served answered mirror =
       subst (λ (l : List MirrorAnswer). AreServedBy spec old (map (λ o. o.1) (take (i + 1) ops)) l new) (sym pushed)
       (subst (λ (l : List Op). AreServedBy spec old l (answers ++ a ∷ []) new) (sym taken)

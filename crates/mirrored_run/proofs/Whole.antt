@@ -1,10 +1,10 @@
 -- The whole run of a mirror: its operations, and two parts that are left behind them.
-use Rattle.std.proofs.Common.{◌≡◌, inl, inr, ℕ, ◌≤◌, ◌==◌, ◌&&◌, ◌||◌, is_some, Bool, true, false, Option, Some, None, Result, Ok, Err, IfOk, List, [], ◌∷◌, ◌++◌, length, map, zip, refl, sym, ap, subst, ◌∙◌, arith, append-nil, eqb-true, get_or}
+use Rattle.std.proofs.Common.{◌≡◌, inl, inr, ℕ, ◌≤◌, ◌==◌, ◌&&◌, ◌||◌, is_some, Bool, true, false, Option, Some, None, Result, Ok, Err, IfOk, List, [], ◌∷◌, ◌++◌, length, map, refl, sym, ap, subst, ◌∙◌, arith, eqb-true, get_or}
 use Rattle.std.specs.List.{All, list_any}
 use Rattle.std.proofs.lemmas.List.{length-map}
 use Rattle.std.proofs.lemmas.List.Elements.{All-head, All-tail}
 use Rattle.std.proofs.lemmas.Bool.{and_parts}
-use Rattle.nook_data.specs.declared.calls.Answer.{Answer}
+use mathlib.Core.List.{IsPrefix}
 use Rattle.nook_data.specs.declared.verdicts.Break.{Break}
 use Rattle.nook_data.specs.declared.classes.Class.{Class}
 use Rattle.nook_data.specs.declared.classes.Class.TheVariants as class
@@ -14,17 +14,15 @@ use Rattle.nook_data.specs.declared.calls.Op.{Op}
 use Rattle.nook_data.specs.declared.scenario.PartSpec.{PartSpec}
 use Rattle.nook_data.specs.declared.scenario.Scenario.{Scenario}
 use Rattle.nook_data.specs.declared.scenario.ThreadSpec.{ThreadSpec}
-use Rattle.promise_defs.specs.Blocks.{blank_blocks}
 use Rattle.nook_data.specs.Classes.{same_class}
 use Rattle.promise_defs.specs.Contract.{first_break}
 use Rattle.report_defs.specs.ReportText.{has_break}
-use Rattle.part_defs.specs.Runs.{next_any, state_of}
+use Rattle.part_defs.specs.Runs.{IsRun, next_any, state_of}
 use Rattle.nook_data.specs.Valid.{IsValidPart, IsValidScenario, IsValidThread}
 use Rattle.desk_like.specs.Desks.{Accounts, DeskView, IsAlone}
-use Rattle.mirror_block.specs.Disk.{ServesAll}
-use Rattle.mirror_block.specs.Mirrors.{MirrorView, new_mirror}
-use Rattle.mirror_block.specs.Rule.{both_present, mirrored}
-use Rattle.mirror_block.specs.Sides.{Invocation, IsNewSide, answers_given, invocations}
+use Rattle.mirror_block.specs.Mirrors.{IsDisk, IsMirror, MirrorView, new_mirror}
+use Rattle.mirror_block.specs.Rule.{both_present}
+use Rattle.mirror_block.specs.Sides.{IsNewSide}
 use Rattle.mirror_block.proofs.NewMirror.{new_is_mirror}
 use Rattle.nook_data.specs.Views.Room.{Kept}
 use Rattle.part_server.specs.Turns.{opening_view}
@@ -38,29 +36,13 @@ use Rattle.mirrored_run.specs.Hearing.{HearAllOrNothing}
 use Rattle.nook_io.specs.Listening.{Listening}
 use Rattle.request_taps.specs.Bus.{told_all}
 use Rattle.request_taps.specs.declared.tap.Tap.{Tap}
-use Rattle.mirrored_run.specs.Mirrors.{IsMirrorRun, IsSubsequence, is_lost, is_mirror, is_pair, is_single, ops_of_thread, size_of}
+use Rattle.mirrored_run.specs.Exchanges.{AreExchanges, ArePlain, Exchange, answers_of, left_events, right_events}
+use Rattle.mirrored_run.specs.Mirrors.{HaveDisk, IsMirrorRun, end_medium, is_lost, is_mirror, is_pair, is_single, ops_of_thread, size_of}
 use Rattle.threaded_run.specs.Threaded.{AreSettled, in_parts}
 use Rattle.mirrored_run.specs.Serving.{HasServed}
 use Rattle.mirrored_run.specs.Unheard.{IsWholeRun}
-use Rattle.mirrored_run.proofs.Adding.{AllAnswered, given_parts, others_given, others_invoke}
-use Rattle.mirrored_run.proofs.Behind.{Behind, behind, served_keeps}
-use Rattle.mirrored_run.proofs.ClassRuns.{invoked_parts}
-use Rattle.mirrored_run.proofs.Plain.{plain_answers}
-
--- ---- the journal of one part
-
--- the journal of a part that goes on behind what was added has the same answers and invocations
-record SameCalls (added journal : List Event) : Type 0 where
-  given : answers_given journal ≡ answers_given added
-  invoked : invocations journal ≡ invocations added
-
-same_calls : (added journal : List Event) → AllAnswered added → GoesOn added journal → SameCalls added journal
-same_calls added journal all g = record {
-  given = ap answers_given (sym g.begins) ∙ given_parts added g.rest all ∙ ap (λ (l : List Answer). answers_given added ++ l) (others_given g.rest g.others)
-      ∙ append-nil (answers_given added);
-  invoked = ap invocations (sym g.begins) ∙ invoked_parts added g.rest ∙ ap (λ (l : List Invocation). invocations added ++ l) (others_invoke g.rest g.others)
-      ∙ append-nil (invocations added);
-}
+use Rattle.mirrored_run.proofs.Behind.{Exchanged, HasExchanged, are_exchanges, between, exchanged_by, exchanged_keeps, left_seen, right_seen, same_sides}
+use Rattle.mirrored_run.proofs.Plain.{before_unbroken, left_ends, plain_answers, right_ends}
 
 -- ---- the contract of both
 
@@ -78,55 +60,105 @@ both_kept l r left right h =
 -- ---- the whole
 
 module _ {D : Type 0} (spec : D → PartSpec) (scenario : Scenario) (l r : PartSpec) (ld rd : D) (ov ow lv rv : DeskView) (answers : List MirrorAnswer)
-    (left right : List Event) (parts : scenario.parts ≡ l ∷ r ∷ []) (left_is : spec ld ≡ l) (right_is : spec rd ≡ r) (no_left : ov.seen ≡ []) (no_right : ow.seen ≡ [])
-    (h : HasServed spec ld rd ov ow l.blocks (ops_of_thread scenario.threads) answers lv rv) (gl : GoesOn lv.seen left) (gr : GoesOn rv.seen right)
+    (left right : List Event) (parts : scenario.parts ≡ l ∷ r ∷ []) (left_is : spec ld ≡ l) (right_is : spec rd ≡ r) (left_side : IsNewSide (spec ld) l.blocks ov)
+    (right_side : IsNewSide (spec rd) l.blocks ow) (h : HasServed spec ld rd ov ow l.blocks (ops_of_thread scenario.threads) answers lv rv)
+    (left_run : IsRun l left) (right_run : IsRun r right) (gl : GoesOn lv.seen left) (gr : GoesOn rv.seen right)
     (sl : next_any (state_of l left) ≡ None) (sr : next_any (state_of r right) ≡ None) where
   abbrev start : MirrorView D
   start = new_mirror ld rd ov ow l.blocks
 
-  abbrev ops : List Op
-  ops = ops_of_thread scenario.threads
+  done : HasExchanged spec start (ops_of_thread scenario.threads) answers h.new
+  done = exchanged_by spec start (ops_of_thread scenario.threads) answers h.new h.served
 
-  added : Behind ops answers start h.new
-  added = behind spec start ops answers h.new h.served
+  abbrev exchanges : List Exchange
+  exchanges = done.exchanges
 
-  left_added : added.left ≡ lv.seen
-  left_added = ap (λ (x : List Event). x ++ added.left) (sym no_left) ∙ added.left_seen ∙ ap (λ (v : DeskView). v.seen) (sym h.left_is)
+  ends : IsMirror spec h.new × (h.new.stopped ≡ false)
+  ends = exchanged_keeps spec start exchanges h.new (new_is_mirror spec ld rd ov ow l.blocks left_side right_side) refl done.exchanged
 
-  right_added : added.right ≡ rv.seen
-  right_added = ap (λ (x : List Event). x ++ added.right) (sym no_right) ∙ added.right_seen ∙ ap (λ (v : DeskView). v.seen) (sym h.right_is)
+  -- what the sides of a mirror behind exchanges have seen
+  left_saw : (xs : List Exchange) (m : MirrorView D) → Exchanged spec start xs m → left_events xs ≡ m.left.seen
+  left_saw xs m k = ap (λ (x : List Event). x ++ left_events xs) (sym left_side.seen) ∙ left_seen spec start xs m k
 
-  left_calls : SameCalls added.left left
-  left_calls = same_calls added.left left added.left_all (subst (λ (x : List Event). GoesOn x left) (sym left_added) gl)
+  right_saw : (xs : List Exchange) (m : MirrorView D) → Exchanged spec start xs m → right_events xs ≡ m.right.seen
+  right_saw xs m k = ap (λ (x : List Event). x ++ right_events xs) (sym right_side.seen) ∙ right_seen spec start xs m k
 
-  right_calls : SameCalls added.right right
-  right_calls = same_calls added.right right added.right_all (subst (λ (x : List Event). GoesOn x right) (sym right_added) gr)
+  left_spec : (xs : List Exchange) (m : MirrorView D) → Exchanged spec start xs m → spec m.left_desk ≡ l
+  left_spec xs m k = ap spec (same_sides spec start xs m k).left_desk ∙ left_is
 
-  plain_so : has_break (l ∷ r ∷ []) (left ∷ right ∷ []) ≡ false → list_any is_lost answers ≡ false
-      → (after : List (List ℕ)) × ServesAll l.blocks (blank_blocks class.Block l.blocks) (zip ops answers) after
-  plain_so kept some =
-      let k = both_kept l r left right kept in
-      plain_answers spec start ops answers h.new left right h.served no_left no_right refl
-      (gl.rest, ap (λ (v : DeskView). v.seen ++ gl.rest) (sym h.left_is) ∙ gl.begins) (gr.rest, ap (λ (v : DeskView). v.seen ++ gr.rest) (sym h.right_is) ∙ gr.begins)
-      (ap (λ (s : PartSpec). first_break s.class s.blocks left) (ap spec added.same.left_desk ∙ left_is) ∙ k.0)
-      (ap (λ (s : PartSpec). first_break s.class s.blocks right) (ap spec added.same.right_desk ∙ right_is) ∙ k.1)
+  right_spec : (xs : List Exchange) (m : MirrorView D) → Exchanged spec start xs m → spec m.right_desk ≡ r
+  right_spec xs m k = ap spec (same_sides spec start xs m k).right_desk ∙ right_is
+
+  left_goes_on : GoesOn h.new.left.seen left
+  left_goes_on = subst (λ (v : DeskView). GoesOn v.seen left) h.left_is gl
+
+  right_goes_on : GoesOn h.new.right.seen right
+  right_goes_on = subst (λ (v : DeskView). GoesOn v.seen right) h.right_is gr
+
+  -- the contract was kept in what the sides had seen behind these exchanges
+  plain_behind : (xs : List Exchange) (m : MirrorView D) → Exchanged spec start xs m → list_any is_lost (answers_of xs) ≡ false
+      → first_break l.class l.blocks (left_events xs) ≡ None → first_break r.class r.blocks (right_events xs) ≡ None
+      → (disk : List (List ℕ)) × IsDisk m disk × ArePlain l.blocks xs disk
+  plain_behind xs m k some kl kr =
+      plain_answers spec start xs m k left_side.seen right_side.seen refl
+      (ap (λ (s : PartSpec). first_break s.class s.blocks m.left.seen) (left_spec xs m k) ∙ ap (λ (x : List Event). first_break l.class l.blocks x) (sym (left_saw xs m k)) ∙ kl)
+      (ap (λ (s : PartSpec). first_break s.class s.blocks m.right.seen) (right_spec xs m k) ∙ ap (λ (x : List Event). first_break r.class r.blocks x) (sym (right_saw xs m k)) ∙ kr)
       some
+
+  plain_so : (front : List Exchange) → IsPrefix front exchanges → list_any is_lost (answers_of front) ≡ false
+      → has_break (l ∷ r ∷ []) (left_events front ∷ right_events front ∷ []) ≡ false → (disk : List (List ℕ)) × ArePlain l.blocks front disk
+  plain_so front p some kept =
+      let b = between spec start front p.0 h.new (subst (λ (xs : List Exchange). Exchanged spec start xs h.new) (sym p.1) done.exchanged) in
+      let k = both_kept l r (left_events front) (right_events front) kept in
+      let plain = plain_behind front b.view b.before some k.0 k.1 in
+      (plain.0, plain.2)
+
+  left_unbroken : first_break l.class l.blocks left ≡ None → first_break l.class l.blocks (left_events exchanges) ≡ None
+  left_unbroken kept =
+      before_unbroken l (left_events exchanges) left
+      (left_goes_on.rest, ap (λ (x : List Event). x ++ left_goes_on.rest) (left_saw exchanges h.new done.exchanged) ∙ left_goes_on.begins) kept
+
+  right_unbroken : first_break r.class r.blocks right ≡ None → first_break r.class r.blocks (right_events exchanges) ≡ None
+  right_unbroken kept =
+      before_unbroken r (right_events exchanges) right
+      (right_goes_on.rest, ap (λ (x : List Event). x ++ right_goes_on.rest) (right_saw exchanges h.new done.exchanged) ∙ right_goes_on.begins) kept
+
+  disks_so : list_any is_lost answers ≡ false → has_break (l ∷ r ∷ []) (left ∷ right ∷ []) ≡ false
+      → (disk : List (List ℕ)) × ArePlain l.blocks exchanges disk × HaveDisk (l ∷ r ∷ []) h.new.present left right disk
+  disks_so some kept =
+      let k = both_kept l r left right kept in
+      let plain = plain_behind exchanges h.new done.exchanged (ap (list_any is_lost) done.answers_are ∙ some) (left_unbroken k.0) (right_unbroken k.1) in
+      let ls = left_spec exchanges h.new done.exchanged in
+      let rs = right_spec exchanges h.new done.exchanged in (
+        plain.0,
+        plain.2,
+        (
+          λ here. ap (λ (s : PartSpec). end_medium s left) (sym ls)
+              ∙ left_ends spec start exchanges h.new left plain.0 done.exchanged left_side.seen right_side.seen ends.0 ends.1 plain.1 left_goes_on
+              (subst (λ (s : PartSpec). IsRun s left) (sym ls) left_run) (ap (λ (s : PartSpec). first_break s.class s.blocks left) ls ∙ k.0) here,
+          λ here. ap (λ (s : PartSpec). end_medium s right) (sym rs)
+              ∙ right_ends spec start exchanges h.new right plain.0 done.exchanged left_side.seen right_side.seen ends.0 ends.1 plain.1 right_goes_on
+              (subst (λ (s : PartSpec). IsRun s right) (sym rs) right_run) (ap (λ (s : PartSpec). first_break s.class s.blocks right) rs ∙ k.1) here,
+        ),
+      )
 
   pub mirror_ran : IsMirrorRun scenario left right answers
   mirror_ran = record {
-    rule = (
-      h.new.present,
-      ap (λ (specs : List PartSpec). mirrored (size_of specs) both_present ops (answers_given left) (answers_given right)) parts
-          ∙ ap (λ (xs : List Answer). mirrored l.blocks both_present ops xs (answers_given right)) left_calls.given
-          ∙ ap (λ (xs : List Answer). mirrored l.blocks both_present ops (answers_given added.left) xs) right_calls.given
-          ∙ added.rule,
-    );
-    left_calls = subst (IsSubsequence ops) (sym left_calls.invoked) added.left_calls;
-    right_calls = subst (IsSubsequence ops) (sym right_calls.invoked) added.right_calls;
+    exchanges = exchanges;
+    ops = done.ops_are;
+    answers_are = done.answers_are;
+    present = h.new.present;
+    asked = subst (λ (specs : List PartSpec). AreExchanges (size_of specs) both_present exchanges h.new.present) (sym parts)
+        (are_exchanges spec start exchanges h.new done.exchanged);
+    left_goes_on = subst (λ (seen : List Event). GoesOn seen left) (sym (left_saw exchanges h.new done.exchanged)) left_goes_on;
+    right_goes_on = subst (λ (seen : List Event). GoesOn seen right) (sym (right_saw exchanges h.new done.exchanged)) right_goes_on;
     settled = subst (λ (specs : List PartSpec). AreSettled specs (left ∷ right ∷ [])) (sym parts) (sl, (sr, tt));
-    plain = λ kept some.
-        subst (λ (specs : List PartSpec). (after : List (List ℕ)) × ServesAll (size_of specs) (blank_blocks class.Block (size_of specs)) (zip ops answers) after) (sym parts)
-        (plain_so (ap (λ (specs : List PartSpec). has_break specs (left ∷ right ∷ [])) (sym parts) ∙ kept) some);
+    plain = λ front p some kept.
+        subst (λ (specs : List PartSpec). (disk : List (List ℕ)) × ArePlain (size_of specs) front disk) (sym parts)
+        (plain_so front p some (ap (λ (specs : List PartSpec). has_break specs (left_events front ∷ right_events front ∷ [])) (sym parts) ∙ kept));
+    disks = λ some kept.
+        subst (λ (specs : List PartSpec). (disk : List (List ℕ)) × ArePlain (size_of specs) exchanges disk × HaveDisk specs h.new.present left right disk) (sym parts)
+        (disks_so some (ap (λ (specs : List PartSpec). has_break specs (left ∷ right ∷ [])) (sym parts) ∙ kept));
   }
 
 -- ---- which scenarios are served
@@ -202,17 +234,18 @@ new_side s t blocks v e c b o = record {
 pub served_alone : {D : Type 0} (spec : D → PartSpec) (ld rd : D) (ov ow : DeskView) (blocks : ℕ) (ops : List Op) (answers : List MirrorAnswer) (lv rv : DeskView)
     → IsNewSide (spec ld) blocks ov → IsNewSide (spec rd) blocks ow → HasServed spec ld rd ov ow blocks ops answers lv rv → IsAlone lv × IsAlone rv
 served_alone spec ld rd ov ow blocks ops answers lv rv l r h =
-    let k = served_keeps spec (new_mirror ld rd ov ow blocks) ops answers h.new (new_is_mirror spec ld rd ov ow blocks l r) refl h.served in
+    let e = exchanged_by spec (new_mirror ld rd ov ow blocks) ops answers h.new h.served in
+    let k = exchanged_keeps spec (new_mirror ld rd ov ow blocks) e.exchanges h.new (new_is_mirror spec ld rd ov ow blocks l r) refl e.exchanged in
     (subst IsAlone (sym h.left_is) k.0.left.alone, subst IsAlone (sym h.right_is) k.0.right.alone)
 
 -- ---- what is left
 
 pub whole_run : {D : Type 0} (spec : D → PartSpec) (scenario : Scenario) (l r : PartSpec) (ld rd : D) (ov ow lv rv : DeskView) (answers : List MirrorAnswer)
-    (lj rj : Kept Event) (le re : PartEnd) (made : Unheard) → scenario.parts ≡ l ∷ r ∷ [] → spec ld ≡ l → spec rd ≡ r → ov ≡ opening_view → ow ≡ opening_view
+    (lj rj : Kept Event) (le re : PartEnd) (made : Unheard) → scenario.parts ≡ l ∷ r ∷ [] → spec ld ≡ l → spec rd ≡ r → IsNewSide (spec ld) l.blocks ov → IsNewSide (spec rd) l.blocks ow
     → HasServed spec ld rd ov ow l.blocks (ops_of_thread scenario.threads) answers lv rv
     → IsLeft (spec ld) lv.seen lj le → IsLeft (spec rd) rv.seen rj re
     → made.journals ≡ lj ∷ rj ∷ [] → made.ends ≡ le ∷ re ∷ [] → made.answers ≡ answers → IsWholeRun scenario made
-whole_run spec scenario l r ld rd ov ow lv rv answers lj rj le re made parts left_is right_is old_left old_right h hl hr journals ends same =
+whole_run spec scenario l r ld rd ov ow lv rv answers lj rj le re made parts left_is right_is left_side right_side h hl hr journals ends same =
     let kl : IsLeft l lv.seen lj le = subst (λ (s : PartSpec). IsLeft s lv.seen lj le) left_is hl in
     let kr : IsLeft r rv.seen rj re = subst (λ (s : PartSpec). IsLeft s rv.seen rj re) right_is hr in
     record {
@@ -226,8 +259,8 @@ whole_run spec scenario l r ld rd ov ow lv rv answers lj rj le re made parts lef
         rj.list,
         ap (map events_in) journals,
         subst (IsMirrorRun scenario lj.list rj.list) (sym same)
-            (mirror_ran spec scenario l r ld rd ov ow lv rv answers lj.list rj.list parts left_is right_is
-            (ap (λ (v : DeskView). v.seen) old_left) (ap (λ (v : DeskView). v.seen) old_right) h kl.goes_on kr.goes_on kl.settled kr.settled),
+            (mirror_ran spec scenario l r ld rd ov ow lv rv answers lj.list rj.list parts left_is right_is left_side right_side h kl.run kr.run
+            kl.goes_on kr.goes_on kl.settled kr.settled),
       );
     }
 

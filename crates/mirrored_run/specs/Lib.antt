@@ -1,3 +1,4 @@
+pub mod Exchanges
 pub mod Hearing
 pub mod Mirrors
 pub mod Serving

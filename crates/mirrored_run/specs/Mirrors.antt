@@ -1,7 +1,8 @@
 -- The run of a mirror: one disk that a scenario's thread reads and writes, kept by the drivers of two parts.
-use Rattle.std.specs.Prelude.{◌≡◌, ℕ, ◌==◌, ◌&&◌, if◌then◌else◌, Bool, true, false, Some, List, [], ◌∷◌, map, zip, ◌⊎◌}
+use Rattle.std.specs.Prelude.{◌≡◌, ℕ, ◌==◌, ◌&&◌, if◌then◌else◌, Bool, true, false, List, [], ◌∷◌, map}
 use Rattle.std.specs.List.{list_all, list_any}
-use Rattle.promise_defs.specs.Blocks.{blank_blocks}
+use mathlib.Core.List.{IsPrefix}
+use Rattle.machine_defs.specs.Devices.{medium_of}
 use Rattle.nook_data.specs.Classes.{same_class}
 use Rattle.report_defs.specs.ReportText.{has_break}
 use Rattle.nook_data.specs.declared.classes.Class.TheVariants as class
@@ -13,9 +14,11 @@ use Rattle.nook_data.specs.declared.calls.Op.TheVariants as op
 use Rattle.nook_data.specs.declared.scenario.PartSpec.{PartSpec}
 use Rattle.nook_data.specs.declared.scenario.Scenario.{Scenario}
 use Rattle.nook_data.specs.declared.scenario.ThreadSpec.{ThreadSpec}
-use Rattle.mirror_block.specs.Disk.{ServesAll}
-use Rattle.mirror_block.specs.Rule.{Presence, both_present, mirrored}
-use Rattle.mirror_block.specs.Sides.{Invocation, answers_given, invocations}
+use Rattle.mirror_block.specs.Rule.{Presence, both_present}
+use Rattle.mirrored_run.specs.Exchanges.{AreExchanges, ArePlain, Exchange, answers_of, left_events, ops_of}
+use Rattle.mirrored_run.specs.Exchanges.{right_events}
+use Rattle.part_defs.specs.Runs.{state_of}
+use Rattle.threaded_run.specs.Leaving.{GoesOn}
 use Rattle.threaded_run.specs.Threaded.{AreSettled}
 
 -- ---- which scenarios a mirror serves
@@ -65,33 +68,38 @@ abbrev pub is_lost : MirrorAnswer → Bool
 is_lost mirror.BothLost = true
 is_lost a = false
 
--- the answers are those of one plain disk, any block of which may be bad, to the operations
-abbrev pub ArePlain : Scenario → List MirrorAnswer → Type 0
-ArePlain scenario answers = (after : List (List ℕ))
-    × ServesAll (mirror_blocks scenario) (blank_blocks class.Block (mirror_blocks scenario))
-    (zip (mirror_ops scenario) answers) after
+-- the medium that a part ends with, which its `disk` lines tell
+abbrev pub end_medium : PartSpec → List Event → List (List ℕ)
+end_medium spec journal = medium_of (state_of spec journal).domain.device
 
--- these calls are some of the operations, in their order, made by thread 0
-abbrev pub IsSubsequence : List Op → List Invocation → Type 0
-IsSubsequence ops [] = Unit {0}
-IsSubsequence [] (i ∷ invoked) = ⊥
-IsSubsequence (o ∷ ops) (i ∷ invoked) =
-    ((i.thread ≡ 0) × (i.op ≡ o) × IsSubsequence ops invoked) ⊎ IsSubsequence ops (i ∷ invoked)
+-- the medium of each side that is present is this disk
+abbrev pub HaveDisk : List PartSpec → Presence → List Event → List Event → List (List ℕ) → Type 0
+HaveDisk (l ∷ r ∷ []) present left right disk =
+    (present.left ≡ true → end_medium l left ≡ disk) × (present.right ≡ true → end_medium r right ≡ disk)
+HaveDisk specs present left right disk = ⊥
 
--- The run of a mirror that leaves two journals and these answers: who is asked, who stays and what is answered are the
--- rule's over the answers in the two journals, which are all used up; the journals have no call but those of the
--- mirror's operations, and end where their parts have no step left; and where both drivers kept the class's contract,
--- and some side is left at each answer, the answers are those of one plain disk with bad blocks.
+-- The run of a mirror that leaves two journals and these answers.
 pub record IsMirrorRun (scenario : Scenario) (left right : List Event) (answers : List MirrorAnswer) : Type 0 where
-  pub rule : (p : Presence)
-      × (mirrored (mirror_blocks scenario) both_present (mirror_ops scenario)
-      (answers_given left) (answers_given right)
-      ≡ Some (record { present = p; answers = answers }))
-  pub left_calls : IsSubsequence (mirror_ops scenario) (invocations left)
-  pub right_calls : IsSubsequence (mirror_ops scenario) (invocations right)
+  -- the operations are the script's, in order, with these answers; each asked the sides that the rule says
+  pub exchanges : List Exchange
+  pub ops : ops_of exchanges ≡ mirror_ops scenario
+  pub answers_are : answers_of exchanges ≡ answers
+  -- which sides are present at the end
+  pub present : Presence
+  pub asked : AreExchanges (mirror_blocks scenario) both_present exchanges present
+  -- each journal is what these exchanges added, and goes on without a call until its part has no step left
+  pub left_goes_on : GoesOn (left_events exchanges) left
+  pub right_goes_on : GoesOn (right_events exchanges) right
   pub settled : AreSettled scenario.parts (left ∷ right ∷ [])
-  pub plain : has_break scenario.parts (left ∷ right ∷ []) ≡ false → list_any is_lost answers ≡ false
-      → ArePlain scenario answers
+  -- over each front of the operations in which none is answered BothLost and no driver broke the contract in the events
+  -- up to there, the answers are those of one plain disk with bad blocks
+  pub plain : (front : List Exchange) → IsPrefix front exchanges → list_any is_lost (answers_of front) ≡ false
+      → has_break scenario.parts (left_events front ∷ right_events front ∷ []) ≡ false
+      → (disk : List (List ℕ)) × ArePlain (mirror_blocks scenario) front disk
+  -- where that holds to the end of both journals, each side that is present ends with that disk
+  pub disks : list_any is_lost answers ≡ false → has_break scenario.parts (left ∷ right ∷ []) ≡ false
+      → (disk : List (List ℕ)) × ArePlain (mirror_blocks scenario) exchanges disk
+      × HaveDisk scenario.parts present left right disk
 
 -- ---- the status
 

@@ -1,7 +1,7 @@
 -- What a mirror's operations, one after the other, add to what the seats at its sides have seen.
 use Rattle.std.specs.Prelude.{◌≡◌, ℕ, ◌≤◌, List, [], ◌∷◌, length}
 use Rattle.desk_like.specs.Desks.{DeskView}
-use Rattle.mirror_block.specs.Mirrors.{IsAnswered, IsMirror, MirrorView, new_mirror}
+use Rattle.mirror_block.specs.Mirrors.{IsMirrorAnswer, IsMirror, MirrorView, new_mirror}
 use Rattle.mirror_block.specs.Sides.{invocations}
 use Rattle.nook_data.specs.declared.mirror.MirrorAnswer.{MirrorAnswer}
 use Rattle.nook_data.specs.declared.calls.Op.{Op}
@@ -19,7 +19,7 @@ AreServedBy spec old [] [] new = new ≡ old
 AreServedBy spec old [] (a ∷ answers) new = ⊥
 AreServedBy spec old (o ∷ ops) [] new = ⊥
 AreServedBy {D} spec old (o ∷ ops) (a ∷ answers) new =
-    (between : MirrorView D) × IsAnswered old between o a × IsMirror spec between
+    (between : MirrorView D) × IsMirrorAnswer old between o a × IsMirror spec between
     × AreServedBy spec between ops answers new
 
 -- a mirror of so many blocks over two desks served operations so, and this is what the seats know then

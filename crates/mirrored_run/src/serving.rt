@@ -2,7 +2,7 @@
 
 ghost use Rattle.std.specs.Prelude.{◌≡◌, ◌<◌, ◌≤◌, IfOk, [], false, length, map, true};
 ghost use Rattle.std.specs.List.{list_all};
-ghost use Rattle.mirror_block.specs.Mirrors.{Ends, IsAnswered, IsMirror};
+ghost use Rattle.mirror_block.specs.Mirrors.{Ends, IsMirrorAnswer, IsMirror};
 ghost use Rattle.mirror_block.specs.Rule.{is_disk_op};
 ghost use Rattle.mirrored_run.specs.Mirrors.{is_mirrored_op, is_single, ops_of_thread};
 ghost use Rattle.mirrored_run.specs.Serving.{AreServedBy, HasAsked};
@@ -71,7 +71,7 @@ fn serve<R: Wait, D: DeskLike>(
     requires room { HasAsked MOST_OPS mirror.old }
     requires disk_op { is_disk_op op.now ≡ true }
     ensures mirror { IsMirror D.spec mirror.new }
-    ensures answered { IfOk result (λ answer. IsAnswered mirror.old mirror.new op.now answer) }
+    ensures answered { IfOk result (λ answer. IsMirrorAnswer mirror.old mirror.new op.now answer) }
 {
     match ask(rt, alloc, mirror, op) {
         Ok(answer) => Ok(answer),

@@ -6,7 +6,7 @@ pub returns-in-Ok-clause-ends : goal.returns-in-Ok-clause-ends
 returns-in-Ok-clause-ends g c =
     let k = said (g.D.DeskLike.spec c.args.side.now.desk.now) (g.D.DeskLike.view c.args.side.now.seat) (g.D.DeskLike.view c.call.new.seat) c.args.op.now c.requires.side c.call.ensures.run c.call.ensures.accounts
     c.in-Ok.receipt c.requires.disk_op c.in-Ok.ensures.ends in
-    (c.if-not-asked.false, k.0, k.1, k.2, k.3)
+    (c.if-not-asked.false, k.0, k.1, k.2, k.3, k.4)
 
 pub returns-in-Err-NoMemory-clause-ends : goal.returns-in-Err-NoMemory-clause-ends
 returns-in-Err-NoMemory-clause-ends g c =

@@ -57,13 +57,18 @@ leave-requires-2-clause-alone g c =
 
 pub returns : goal.returns
 returns g c =
+    let p = served_pair c.args.scenario.now c.args.left.now c.args.right.now c.requires.parts c.requires.served in
     all_ok c.gather.result (λ made. made.journals ≡ c.in_ok-left_part.left_part.journal ∷ c.in_ok-right_part.right_part.journal ∷ [])
     (λ made. made.ends ≡ c.in_ok-left_part.left_part.end ∷ c.in_ok-right_part.right_part.end ∷ []) (λ made. made.answers ≡ c.in_ok-served.served.answers)
     (IsWholeRun c.args.scenario.now)
     (λ made journals ends answers. whole_run desk_spec c.args.scenario.now c.args.left.now c.args.right.now c.in_ok-left_desk.left_desk c.in_ok-right_desk.right_desk
     (desk_view c.in_ok-left_desk.left_seat) (desk_view c.in_ok-right_desk.right_seat) (desk_view c.in_ok-served.served.left) (desk_view c.in_ok-served.served.right)
     c.in_ok-served.served.answers c.in_ok-left_part.left_part.journal c.in_ok-right_part.right_part.journal c.in_ok-left_part.left_part.end c.in_ok-right_part.right_part.end made
-    c.requires.parts c.in_ok-left_desk.ensures.spec c.in_ok-right_desk.ensures.spec c.in_ok-left_desk.ensures.view c.in_ok-right_desk.ensures.view
+    c.requires.parts c.in_ok-left_desk.ensures.spec c.in_ok-right_desk.ensures.spec
+    (new_side (desk_spec c.in_ok-left_desk.left_desk) c.args.left.now c.args.left.now.blocks (desk_view c.in_ok-left_desk.left_seat)
+    c.in_ok-left_desk.ensures.spec p.left_class refl c.in_ok-left_desk.ensures.view)
+    (new_side (desk_spec c.in_ok-right_desk.right_desk) c.args.right.now c.args.left.now.blocks (desk_view c.in_ok-right_desk.right_seat)
+    c.in_ok-right_desk.ensures.spec p.right_class p.size c.in_ok-right_desk.ensures.view)
     (subst (λ (threads : List ThreadSpec). HasServed desk_spec c.in_ok-left_desk.left_desk c.in_ok-right_desk.right_desk (desk_view c.in_ok-left_desk.left_seat)
     (desk_view c.in_ok-right_desk.right_seat) c.args.left.now.blocks (ops_of_thread threads) c.in_ok-served.served.answers
     (desk_view c.in_ok-served.served.left) (desk_view c.in_ok-served.served.right)) c.as_slice-threads.ensures c.in_ok-served.ensures.served)

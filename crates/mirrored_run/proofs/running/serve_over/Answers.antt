@@ -3,15 +3,17 @@ use Rattle.mirror_block.specs.Mirrors.{MirrorView}
 use Rattle.part_server.specs.Desk.{IsDeskSeat, desk_spec}
 use Rattle.part_server.specs.declared.desk.PartDesk.{PartDesk}
 use Rattle.mirrored_run.specs.Mirrors.{ops_of_thread}
-use Rattle.mirrored_run.proofs.Behind.{behind}
+use Rattle.mirrored_run.proofs.Behind.{exchanged_by, same_sides}
 use Rattle.mirrored_run.proofs.running.serve_over.Goals as goal
 
 pub returns-clause-left : goal.returns-clause-left
 returns-clause-left g c =
-    let b = behind desk_spec c.new-mirror.result (ops_of_thread c.args.threads.now) c.in_ok-answers.answers c.serve_first.new.mirror c.in_ok-answers.ensures in
-    subst (λ (d : PartDesk). IsDeskSeat d c.seats-left.result.0) (b.same.left_desk ∙ ap (λ (m : MirrorView PartDesk). m.left_desk) c.new-mirror.ensures.made) c.seats-left.ensures.left
+    let e = exchanged_by desk_spec c.new-mirror.result (ops_of_thread c.args.threads.now) c.in_ok-answers.answers c.serve_first.new.mirror c.in_ok-answers.ensures in
+    let same = same_sides desk_spec c.new-mirror.result e.exchanges c.serve_first.new.mirror e.exchanged in
+    subst (λ (d : PartDesk). IsDeskSeat d c.seats-left.result.0) (same.left_desk ∙ ap (λ (m : MirrorView PartDesk). m.left_desk) c.new-mirror.ensures.made) c.seats-left.ensures.left
 
 pub returns-clause-right : goal.returns-clause-right
 returns-clause-right g c =
-    let b = behind desk_spec c.new-mirror.result (ops_of_thread c.args.threads.now) c.in_ok-answers.answers c.serve_first.new.mirror c.in_ok-answers.ensures in
-    subst (λ (d : PartDesk). IsDeskSeat d c.seats-left.result.1) (b.same.right_desk ∙ ap (λ (m : MirrorView PartDesk). m.right_desk) c.new-mirror.ensures.made) c.seats-left.ensures.right
+    let e = exchanged_by desk_spec c.new-mirror.result (ops_of_thread c.args.threads.now) c.in_ok-answers.answers c.serve_first.new.mirror c.in_ok-answers.ensures in
+    let same = same_sides desk_spec c.new-mirror.result e.exchanges c.serve_first.new.mirror e.exchanged in
+    subst (λ (d : PartDesk). IsDeskSeat d c.seats-left.result.1) (same.right_desk ∙ ap (λ (m : MirrorView PartDesk). m.right_desk) c.new-mirror.ensures.made) c.seats-left.ensures.right

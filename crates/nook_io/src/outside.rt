@@ -6,7 +6,7 @@
 ghost use Rattle.std.specs.Prelude.{◌≡◌, ◌<◌, ◌≤◌, ℕ, List, Option, length};
 ghost use Rattle.std.specs.Io.{ReadsAtMost, WritesAtMost};
 ghost use Rattle.std.specs.Io.KnownBytes.{ReadConsumes, WriteAppends};
-ghost use Rattle.nook_io.specs.Views.Causes.{HasCause, HasWriteCause};
+ghost use Rattle.nook_io.specs.Causes.{HasCause, HasWriteCause};
 ghost use Rattle.nook_io.specs.Listening.{Listening, heard};
 
 use nook_data::steps::Event;

@@ -2,7 +2,7 @@
 
 ghost use Rattle.std.specs.Prelude.{◌≡◌, ◌+◌, ◌≤◌, ◌<◌, IsErrOf, IfOk, OnErr, OnOk, length};
 ghost use Rattle.std.specs.Io.KnownBytes.{Appends};
-ghost use Rattle.nook_io.specs.Views.Causes.{AppendsPrefix, HasCause, HoldsMore, ReadsAll, Rose, TakesAtMost};
+ghost use Rattle.nook_io.specs.Causes.{AppendsPrefix, HasCause, HoldsMore, ReadsAll, Rose, TakesAtMost};
 
 use crate::outside::{Failed, Sink, Source};
 use nook_data::memory::NoMemory;

@@ -4,13 +4,12 @@ use Rattle.std.proofs.lemmas.List.{drop_all}
 use Rattle.std.proofs.Math.Seq.{drop-cons}
 use Rattle.std.proofs.Math.Nat.{le_refl, le_trans}
 use Rattle.std.specs.Io.KnownBytes.{Appends}
-use Rattle.nook_io.specs.Views.Causes.{AppendsPrefix, Rose}
+use Rattle.nook_io.specs.Causes.{AppendsPrefix, Rose}
 use Rattle.nook_data.specs.declared.calls.Answer.{Answer}
 use Rattle.nook_data.specs.declared.steps.Event.{Event}
 use Rattle.report_defs.specs.ReportLines.{answer_text, event_line, event_lines, line_feed, with_number}
 use Rattle.nook_data.specs.declared.scenario.ThreadSpec.{ThreadSpec}
-use Rattle.report_defs.specs.ReportText.{answer_lines, threads_text}
-use Rattle.report_defs.specs.Views.Reporting.{thread_line}
+use Rattle.report_defs.specs.ReportText.{answer_lines, thread_line, threads_text}
 use Rattle.report_text.specs.Answers.{answer_line}
 use Rattle.report_text.specs.declared.write.WriteStop.{WriteStop}
 use Rattle.report_text.specs.declared.write.WriteStop.TheVariants.{Fault}

@@ -2,7 +2,7 @@
 use Rattle.std.specs.Prelude.{◌≡◌, ℕ, suc, ◌<◌, ◌≤◌, List, [], ◌∷◌, ◌++◌, Option, Result, OnOk, OnErr, IsErrOf, IsOk}
 use Rattle.std.specs.Prelude.{length}
 use Rattle.std.specs.Io.KnownBytes.{Appends}
-use Rattle.nook_io.specs.Views.Causes.{AppendsPrefix, Rose}
+use Rattle.nook_io.specs.Causes.{AppendsPrefix, Rose}
 use Rattle.report_text.specs.declared.write.WriteStop.{WriteStop}
 use Rattle.report_text.specs.declared.write.WriteStop.TheVariants.{Fault}
 

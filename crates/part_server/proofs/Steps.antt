@@ -245,16 +245,16 @@ module _ (r q : PartRun) (s : Step) (done : StepDone) (h : IsStepped r s (Ok don
   pub grows_by : (Is : Event → Type 0) → Is (event_of r.state s) → Grows r q Is
   grows_by Is i = grown r q s Is h.1 i
 
-is_arrival : (frame : List ℕ) (e : Event) → step_of e ≡ step.Arrive frame → ((f : List ℕ) (kept : Bool) → e ≡ event.Arrive f kept → ⊥) → ⊥
-is_arrival frame (event.Invoke c t o a) s none = cc
-is_arrival frame (event.Enter c t attempt a) s none = cc
-is_arrival frame (event.Burst context c burst count end acts a failure) s none = cc
-is_arrival frame (event.Stage stage answers released) s none = cc
-is_arrival frame (event.Arrive f kept) s none = none f kept refl
+arrival_of : (frame : List ℕ) (e : Event) → step_of e ≡ step.Arrive frame → ((f : List ℕ) (kept : Bool) → e ≡ event.Arrive f kept → ⊥) → ⊥
+arrival_of frame (event.Invoke c t o a) s none = cc
+arrival_of frame (event.Enter c t attempt a) s none = cc
+arrival_of frame (event.Burst context c burst count end acts a failure) s none = cc
+arrival_of frame (event.Stage stage answers released) s none = cc
+arrival_of frame (event.Arrive f kept) s none = none f kept refl
 
 pub not_arrival : (r q : PartRun) (frame : List ℕ) (done : StepDone) (e : Event) → IsStepped r (step.Arrive frame) (Ok done) q → at_number done.place q.journal ≡ Some e
     → ((f : List ℕ) (kept : Bool) → e ≡ event.Arrive f kept → ⊥) → ⊥
-not_arrival r q frame done e h there none = is_arrival frame e (step_is r q (step.Arrive frame) done h e there) none
+not_arrival r q frame done e h there none = arrival_of frame e (step_is r q (step.Arrive frame) done h e there) none
 
 arrives : (frame f : List ℕ) (kept : Bool) (e : Event) → step_of e ≡ step.Arrive frame → e ≡ event.Arrive f kept → IsArrive frame kept e
 arrives frame f kept e s is =

@@ -1,6 +1,6 @@
 -- A turn changes at most one word of memory: only a store has another memory.
-use Rattle.std.proofs.Common.{◌≡◌, ◌+◌, ◌%◌, ◌^◌, ℕ, Bool, true, false, List, [], ◌∷◌, ◌++◌, replicate, Option, Some, None, ◌⊎◌, inl, inr, refl, slice_set, if◌then◌else◌}
-use Rattle.driver_isa.specs.OneWord.{ChangesOneWord, StoresWord, before_store}
+use Rattle.std.proofs.Common.{◌≡◌, ◌+◌, ◌%◌, ◌^◌, ℕ, Bool, true, false, List, [], ◌∷◌, ◌++◌, replicate, Option, Some, None, inl, inr, refl, slice_set, if◌then◌else◌}
+use Rattle.driver_isa.specs.OneWord.{ChangesOneWord, before_store}
 use Rattle.machine_defs.specs.Devices.{Given, Taken, input_of, output_of}
 use Rattle.machine_defs.specs.Machine.{decode_of}
 use Rattle.machine_defs.specs.Pages.{fetch_word, may_write, read_word}

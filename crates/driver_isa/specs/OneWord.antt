@@ -1,5 +1,5 @@
 -- What a turn may do to memory.
-use Rattle.std.specs.Prelude.{◌≡◌, ◌⊎◌, ℕ, true, List, [], ◌∷◌, replicate, slice_set}
+use Rattle.std.specs.Prelude.{◌≡◌, ◌⊎◌, ℕ, true, List, ◌∷◌, replicate, slice_set}
 use Rattle.machine_defs.specs.Pages.{may_write}
 use Rattle.machine_defs.specs.Turn.{Machine}
 use Rattle.nook_data.specs.declared.devices.DeviceState.{DeviceState}

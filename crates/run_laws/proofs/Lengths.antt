@@ -1,7 +1,7 @@
 -- The numbers of frames that a report tells are the lengths of what is there.
-use Rattle.std.proofs.Common.{◌≡◌, ◌∙◌, ◌+◌, ◌-◌, ℕ, Bool, None, List, [], ◌∷◌, ◌++◌, fold, length, length-append, refl, sym, ap, subst, arith}
-use Rattle.machine_defs.specs.Devices.{opening_device, ring_of}
-use Rattle.nook_data.specs.Classes.{defaults_of}
+use Rattle.std.proofs.Common.{◌≡◌, ◌∙◌, ◌-◌, ℕ, Bool, List, [], ◌∷◌, ◌++◌, fold, length, length-append, refl, sym, ap, subst, arith}
+use Rattle.machine_defs.specs.Devices.{opening_device}
+use Rattle.nook_data.specs.Classes.{defaults_of, same_class}
 use Rattle.nook_data.specs.declared.classes.Class.{Class}
 use Rattle.nook_data.specs.declared.classes.Class.TheVariants as class
 use Rattle.nook_data.specs.declared.scenario.BadBlock.{BadBlock}
@@ -13,25 +13,44 @@ use Rattle.nook_data.specs.declared.steps.Stage.TheVariants as stage
 use Rattle.part_defs.specs.Domain.{opening_domain}
 use Rattle.part_defs.specs.Runs.{state_of}
 use Rattle.part_defs.specs.Steps.{opening}
+use Rattle.part_laws.specs.ActsOn.{Dev, dev_of}
 use Rattle.part_laws.specs.Balance.{Balance, Balanced, held_at, tally}
 use Rattle.part_laws.specs.Counts.{Counts, count_event, counted_losses, no_counts}
 use Rattle.part_laws.specs.Orderly.{IsOrderlyFrom, flags_after}
 use Rattle.part_laws.specs.Recovery.{IsKeptRun}
-use Rattle.part_laws.specs.Views.{stage_of, view_of}
+use Rattle.part_laws.specs.Views.{stage_of, view_of, watch_of}
 use Rattle.part_laws.specs.Watch.{Watch, first_watch, sees}
 use Rattle.part_laws.proofs.Breaks.{SeesAlike, event_alike}
 use Rattle.part_laws.proofs.Judged.{same_break, same_losses}
 use Rattle.part_laws.proofs.Known.{known_of}
 use Rattle.part_laws.proofs.OrderlyRuns.{run_orderly}
 use Rattle.part_laws.proofs.Picked.{AreShut}
-use Rattle.part_laws.proofs.Recovered.{IsWatchedRun, has_facts, recovered}
+use Rattle.part_laws.proofs.Recovered.{IsWatchedRun, recovered}
+use Rattle.promise_defs.specs.Blocks.{blank_blocks}
 use Rattle.promise_defs.specs.Contract.{Known, known_after, known_first}
-use Rattle.promise_defs.specs.Losses.{losses}
 use Rattle.run_laws.specs.Lengths.{TellsLengths, in_hands}
 
 watched : (spec : PartSpec) (journal : List Event) → IsKeptRun spec journal → IsWatchedRun spec journal
 watched spec journal h = record
     { run = h.run; contract = sym (same_break spec journal h.run) ∙ h.contract; alive = h.alive }
+
+-- ---- the opening part
+
+opening_dev : (c : Class) (blocks : ℕ) (bad : List BadBlock) (defaults : List ℕ)
+    → dev_of (opening_device c blocks bad defaults)
+    ≡ record { linked = same_class c class.Net; medium = blank_blocks c blocks; ring = []; registers = defaults }
+unfolding opening_device
+opening_dev class.Block blocks bad defaults = refl
+opening_dev class.Net blocks bad defaults = refl
+opening_dev class.Sound blocks bad defaults = refl
+
+opening_watch : (spec : PartSpec)
+    → watch_of (view_of (opening spec)) (record { calls = []; blocks = blank_blocks spec.class spec.blocks; frames = []; handed = []; rest = [] })
+    ≡ first_watch spec.class spec.blocks
+unfolding opening opening_domain
+opening_watch spec =
+    ap (λ (d : Dev). record (first_watch spec.class spec.blocks) { medium = d.medium; ring = d.ring; registers = d.registers })
+    (opening_dev spec.class spec.blocks spec.bad (defaults_of spec.class))
 
 -- ---- what the contract knows of frames
 
@@ -54,7 +73,8 @@ known_rest spec journal h =
     let alike = known_alike [] (first_watch spec.class spec.blocks) journal tt (run_orderly spec journal h.run) in
     let past = (recovered spec journal h).after in
     ap (λ (k : Known). length k.popped - length k.handed) alike.1
-    ∙ (ap (λ (w : Watch). length w.popped - length w.handed) (has_facts spec journal h).seen ∙ all_but past.handed past.rest)
+    ∙ (ap (λ (w : Watch). length w.popped - length w.handed)
+    (ap (λ (w : Watch). fold sees w journal) (sym (opening_watch spec)) ∙ (recovered spec journal h).seen) ∙ all_but past.handed past.rest)
 
 -- between Reset and Load the driver has none
 held_is : (m : Mode) (k : Known) (rest : List (List ℕ)) → length k.popped - length k.handed ≡ length rest
@@ -80,18 +100,12 @@ held_is (mode.Recovering stage.Resume) k rest e = sym e
 
 -- ---- the balance
 
-opening_ring : (c : Class) (blocks : ℕ) (bad : List BadBlock) (defaults : List ℕ) → ring_of (opening_device c blocks bad defaults) ≡ []
-unfolding opening_device
-opening_ring class.Block blocks bad defaults = refl
-opening_ring class.Net blocks bad defaults = refl
-opening_ring class.Sound blocks bad defaults = refl
-
 opening_balance : (spec : PartSpec)
     → Balance (length (view_of (opening spec)).dev.ring) (length (view_of (opening spec)).queue) (held_at (stage_of (view_of (opening spec)).mode) []) (tally no_counts)
 unfolding opening opening_domain
 opening_balance spec =
-    subst (λ (ring : List (List ℕ)). Balance (length ring) 0 0 (tally no_counts))
-    (sym (opening_ring spec.class spec.blocks spec.bad (defaults_of spec.class)))
+    subst (λ (d : Dev). Balance (length d.ring) 0 0 (tally no_counts))
+    (sym (opening_dev spec.class spec.blocks spec.bad (defaults_of spec.class)))
     (record { arrived = refl; kept = refl; taken = refl; driver = refl; flow = refl })
 
 balanced : (spec : PartSpec) (journal : List Event) (h : IsWatchedRun spec journal)

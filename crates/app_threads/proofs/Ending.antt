@@ -26,7 +26,7 @@ use Rattle.app_threads.specs.declared.work.Done.{Done}
 use Rattle.app_threads.specs.Ends.{AreFinished, AtMost, HasArrived, HasRow, IsPartRefused, IsRefused, IsThreadRefused, WorkersEnd}
 use Rattle.app_threads.specs.Hired.{Each, IsDone, IsHired, IsReady, RowsEnd}
 use Rattle.app_threads.specs.Steps.{Same, Spread, TakeAllIn, TakesIn, TakesInOne}
-use Rattle.app_threads.specs.Workers.{AreReceipts, AreRising, AreRuns, AreSeats, ArriveCause, AtDesks, CallCause, Does, Gains, GainsAtMost, GrewBy, IsAnsweredIn, IsBy, IsNoInvoke, IsNotOwn, IsOpenFor, IsRefusedAt, KeepAccounts, KeepShares, KeepsAccounts, KnowsOpen, MadeBy, StayAlone, count_on, invokes_at, invokes_of, invokes_of_all}
+use Rattle.app_threads.specs.Workers.{AreReceipts, AreRising, AreRuns, AreSeats, ArriveCause, AtDesks, CallCause, Does, Gains, GainsAtMost, GrewBy, HasReplyIn, IsBy, IsNoInvoke, IsNotOwn, IsOpenFor, IsRefusedAt, KeepAccounts, KeepShares, KeepsAccounts, KnowsOpen, MadeBy, StayAlone, count_on, invokes_at, invokes_of, invokes_of_all}
 use Rattle.app_threads.specs.Works.{IsWork, WorkEnds, all_works, arrival_works, frames_for, ops_for, ops_of, script_works, thread_of}
 use Rattle.app_threads.proofs.Counted.{Counts, at_most_weaker, counts_more, counts_none, counts_same, gains_at_most, invokes_few, joins_counts, only_of}
 use Rattle.app_threads.proofs.Grown.{at_grows, frames_grow, gains_more, gains_none, joins_gains, rising_filter}
@@ -214,7 +214,7 @@ not_own specs part call olds (o ∷ workers) news v w t f a b =
       All-append (λ place. IsAt w.seen place (IsNoInvoke call)) x.0.made rest.0 first rest.2,
     )
 
-not_answered : (call : ℕ) (seen : List Event) (e : Event) → AllByRecursion (λ e. answer_at call e ≡ None) seen → IsAnsweredIn seen e → IsNoInvoke call e
+not_answered : (call : ℕ) (seen : List Event) (e : Event) → AllByRecursion (λ e. answer_at call e ≡ None) seen → HasReplyIn seen e → IsNoInvoke call e
 not_answered call seen (event.Invoke c t o a) law h = λ q.
     let k = h.2 in
     let none : answer_at call k.event ≡ None = at_place (λ e. answer_at call e ≡ None) seen h.0 k.event law k.there in
@@ -413,8 +413,8 @@ module _ (specs : List PartSpec) (scripts : List ThreadSpec) (arrivals : List (L
             let p_is : o ≡ p = same_at others (length rows) o p here (subst (λ k. slice_get others k ≡ Some p) q a) in
             let x_is : f.new ≡ x = same_at p part f.new x (subst (λ (l : List DeskView). slice_get l part ≡ Some f.new) p_is f.new_there) b in
             subst (λ (y : DeskView). All (λ place. IsAt y.seen place (IsNoInvoke call)) y.made) x_is
-            (All-weaker (λ place. IsAt f.new.seen place (IsAnsweredIn f.new.seen)) (λ place. IsAt f.new.seen place (IsNoInvoke call))
-            (λ place k. is_at_weaker f.new.seen place (IsAnsweredIn f.new.seen) (IsNoInvoke call) (λ e m. not_answered call f.new.seen e answers m) k) f.new.made (f.answered (no_made part f.old f.old_there)))
+            (All-weaker (λ place. IsAt f.new.seen place (HasReplyIn f.new.seen)) (λ place. IsAt f.new.seen place (IsNoInvoke call))
+            (λ place k. is_at_weaker f.new.seen place (HasReplyIn f.new.seen) (IsNoInvoke call) (λ e m. not_answered call f.new.seen e answers m) k) f.new.made (f.answered (no_made part f.old f.old_there)))
         by_place (inr n) =
             let lengths = ended_length specs scripts arrivals (map start_view olds) (all_works scripts arrivals) others ends ended in
             let m = slice_get_within others i p a in

@@ -10,7 +10,7 @@ use Rattle.nook_data.specs.declared.steps.Event.TheVariants as event
 use Rattle.nook_data.specs.declared.calls.Op.{Op}
 use Rattle.nook_data.specs.declared.desks.Receipt.{Receipt}
 use Rattle.nook_data.specs.Places.{at_number}
-use Rattle.desk_like.specs.Desks.{Adds, AddsNothing, AreOthers, DeskView, Invokes, IsArrive, IsAt, IsInvoke, IsOther, IsReceipt, IsRisingFrom, Joins, Answers}
+use Rattle.desk_like.specs.Desks.{Adds, AddsNothing, AreOthers, DeskView, Invokes, IsArrive, IsAt, IsInvoke, IsOther, IsReceipt, IsRisingFrom, Joins, IsReply}
 use Rattle.app_threads.specs.Workers.{Does, Gains, Grows, frame_of, frames_at, invokes_at, is_invoke}
 use Rattle.app_threads.proofs.Listed.{filter_map_none, filter_map_same, filter_none, filter_same, get_append, prefix_length, prefix_refl, prefix_trans}
 
@@ -220,7 +220,7 @@ arrives_does v w frame kept h = record {
 pub receipt_grows : (seen more : List Event) (thread : ℕ) (op : Op) (receipt : Receipt) → IsPrefix seen more → IsReceipt seen thread op receipt → IsReceipt more thread op receipt
 receipt_grows seen more thread op receipt p h = record {
   invoked = is_at_grows seen more receipt.at_invoke (IsInvoke receipt.call thread op) p h.invoked;
-  answered = is_at_grows seen more receipt.at_reply (Answers receipt.call receipt.answer) p h.answered;
+  answered = is_at_grows seen more receipt.at_reply (IsReply receipt.call receipt.answer) p h.answered;
   ordered = h.ordered;
 }
 

@@ -14,11 +14,11 @@ use Rattle.nook_data.specs.declared.scenario.PartSpec.{PartSpec}
 use Rattle.nook_data.specs.declared.desks.Receipt.{Receipt}
 use Rattle.part_defs.specs.Runs.{state_of}
 use Rattle.part_defs.specs.State.{PartState}
-use Rattle.desk_like.specs.Desks.{AddsNothing, Answers, ArriveEnds, CallEnds, DeskView, Invokes, IsAt, IsInvoke, IsOther, IsReceipt}
+use Rattle.desk_like.specs.Desks.{AddsNothing, IsReply, ArriveEnds, CallEnds, DeskView, Invokes, IsAt, IsInvoke, IsOther, IsReceipt}
 use Rattle.app_threads.specs.Steps.{IsStepAt, NextArrivalEnds, NextCallEnds}
 use Rattle.app_threads.specs.declared.stop.WorkerStop.{WorkerStop}
 use Rattle.app_threads.specs.declared.stop.WorkerStop.TheVariants as stop
-use Rattle.app_threads.specs.Workers.{AreReceipts, ArrivalsEnd, ArriveCause, AtDesks, CallCause, Does, DoesFrames, DoesOps, GainsAtMost, GrewBy, IsAnswered, IsAnsweredIn, IsArrivalRefused, IsBy, IsCallRefused, IsReceiptAt, IsRefusedAt, KeepShares, KeepsShare, KnowsOpen, MadeBy, Owns, ScriptEnds, count_on, invokes_of, is_invoke}
+use Rattle.app_threads.specs.Workers.{AreReceipts, ArrivalsEnd, ArriveCause, AtDesks, CallCause, Does, DoesFrames, DoesOps, GainsAtMost, GrewBy, HasReply, HasReplyIn, IsArrivalRefused, IsBy, IsCallRefused, IsReceiptAt, IsRefusedAt, KeepShares, KeepsShare, KnowsOpen, MadeBy, Owns, ScriptEnds, count_on, invokes_of, is_invoke}
 use Rattle.app_threads.proofs.Grown.{arrives_does, does_more, does_none, event_there, invokes_does, is_at_grows, receipt_grows}
 use Rattle.app_threads.proofs.Counted.{at_most_more, at_most_weaker, count_next, count_take, gains_at_most, invokes_at_most, invokes_few, nothing_at_most}
 use Rattle.app_threads.proofs.Listed.{get_set_other, get_set_same, if_other, if_same, prefix_refl, prefix_trans, same_at, same_or_other, some_at, take_next}
@@ -107,10 +107,10 @@ invokes_push views thread d part op r (o ∷ ops) (q ∷ rs) h =
 
 -- ---- whose invocations
 
-answered_grows : (seen more : List Event) (call : ℕ) → IsPrefix seen more → IsAnswered seen call → IsAnswered more call
-answered_grows seen more call p h = (h.0, h.1, is_at_grows seen more h.0 (Answers call h.1) p h.2)
+answered_grows : (seen more : List Event) (call : ℕ) → IsPrefix seen more → HasReply seen call → HasReply more call
+answered_grows seen more call p h = (h.0, h.1, is_at_grows seen more h.0 (IsReply call h.1) p h.2)
 
-own_grows : (seen more : List Event) (thread : ℕ) (e : Event) → IsPrefix seen more → IsBy thread e × IsAnsweredIn seen e → IsBy thread e × IsAnsweredIn more e
+own_grows : (seen more : List Event) (thread : ℕ) (e : Event) → IsPrefix seen more → IsBy thread e × HasReplyIn seen e → IsBy thread e × HasReplyIn more e
 own_grows seen more thread (event.Invoke c t o answer) p h = (h.0, answered_grows seen more c p h.1)
 own_grows seen more thread (event.Enter c t attempt answer) p h = h
 own_grows seen more thread (event.Burst context c burst count end acts answer failure) p h = h
@@ -120,17 +120,17 @@ own_grows seen more thread (event.Arrive frame kept) p h = h
 pub is_at_weaker : (seen : List Event) (place : ℕ) (P Q : Event → Type 0) → ((e : Event) → P e → Q e) → IsAt seen place P → IsAt seen place Q
 is_at_weaker seen place P Q f h = record { event = h.event; there = h.there; is = f h.event h.is }
 
-all_own_grow : (seen more : List Event) (thread : ℕ) (places : List ℕ) → IsPrefix seen more → All (λ place. IsAt seen place (λ e. IsBy thread e × IsAnsweredIn seen e)) places → All (λ place. IsAt more place (λ e. IsBy thread e × IsAnsweredIn more e)) places
+all_own_grow : (seen more : List Event) (thread : ℕ) (places : List ℕ) → IsPrefix seen more → All (λ place. IsAt seen place (λ e. IsBy thread e × HasReplyIn seen e)) places → All (λ place. IsAt more place (λ e. IsBy thread e × HasReplyIn more e)) places
 all_own_grow seen more thread places p h =
-    All-weaker (λ place. IsAt seen place (λ e. IsBy thread e × IsAnsweredIn seen e)) (λ place. IsAt more place (λ e. IsBy thread e × IsAnsweredIn more e))
-    (λ place k. is_at_weaker more place (λ e. IsBy thread e × IsAnsweredIn seen e) (λ e. IsBy thread e × IsAnsweredIn more e) (λ e m. own_grows seen more thread e p m)
-    (is_at_grows seen more place (λ e. IsBy thread e × IsAnsweredIn seen e) p k)) places h
+    All-weaker (λ place. IsAt seen place (λ e. IsBy thread e × HasReplyIn seen e)) (λ place. IsAt more place (λ e. IsBy thread e × HasReplyIn more e))
+    (λ place k. is_at_weaker more place (λ e. IsBy thread e × HasReplyIn seen e) (λ e. IsBy thread e × HasReplyIn more e) (λ e m. own_grows seen more thread e p m)
+    (is_at_grows seen more place (λ e. IsBy thread e × HasReplyIn seen e) p k)) places h
 
 pub all_by_grow : (seen more : List Event) (P : Event → Type 0) (places : List ℕ) → IsPrefix seen more → All (λ place. IsAt seen place P) places → All (λ place. IsAt more place P) places
 all_by_grow seen more P places p h = All-weaker (λ place. IsAt seen place P) (λ place. IsAt more place P) (λ place k. is_at_grows seen more place P p k) places h
 
-invoke_own : (seen : List Event) (call thread : ℕ) (op : Op) (e : Event) → IsAnswered seen call → IsInvoke call thread op e → IsBy thread e × IsAnsweredIn seen e
-invoke_own seen call thread op (event.Invoke c t o answer) a h = (h.1, subst (IsAnswered seen) (sym h.0) a)
+invoke_own : (seen : List Event) (call thread : ℕ) (op : Op) (e : Event) → HasReply seen call → IsInvoke call thread op e → IsBy thread e × HasReplyIn seen e
+invoke_own seen call thread op (event.Invoke c t o answer) a h = (h.1, subst (HasReply seen) (sym h.0) a)
 invoke_own seen call thread op (event.Enter c t attempt answer) a h = absurd h
 invoke_own seen call thread op (event.Burst context c burst count end acts answer failure) a h = absurd h
 invoke_own seen call thread op (event.Stage stage answers released) a h = absurd h
@@ -143,7 +143,7 @@ invoke_by call thread op (event.Burst context c burst count end acts answer fail
 invoke_by call thread op (event.Stage stage answers released) h = absurd h
 invoke_by call thread op (event.Arrive frame kept) h = absurd h
 
-other_own : (seen : List Event) (thread : ℕ) (e : Event) → IsOther e → IsBy thread e × IsAnsweredIn seen e
+other_own : (seen : List Event) (thread : ℕ) (e : Event) → IsOther e → IsBy thread e × HasReplyIn seen e
 other_own seen thread (event.Invoke c t o answer) h = absurd h
 other_own seen thread (event.Enter c t attempt answer) h = (tt, tt)
 other_own seen thread (event.Burst context c burst count end acts answer failure) h = (tt, tt)
@@ -151,18 +151,18 @@ other_own seen thread (event.Stage stage answers released) h = (tt, tt)
 other_own seen thread (event.Arrive frame kept) h = absurd h
 
 owns_none : (thread : ℕ) (v : DeskView) → Owns thread v v
-owns_none thread v none = subst (λ (l : List ℕ). All (λ place. IsAt v.seen place (λ e. IsBy thread e × IsAnsweredIn v.seen e)) l) (sym none) (All-nil (λ place. IsAt v.seen place (λ e. IsBy thread e × IsAnsweredIn v.seen e)))
+owns_none thread v none = subst (λ (l : List ℕ). All (λ place. IsAt v.seen place (λ e. IsBy thread e × HasReplyIn v.seen e)) l) (sym none) (All-nil (λ place. IsAt v.seen place (λ e. IsBy thread e × HasReplyIn v.seen e)))
 
 owns_made : (thread : ℕ) (v w : DeskView) → Owns thread v w → MadeBy thread v w
 owns_made thread v w h none =
-    All-weaker (λ place. IsAt w.seen place (λ e. IsBy thread e × IsAnsweredIn w.seen e)) (λ place. IsAt w.seen place (IsBy thread))
-    (λ place k. is_at_weaker w.seen place (λ e. IsBy thread e × IsAnsweredIn w.seen e) (IsBy thread) (λ e m. m.0) k) w.made (h none)
+    All-weaker (λ place. IsAt w.seen place (λ e. IsBy thread e × HasReplyIn w.seen e)) (λ place. IsAt w.seen place (IsBy thread))
+    (λ place k. is_at_weaker w.seen place (λ e. IsBy thread e × HasReplyIn w.seen e) (IsBy thread) (λ e m. m.0) k) w.made (h none)
 
 owns_call : (thread : ℕ) (u v w : DeskView) (op : Op) (r : Receipt) → Invokes v w r.call thread op r.at_invoke → IsReceipt w.seen thread op r → Owns thread u v → Owns thread u w
 owns_call thread u v w op r i k h none =
-    let P : ℕ → Type 0 = λ place. IsAt w.seen place (λ e. IsBy thread e × IsAnsweredIn w.seen e) in
-    let first : P r.at_invoke = is_at_weaker w.seen r.at_invoke (IsInvoke r.call thread op) (λ e. IsBy thread e × IsAnsweredIn w.seen e) (λ e m. invoke_own w.seen r.call thread op e (r.at_reply, r.answer, k.answered) m) i.invoked in
-    let rest : All P i.others = All-weaker (λ place. IsAt w.seen place IsOther) P (λ place m. is_at_weaker w.seen place IsOther (λ e. IsBy thread e × IsAnsweredIn w.seen e) (other_own w.seen thread) m) i.others i.rest in
+    let P : ℕ → Type 0 = λ place. IsAt w.seen place (λ e. IsBy thread e × HasReplyIn w.seen e) in
+    let first : P r.at_invoke = is_at_weaker w.seen r.at_invoke (IsInvoke r.call thread op) (λ e. IsBy thread e × HasReplyIn w.seen e) (λ e m. invoke_own w.seen r.call thread op e (r.at_reply, r.answer, k.answered) m) i.invoked in
+    let rest : All P i.others = All-weaker (λ place. IsAt w.seen place IsOther) P (λ place m. is_at_weaker w.seen place IsOther (λ e. IsBy thread e × HasReplyIn w.seen e) (other_own w.seen thread) m) i.others i.rest in
     subst (λ (l : List ℕ). All P l) (sym i.adds.made)
     (All-append P v.made (r.at_invoke ∷ i.others) (all_own_grow v.seen w.seen thread v.made i.adds.seen (h none)) (All-cons P r.at_invoke i.others first rest))
 
@@ -306,9 +306,9 @@ knows_open specs olds mids news thread part op (refused.OpenCall call) h s =
       open_call = s.ends.1;
       answered = λ none.
           let own = all_own_grow s.old.seen s.new.seen thread s.old.made added.seen (h.1 part u.0 s.old u.1 s.old_there none) in
-          let answered = All-weaker (λ place. IsAt s.new.seen place (λ e. IsBy thread e × IsAnsweredIn s.new.seen e)) (λ place. IsAt s.new.seen place (IsAnsweredIn s.new.seen))
-          (λ place k. is_at_weaker s.new.seen place (λ e. IsBy thread e × IsAnsweredIn s.new.seen e) (IsAnsweredIn s.new.seen) (λ e m. m.1) k) s.old.made own in
-          subst (λ (l : List ℕ). All (λ place. IsAt s.new.seen place (IsAnsweredIn s.new.seen)) l) (sym (added.made ∙ append-nil s.old.made)) answered;
+          let answered = All-weaker (λ place. IsAt s.new.seen place (λ e. IsBy thread e × HasReplyIn s.new.seen e)) (λ place. IsAt s.new.seen place (HasReplyIn s.new.seen))
+          (λ place k. is_at_weaker s.new.seen place (λ e. IsBy thread e × HasReplyIn s.new.seen e) (HasReplyIn s.new.seen) (λ e m. m.1) k) s.old.made own in
+          subst (λ (l : List ℕ). All (λ place. IsAt s.new.seen place (HasReplyIn s.new.seen)) l) (sym (added.made ∙ append-nil s.old.made)) answered;
     }
 knows_open specs olds mids news thread part op (refused.NoMemory call) h s = tt
 knows_open specs olds mids news thread part op refused.TooManyCalls h s = tt

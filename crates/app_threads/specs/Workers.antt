@@ -19,7 +19,7 @@ use Rattle.nook_data.specs.declared.limits.TheConstants.{MOST_THREADS}
 use Rattle.nook_data.specs.Places.{at_number}
 use Rattle.part_defs.specs.Runs.{IsRun, state_of}
 use Rattle.part_defs.specs.State.{PartState}
-use Rattle.desk_like.specs.Desks.{Accounts, Answers, DeskView, HasNoneOpen, HasOpen, IsAlone, IsAt, IsReceipt}
+use Rattle.desk_like.specs.Desks.{Accounts, IsReply, DeskView, HasNoneOpen, HasOpen, IsAlone, IsAt, IsReceipt}
 use Rattle.desk_like.specs.Desks.{IsRisingFrom}
 use Rattle.app_threads.specs.declared.stop.WorkerStop.{WorkerStop}
 use Rattle.app_threads.specs.declared.stop.WorkerStop.TheVariants as stop
@@ -85,12 +85,12 @@ IsBy thread (event.Invoke call t op answer) = t ≡ thread
 IsBy thread _ = Unit {0}
 
 -- the call was answered
-abbrev pub IsAnswered : List Event → ℕ → Type 0
-IsAnswered seen call = (place : ℕ) × (answer : Answer) × IsAt seen place (Answers call answer)
+abbrev pub HasReply : List Event → ℕ → Type 0
+HasReply seen call = (place : ℕ) × (answer : Answer) × IsAt seen place (IsReply call answer)
 
-abbrev pub IsAnsweredIn : List Event → Event → Type 0
-IsAnsweredIn seen (event.Invoke call t op answer) = IsAnswered seen call
-IsAnsweredIn seen _ = Unit {0}
+abbrev pub HasReplyIn : List Event → Event → Type 0
+HasReplyIn seen (event.Invoke call t op answer) = HasReply seen call
+HasReplyIn seen _ = Unit {0}
 
 abbrev pub IsNoInvoke : ℕ → Event → Type 0
 IsNoInvoke call (event.Invoke c t op answer) = c ≡ call → ⊥
@@ -103,7 +103,7 @@ MadeBy thread old new = old.made ≡ [] → All (λ place. IsAt new.seen place (
 -- the same, and it was answered
 abbrev pub Owns : ℕ → DeskView → DeskView → Type 0
 Owns thread old new =
-    old.made ≡ [] → All (λ place. IsAt new.seen place (λ e. IsBy thread e × IsAnsweredIn new.seen e)) new.made
+    old.made ≡ [] → All (λ place. IsAt new.seen place (λ e. IsBy thread e × HasReplyIn new.seen e)) new.made
 
 -- the call was invoked at none of the places that a seat gained
 abbrev pub IsNotOwn : ℕ → DeskView → DeskView → Type 0
@@ -278,7 +278,7 @@ pub record IsOpenFor (specs : List PartSpec) (olds news : List DeskView) (thread
   pub old_there : slice_get olds part ≡ Some old
   pub new_there : slice_get news part ≡ Some new
   pub open_call : HasOpen (state_of spec new.seen) thread call
-  pub answered : old.made ≡ [] → All (λ place. IsAt new.seen place (IsAnsweredIn new.seen)) new.made
+  pub answered : old.made ≡ [] → All (λ place. IsAt new.seen place (HasReplyIn new.seen)) new.made
 
 abbrev pub KnowsOpen : List PartSpec → List DeskView → List DeskView → ℕ → ℕ → DeskRefused → Type 0
 KnowsOpen specs olds news thread part (refused.OpenCall call) = IsOpenFor specs olds news thread part call

@@ -30,7 +30,8 @@ use Rattle.threaded_run.proofs.Placed.{AreBehind, first_behind, rest_behind}
 use Rattle.audited_runs.proofs.Sections.{IsOpen, here_after, open_after, waits_nowhere}
 use Rattle.audited_runs.proofs.Serves.{IsHere}
 use Rattle.audited_runs.proofs.Shares.{filter_none, filter_same}
-use Rattle.threaded_run.specs.Others.{is_arrival, is_invocation_by}
+use Rattle.part_laws.specs.Bound.{is_arrival}
+use Rattle.threaded_run.specs.Others.{is_invocation_by}
 
 -- an invocation of an operation by a thread
 abbrev pub IsInvokeOf : ℕ → Op → Event → Type 0

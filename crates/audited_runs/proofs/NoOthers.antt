@@ -10,7 +10,8 @@ use Rattle.nook_data.specs.declared.scenario.PartSpec.{PartSpec}
 use Rattle.nook_data.specs.declared.steps.Step.TheVariants as step
 use Rattle.nook_data.specs.declared.scenario.ThreadSpec.{ThreadSpec}
 use Rattle.part_laws.proofs.Places.{split}
-use Rattle.threaded_run.specs.Others.{HasNoOthers, HaveNoOthers, is_arrival, is_invocation_by, operations_on}
+use Rattle.part_laws.specs.Bound.{is_arrival}
+use Rattle.threaded_run.specs.Others.{HasNoOthers, HaveNoOthers, is_invocation_by, operations_on}
 use Rattle.nook_data.proofs.Options.{none_is_some}
 use Rattle.run_laws.specs.Audit.{Section, are_through, arrival_of, has_nothing, invocation_by, is_complete, opening_section, section_after, thread_on}
 use Rattle.run_laws.specs.Fitting.{AllFit, FitsFrom, IsNext}

@@ -2,7 +2,7 @@
 use Rattle.std.proofs.Common.{◌≡◌, ℕ, zero, suc, ◌+◌, ◌<◌, ◌==◌, ◌&&◌, nat_le, not, is_some, Bool, true, false, Option, Some, None, List, [], ◌∷◌, ◌++◌, slice_get, refl, sym, ap, ◌∙◌, subst, arith, inl, inr, ◌⊎◌, eqb-true, eq-eqb, true≢false}
 use Rattle.std.specs.List.{find}
 use Rattle.std.proofs.lemmas.Bool.{and_left, and_right, cases_order, lt-leb}
-use Rattle.desk_like.specs.Desks.{Answers, IsAt}
+use Rattle.desk_like.specs.Desks.{IsReply, IsAt}
 use Rattle.part_defs.specs.Calls.{after_admit, answer_in, after_enter, after_invoke}
 use Rattle.nook_data.specs.Classes.{admit, static_check}
 use Rattle.part_defs.specs.Crossing.{Crossed, after_crossing}
@@ -209,7 +209,7 @@ not_again spec journal call k m e x a b fit run l at h at' h' =
     true≢false (sym done ∙ not_done)
 
 pub answered_once : (spec : PartSpec) (journal : List Event) (call q r : ℕ) (a b : Answer) → IsFitSpec spec → IsRun spec journal
-    → IsAt journal q (Answers call a) → IsAt journal r (Answers call b) → a ≡ b
+    → IsAt journal q (IsReply call a) → IsAt journal r (IsReply call b) → a ≡ b
 answered_once spec journal call zero r a b fit run x y = none_is_some x.there
 answered_once spec journal call (suc k) zero a b fit run x y = none_is_some y.there
 answered_once spec journal call (suc k) (suc m) a b fit run x y = by_order (cases_order k m)

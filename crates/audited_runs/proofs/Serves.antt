@@ -1,6 +1,6 @@
 -- A part's journal serves each thread: its operations on the part were invoked in order and answered.
 use Rattle.std.proofs.Common.{ap, drop, ◌≡◌, ℕ, suc, ◌<◌, ◌==◌, if◌then◌else◌, Bool, true, Option, Some, None, List, [], ◌∷◌, ◌++◌, map, slice_get, refl, sym, ◌∙◌, subst, arith, append_assoc, eqb-true, eq-eqb}
-use Rattle.desk_like.specs.Desks.{Answers, IsAt, IsReceipt, IsRisingFrom}
+use Rattle.desk_like.specs.Desks.{IsReply, IsAt, IsReceipt, IsRisingFrom}
 use Rattle.nook_data.specs.Answers.{answer_at}
 use Rattle.run_defs.specs.Simulation.{ThreadState, Waiting, started, thread_after}
 use Rattle.run_defs.proofs.RunChanges.{settled, settled_by}
@@ -48,7 +48,7 @@ module _ (place i : ℕ) (journal : List Event) where
   pub record Reply (n call : ℕ) : Type 0 where
     pub at : ℕ
     pub answer : Answer
-    pub there : IsAt journal at (Answers call answer)
+    pub there : IsAt journal at (IsReply call answer)
     pub later : n < at
 
   -- the answers that the journal gives the thread behind its first n events: to its open call, and to what it invokes

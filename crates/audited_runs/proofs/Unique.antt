@@ -1,7 +1,7 @@
 -- Journals tell what each thread was answered.
 use Rattle.std.proofs.Common.{◌≡◌, ℕ, zero, suc, ◌+◌, ◌==◌, Bool, true, Some, List, [], ◌∷◌, filter, length, slice_get, slice_index_or, refl, sym, ap, ap₂, ◌∙◌, subst, arith, eq-eqb, inl, inr, ◌⊎◌}
 use Rattle.std.specs.List.{AllByRecursion}
-use Rattle.desk_like.specs.Desks.{Answers, IsAt, IsInvoke, IsReceipt, IsRisingFrom}
+use Rattle.desk_like.specs.Desks.{IsReply, IsAt, IsInvoke, IsReceipt, IsRisingFrom}
 use Rattle.nook_data.specs.Places.{at_number}
 use Rattle.nook_data.specs.Valid.{IsValidPart}
 use Rattle.nook_data.specs.declared.calls.Answer.{Answer}
@@ -57,7 +57,7 @@ module _ (test : Event → Bool) (journal : List Event) where
 
 -- in each part's journal a call is answered once
 abbrev AnswersOnce : List Event → Type 0
-AnswersOnce journal = (call q r : ℕ) (a b : Answer) → IsAt journal q (Answers call a) → IsAt journal r (Answers call b) → a ≡ b
+AnswersOnce journal = (call q r : ℕ) (a b : Answer) → IsAt journal q (IsReply call a) → IsAt journal r (IsReply call b) → a ≡ b
 
 call_of : (call thread : ℕ) (o : Op) (c : ℕ) (e : Event) → IsInvoke call thread o e → IsInvoke c thread o e → call ≡ c
 call_of call thread o c (event.Invoke k t x a) h i = sym h.0 ∙ i.0
@@ -71,7 +71,7 @@ same_answer : (journal : List Event) (thread : ℕ) (o : Op) (r s : Receipt) →
 same_answer journal thread o r s once at h k =
     let event : h.invoked.event ≡ k.invoked.event = same_inside (sym h.invoked.there ∙ ap (λ (p : ℕ). at_number p journal) at ∙ k.invoked.there) in
     let call : r.call ≡ s.call = call_of r.call thread o s.call k.invoked.event (subst (IsInvoke r.call thread o) event h.invoked.is) k.invoked.is in
-    once s.call r.at_reply s.at_reply r.answer s.answer (subst (λ (c : ℕ). IsAt journal r.at_reply (Answers c r.answer)) call h.answered) k.answered
+    once s.call r.at_reply s.at_reply r.answer s.answer (subst (λ (c : ℕ). IsAt journal r.at_reply (IsReply c r.answer)) call h.answered) k.answered
 
 -- ---- two receipts of each operation of a script
 
@@ -184,7 +184,7 @@ module _ (threads : List ThreadSpec) (parts : List PartSpec) (journals : List (L
       next n k = omega arith
 
 all_once : (parts : List PartSpec) (journals : List (List Event)) → AllByRecursion IsValidPart parts → AreRuns parts journals → (k : ℕ) → AnswersOnce (slice_index_or journals k [])
-all_once [] [] v runs k = λ call q r a b x y. absurd (no_event q (Answers call a) x)
+all_once [] [] v runs k = λ call q r a b x y. absurd (no_event q (IsReply call a) x)
 all_once [] (journal ∷ journals) v runs k = absurd runs
 all_once (spec ∷ parts) [] v runs k = absurd runs
 all_once (spec ∷ parts) (journal ∷ journals) v runs zero = λ call q r a b x y. answered_once spec journal call q r a b (valid_fits spec v.0) runs.0 x y

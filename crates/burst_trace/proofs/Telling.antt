@@ -21,7 +21,7 @@ use Rattle.burst_trace.specs.Writing.{WroteTrace, text_in}
 -- there is no trace, and nothing was written
 pub wrote_none : (held : Option (List ℕ)) (count : ℕ) → WroteTrace held held count count (Ok false) None
 wrote_none held count = record {
-  wrote = record { ok = appends_nothing held; err = tt; later = le_refl count; fault = λ e. cc };
+  wrote = record { ok = appends_nothing held; err = tt; later = le_refl count; fault = λ e. cc; kept = refl; wanting = λ e. refl };
   there = refl;
 }
 
@@ -34,6 +34,8 @@ unwritten held count e trace other = record {
     err = record { front = []; rest = text_in trace; gained = appends_nothing held; whole = refl };
     later = le_refl count;
     fault = λ h. absurd (other (err_same (Err e) e stop.Fault refl h));
+    kept = tt;
+    wanting = λ h. refl;
   };
   there = tt;
 }
@@ -44,7 +46,7 @@ pub domain_told : {V : Type 0} {v : V} {old new : Option (List ℕ)} {before now
     → WroteTrace old new before now (Ok true) (trace_by head end faults d inside)
 domain_told {old = old} {new = new} {before = before} {now = now} inside x faults d head end found w =
     subst (λ i. WroteTrace old new before now (Ok true) (trace_by head end faults d i)) found
-    (record { wrote = record { ok = w.ok; err = tt; later = w.later; fault = λ e. cc }; there = refl })
+    (record { wrote = record { ok = w.ok; err = tt; later = w.later; fault = λ e. cc; kept = w.kept; wanting = λ e. w.kept }; there = refl })
 
 -- it was not written whole
 pub domain_cut : {V : Type 0} {e : WriteStop} {old new : Option (List ℕ)} {before now : ℕ} (inside : Option Context) (x : Context) (faults : List Fault)

@@ -1,6 +1,5 @@
-use Rattle.std.specs.Prelude.{ℕ, zero, suc, List, [], ◌∷◌, map, ◌==◌, if◌then◌else◌}
+use Rattle.std.specs.Prelude.{ℕ, zero, suc, true, false, List, [], ◌∷◌, map, ◌==◌, if◌then◌else◌}
 use Rattle.promise_defs.specs.Contract.{OpenCall, change_call}
-use Rattle.promise_defs.proofs.PromiseChanges.{enter_call, failed_at, handed_frame, sent_more}
 use Rattle.promise_defs.specs.Losses.{Tally}
 use Rattle.contract_monitor.specs.declared.calls.Call.{Call}
 use Rattle.contract_monitor.specs.declared.calls.Change.{Change}
@@ -21,6 +20,22 @@ open_of c = record {
 -- what is counted of it for the losses
 abbrev pub tally_of : Call → Tally
 tally_of c = record { number = c.number; op = c.op; sent = c.sent; played = c.own_played }
+
+-- a new attempt of a call begins: it is Inside
+abbrev pub enter_call : OpenCall → OpenCall
+enter_call c = record c { inside = true; handed = false; failed = [] }
+
+-- a frame was sent in a burst of the call
+abbrev pub sent_more : OpenCall → OpenCall
+sent_more c = record c { sent = suc c.sent }
+
+-- a frame was handed up in the attempt
+abbrev pub handed_frame : OpenCall → OpenCall
+handed_frame c = record c { handed = true }
+
+-- a command on the block failed in the attempt
+abbrev pub failed_at : ℕ → OpenCall → OpenCall
+failed_at block c = record c { failed = block ∷ c.failed }
 
 -- a change of a call, as the contract makes it
 abbrev pub open_change : Change → OpenCall → OpenCall

@@ -11,6 +11,7 @@ use Rattle.nook_data.specs.declared.steps.Event.TheVariants as event
 use Rattle.nook_data.specs.declared.steps.FailCause.{FailCause}
 use Rattle.nook_data.specs.declared.verdicts.Losses.{Losses}
 use Rattle.nook_data.specs.declared.calls.Op.{Op}
+use Rattle.nook_data.specs.declared.calls.Op.TheVariants.{Send, Play}
 use Rattle.nook_data.specs.declared.steps.Stage.{Stage}
 use Rattle.nook_data.specs.declared.steps.Stage.TheVariants as stage
 use Rattle.nook_data.specs.Answers.{answers_of}
@@ -18,11 +19,10 @@ use Rattle.promise_defs.specs.Contract.{Deed, Known, acts, after_deed, after_fai
 use Rattle.promise_defs.specs.Contract.{crossing_deeds, deeds_of, during, hands_up, is_answered_in, known_first}
 use Rattle.promise_defs.specs.Contract.{new_call}
 use Rattle.promise_defs.specs.Contract.{replays, replies}
-use Rattle.promise_defs.proofs.PromiseChanges.{enter_call, unplayed, unsent}
 use Rattle.promise_defs.specs.Losses.{FramePlaces, Tally, handed_result, in_driver, in_ring, is_busy, is_received}
 use Rattle.promise_defs.specs.Losses.{lost_by}
 use Rattle.promise_defs.specs.Losses.{new_tally, no_places, one_if, places_reset, tallies_after, tallies_during}
-use Rattle.contract_monitor.specs.Calls.{change_tally, tally_played, tally_sent}
+use Rattle.contract_monitor.specs.Calls.{change_tally, enter_call, tally_played, tally_sent}
 
 -- what is counted: Sends and samples that were lost, answers Busy; frames that arrived, that were answered, that the
 -- queue took and that it did not, and that the ring did not take; and where frames are
@@ -83,11 +83,13 @@ no_counts = record {
   places = no_places;
 }
 
+-- a Send in which no frame was sent
 abbrev pub sends_lost : Tally → ℕ
-sends_lost t = unsent t.op t.sent
+sends_lost t = elim t.op [ (Send frame) ↦ if t.sent == 0 then 1 else 0 | _ ↦ 0 ]
 
+-- the samples of a Play that were not played
 abbrev pub samples_lost : Tally → ℕ
-samples_lost t = unplayed t.op t.played
+samples_lost t = elim t.op [ (Play samples) ↦ length samples - t.played | _ ↦ 0 ]
 
 -- one of these calls is answered
 abbrev pub count_answer : List Tally → Counts → ℕ × Answer → Counts

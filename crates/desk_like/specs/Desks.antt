@@ -52,8 +52,8 @@ abbrev pub IsArrive : List ℕ → Bool → Event → Type 0
 IsArrive frame kept (event.Arrive f k) = (f ≡ frame) × (k ≡ kept)
 IsArrive frame kept _ = ⊥
 
-abbrev pub Answers : ℕ → Answer → Event → Type 0
-Answers call answer e = answer_at call e ≡ Some answer
+abbrev pub IsReply : ℕ → Answer → Event → Type 0
+IsReply call answer e = answer_at call e ≡ Some answer
 
 -- neither an invocation nor an arrival
 abbrev pub IsOther : Event → Type 0
@@ -102,7 +102,7 @@ pub record Invokes (old new : DeskView) (call thread : ℕ) (op : Op) (at_invoke
 -- a receipt of an operation of a thread: its call was invoked and answered so
 pub record IsReceipt (seen : List Event) (thread : ℕ) (op : Op) (receipt : Receipt) : Type 0 where
   pub invoked : IsAt seen receipt.at_invoke (IsInvoke receipt.call thread op)
-  pub answered : IsAt seen receipt.at_reply (Answers receipt.call receipt.answer)
+  pub answered : IsAt seen receipt.at_reply (IsReply receipt.call receipt.answer)
   pub ordered : receipt.at_invoke ≤ receipt.at_reply
 
 -- ---- refusals

@@ -1,2 +1,3 @@
+pub mod OneWord
 pub mod Turns
 pub mod Bursts

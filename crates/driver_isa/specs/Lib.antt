@@ -1,4 +1,5 @@
 pub mod Fields
+pub mod OneWord
 pub mod Runs
 pub mod Steps
 pub mod Turns

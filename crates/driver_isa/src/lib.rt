@@ -6,6 +6,7 @@
 mod burst;
 mod bus;
 mod code;
+pub mod laws;
 mod turn;
 
 pub use burst::{BurstDone, run_burst};

@@ -76,6 +76,8 @@ written_kept c t (Ok done) text h = record {
   err = tt;
   later = h.is.later;
   fault = h.is.fault;
+  kept = h.is.kept;
+  wanting = h.is.wanting;
 }
 written_kept c t (Err stop) text h = record {
   ok = tt;
@@ -87,6 +89,8 @@ written_kept c t (Err stop) text h = record {
   };
   later = h.is.later;
   fault = h.is.fault;
+  kept = h.is.kept;
+  wanting = h.is.wanting;
 }
 
 -- ---- a whole text

@@ -3,7 +3,7 @@
 ghost use Rattle.std.specs.Prelude.{◌≡◌, ◌+◌, ◌<◌, ◌≤◌, None, Some, false, true, length, take, drop, slice_index};
 ghost use Rattle.std.specs.Io.{WritesAtMost};
 ghost use Rattle.std.specs.Io.KnownBytes.{WriteAppends};
-ghost use Rattle.nook_io.specs.Views.Causes.{HasWriteCause};
+ghost use Rattle.nook_io.specs.Causes.{HasWriteCause};
 ghost use Rattle.journal_audit.specs.Comparisons.{held_in, is_other, untouched};
 ghost use Rattle.journal_audit.specs.Placed.{begins_with};
 

@@ -4,7 +4,7 @@ use Rattle.std.proofs.lemmas.List.{take-append-drop, take_all}
 use Rattle.std.proofs.Math.Seq.{take-add}
 use Rattle.std.proofs.lemmas.Grind.{common_steps}
 use Rattle.std.specs.Io.KnownBytes.{Appends, Consumes, IsAtEnd, Keeps}
-use Rattle.nook_io.specs.Views.Causes.{AppendsPrefix, HoldsMore, ReadsAll, TakesAtMost}
+use Rattle.nook_io.specs.Causes.{AppendsPrefix, HoldsMore, ReadsAll, TakesAtMost}
 
 -- known bytes that stay begin with no bytes
 pub consumes_none : (old : Option (List ℕ)) → Consumes old old []

@@ -1,12 +1,13 @@
 //! The traits of the outside: where bytes come from and go to, what holds a worker back, and who listens.
 //!
 //! A source and a sink each have a count of their faults, which never falls: so what fails is told apart from
-//! what claims to fail. A count that stands at the end of its type, 2^64 - 1, may come with a fault as it is.
+//! what claims to fail. A fault raises the count by one, and a success leaves it. A count that stands at the end of
+//! its type, 2^64 - 1, stays there after a fault.
 
 ghost use Rattle.std.specs.Prelude.{◌≡◌, ◌<◌, ◌≤◌, ℕ, List, Option, length};
 ghost use Rattle.std.specs.Io.{ReadsAtMost, WritesAtMost};
 ghost use Rattle.std.specs.Io.KnownBytes.{ReadConsumes, WriteAppends};
-ghost use Rattle.nook_io.specs.Views.Causes.{HasCause, HasWriteCause};
+ghost use Rattle.nook_io.specs.Causes.{HasCause, HasWriteCause};
 ghost use Rattle.nook_io.specs.Listening.{Listening, heard};
 
 use nook_data::steps::Event;
@@ -23,7 +24,7 @@ pub trait Source {
     ghost count: { Self → ℕ };
 
     /// Gives the next bytes, at most as many as the buffer has place for. None at all come only at the end of
-    /// input. `Failed` comes only where the count of faults rose, and takes no bytes.
+    /// input. `Failed` raises the count of faults by one and takes no bytes; all else leaves the count.
     fn read(&mut self, buf: &mut [u8]) -> Result<usize, Failed>
         requires { 0 < length buf.old }
         ensures bound { ReadsAtMost result buf.new }
@@ -42,8 +43,8 @@ pub trait Sink {
 
     ghost count: { Self → ℕ };
 
-    /// Takes bytes from the front of the piece and says how many. `Ok(0)` and `Failed` come only where the
-    /// count of faults rose, and take nothing.
+    /// Takes bytes from the front of the piece and says how many. `Ok(0)` and `Failed` raise the count of faults
+    /// by one and take nothing; all else leaves the count.
     fn write(&mut self, piece: &[u8]) -> Result<usize, Failed>
         requires { 0 < length piece.now }
         ensures bound { WritesAtMost result piece.now }

@@ -3,7 +3,7 @@
 ghost use Rattle.std.specs.Prelude.{◌≡◌, ◌+◌, ◌<◌, ◌≤◌, [], ◌++◌, Some, None, Ok, IsErr, IsOk, IfOk, OnErr, MatchBool, length, take, drop, min};
 ghost use Rattle.std.specs.Io.{ReadsAtMost, WritesAtMost};
 ghost use Rattle.std.specs.Io.KnownBytes.{ReadConsumes, WriteAppends};
-ghost use Rattle.nook_io.specs.Views.Causes.{HasCause, HasWriteCause};
+ghost use Rattle.nook_io.specs.Causes.{HasCause, HasWriteCause};
 ghost use Rattle.nook_io.specs.Views.Streams.{IsRefusal, bytes_taken, given, is_listed as listed, one_more, read_fails};
 ghost use Rattle.nook_io.specs.Views.Streams.{write_fails};
 

@@ -2,7 +2,7 @@
 
 ghost use Rattle.std.specs.Prelude.{◌≡◌, ◌+◌, ◌≤◌, ◌<◌, IsErrOf, IfOk, OnErr, OnOk, length};
 ghost use Rattle.std.specs.Io.KnownBytes.{Appends};
-ghost use Rattle.nook_io.specs.Views.Causes.{AppendsPrefix, HasCause, HoldsMore, ReadsAll, Rose, TakesAtMost};
+ghost use Rattle.nook_io.specs.Causes.{AppendsPrefix, HasCause, HoldsMore, ReadsAll, Rose, TakesAtMost};
 
 use crate::outside::{Failed, Sink, Source};
 use nook_data::memory::NoMemory;
@@ -40,7 +40,7 @@ impl From<AllocError> for ReadStop {
 }
 
 /// All bytes that a source has left, at most `limit`. It reads to the end, or to the first byte over the limit, and takes
-/// no byte behind that one, however it ends.
+/// no byte behind that one, however it ends. It ends at the source's first fault, and `Fault` says that there was one.
 #[tactic(auto, using(crate::proofs::KnownLemmas::consumes_none, crate::proofs::KnownLemmas::consumes_more, crate::proofs::KnownLemmas::reads_all, crate::proofs::KnownLemmas::holds_more, crate::proofs::KnownLemmas::takes_front, crate::proofs::KnownLemmas::takes_more, crate::proofs::KnownLemmas::takes_kept))]
 pub fn read_all<S: Source>(alloc: Global, source: &mut S, limit: u32) -> Result<Vec<u8>, ReadStop>
     ensures all { IfOk result (λ made. ReadsAll (S.left source.old) (S.left source.new) made.items) }
@@ -49,6 +49,7 @@ pub fn read_all<S: Source>(alloc: Global, source: &mut S, limit: u32) -> Result<
     ensures taken { TakesAtMost (S.left source.old) (S.left source.new) (limit + 1) }
     ensures later { S.count source.old ≤ S.count source.new }
     ensures fault { IsErrOf result ReadStop.Fault → Rose (S.count source.old) (S.count source.new) }
+    ensures no_fault { (IsErrOf result ReadStop.Fault → ⊥) → S.count source.new ≡ S.count source.old }
 {
     let limit = limit as usize;
     let mut bytes = Vec::new(alloc);
@@ -66,7 +67,7 @@ pub fn read_all<S: Source>(alloc: Global, source: &mut S, limit: u32) -> Result<
     Err(ReadStop::TooLong)
 }
 
-/// Writes a text whole. After a failure the sink has gained a front of it.
+/// Writes a text whole. It ends at the sink's first fault, and then the sink has gained a front of the text.
 #[tactic(auto, using(crate::proofs::KnownLemmas::appends_none, crate::proofs::KnownLemmas::appends_next, crate::proofs::KnownLemmas::appends_front, crate::proofs::KnownLemmas::appends_whole))]
 pub fn write_all<K: Sink>(sink: &mut K, text: &[u8]) -> Result<(), Failed>
     ensures ok { OnOk result (Appends (K.held sink.old) (K.held sink.new) text.now) }

@@ -1,7 +1,7 @@
 -- The call over bytes in memory, where neither side fails.
 use Rattle.std.proofs.Common.{◌≡◌, ℕ, ◌<◌, ◌≤◌, nat_le, Bool, true, false, List, ◌⊎◌, inl, inr, length, Option, Some, None, refl, sym, subst, arith, true≢false}
 use Rattle.std.proofs.lemmas.Bool.{le-leb, leb-true}
-use Rattle.nook_io.specs.Views.Causes.{ReadsAll, Rose}
+use Rattle.nook_io.specs.Causes.{ReadsAll, Rose}
 use Rattle.nook_io.specs.Listening.{Listening}
 use Rattle.nooks.specs.Answers.{Answers}
 use Rattle.nooks.specs.Endings.{AnswersBytes, AnswersWords, IsAnswered, IsWritten, ReadsFor, input_for}

@@ -1,7 +1,7 @@
 -- What a source or a sink shows of a call: its bytes, where it tells them, and how often it failed.
 use Rattle.std.specs.Prelude.{ℕ, ◌+◌, ◌≤◌, nat_le, if◌then◌else◌, List, length, Option}
 use Rattle.std.specs.Io.KnownBytes.{Appends, Keeps}
-use Rattle.nook_io.specs.Views.Causes.{AppendsPrefix, HoldsMore, ReadsAll, Rose, TakesAtMost}
+use Rattle.nook_io.specs.Causes.{AppendsPrefix, HoldsMore, ReadsAll, Rose, TakesAtMost}
 
 -- a source or a sink at one moment: the bytes that the source has left or that the sink holds, and its count of faults
 pub record Stream : Type 0 where

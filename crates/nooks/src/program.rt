@@ -1,7 +1,7 @@
 //! The whole program as one call over a source and a sink.
 
 ghost use Rattle.std.specs.Prelude.{◌≡◌, ℕ, ◌≤◌, ◌⊎◌, List, None, Some, IsTrue, map, string_bytes};
-ghost use Rattle.nook_io.specs.Views.Causes.{Rose};
+ghost use Rattle.nook_io.specs.Causes.{Rose};
 ghost use Rattle.nooks.specs.Answers.{Says};
 ghost use Rattle.nooks.specs.Endings.{AnswersBytes, AnswersWords, Ends, IsAnswered, IsBegun, IsCut, IsWritten, Writes};
 ghost use Rattle.nooks.specs.Endings.{code_of};

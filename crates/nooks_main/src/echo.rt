@@ -3,7 +3,7 @@
 ghost use Rattle.std.specs.Prelude.{◌≡◌, ◌<◌, ◌≤◌, length};
 ghost use Rattle.std.specs.Io.{WritesAtMost};
 ghost use Rattle.std.specs.Io.KnownBytes.{WriteAppends};
-ghost use Rattle.nook_io.specs.Views.Causes.{HasWriteCause};
+ghost use Rattle.nook_io.specs.Causes.{HasWriteCause};
 
 use nook_io::outside::{Failed, Sink};
 

@@ -6,7 +6,7 @@ use Rattle.nook_data.specs.declared.calls.Op.{Op}
 use Rattle.nook_data.specs.declared.scenario.PartSpec.{PartSpec}
 use Rattle.nook_data.specs.declared.desks.Receipt.{Receipt}
 use Rattle.nook_data.specs.declared.memory.NoMemory.{NoMemory}
-use Rattle.desk_like.specs.Desks.{DeskView, IsAt, IsInvoke, Answers, Waits, Invokes, HasOpen, CallEnds, ResumeEnds, state_seen}
+use Rattle.desk_like.specs.Desks.{DeskView, IsAt, IsInvoke, IsReply, Waits, Invokes, HasOpen, CallEnds, ResumeEnds, state_seen}
 use Rattle.turn_lock.proofs.Prefixes.{prefix_length}
 use Rattle.part_server.specs.declared.waiting.Progress.TheVariants as progress
 use Rattle.part_server.specs.declared.waiting.Waiting.{Waiting}
@@ -25,7 +25,7 @@ module _ (spec : PartSpec) (u v x : DeskView) where
         waits_more u v x before h.0,
         h.1 ∙ same.0,
         h.2 ∙ same.2,
-        subst (λ (n : ℕ). IsAt x.seen receipt.at_reply (Answers n receipt.answer)) same.0 h.3,
+        subst (λ (n : ℕ). IsAt x.seen receipt.at_reply (IsReply n receipt.answer)) same.0 h.3,
         omega arith,
       )
 
@@ -60,7 +60,7 @@ module _ (spec : PartSpec) (u v x : DeskView) where
         mine,
         record {
           invoked = mine.invoked;
-          answered = subst (λ (n : ℕ). IsAt x.seen receipt.at_reply (Answers n receipt.answer)) (sym b.1) b.3;
+          answered = subst (λ (n : ℕ). IsAt x.seen receipt.at_reply (IsReply n receipt.answer)) (sym b.1) b.3;
           ordered = omega arith;
         },
       )
@@ -96,7 +96,7 @@ module _ (spec : PartSpec) (u v x : DeskView) where
           known = record {
             invoked = subst (λ (n : ℕ). IsAt x.seen n (IsInvoke receipt.call thread o)) (sym place)
                 (subst (λ (n : ℕ). IsAt x.seen w.at_invoke (IsInvoke n thread o)) (sym b.1) later);
-            answered = subst (λ (n : ℕ). IsAt x.seen receipt.at_reply (Answers n receipt.answer)) (sym b.1) b.3;
+            answered = subst (λ (n : ℕ). IsAt x.seen receipt.at_reply (IsReply n receipt.answer)) (sym b.1) b.3;
             ordered = omega arith;
           };
           later = omega arith;

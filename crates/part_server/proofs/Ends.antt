@@ -15,7 +15,7 @@ use Rattle.part_defs.specs.Runs.{PartRun, IsRun, next_any, state_of}
 use Rattle.nook_data.specs.Answers.{answer_at}
 use Rattle.part_defs.specs.State.{PartState}
 use Rattle.nook_data.specs.Valid.{IsValidPart}
-use Rattle.desk_like.specs.Desks.{IsAt, IsInvoke, IsArrive, IsOther, Answers, Adds, AddsNothing, HasOpen, HasNoneOpen, ArriveEnds}
+use Rattle.desk_like.specs.Desks.{IsAt, IsInvoke, IsArrive, IsOther, IsReply, Adds, AddsNothing, HasOpen, HasNoneOpen, ArriveEnds}
 use Rattle.part_laws.proofs.RunSmall.{run_small}
 use Rattle.part_laws.proofs.ValidFits.{valid_fits}
 use Rattle.turn_lock.specs.declared.view.View.{View}
@@ -85,7 +85,7 @@ module _ (spec : PartSpec) (v : Vw) (r q : PartRun) (pre : IsPrefix v.seen r.jou
 
   pub invoke_ends_ok : (thread : ℕ) (o : Op) (p : Progress) → InvokeGives r q thread o (Ok p) → InvokeEnds spec (seen_view v) (seen_view given) thread o (Ok p)
   invoke_ends_ok thread o (progress.Answered receipt) h =
-      let Is : Event → Type 0 = λ e. IsInvoke receipt.call thread o e × Answers receipt.call receipt.answer e in
+      let Is : Event → Type 0 = λ e. IsInvoke receipt.call thread o e × IsReply receipt.call receipt.answer e in
       let there : IsAt q.journal (length q.journal) Is = grown_at r q Is h.0 in
       let invoked : IsAt q.journal receipt.at_invoke (IsInvoke receipt.call thread o) =
       subst (λ (n : ℕ). IsAt q.journal n (IsInvoke receipt.call thread o)) (sym h.1) (record { event = there.event; there = there.there; is = there.is.0 }) in (
@@ -93,7 +93,7 @@ module _ (spec : PartSpec) (v : Vw) (r q : PartRun) (pre : IsPrefix v.seen r.jou
             (subst (λ (n : ℕ). Adds (seen_view v) (seen_view given) (n ∷ [])) (sym h.1) (grown_adds Is h.0)) invoked,
         record {
           invoked = invoked;
-          answered = subst (λ (n : ℕ). IsAt q.journal n (Answers receipt.call receipt.answer)) (sym h.2) (record { event = there.event; there = there.there; is = there.is.1 });
+          answered = subst (λ (n : ℕ). IsAt q.journal n (IsReply receipt.call receipt.answer)) (sym h.2) (record { event = there.event; there = there.there; is = there.is.1 });
           ordered = let a = h.1 in let b = h.2 in omega arith;
         },
       )
@@ -107,13 +107,13 @@ module _ (spec : PartSpec) (v : Vw) (r q : PartRun) (pre : IsPrefix v.seen r.jou
 
   pub advance_ends_ok : (w : Waiting) (p : Progress) → GoOnGives r q w (Ok p) → AdvanceEnds spec (seen_view v) (seen_view given) w (Ok p)
   advance_ends_ok w (progress.Answered receipt) h =
-      let Is : Event → Type 0 = λ e. IsOther e × Answers w.call receipt.answer e in
+      let Is : Event → Type 0 = λ e. IsOther e × IsReply w.call receipt.answer e in
       let there : IsAt q.journal (length q.journal) Is = grown_at r q Is h.0 in
       let adds : Adds (seen_view v) (seen_view given) (length q.journal ∷ []) = grown_adds Is h.0 in (
         waits_one (seen_view v) (seen_view given) (length q.journal) adds (record { event = there.event; there = there.there; is = there.is.0 }),
         h.1,
         h.2,
-        subst (λ (n : ℕ). IsAt q.journal n (Answers w.call receipt.answer)) (sym h.3) (record { event = there.event; there = there.there; is = there.is.1 }),
+        subst (λ (n : ℕ). IsAt q.journal n (IsReply w.call receipt.answer)) (sym h.3) (record { event = there.event; there = there.there; is = there.is.1 }),
         subst (λ (n : ℕ). length v.seen < n) (sym h.3) adds.rising.0,
       )
   advance_ends_ok w (progress.Open next) h = (
@@ -185,7 +185,7 @@ module _ (spec : PartSpec) (v : Vw) (r : PartRun) (pre : IsPrefix v.seen r.journ
     waits_nothing (seen_view v) (seen_view returned) kept_adds,
     call,
     invoke,
-    subst (λ (n : ℕ). IsAt r.journal n (Answers w.call receipt.answer)) (sym reply) (record { event = e; there = there; is = answer' }),
+    subst (λ (n : ℕ). IsAt r.journal n (IsReply w.call receipt.answer)) (sym reply) (record { event = e; there = there; is = answer' }),
     subst (λ (n : ℕ). length v.seen < n) (sym reply) past,
   )
 
@@ -248,9 +248,9 @@ pub one_more : (r q : PartRun) (Is : Event → Type 0) → Grows r q Is → OneM
 one_more r q Is g = record { event = g.event; journal = g.journal; spec = g.spec }
 
 pub invoke_more : (r q : PartRun) (thread : ℕ) (o : Op) (p : Progress) → InvokeGives r q thread o (Ok p) → OneMore r q
-invoke_more r q thread o (progress.Answered receipt) h = one_more r q (λ e. IsInvoke receipt.call thread o e × Answers receipt.call receipt.answer e) h.0
+invoke_more r q thread o (progress.Answered receipt) h = one_more r q (λ e. IsInvoke receipt.call thread o e × IsReply receipt.call receipt.answer e) h.0
 invoke_more r q thread o (progress.Open w) h = one_more r q (IsInvoke w.call thread o) h.0
 
 pub go_on_more : (r q : PartRun) (w : Waiting) (p : Progress) → GoOnGives r q w (Ok p) → OneMore r q
-go_on_more r q w (progress.Answered receipt) h = one_more r q (λ e. IsOther e × Answers w.call receipt.answer e) h.0
+go_on_more r q w (progress.Answered receipt) h = one_more r q (λ e. IsOther e × IsReply w.call receipt.answer e) h.0
 go_on_more r q w (progress.Open next) h = one_more r q IsOther h.0

@@ -12,7 +12,7 @@ use Rattle.part_defs.specs.Runs.{PartRun, IsRun, state_of}
 use Rattle.part_defs.specs.Views.CallLogs.{answered_from}
 use Rattle.part_defs.specs.State.{PartState}
 use Rattle.nook_data.specs.Valid.{IsValidPart}
-use Rattle.desk_like.specs.Desks.{DeskView, IsAt, IsArrive, IsOther, Answers, HasOpen, ArriveEnds}
+use Rattle.desk_like.specs.Desks.{DeskView, IsAt, IsArrive, IsOther, IsReply, HasOpen, ArriveEnds}
 use Rattle.part_core.specs.Kept.{IsKept}
 use Rattle.turn_lock.specs.Seats.{IsAlone}
 use Rattle.turn_lock.specs.Views.{took, committed, gave}
@@ -157,7 +157,7 @@ module _ (spec : PartSpec) (old v w : Vw) (r : PartRun) (t : IsTaken spec old v 
   pub look_returns : (w0 : Waiting) (receipt : Receipt) → w ≡ gave (took v r.journal) → IsWaitingIn spec (seen_view old) w0 → LookGives r.journal w0 (Ok receipt)
       → AdvanceEnds spec (seen_view old) (seen_view w) w0 (Ok (progress.Answered receipt))
   look_returns w0 receipt e waits h =
-      let at : IsAt r.journal receipt.at_reply (Answers w0.call receipt.answer) = h.3 in
+      let at : IsAt r.journal receipt.at_reply (IsReply w0.call receipt.answer) = h.3 in
       let past : w0.looked < receipt.at_reply = h.2 in
       let looked : w0.looked ≡ length v.seen = waits.1 ∙ ap (λ (x : Vw). length x.seen) (sym t.same) in
       both spec old v w r r t k (λ a b. AdvanceEnds spec a b w0 (Ok (progress.Answered receipt))) (gave (took v r.journal)) e

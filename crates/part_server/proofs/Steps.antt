@@ -24,7 +24,7 @@ use Rattle.part_defs.specs.State.{PartState}
 use Rattle.part_defs.specs.Steps.{can_invoke, enabled}
 use Rattle.nook_data.specs.Valid.{IsValidPart}
 use Rattle.part_defs.proofs.NextSteps.{next_for_case}
-use Rattle.desk_like.specs.Desks.{IsAt, Answers, IsInvoke, IsArrive, IsOther, HasOpen, HasNoneOpen}
+use Rattle.desk_like.specs.Desks.{IsAt, IsReply, IsInvoke, IsArrive, IsOther, HasOpen, HasNoneOpen}
 use Rattle.part_laws.proofs.DeviceStays.{spec_after}
 use Rattle.part_core.proofs.Kept.{kept_after}
 use Rattle.part_core.specs.Answering.{call_number}
@@ -245,16 +245,16 @@ module _ (r q : PartRun) (s : Step) (done : StepDone) (h : IsStepped r s (Ok don
   pub grows_by : (Is : Event → Type 0) → Is (event_of r.state s) → Grows r q Is
   grows_by Is i = grown r q s Is h.1 i
 
-is_arrival : (frame : List ℕ) (e : Event) → step_of e ≡ step.Arrive frame → ((f : List ℕ) (kept : Bool) → e ≡ event.Arrive f kept → ⊥) → ⊥
-is_arrival frame (event.Invoke c t o a) s none = cc
-is_arrival frame (event.Enter c t attempt a) s none = cc
-is_arrival frame (event.Burst context c burst count end acts a failure) s none = cc
-is_arrival frame (event.Stage stage answers released) s none = cc
-is_arrival frame (event.Arrive f kept) s none = none f kept refl
+arrival_of : (frame : List ℕ) (e : Event) → step_of e ≡ step.Arrive frame → ((f : List ℕ) (kept : Bool) → e ≡ event.Arrive f kept → ⊥) → ⊥
+arrival_of frame (event.Invoke c t o a) s none = cc
+arrival_of frame (event.Enter c t attempt a) s none = cc
+arrival_of frame (event.Burst context c burst count end acts a failure) s none = cc
+arrival_of frame (event.Stage stage answers released) s none = cc
+arrival_of frame (event.Arrive f kept) s none = none f kept refl
 
 pub not_arrival : (r q : PartRun) (frame : List ℕ) (done : StepDone) (e : Event) → IsStepped r (step.Arrive frame) (Ok done) q → at_number done.place q.journal ≡ Some e
     → ((f : List ℕ) (kept : Bool) → e ≡ event.Arrive f kept → ⊥) → ⊥
-not_arrival r q frame done e h there none = is_arrival frame e (step_is r q (step.Arrive frame) done h e there) none
+not_arrival r q frame done e h there none = arrival_of frame e (step_is r q (step.Arrive frame) done h e there) none
 
 arrives : (frame f : List ℕ) (kept : Bool) (e : Event) → step_of e ≡ step.Arrive frame → e ≡ event.Arrive f kept → IsArrive frame kept e
 arrives frame f kept e s is =
@@ -306,8 +306,8 @@ pub invoke_gives : (r q : PartRun) (thread : ℕ) (o : Op) (done : StepDone) (p 
     → InvokedGives q.journal thread p → InvokeGives r q thread o (Ok p)
 invoke_gives r q thread o done (progress.Answered receipt) k h g =
     let s : Step = step.Invoke thread o in
-    let last = of_last r q s done h (λ e. Numbers receipt.call e × Answers receipt.call receipt.answer e) g.2 in (
-      grows_by r q s done h (λ e. IsInvoke receipt.call thread o e × Answers receipt.call receipt.answer e)
+    let last = of_last r q s done h (λ e. Numbers receipt.call e × IsReply receipt.call receipt.answer e) g.2 in (
+      grows_by r q s done h (λ e. IsInvoke receipt.call thread o e × IsReply receipt.call receipt.answer e)
           (invoke_is receipt.call thread o (event_of r.state s) (step_named r.state s) last.0, last.1),
       g.0,
       g.1,
@@ -330,7 +330,7 @@ invoke_gives r q thread o done (progress.Open w) k h g =
 pub go_on_gives : (r q : PartRun) (w : Waiting) (s : Step) (done : StepDone) (p : Progress) → IsKept r → IsGoingOn r w → IsOwn s
     → IsStepped r s (Ok done) q → ReachedGives q.journal (record w { looked = done.place }) p → GoOnGives r q w (Ok p)
 go_on_gives r q w s done (progress.Answered receipt) k waits own h g = (
-  grows_by r q s done h (λ e. IsOther e × Answers w.call receipt.answer e) (event_other r.state s own, of_last r q s done h (Answers w.call receipt.answer) g.3),
+  grows_by r q s done h (λ e. IsOther e × IsReply w.call receipt.answer e) (event_other r.state s own, of_last r q s done h (IsReply w.call receipt.answer) g.3),
   g.0,
   g.1,
   g.2,
@@ -365,7 +365,7 @@ look_gives r events w receipt place e same first there call invoke reply answer'
   call,
   invoke,
   subst (λ (n : ℕ). w.looked < n) (sym reply) (first_there r events w.looked w.call place same first).0,
-  subst (λ (n : ℕ). IsAt r.journal n (Answers w.call receipt.answer)) (sym reply) (record { event = e; there = there; is = answer' }),
+  subst (λ (n : ℕ). IsAt r.journal n (IsReply w.call receipt.answer)) (sym reply) (record { event = e; there = there; is = answer' }),
 )
 
 some_open : (p : PartState) (thread : ℕ) (pending : List CallEntry) → IsSome (call_of_thread thread pending) → pending ≡ [] → ⊥

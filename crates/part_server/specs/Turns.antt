@@ -15,7 +15,7 @@ use Rattle.nook_data.specs.declared.limits.TheConstants.{MOST_ANSWER_WORDS}
 use Rattle.part_defs.specs.Runs.{PartRun, IsRun, next_any}
 use Rattle.nook_data.specs.Answers.{answer_at}
 use Rattle.part_defs.specs.Views.CallLogs.{answered_from}
-use Rattle.desk_like.specs.Desks.{DeskView, IsAt, IsInvoke, IsArrive, IsOther, Answers, Adds, AddsNothing, Waits}
+use Rattle.desk_like.specs.Desks.{DeskView, IsAt, IsInvoke, IsArrive, IsOther, IsReply, Adds, AddsNothing, Waits}
 use Rattle.desk_like.specs.Desks.{HasOpen, HasNoneOpen, CallEnds, ResumeEnds, state_seen}
 use Rattle.shares.specs.Shares.{whole}
 use Rattle.turn_lock.specs.Views.{committed, gave}
@@ -64,14 +64,14 @@ IsOwn (step.Arrive frame) = ⊥
 abbrev pub LookGives : List Event → Waiting → Result Receipt Waiting → Type 0
 LookGives journal w (Ok receipt) =
     (receipt.call ≡ w.call) × (receipt.at_invoke ≡ w.at_invoke) × (w.looked < receipt.at_reply)
-    × IsAt journal receipt.at_reply (Answers w.call receipt.answer)
+    × IsAt journal receipt.at_reply (IsReply w.call receipt.answer)
 LookGives journal w (Err next) = (next ≡ w) × (answered_from (w.looked + 1) w.call (drop w.looked journal) ≡ None)
 
 -- how far a call got in the last event of a journal
 abbrev pub ReachedGives : List Event → Waiting → Progress → Type 0
 ReachedGives journal w (progress.Answered receipt) =
     (receipt.call ≡ w.call) × (receipt.at_invoke ≡ w.at_invoke) × (receipt.at_reply ≡ length journal)
-    × IsAt journal (length journal) (Answers w.call receipt.answer)
+    × IsAt journal (length journal) (IsReply w.call receipt.answer)
 ReachedGives journal w (progress.Open next) =
     (next ≡ w) × IsAt journal (length journal) (λ e. answer_at w.call e ≡ None)
 
@@ -79,7 +79,7 @@ ReachedGives journal w (progress.Open next) =
 abbrev pub InvokedGives : List Event → ℕ → Progress → Type 0
 InvokedGives journal thread (progress.Answered receipt) =
     (receipt.at_invoke ≡ length journal) × (receipt.at_reply ≡ length journal)
-    × IsAt journal (length journal) (λ e. Numbers receipt.call e × Answers receipt.call receipt.answer e)
+    × IsAt journal (length journal) (λ e. Numbers receipt.call e × IsReply receipt.call receipt.answer e)
 InvokedGives journal thread (progress.Open w) =
     (w.at_invoke ≡ length journal) × (w.thread ≡ thread) × (w.looked ≡ length journal) × (MOST_ANSWER_WORDS ≤ w.room)
     × IsAt journal (length journal) (λ e. Numbers w.call e × (answer_at w.call e ≡ None))
@@ -87,7 +87,7 @@ InvokedGives journal thread (progress.Open w) =
 -- an operation of a thread is invoked
 abbrev pub InvokeGives : PartRun → PartRun → ℕ → Op → Result Progress DeskRefused → Type 0
 InvokeGives old new thread op (Ok (progress.Answered receipt)) =
-    Grows old new (λ e. IsInvoke receipt.call thread op e × Answers receipt.call receipt.answer e)
+    Grows old new (λ e. IsInvoke receipt.call thread op e × IsReply receipt.call receipt.answer e)
     × (receipt.at_invoke ≡ length new.journal) × (receipt.at_reply ≡ length new.journal)
 InvokeGives old new thread op (Ok (progress.Open w)) =
     Grows old new (IsInvoke w.call thread op) × (w.at_invoke ≡ length new.journal) × (w.thread ≡ thread)
@@ -101,7 +101,7 @@ InvokeGives old new thread op (Err _) = ⊥
 -- a step is taken for an open call
 abbrev pub GoOnGives : PartRun → PartRun → Waiting → Result Progress DeskRefused → Type 0
 GoOnGives old new w (Ok (progress.Answered receipt)) =
-    Grows old new (λ e. IsOther e × Answers w.call receipt.answer e)
+    Grows old new (λ e. IsOther e × IsReply w.call receipt.answer e)
     × (receipt.call ≡ w.call) × (receipt.at_invoke ≡ w.at_invoke) × (receipt.at_reply ≡ length new.journal)
 GoOnGives old new w (Ok (progress.Open next)) = Grows old new IsOther × IsSameCall w next × IsWaitingFor new next
 GoOnGives old new w (Err (refused.NoMemory (Some call))) = (new ≡ old) × (call ≡ w.call)
@@ -175,7 +175,7 @@ InvokeEnds spec old new thread op (Err e) = CallEnds spec old new thread op (Err
 abbrev pub FinishEnds : PartSpec → DeskView → DeskView → Waiting → Result Receipt DeskRefused → Type 0
 FinishEnds spec old new w (Ok receipt) =
     Waits old new × (receipt.call ≡ w.call) × (receipt.at_invoke ≡ w.at_invoke)
-    × IsAt new.seen receipt.at_reply (Answers w.call receipt.answer) × (length old.seen < receipt.at_reply)
+    × IsAt new.seen receipt.at_reply (IsReply w.call receipt.answer) × (length old.seen < receipt.at_reply)
 FinishEnds spec old new w (Err (refused.NoMemory (Some call))) =
     Waits old new × HasOpen (state_seen spec new) w.thread w.call × (call ≡ w.call)
 FinishEnds spec old new w (Err _) = ⊥

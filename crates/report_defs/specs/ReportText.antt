@@ -109,6 +109,10 @@ parts_text place (s ∷ specs) (events ∷ journals) = part_text place s events 
 
 -- ---- threads, taps, the status
 
+-- a thread's first line
+abbrev pub thread_line : ℕ → ThreadSpec → List ℕ
+thread_line place t = with_number (codes "thread ") place ++ (codes " " ++ (t.name ++ line_feed))
+
 -- the answers of a thread, the first of them number `place`: K pP ANSWER
 abbrev pub answer_lines : ℕ → List (ℕ × Answer) → List ℕ
 answer_lines place [] = []
@@ -122,8 +126,7 @@ unfoldable pub threads_text : ℕ → List ThreadSpec → List (List (ℕ × Ans
 threads_text place [] answers = []
 threads_text place (t ∷ threads) [] = []
 threads_text place (t ∷ threads) (own ∷ answers) =
-    (with_number (codes "thread ") place ++ (codes " " ++ (t.name ++ line_feed)))
-    ++ (answer_lines 1 own ++ threads_text (suc place) threads answers)
+    thread_line place t ++ (answer_lines 1 own ++ threads_text (suc place) threads answers)
 
 -- the listeners, the first of them number `place`, each with its total and whether it was kept
 unfoldable pub taps_text : ℕ → List (ℕ × Bool) → List ℕ

@@ -22,8 +22,8 @@ use Rattle.report_defs.specs.ReportLines.{event_lines, line_feed, spaced, with_l
 use Rattle.report_defs.specs.ReportText.{journal_acts, block_lines, contract_line, device_lines, failures_count}
 use Rattle.report_defs.specs.ReportText.{final_lines, has_break, has_given_up, losses_lines, object_lines, part_line}
 use Rattle.report_defs.specs.ReportText.{part_text, parts_text, played_line, report_text, status_line, status_of}
-use Rattle.report_defs.specs.ReportText.{taps_text, threads_text, wire_line}
-use Rattle.report_defs.specs.Views.Reporting.{config_line, failures_line, object_line, thread_line}
+use Rattle.report_defs.specs.ReportText.{taps_text, thread_line, threads_text, wire_line}
+use Rattle.report_defs.specs.Views.Reporting.{config_line, failures_line, object_line}
 use Rattle.report_defs.specs.Views.Reporting.{acts_of_event}
 use Rattle.nook_data.specs.Views.Room.{Kept}
 use Rattle.part_defs.specs.Runs.{state_of}

@@ -1,16 +1,15 @@
 -- Texts that are written one after another.
-use Rattle.std.proofs.Common.{◌≡◌, ℕ, ◌+◌, ◌<◌, ◌≤◌, List, [], ◌++◌, length, drop, refl, sym, ◌∙◌, ap, append_assoc, append-nil, Option, None, Some, Result, Ok, Err, OnOk, OnErr, IsErrOf, arith, get_or, add-one, ◌∷◌, decimal, codes, suc}
+use Rattle.std.proofs.Common.{◌≡◌, ℕ, ◌+◌, ◌<◌, ◌≤◌, List, [], ◌++◌, length, drop, refl, sym, ◌∙◌, ap, subst, append_assoc, append-nil, Option, None, Some, Result, Ok, Err, OnOk, OnErr, IsErrOf, arith, get_or, add-one, ◌∷◌, decimal, codes, suc}
 use Rattle.std.proofs.lemmas.List.{drop_all}
 use Rattle.std.proofs.Math.Seq.{drop-cons}
 use Rattle.std.proofs.Math.Nat.{le_refl, le_trans}
 use Rattle.std.specs.Io.KnownBytes.{Appends}
-use Rattle.nook_io.specs.Views.Causes.{AppendsPrefix, Rose}
+use Rattle.nook_io.specs.Causes.{AppendsPrefix, Rose}
 use Rattle.nook_data.specs.declared.calls.Answer.{Answer}
 use Rattle.nook_data.specs.declared.steps.Event.{Event}
 use Rattle.report_defs.specs.ReportLines.{answer_text, event_line, event_lines, line_feed, with_number}
 use Rattle.nook_data.specs.declared.scenario.ThreadSpec.{ThreadSpec}
-use Rattle.report_defs.specs.ReportText.{answer_lines, threads_text}
-use Rattle.report_defs.specs.Views.Reporting.{thread_line}
+use Rattle.report_defs.specs.ReportText.{answer_lines, thread_line, threads_text}
 use Rattle.report_text.specs.Answers.{answer_line}
 use Rattle.report_text.specs.declared.write.WriteStop.{WriteStop}
 use Rattle.report_text.specs.declared.write.WriteStop.TheVariants.{Fault}
@@ -56,12 +55,9 @@ prefix_longer old new xs ys p = record {
 prefix_whole : (old new : Option (List ℕ)) (xs ys : List ℕ) → AppendsPrefix old new xs → xs ≡ ys → AppendsPrefix old new ys
 prefix_whole old new xs ys p e = record { front = p.front; rest = p.rest; gained = p.gained; whole = p.whole ∙ e }
 
--- a count that rose before or after rose
-pub rose_later : (a b c : ℕ) → a ≤ b → Rose b c → Rose a c
-rose_later a b c p q = omega arith
-
-pub rose_earlier : (a b c : ℕ) → Rose a b → b ≤ c → Rose a c
-rose_earlier a b c p q = omega arith
+-- a count that rose where it stood as before
+pub rose_from : (a b c : ℕ) → b ≡ a → Rose b c → Rose a c
+rose_from a b c e q = subst (λ n. Rose n c) e q
 
 pub on_ok : {U E : Type 0} {P Q : Type 0} (r : Result U E) → (P → Q) → OnOk r P → OnOk r Q
 on_ok (Ok v) f p = f p
@@ -78,23 +74,32 @@ both {a = a} {b = b} {c = c} {m = m} {n = n} {o = o} {r = r} {x = x} {y = y} p q
   ok = on_ok r (λ h. appends_more a b c x y p.ok h) q.ok;
   err = on_err r (λ h. prefix_more a b c x y p.ok h) q.err;
   later = le_trans p.later q.later;
-  fault = λ e. rose_later m n o p.later (q.fault e);
+  fault = λ e. rose_from m n o p.kept (q.fault e);
+  kept = on_ok r (λ h. h ∙ p.kept) q.kept;
+  wanting = λ e. q.wanting e ∙ p.kept;
 }
 
 -- a text was not written whole, and so none behind it
 pub cut : {T : Type 0} {a b : Option (List ℕ)} {m n : ℕ} {e : WriteStop} {x : List ℕ} (y : List ℕ) →
     Wrote {T = T} a b m n (Err e) x → Wrote {T = T} a b m n (Err e) (x ++ y)
-cut {a = a} {b = b} {x = x} y p = record { ok = tt; err = prefix_longer a b x y p.err; later = p.later; fault = p.fault }
+cut {a = a} {b = b} {x = x} y p = record {
+  ok = tt;
+  err = prefix_longer a b x y p.err;
+  later = p.later;
+  fault = p.fault;
+  kept = tt;
+  wanting = p.wanting;
+}
 
--- how far the writing of items has come: a front of the whole text is written, and the rest is left
+-- how far the writing of items has come: a front of the whole text is written with no fault, and the rest is left
 pub record Progress (old new : Option (List ℕ)) (before now : ℕ) (rest whole : List ℕ) : Type 0 where
   pub front : List ℕ
   pub gained : Appends old new front
   pub parts : front ++ rest ≡ whole
-  pub later : before ≤ now
+  pub kept : now ≡ before
 
 pub progress_start : (held : Option (List ℕ)) (count : ℕ) (whole : List ℕ) → Progress held held count count whole whole
-progress_start held count whole = record { front = []; gained = appends_nothing held; parts = refl; later = le_refl count }
+progress_start held count whole = record { front = []; gained = appends_nothing held; parts = refl; kept = refl }
 
 pub progress_step : {T : Type 0} {v : T} {a b c : Option (List ℕ)} {m n o : ℕ} {x rest whole : List ℕ} →
     Progress a b m n (x ++ rest) whole → Wrote b c n o (Ok v) x → Progress a c m o rest whole
@@ -102,7 +107,7 @@ progress_step {a = a} {b = b} {c = c} {x = x} {rest = rest} p q = record {
   front = p.front ++ x;
   gained = appends_more a b c p.front x p.gained q.ok;
   parts = append_assoc p.front x rest ∙ p.parts;
-  later = le_trans p.later q.later;
+  kept = q.kept ∙ p.kept;
 }
 
 pub progress_stop : {T : Type 0} {e : WriteStop} {a b c : Option (List ℕ)} {m n o : ℕ} {x whole : List ℕ} (rest : List ℕ) →
@@ -111,18 +116,22 @@ progress_stop {a = a} {b = b} {c = c} {m = m} {n = n} {o = o} {x = x} rest p q =
     let longer = prefix_longer a c (p.front ++ x) rest (prefix_more a b c p.front x p.gained q.err) in record {
       ok = tt;
       err = record { front = longer.front; rest = longer.rest; gained = longer.gained; whole = longer.whole ∙ (append_assoc p.front x rest ∙ p.parts) };
-      later = le_trans p.later q.later;
-      fault = λ e. rose_later m n o p.later (q.fault e);
+      later = subst (λ n. n ≤ o) p.kept q.later;
+      fault = λ e. rose_from m n o p.kept (q.fault e);
+      kept = tt;
+      wanting = λ e. q.wanting e ∙ p.kept;
     }
 
 -- nothing more is written
 pub progress_halt : {T : Type 0} {e : WriteStop} {a b : Option (List ℕ)} {m n : ℕ} {rest whole : List ℕ} →
     Progress a b m n rest whole → (IsErrOf {T = T} (Err e) Fault → Rose m n) → Wrote {T = T} a b m n (Err e) whole
-progress_halt {rest = rest} p f = record {
+progress_halt {m = m} {rest = rest} p f = record {
   ok = tt;
   err = record { front = p.front; rest = rest; gained = p.gained; whole = p.parts };
-  later = p.later;
+  later = subst (λ n. m ≤ n) (sym p.kept) (le_refl m);
   fault = f;
+  kept = tt;
+  wanting = λ e. p.kept;
 }
 
 -- what a buffer holds is the last of the text
@@ -133,8 +142,10 @@ progress_last {r = r} {a = a} {b = b} {c = c} {m = m} {n = n} {o = o} {held = he
     let all : p.front ++ held ≡ whole = ap (λ t. p.front ++ t) none ∙ p.parts in record {
       ok = on_ok r (λ h. appends_whole a c (p.front ++ held) whole (appends_more a b c p.front held p.gained h) all) q.ok;
       err = on_err r (λ h. prefix_whole a c (p.front ++ held) whole (prefix_more a b c p.front held p.gained h) all) q.err;
-      later = le_trans p.later q.later;
-      fault = λ e. rose_later m n o p.later (q.fault e);
+      later = subst (λ n. n ≤ o) p.kept q.later;
+      fault = λ e. rose_from m n o p.kept (q.fault e);
+      kept = on_ok r (λ h. h ∙ p.kept) q.kept;
+      wanting = λ e. q.wanting e ∙ p.kept;
     }
 
 held_first : (held x line rest : List ℕ) → line ≡ held ++ x → line ++ rest ≡ held ++ (x ++ rest)
@@ -151,15 +162,15 @@ spill_step {a = a} {b = b} {c = c} {line = line} {left = left} held x rest p e q
           append_assoc p.front f (left ++ rest)
           ∙ (ap (λ t. p.front ++ t) (sym (append_assoc f left rest) ∙ (ap (λ t. t ++ rest) q.ok.whole ∙ held_first held x line rest e))
           ∙ p.parts);
-      later = le_trans p.later q.later;
+      kept = q.kept ∙ p.kept;
     }
 
 pub spill_stop : {T : Type 0} {e : WriteStop} {a b c : Option (List ℕ)} {m n o : ℕ} {line left whole : List ℕ} (held x rest : List ℕ) →
     Progress a b m n (held ++ (x ++ rest)) whole → line ≡ held ++ x → Spilled {T = T} b c n o (Err e) line left → Wrote {T = T} a c m o (Err e) whole
 spill_stop {line = line} held x rest p e q =
     progress_stop rest
-    (record { front = p.front; gained = p.gained; parts = ap (λ t. p.front ++ t) (held_first held x line rest e) ∙ p.parts; later = p.later })
-    (record { ok = tt; err = q.err; later = q.later; fault = q.fault })
+    (record { front = p.front; gained = p.gained; parts = ap (λ t. p.front ++ t) (held_first held x line rest e) ∙ p.parts; kept = p.kept })
+    (record { ok = tt; err = q.err; later = q.later; fault = q.fault; kept = tt; wanting = q.wanting })
 
 -- what is left of the texts of items begins with the next one's
 pub next_text : {T : Type 0} (text : ℕ → T → List ℕ) (items : List T) (i place : ℕ) (item : T) → i < length items → item ≡ get_or items i item →
@@ -192,7 +203,14 @@ answer_lines_each place (a ∷ answers) =
 
 -- nothing was written, and nothing was to be
 pub wrote_nothing : {T : Type 0} (held : Option (List ℕ)) (count : ℕ) (v : T) (text : List ℕ) → text ≡ [] → Wrote held held count count (Ok v) text
-wrote_nothing held count v text e = rw e record { ok = appends_nothing held; err = tt; later = le_refl count; fault = λ e. cc }
+wrote_nothing held count v text e = rw e record {
+  ok = appends_nothing held;
+  err = tt;
+  later = le_refl count;
+  fault = λ e. cc;
+  kept = refl;
+  wanting = λ e. refl;
+}
 
 -- the first thread's lines and the others'
 pub threads_first : (place : ℕ) (threads : List ThreadSpec) (answers : List (List (ℕ × Answer))) (t : ThreadSpec) (own : List (ℕ × Answer))

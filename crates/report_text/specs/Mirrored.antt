@@ -6,8 +6,7 @@ use Rattle.nook_data.specs.declared.mirror.MirrorAnswer.TheVariants as mirrored
 use Rattle.nook_data.specs.declared.scenario.Scenario.{Scenario}
 use Rattle.nook_data.specs.declared.scenario.ThreadSpec.{ThreadSpec}
 use Rattle.report_defs.specs.ReportLines.{line_feed, with_list, with_number}
-use Rattle.report_defs.specs.ReportText.{parts_text, status_line, taps_text}
-use Rattle.report_defs.specs.Views.Reporting.{thread_line}
+use Rattle.report_defs.specs.ReportText.{parts_text, status_line, taps_text, thread_line}
 use Rattle.report_text.specs.declared.whole_report.Report.{Report}
 use Rattle.report_text.specs.Whole.{parts_rows}
 use Rattle.report_text.specs.Writing.{each_text}

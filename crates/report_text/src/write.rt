@@ -2,8 +2,7 @@
 
 ghost use Rattle.std.specs.Prelude.{◌≡◌, ◌+◌, ◌^◌, ◌<◌, ◌++◌, ℕ, List, IfOk, OnOk, length};
 ghost use Rattle.report_defs.specs.ReportLines.{event_line, event_lines};
-ghost use Rattle.report_defs.specs.ReportText.{answer_lines, part_line, status_line, threads_text};
-ghost use Rattle.report_defs.specs.Views.Reporting.{thread_line};
+ghost use Rattle.report_defs.specs.ReportText.{answer_lines, part_line, status_line, thread_line, threads_text};
 ghost use Rattle.report_text.specs.Answers.{answer_line};
 ghost use Rattle.report_text.specs.Mirrored.{mirror_answer_line, mirror_threads_text};
 ghost use Rattle.report_text.specs.Writing.{Spilled, Wrote, each_text};

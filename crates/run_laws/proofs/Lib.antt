@@ -12,3 +12,4 @@ pub mod Leading
 pub mod Passing
 pub mod Nexts
 pub mod Reading
+pub mod Lengths

@@ -6,9 +6,8 @@ use Rattle.machine_defs.specs.Pages.{object_words, opening_object}
 use Rattle.report_defs.specs.ReportLines.{answer_text, line_feed, spaced, with_list, with_number}
 use Rattle.report_defs.specs.ReportText.{journal_acts, answer_lines, block_lines, contract_line, device_lines}
 use Rattle.report_defs.specs.ReportText.{final_lines, losses_lines, object_lines, played_line, status_line, status_of}
-use Rattle.report_defs.specs.ReportText.{taps_text, threads_text, wire_line}
+use Rattle.report_defs.specs.ReportText.{taps_text, thread_line, threads_text, wire_line}
 use Rattle.report_defs.specs.Views.Reporting.{block_line, config_line, failures_line, object_line, tap_line}
-use Rattle.report_defs.specs.Views.Reporting.{thread_line}
 use Rattle.report_defs.specs.Views.Reporting.{tap_text}
 use Rattle.part_defs.specs.State.{PartState}
 use Rattle.nook_io.specs.Listening.{tap_result}

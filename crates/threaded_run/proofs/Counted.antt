@@ -16,7 +16,8 @@ use Rattle.nook_data.specs.Places.{at_number}
 use Rattle.part_laws.proofs.Places.{some_same, split}
 use Rattle.threaded_run.proofs.Placed.{Has, IsPlaced, all_behind, has_append, has_contained, has_filter, has_held, kept_here, left_out, places_all, places_few}
 use Rattle.threaded_run.specs.Leaving.{HaveRows}
-use Rattle.threaded_run.specs.Others.{HasNoOthers, HaveNoOthers, is_arrival, is_invocation_by, operations_on}
+use Rattle.part_laws.specs.Bound.{is_arrival}
+use Rattle.threaded_run.specs.Others.{HasNoOthers, HaveNoOthers, is_invocation_by, operations_on}
 use Rattle.threaded_run.specs.Threaded.{ArriveAt, HasArrivals, HaveReceipts, invoked_on, journal_at}
 use Rattle.nook_data.proofs.Options.{none_is_some}
 

@@ -15,7 +15,8 @@ use Rattle.run_ends.specs.Journals.{AreRuns, events_in}
 use Rattle.threaded_run.proofs.Growing.{arrivals_grown}
 use Rattle.threaded_run.proofs.Placed.{left_out}
 use Rattle.threaded_run.specs.Leaving.{AreLeft, GoesOn}
-use Rattle.threaded_run.specs.Others.{HaveNoOthers, is_arrival, is_invocation_by}
+use Rattle.part_laws.specs.Bound.{is_arrival}
+use Rattle.threaded_run.specs.Others.{HaveNoOthers, is_invocation_by}
 use Rattle.threaded_run.specs.Threaded.{AreSettled, HaveArrivals, journal_at}
 
 prefix_of : (seen journal : List Event) → GoesOn seen journal → IsPrefix seen journal

@@ -105,13 +105,13 @@ rows_from olds views thread (t ∷ threads) (row ∷ rows) same l h =
 
 -- ---- arrivals
 
-is_arrival : List Event → ℕ → Bool
-is_arrival seen place = is_some (frame_of (at_number place seen))
+arrives_at : List Event → ℕ → Bool
+arrives_at seen place = is_some (frame_of (at_number place seen))
 
 arrive_at_one : (seen : List Event) (place : ℕ) (places : List ℕ) (o : Option Event) → at_number place seen ≡ o
-    → ArriveAt seen (frames_at seen places) (filter (is_arrival seen) places)
-    → ArriveAt seen (frames_at seen (place ∷ places)) (filter (is_arrival seen) (place ∷ places))
-unfolding is_arrival
+    → ArriveAt seen (frames_at seen places) (filter (arrives_at seen) places)
+    → ArriveAt seen (frames_at seen (place ∷ places)) (filter (arrives_at seen) (place ∷ places))
+unfolding arrives_at
 arrive_at_one seen place places None e h = rw e h
 arrive_at_one seen place places (Some (event.Arrive frame kept)) e h =
     rw e ((kept, record { event = event.Arrive frame kept; there = e; is = (refl, refl) }), h)
@@ -120,16 +120,16 @@ arrive_at_one seen place places (Some (event.Enter call thread attempt answer)) 
 arrive_at_one seen place places (Some (event.Burst context call burst count end acts answer failure)) e h = rw e h
 arrive_at_one seen place places (Some (event.Stage stage answers released)) e h = rw e h
 
-arrive_at : (seen : List Event) (places : List ℕ) → ArriveAt seen (frames_at seen places) (filter (is_arrival seen) places)
+arrive_at : (seen : List Event) (places : List ℕ) → ArriveAt seen (frames_at seen places) (filter (arrives_at seen) places)
 arrive_at seen [] = tt
 arrive_at seen (place ∷ places) = arrive_at_one seen place places (at_number place seen) refl (arrive_at seen places)
 
 arrivals_of_one : (old view : DeskView) (frames : List (List ℕ)) → HasArrived old view frames → HasArrivals view.seen frames
 arrivals_of_one old view frames h = record {
-  places = filter (is_arrival view.seen) h.places;
-  rising = rise_from_start (length old.seen) (filter (is_arrival view.seen) h.places)
-      (rising_filter (is_arrival view.seen) (length old.seen) h.places h.rising);
-  arrive = subst (λ xs. ArriveAt view.seen xs (filter (is_arrival view.seen) h.places)) h.arrived (arrive_at view.seen h.places);
+  places = filter (arrives_at view.seen) h.places;
+  rising = rise_from_start (length old.seen) (filter (arrives_at view.seen) h.places)
+      (rising_filter (arrives_at view.seen) (length old.seen) h.places h.rising);
+  arrive = subst (λ xs. ArriveAt view.seen xs (filter (arrives_at view.seen) h.places)) h.arrived (arrive_at view.seen h.places);
 }
 
 arrivals_from : (parts : List PartSpec) (views : List DeskView) → length views ≡ length parts

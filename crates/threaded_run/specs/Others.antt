@@ -6,16 +6,12 @@ use Rattle.nook_data.specs.declared.steps.Event.TheVariants as event
 use Rattle.nook_data.specs.declared.calls.Op.{Op}
 use Rattle.nook_data.specs.declared.scenario.PartSpec.{PartSpec}
 use Rattle.nook_data.specs.declared.scenario.ThreadSpec.{ThreadSpec}
+use Rattle.part_laws.specs.Bound.{is_arrival}
 
 -- an invocation by a thread
 abbrev pub is_invocation_by : ℕ → Event → Bool
 is_invocation_by thread (event.Invoke call t o answer) = t == thread
 is_invocation_by thread e = false
-
--- an arrival
-abbrev pub is_arrival : Event → Bool
-is_arrival (event.Arrive frame kept) = true
-is_arrival e = false
 
 -- how many operations on a part a thread's script has; none where there is no such thread
 abbrev pub operations_on : ℕ → Option ThreadSpec → ℕ

@@ -1,7 +1,8 @@
 -- What is left of a trace from a place of its burst on, behind what a sink has gained.
-use Rattle.std.proofs.Common.{◌≡◌, ◌+◌, ◌-◌, ◌<◌, ◌≤◌, ◌==◌, ℕ, suc, nat_le, Bool, true, false, is_some, Option, Some, None, Result, Ok, Err, List, [], ◌∷◌, ◌++◌, length, map, refl, sym, ◌∙◌, ap, append-nil, arith, codes, add-one, drop, get_or}
+use Rattle.std.proofs.Common.{◌≡◌, ◌+◌, ◌-◌, ◌<◌, ◌≤◌, ◌==◌, ℕ, suc, nat_le, Bool, true, false, is_some, Option, Some, None, Result, Ok, Err, List, [], ◌∷◌, ◌++◌, length, map, refl, sym, ◌∙◌, ap, subst, append-nil, arith, codes, add-one, drop, get_or}
 use Rattle.std.proofs.lemmas.Bool.{eq-eqb}
 use Rattle.std.proofs.Math.Seq.{drop-cons}
+use Rattle.std.proofs.Math.Nat.{le_refl}
 use Rattle.std.proofs.lemmas.Grind.{flat_map-append}
 use Rattle.nook_data.specs.declared.entries.Entry.{Entry}
 use Rattle.nook_data.specs.declared.scenario.Fault.{Fault}
@@ -17,7 +18,7 @@ use Rattle.machine_defs.specs.Turn.{Machine, Turn, turn}
 use Rattle.report_text.proofs.WroteLemmas.{Progress, appends_whole, progress_halt, progress_start, progress_step, progress_stop}
 use Rattle.report_text.specs.Writing.{Wrote}
 use Rattle.report_text.specs.declared.write.WriteStop.{WriteStop}
-use Rattle.report_text.specs.declared.write.WriteStop.TheVariants.{Fault as SinkFault}
+use Rattle.report_text.specs.declared.write.WriteStop.TheVariants.{Fault as SinkFault, NoMemory as SinkWants}
 use Rattle.turn_trace.specs.Bursts.{TracedBurst, TracedStep, behind, behind_crossing, behind_strikes, behind_turn, burst_trace, finished, strike, struck_at, taken, trace_from, up_to_trap}
 use Rattle.turn_trace.specs.Lines.{fault_text, is_refused, refusal_text, step_line, step_lines, strike_line, turn_line, unstruck_line, unstruck_lines}
 use Rattle.turn_trace.specs.Turns.{traced}
@@ -28,11 +29,13 @@ use Rattle.turn_trace.specs.declared.traced.TracedTurn.{TracedTurn}
 -- a text of which nothing is left is written
 pub progress_done : {T : Type 0} {a b : Option (List ℕ)} {m n : ℕ} {whole : List ℕ} (v : T)
     → Progress a b m n [] whole → Wrote a b m n (Ok v) whole
-progress_done {a = a} {b = b} {whole = whole} v p = record {
+progress_done {a = a} {b = b} {m = m} {whole = whole} v p = record {
   ok = appends_whole a b p.front whole p.gained (sym (append-nil p.front) ∙ p.parts);
   err = tt;
-  later = p.later;
+  later = subst (λ k. m ≤ k) (sym p.kept) (le_refl m);
   fault = λ e. cc;
+  kept = p.kept;
+  wanting = λ e. p.kept;
 }
 
 pub err_same : {T : Type 0} (r : Result T WriteStop) (e f : WriteStop) → r ≡ Err e → r ≡ Err f → e ≡ f
@@ -41,7 +44,14 @@ err_same r e f is h = cc
 -- a text that was not written whole, whatever the call would have given
 pub still_cut : {T V : Type 0} {a b : Option (List ℕ)} {m n : ℕ} {e : WriteStop} {text : List ℕ}
     → Wrote {T = V} a b m n (Err e) text → Wrote {T = T} a b m n (Err e) text
-still_cut {e = e} w = record { ok = tt; err = w.err; later = w.later; fault = λ h. w.fault (ap Err (err_same (Err e) e SinkFault refl h)) }
+still_cut {e = e} w = record {
+  ok = tt;
+  err = w.err;
+  later = w.later;
+  fault = λ h. w.fault (ap Err (err_same (Err e) e SinkFault refl h));
+  kept = tt;
+  wanting = λ h. w.wanting (ap Err (err_same (Err e) e SinkWants refl h));
+}
 
 -- ---- the steps of a burst
 

@@ -2,7 +2,7 @@ use Rattle.std.specs.Prelude.{bytes_eq, replicate, ℕ, Bool, List, [], ◌∷�
 use Rattle.machine_defs.specs.Pages.{opening_object}
 use Rattle.report_defs.specs.ReportLines.{line_feed, spaced, answer_text, inner_words}
 use Rattle.report_defs.specs.ReportLines.{released_text, with_list, with_number}
-use Rattle.nook_data.specs.Types.{ThreadSpec, Act, Answer, Entry}
+use Rattle.nook_data.specs.Types.{Act, Answer, Entry}
 use Rattle.nook_data.specs.Types.{Event}
 use Rattle.nook_data.specs.declared.steps.Event.TheVariants as event
 
@@ -70,10 +70,6 @@ config_line config = codes "config" ++ (flat_map spaced config ++ line_feed)
 -- the line of the failures
 abbrev pub failures_line : ℕ → List ℕ
 failures_line failures = with_number (codes "failures ") failures ++ line_feed
-
--- the line of a thread's answers
-abbrev pub thread_line : ℕ → ThreadSpec → List ℕ
-thread_line place t = with_number (codes "thread ") place ++ (codes " " ++ (t.name ++ line_feed))
 
 -- a listener's total, and whether it was kept
 abbrev pub tap_line : ℕ → ℕ × Bool → List ℕ

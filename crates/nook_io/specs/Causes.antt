@@ -1,21 +1,23 @@
 -- What the outside tells of its faults, and what a whole read or write leaves.
 use Rattle.std.specs.Prelude.{◌≡◌, ℕ, ◌+◌, ◌-◌, ◌^◌, ◌<◌, ◌≤◌, min, List, [], ◌++◌, length, Option, Some, None, Result}
-use Rattle.std.specs.Prelude.{OnErr, MatchResult}
+use Rattle.std.specs.Prelude.{IfOk, OnErr, OnOk, MatchResult}
 use Rattle.std.specs.Io.KnownBytes.{Appends, Consumes}
 
--- a count of faults rose, or it stands at the end of its type
+-- a count of faults rose by one, or it stands at the end of its type
 abbrev pub Rose : ℕ → ℕ → Type 0
-Rose before now = min (before + 1) (2 ^ 64 - 1) ≤ now
+Rose before now = now ≡ min (before + 1) (2 ^ 64 - 1)
 
--- a count of faults never falls, and a refusal comes only where it rose
+-- a refusal raises a count of faults by one, a success leaves it, and it never falls
 pub record HasCause {T E : Type 0} (before now : ℕ) (result : Result T E) : Type 0 where
   pub later : before ≤ now
   pub failed : OnErr result (Rose before now)
+  pub kept : OnOk result (now ≡ before)
 
 -- the same for a write, which may also refuse by taking nothing
 pub record HasWriteCause {E : Type 0} (before now : ℕ) (result : Result ℕ E) : Type 0 where
   pub later : before ≤ now
   pub failed : MatchResult result (λ n. n ≡ 0 → Rose before now) (λ _. Rose before now)
+  pub kept : IfOk result (λ n. 0 < n → now ≡ before)
 
 -- bytes were read to the end: where the source tells its bytes they are all of them, and none are left
 abbrev pub ReadsAll : Option (List ℕ) → Option (List ℕ) → List ℕ → Type 0

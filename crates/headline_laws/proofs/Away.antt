@@ -1,4 +1,6 @@
-use Rattle.std.proofs.Common.{◌≡◌, ℕ, zero, suc, ◌+◌, ◌-◌, ◌*◌, ◌<◌, ◌≤◌, ◌==◌, not, is_some, if◌then◌else◌, cond, count_by, Bool, true, false, Option, Some, None, Result, Ok, Err, List, [], ◌∷◌, length, slice_index, slice_set, refl, sym, ap, ◌∙◌, subst, arith, true≢false, eqb-true}
+use Rattle.std.proofs.Common.{◌≡◌, ℕ, zero, suc, ◌+◌, ◌-◌, ◌*◌, ◌<◌, ◌≤◌, ◌==◌, not, is_some, if◌then◌else◌, cond}
+use Rattle.std.proofs.Common.{count_by, Bool, true, false, Option, Some, None, Result, Ok, Err, List, [], ◌∷◌, length}
+use Rattle.std.proofs.Common.{slice_index, slice_set, refl, sym, ap, ◌∙◌, subst, arith, true≢false, eqb-true}
 use Rattle.std.specs.List.{AllByRecursion}
 use Rattle.std.proofs.lemmas.Bool.{and_parts}
 use Rattle.std.proofs.lemmas.List.{length-set}
@@ -27,9 +29,11 @@ use Rattle.machine_defs.specs.BurstFaults.{faults_of_burst}
 use Rattle.machine_defs.specs.Services.{Served, checked, served}
 use Rattle.machine_defs.proofs.BurstKeeps.{split}
 use Rattle.part_defs.specs.Calls.{Stepped, after_invoke}
-use Rattle.part_defs.specs.Crossing.{Crossed, after_crossing, failed_crossing, goes_on, heap_start, is_accepted, is_last}
+use Rattle.part_defs.specs.Crossing.{Crossed, after_crossing, failed_crossing, goes_on, heap_start, is_accepted}
+use Rattle.part_defs.specs.Crossing.{is_last}
 use Rattle.part_defs.specs.Crossing.{next_mode, next_stage}
-use Rattle.part_defs.specs.Domain.{after_burst, collected_domain, context_of, domain_burst, entered_domain, first_argument}
+use Rattle.part_defs.specs.Domain.{after_burst, collected_domain, context_of, domain_burst, entered_domain}
+use Rattle.part_defs.specs.Domain.{first_argument}
 use Rattle.part_defs.specs.Domain.{left_domain, loaded_domain, machine_of, plainly_entered, result_set, second_argument}
 use Rattle.part_defs.specs.Domain.{stopped_domain}
 use Rattle.part_defs.specs.Log.{call_of_thread, next_replay, replay_after}
@@ -39,7 +43,8 @@ use Rattle.part_defs.specs.Runs.{IsRunFrom, event_of, state_after, step_of}
 use Rattle.part_defs.specs.Stages.{collects, gives_up_part, inits, is_given_up, loads_image, replays_open, replays_set}
 use Rattle.part_defs.specs.Stages.{resets, resumes, stage_due, stage_step, stage_stepped, stops}
 use Rattle.part_defs.specs.State.{CallLog, DomainState, PartState}
-use Rattle.part_defs.specs.Steps.{after_arrival, burst_stepped, can_burst, enabled, is_driven, is_inside, is_ready, is_running, stepped}
+use Rattle.part_defs.specs.Steps.{after_arrival, burst_stepped, can_burst, enabled, is_driven, is_inside, is_ready}
+use Rattle.part_defs.specs.Steps.{is_running, stepped}
 use Rattle.part_laws.proofs.RunBound.{count_more}
 use Rattle.part_laws.proofs.Stages.{with_mode}
 use Rattle.part_laws.proofs.StepsFit.{fit_after}
@@ -129,7 +134,8 @@ more_next a b c d s h k n =
 key_next : (key more : ℕ) (config defaults : List ℕ) (holder : Option ℕ) → key + more ≡ 4
     → IsNext (2 + (4 - key)) (32 * (5 - key)) (next_replay key more config defaults holder)
 key_next key zero config defaults holder h =
-    more_next 2 32 (2 + (4 - key)) (32 * (5 - key)) (replay_stream holder) (omega arith) (omega arith) (stream_next holder)
+    more_next 2 32 (2 + (4 - key)) (32 * (5 - key)) (replay_stream holder) (omega arith) (omega arith)
+    (stream_next holder)
 key_next key (suc more) config defaults holder h = split (slice_index config key == slice_index defaults key)
     (λ same. rw same (more_next (2 + (4 - (key + 1))) (32 * (5 - (key + 1))) (2 + (4 - key)) (32 * (5 - key))
     (next_replay (key + 1) more config defaults holder) (omega arith) (omega arith)
@@ -141,7 +147,8 @@ replay_next : (s : Stage) (log : CallLog) → is_driving_stage s ≡ true → Is
 unfolding replay_after
 replay_next stage.Init log d f = key_next 0 4 log.config log.defaults log.holder refl
 replay_next (stage.ReplaySet key value) log d f =
-    more_next (2 + (4 - (key + 1))) (32 * (5 - (key + 1))) (2 + (4 - key) - 1) (32 * (5 - key) - 32) _ (omega arith) (omega arith)
+    more_next (2 + (4 - (key + 1))) (32 * (5 - (key + 1))) (2 + (4 - key) - 1) (32 * (5 - key) - 32) _
+    (omega arith) (omega arith)
     (key_next (key + 1) (3 - key) log.config log.defaults log.holder (omega arith))
 replay_next stage.ReplayOpen log d f = record { stages' = omega arith; bursts' = omega arith }
 replay_next stage.Stop log d f = absurd (true≢false (sym d))
@@ -178,7 +185,8 @@ next_mode_left (mode.Boot s) p d f =
     (omega arith, omega arith)
 next_mode_left (mode.Recovering s) p d f =
     let n = replay_next s p.log d f in
-    subst (λ (q : Mode). (stages_in q ≤ stages_from s - 1) × (bursts_in q ≤ bursts_from s - 32)) (sym (mode_after_drive s p.log d))
+    subst (λ (q : Mode). (stages_in q ≤ stages_from s - 1) × (bursts_in q ≤ bursts_from s - 32))
+    (sym (mode_after_drive s p.log d))
     (n.stages', n.bursts')
 next_mode_left mode.Running p d f = absurd (true≢false (sym d))
 next_mode_left (mode.Dead collected) p d f = absurd (true≢false (sym d))
@@ -193,11 +201,14 @@ record IsOwn (p : PartState) (y : Context) : Type 0 where
   bursts : y.bursts ≤ 32
   contexts : length p.domain.contexts ≡ 17
 
-failed_keeps : (stages bursts : ℕ) (p : PartState) (e : End) (cause : FailCause) → Keeps stages bursts (failed_crossing p e cause)
+failed_keeps : (stages bursts : ℕ) (p : PartState) (e : End) (cause : FailCause)
+    → Keeps stages bursts (failed_crossing p e cause)
 failed_keeps stages bursts p e cause = record { stages' = omega arith; bursts' = omega arith }
 
-goes_on_keeps : (p q : PartState) (e : End) (y y' : Context) → q.mode ≡ p.mode → context_of 16 p.domain.contexts ≡ Some y
-    → context_of 16 q.domain.contexts ≡ Some y' → y'.bursts ≡ y.bursts → Keeps (stages_left p) (bursts_left p) (goes_on q e)
+goes_on_keeps : (p q : PartState) (e : End) (y y' : Context) → q.mode ≡ p.mode
+    → context_of 16 p.domain.contexts ≡ Some y
+    → context_of 16 q.domain.contexts ≡ Some y' → y'.bursts ≡ y.bursts
+    → Keeps (stages_left p) (bursts_left p) (goes_on q e)
 goes_on_keeps p q e y y' same was is bursts =
     let a : begun (context_of 16 p.domain.contexts) ≡ 1 = ap begun was in
     let a' : begun (context_of 16 q.domain.contexts) ≡ 1 = ap begun is in
@@ -222,13 +233,14 @@ served_keeps number p y (Err bad) b = failed_keeps (stages_left p) (bursts_left 
 served_keeps number p y (Ok s) b =
     let v : Served = served (heap_start p) s p.domain.memory p.domain.entries p.queue in
     let r = with_result_set v.answer (context_of 16 p.domain.contexts) y b.context in
-    goes_on_keeps p (record p { domain = result_set 16 v.answer (record p.domain { memory = v.memory; entries = v.entries }); queue = v.queue }) _
-    y r.0 refl b.context
+    let d : DomainState = result_set 16 v.answer (record p.domain { memory = v.memory; entries = v.entries }) in
+    goes_on_keeps p (record p { domain = d; queue = v.queue }) _ y r.0 refl b.context
     (context_set_same p.domain.contexts 16 (with_result v.answer (context_of 16 p.domain.contexts))
     (shadow_place (length p.domain.contexts) b.contexts) ∙ r.1)
     r.2
 
-replied_keeps : (p : PartState) (y : Context) (e : End) → IsOwn p y → Keeps (stages_left p) (bursts_left p) (goes_on (next_stage p) e)
+replied_keeps : (p : PartState) (y : Context) (e : End) → IsOwn p y
+    → Keeps (stages_left p) (bursts_left p) (goes_on (next_stage p) e)
 unfolding next_stage left_domain
 replied_keeps p y e b =
     let freed : context_of 16 (slice_set p.domain.contexts 16 no_context) ≡ None =
@@ -243,7 +255,8 @@ replied_keeps p y e b =
     let low : y.bursts ≤ 32 = b.bursts in
     record { stages' = omega arith; bursts' = omega arith }
 
-crossed_keeps : (e : BurstEnd) (p : PartState) (y : Context) → IsOwn p y → Keeps (stages_left p) (bursts_left p) (after_crossing 16 e p)
+crossed_keeps : (e : BurstEnd) (p : PartState) (y : Context) → IsOwn p y
+    → Keeps (stages_left p) (bursts_left p) (after_crossing 16 e p)
 unfolding after_crossing
 crossed_keeps (ends.Trap cause) p y b = failed_keeps (stages_left p) (bursts_left p) p _ _
 crossed_keeps (ends.Kcall number) p y b = split (is_last 16 p)
@@ -257,7 +270,8 @@ crossed_keeps (ends.Reply status) p y b = split (is_accepted status p)
     (λ yes'. rw yes' (replied_keeps p y _ b))
     (λ no'. rw no' (failed_keeps (stages_left p) (bursts_left p) p _ _))
 
-own_burst : (p : PartState) (x : Context) (b : Burst) → IsFit p → IsTied p → context_of 16 p.domain.contexts ≡ Some x → x.bursts ≤ 31
+own_burst : (p : PartState) (x : Context) (b : Burst) → IsFit p → IsTied p → context_of 16 p.domain.contexts ≡ Some x
+    → x.bursts ≤ 31
     → is_driving p.mode ≡ true → Shortens p (burst_step 16 p (after_burst 16 x b p.domain))
 own_burst p x b f t ctx low driving =
     let y : Context = record { cpu = b.machine.cpu; bursts = x.bursts + 1 } in
@@ -284,7 +298,8 @@ own_burst p x b f t ctx low driving =
     let d' : bursts_of (context_of 16 p.domain.contexts) ≡ x.bursts = ap bursts_of ctx in
     record { stages = omega arith; bursts = omega arith }
 
-own_burst_by : (p : PartState) (faults : List Fault) (o : Option Context) → IsFit p → IsTied p → context_of 16 p.domain.contexts ≡ o
+own_burst_by : (p : PartState) (faults : List Fault) (o : Option Context) → IsFit p → IsTied p
+    → context_of 16 p.domain.contexts ≡ o
     → is_some o ≡ true → IsDriven p.mode o → Shortens p (burst_step 16 p (burst_by 16 faults p.domain o))
 own_burst_by p faults None f t ctx some driven = absurd (true≢false (sym some))
 own_burst_by p faults (Some x) f t ctx some driven =
@@ -308,7 +323,8 @@ unfolding burst_stepped
 burst_shortens context p f t away e = split (context == 16)
     (λ own.
     let same : context ≡ 16 = eqb-true context 16 own in
-    subst (λ k. Shortens p (burst_step k p (domain_burst k (faults_of_burst (p.bursts + 1) p.spec.faults) p.domain))) (sym same)
+    subst (λ k. Shortens p (burst_step k p (domain_burst k (faults_of_burst (p.bursts + 1) p.spec.faults) p.domain)))
+    (sym same)
     (shadow_burst p (faults_of_burst (p.bursts + 1) p.spec.faults) f t (rw own at e)))
     (λ other.
     let parts = and_parts (is_running p.mode) (is_inside (call_of_thread context p.log.pending)) (rw other at e) in
@@ -316,8 +332,10 @@ burst_shortens context p f t away e = split (context == 16)
 
 -- ---- stages
 
-still : (p q : PartState) (s : Stage) (answers : List (ℕ × Answer)) (released : List Entry) → context_of 16 p.domain.contexts ≡ None
-    → context_of 16 q.domain.contexts ≡ None → 1 + stages_in q.mode ≤ stages_in p.mode → bursts_in q.mode ≤ bursts_in p.mode
+still : (p q : PartState) (s : Stage) (answers : List (ℕ × Answer)) (released : List Entry)
+    → context_of 16 p.domain.contexts ≡ None
+    → context_of 16 q.domain.contexts ≡ None → 1 + stages_in q.mode ≤ stages_in p.mode
+    → bursts_in q.mode ≤ bursts_in p.mode
     → Shortens p (stage_step s q answers released)
 still p q s answers released was is less few =
     let a : begun (context_of 16 p.domain.contexts) ≡ 0 = ap begun was in
@@ -326,12 +344,15 @@ still p q s answers released was is less few =
     let d : bursts_of (context_of 16 q.domain.contexts) ≡ 0 = ap bursts_of is in
     record { stages = omega arith; bursts = omega arith }
 
-begins : (p q : PartState) (s : Stage) (x : Context) → context_of 16 p.domain.contexts ≡ None → length p.domain.contexts ≡ 17
-    → q.domain.contexts ≡ slice_set p.domain.contexts 16 (Some x) → x.bursts ≡ 0 → q.mode ≡ p.mode → 1 ≤ stages_in p.mode
+begins : (p q : PartState) (s : Stage) (x : Context) → context_of 16 p.domain.contexts ≡ None
+    → length p.domain.contexts ≡ 17
+    → q.domain.contexts ≡ slice_set p.domain.contexts 16 (Some x) → x.bursts ≡ 0 → q.mode ≡ p.mode
+    → 1 ≤ stages_in p.mode
     → Shortens p (stage_step s q [] [])
 begins p q s x was room sets fresh same enough =
     let is : context_of 16 q.domain.contexts ≡ Some x =
-    ap (context_of 16) sets ∙ context_set_same p.domain.contexts 16 (Some x) (shadow_place (length p.domain.contexts) room) in
+    ap (context_of 16) sets
+    ∙ context_set_same p.domain.contexts 16 (Some x) (shadow_place (length p.domain.contexts) room) in
     let a : begun (context_of 16 p.domain.contexts) ≡ 0 = ap begun was in
     let b : bursts_of (context_of 16 p.domain.contexts) ≡ 0 = ap bursts_of was in
     let c : begun (context_of 16 q.domain.contexts) ≡ 1 = ap begun is in
@@ -340,7 +361,8 @@ begins p q s x was room sets fresh same enough =
     let f : bursts_in q.mode ≡ bursts_in p.mode = ap bursts_in same in
     record { stages = omega arith; bursts = omega arith }
 
-stop_shortens : (p : PartState) → stages_in p.mode ≡ 11 → bursts_in p.mode ≡ 192 → context_of 16 p.domain.contexts ≡ None
+stop_shortens : (p : PartState) → stages_in p.mode ≡ 11 → bursts_in p.mode ≡ 192
+    → context_of 16 p.domain.contexts ≡ None
     → Shortens p (if is_given_up p then gives_up_part p else stops p)
 unfolding gives_up_part stops stopped_domain
 stop_shortens p s b free = by_test (is_given_up p)
@@ -351,11 +373,13 @@ stop_shortens p s b free = by_test (is_given_up p)
 
 stage_shortens : (m : Mode) (p : PartState) → is_away m ≡ true → IsFitMode m → length p.domain.contexts ≡ 17
     → context_of 16 p.domain.contexts ≡ None → Shortens (with_mode m p) (stage_stepped (with_mode m p))
-unfolding stage_stepped collects collected_domain resets loads_image loaded_domain inits replays_set replays_open resumes plainly_entered entered_domain
+unfolding stage_stepped collects collected_domain resets loads_image loaded_domain inits replays_set replays_open
+    resumes plainly_entered entered_domain
 stage_shortens mode.Running p a f l free = absurd cc
 stage_shortens (mode.Dead collected) p a f l free = absurd cc
 stage_shortens (mode.Boot stage.Stop) p a f l free = stop_shortens (with_mode (mode.Boot stage.Stop) p) refl refl free
-stage_shortens (mode.Recovering stage.Stop) p a f l free = stop_shortens (with_mode (mode.Recovering stage.Stop) p) refl refl free
+stage_shortens (mode.Recovering stage.Stop) p a f l free =
+    stop_shortens (with_mode (mode.Recovering stage.Stop) p) refl refl free
 stage_shortens (mode.Boot stage.Collect) p a f l free =
     still (with_mode (mode.Boot stage.Collect) p) _ stage.Collect _ _ free free (omega arith) (omega arith)
 stage_shortens (mode.Recovering stage.Collect) p a f l free =
@@ -373,9 +397,11 @@ stage_shortens (mode.Boot stage.Init) p a f l free =
 stage_shortens (mode.Recovering stage.Init) p a f l free =
     begins (with_mode (mode.Recovering stage.Init) p) _ stage.Init _ free l refl refl refl (omega arith)
 stage_shortens (mode.Boot (stage.ReplaySet key value)) p a f l free =
-    begins (with_mode (mode.Boot (stage.ReplaySet key value)) p) _ (stage.ReplaySet key value) _ free l refl refl refl (omega arith)
+    begins (with_mode (mode.Boot (stage.ReplaySet key value)) p) _ (stage.ReplaySet key value) _ free l
+    refl refl refl (omega arith)
 stage_shortens (mode.Recovering (stage.ReplaySet key value)) p a f l free =
-    begins (with_mode (mode.Recovering (stage.ReplaySet key value)) p) _ (stage.ReplaySet key value) _ free l refl refl refl (omega arith)
+    begins (with_mode (mode.Recovering (stage.ReplaySet key value)) p) _ (stage.ReplaySet key value) _ free l
+    refl refl refl (omega arith)
 stage_shortens (mode.Boot stage.ReplayOpen) p a f l free =
     begins (with_mode (mode.Boot stage.ReplayOpen) p) _ stage.ReplayOpen _ free l refl refl refl (omega arith)
 stage_shortens (mode.Recovering stage.ReplayOpen) p a f l free =
@@ -395,11 +421,14 @@ invoke_shortens : (p : PartState) (t : ℕ) (o : Op) (r : Option Answer) → Sho
 invoke_shortens p t o None = record { stages = omega arith; bursts = omega arith }
 invoke_shortens p t o (Some a) = record { stages = omega arith; bursts = omega arith }
 
-step_shortens : (p : PartState) (s : Step) → IsFit p → IsTied p → is_away p.mode ≡ true → enabled p s ≡ true → Shortens p (stepped p s)
+step_shortens : (p : PartState) (s : Step) → IsFit p → IsTied p → is_away p.mode ≡ true → enabled p s ≡ true
+    → Shortens p (stepped p s)
 unfolding enabled stepped after_invoke after_arrival
-step_shortens p (step.Invoke thread o) f t away e = invoke_shortens p thread o (static_check p.spec.class p.spec.blocks o)
+step_shortens p (step.Invoke thread o) f t away e =
+    invoke_shortens p thread o (static_check p.spec.class p.spec.blocks o)
 step_shortens p (step.Enter thread) f t away e =
-    absurd (away_runs p.mode away (and_parts (is_running p.mode) (is_ready p (call_of_thread thread p.log.pending)) e).0)
+    absurd (away_runs p.mode away
+    (and_parts (is_running p.mode) (is_ready p (call_of_thread thread p.log.pending)) e).0)
 step_shortens p (step.Burst context) f t away e = burst_shortens context p f t away e
 step_shortens p step.Stage f t away e =
     stage_shortens p.mode p away t.stages f.domain.contexts
@@ -409,7 +438,8 @@ step_shortens p (step.Arrive frame) f t away e = record { stages = omega arith; 
 -- ---- the events while the driver is away
 
 counts_from : (p : PartState) (events : List Event) → IsFit p → IsTied p → IsRunFrom p events
-    → (count_by is_stage (while_away p events) ≤ stages_left p) × (count_by is_burst (while_away p events) ≤ bursts_left p)
+    → (count_by is_stage (while_away p events) ≤ stages_left p)
+    × (count_by is_burst (while_away p events) ≤ bursts_left p)
 unfolding IsRunFrom while_away
 counts_from p [] f t r = (omega arith, omega arith)
 counts_from p (e ∷ events) f t r = split (is_away p.mode)
@@ -417,16 +447,19 @@ counts_from p (e ∷ events) f t r = split (is_away p.mode)
     let q : PartState = state_after p (step_of e) in
     let k = step_shortens p (step_of e) f t away r.0 in
     let ks : cond (is_stage e) 1 0 + unless (carries_failure e) (stages_left q) ≤ stages_left p =
-    subst (λ (x : Event). cond (is_stage x) 1 0 + unless (carries_failure x) (stages_left q) ≤ stages_left p) r.1 k.stages in
+    subst (λ (x : Event). cond (is_stage x) 1 0 + unless (carries_failure x) (stages_left q) ≤ stages_left p) r.1
+    k.stages in
     let kb : cond (is_burst e) 1 0 + unless (carries_failure e) (bursts_left q) ≤ bursts_left p =
-    subst (λ (x : Event). cond (is_burst x) 1 0 + unless (carries_failure x) (bursts_left q) ≤ bursts_left p) r.1 k.bursts in
+    subst (λ (x : Event). cond (is_burst x) 1 0 + unless (carries_failure x) (bursts_left q) ≤ bursts_left p) r.1
+    k.bursts in
     let more = counts_from q events (fit_after p (step_of e) f r.0) (tied_after p (step_of e) f t r.0) r.2 in
     rw away (by_failure (carries_failure e) q ks kb more))
     (λ here. rw here (omega arith, omega arith))
   where
     by_failure : (b : Bool) (q : PartState) → cond (is_stage e) 1 0 + unless b (stages_left q) ≤ stages_left p
         → cond (is_burst e) 1 0 + unless b (bursts_left q) ≤ bursts_left p
-        → (count_by is_stage (while_away q events) ≤ stages_left q) × (count_by is_burst (while_away q events) ≤ bursts_left q)
+        → (count_by is_stage (while_away q events) ≤ stages_left q)
+        × (count_by is_burst (while_away q events) ≤ bursts_left q)
         → (count_by is_stage (e ∷ (if b then [] else while_away q events)) ≤ stages_left p)
         × (count_by is_burst (e ∷ (if b then [] else while_away q events)) ≤ bursts_left p)
     by_failure true q ks kb more =
@@ -434,9 +467,11 @@ counts_from p (e ∷ events) f t r = split (is_away p.mode)
         let b : count_by is_burst (e ∷ []) ≡ cond (is_burst e) 1 0 + 0 = count_more is_burst e [] in
         (omega arith, omega arith)
     by_failure false q ks kb more =
-        let s : count_by is_stage (e ∷ while_away q events) ≡ cond (is_stage e) 1 0 + count_by is_stage (while_away q events) =
+        let s : count_by is_stage (e ∷ while_away q events)
+        ≡ cond (is_stage e) 1 0 + count_by is_stage (while_away q events) =
         count_more is_stage e (while_away q events) in
-        let b : count_by is_burst (e ∷ while_away q events) ≡ cond (is_burst e) 1 0 + count_by is_burst (while_away q events) =
+        let b : count_by is_burst (e ∷ while_away q events)
+        ≡ cond (is_burst e) 1 0 + count_by is_burst (while_away q events) =
         count_more is_burst e (while_away q events) in
         let ms : count_by is_stage (while_away q events) ≤ stages_left q = more.0 in
         let mb : count_by is_burst (while_away q events) ≤ bursts_left q = more.1 in
@@ -456,7 +491,8 @@ unfolding stepped burst_stepped
 event_turns p (event.Invoke call t o a) same = omega arith
 event_turns p (event.Enter call t attempt a) same = omega arith
 event_turns p (event.Burst context call burst count end acts a failure) same =
-    let n : (domain_burst context (faults_of_burst (p.bursts + 1) p.spec.faults) p.domain).count ≡ count = ap turns_of same in
+    let n : (domain_burst context (faults_of_burst (p.bursts + 1) p.spec.faults) p.domain).count ≡ count =
+    ap turns_of same in
     let few : (domain_burst context (faults_of_burst (p.bursts + 1) p.spec.faults) p.domain).count ≤ 4096 =
     domain_turns context (faults_of_burst (p.bursts + 1) p.spec.faults) p.domain in
     omega arith
@@ -478,7 +514,8 @@ event_shadows p (event.Arrive frame kept) away may = tt
 
 -- what holds of each event while the driver is away
 each_away : (P : Event → Type 0)
-    → ((p : PartState) (e : Event) → is_away p.mode ≡ true → enabled p (step_of e) ≡ true → event_of p (step_of e) ≡ e → P e)
+    → ((p : PartState) (e : Event) → is_away p.mode ≡ true → enabled p (step_of e) ≡ true
+    → event_of p (step_of e) ≡ e → P e)
     → (p : PartState) (events : List Event) → IsRunFrom p events → AllByRecursion P (while_away p events)
 unfolding IsRunFrom while_away
 each_away P holds p [] r = tt
@@ -512,7 +549,8 @@ few_in mode.Running = (omega arith, omega arith)
 few_in (mode.Recovering s) = few_from s
 few_in (mode.Dead collected) = (omega arith, omega arith)
 
-pub short_away : (p : PartState) (events : List Event) → IsFit p → IsTied p → IsRunFrom p events → IsShort (while_away p events)
+pub short_away : (p : PartState) (events : List Event) → IsFit p → IsTied p → IsRunFrom p events
+    → IsShort (while_away p events)
 short_away p events f t r =
     let k = counts_from p events f t r in
     let s : count_by is_stage (while_away p events) ≤ stages_left p = k.0 in

@@ -1,4 +1,5 @@
-use Rattle.std.proofs.Common.{◌≡◌, ℕ, suc, ◌+◌, ◌-◌, true, Some, None, List, [], ◌∷◌, ◌++◌, length, take, refl, sym, ap, ◌∙◌, subst, arith}
+use Rattle.std.proofs.Common.{◌≡◌, ℕ, suc, ◌+◌, ◌-◌, true, Some, None, List, [], ◌∷◌, ◌++◌, length, take, refl, sym}
+use Rattle.std.proofs.Common.{ap, ◌∙◌, subst, arith}
 use Rattle.std.proofs.lemmas.List.{take_at}
 use Rattle.nook_data.specs.declared.clause.Clause.{Clause}
 use Rattle.nook_data.specs.declared.classes.Class.{Class}
@@ -23,20 +24,23 @@ pub record IsBrokenAt (place : ℕ) (k : Known) (events : List Event) (b : Break
   pub next : break_from place k (front ++ event ∷ []) ≡ Some b
   pub burst : is_burst event ≡ true
 
-only_bursts : (k : Known) (e : Event) (clause : Clause) (more : List Clause) → broken k e ≡ clause ∷ more → is_burst e ≡ true
+only_bursts : (k : Known) (e : Event) (clause : Clause) (more : List Clause) → broken k e ≡ clause ∷ more
+    → is_burst e ≡ true
 only_bursts k (event.Invoke call thread o answer) clause more h = absurd cc
 only_bursts k (event.Enter call thread attempt answer) clause more h = absurd cc
 only_bursts k (event.Burst context call burst count e acts answer failure) clause more h = refl
 only_bursts k (event.Stage s answers released) clause more h = absurd cc
 only_bursts k (event.Arrive frame kept) clause more h = absurd cc
 
-pub broken_at : (place : ℕ) (k : Known) (events : List Event) (b : Break) → break_from place k events ≡ Some b → IsBrokenAt place k events b
+pub broken_at : (place : ℕ) (k : Known) (events : List Event) (b : Break) → break_from place k events ≡ Some b
+    → IsBrokenAt place k events b
 unfolding break_from
 broken_at place k [] b h = absurd cc
 broken_at place k (e ∷ events) b h =
     by_clauses (broken k e) refl h (λ later. broken_at (suc place) (known_after k e) events b later)
   where
-    by_clauses : (cs : List Clause) → broken k e ≡ cs → break_or place cs (break_from (suc place) (known_after k e) events) ≡ Some b
+    by_clauses : (cs : List Clause) → broken k e ≡ cs
+        → break_or place cs (break_from (suc place) (known_after k e) events) ≡ Some b
         → (break_from (suc place) (known_after k e) events ≡ Some b → IsBrokenAt (suc place) (known_after k e) events b)
         → IsBrokenAt place k (e ∷ events) b
     by_clauses [] same told more =
@@ -48,9 +52,10 @@ broken_at place k (e ∷ events) b h =
           back = later.back;
           parts = ap (λ (l : List Event). e ∷ l) later.parts;
           number = omega arith;
-          kept = ap (λ (cs : List Clause). break_or place cs (break_from (suc place) (known_after k e) later.front)) same ∙ later.kept;
-          next = ap (λ (cs : List Clause). break_or place cs (break_from (suc place) (known_after k e) (later.front ++ later.event ∷ []))) same
-              ∙ later.next;
+          kept = ap (λ (cs : List Clause). break_or place cs
+              (break_from (suc place) (known_after k e) later.front)) same ∙ later.kept;
+          next = ap (λ (cs : List Clause). break_or place cs
+              (break_from (suc place) (known_after k e) (later.front ++ later.event ∷ []))) same ∙ later.next;
           burst = later.burst;
         }
     by_clauses (clause ∷ others) same told more =
@@ -94,11 +99,13 @@ pub kept_before : (class : Class) (size : ℕ) (events : List Event) (b : Break)
 unfolding first_break
 kept_before class size events b h =
     let x = broken_at 1 (known_first class size) events b h in
-    subst (λ (l : List Event). break_from 1 (known_first class size) l ≡ None) (sym (before_break class size events b x)) x.kept
+    subst (λ (l : List Event). break_from 1 (known_first class size) l ≡ None)
+    (sym (before_break class size events b x)) x.kept
 
 pub broken_next : (class : Class) (size : ℕ) (events : List Event) (b : Break) → first_break class size events ≡ Some b
     → first_break class size (take b.event events) ≡ Some b
 unfolding first_break
 broken_next class size events b h =
     let x = broken_at 1 (known_first class size) events b h in
-    subst (λ (l : List Event). break_from 1 (known_first class size) l ≡ Some b) (sym (with_break class size events b x)) x.next
+    subst (λ (l : List Event). break_from 1 (known_first class size) l ≡ Some b)
+    (sym (with_break class size events b x)) x.next

@@ -11,14 +11,16 @@ use Rattle.part_laws.specs.Tied.{IsTied}
 
 -- Fronts of runs.
 
-run_split : (p : PartState) (front back : List Event) → IsRunFrom p (front ++ back) → IsRunFrom p front × IsRunFrom (state_from p front) back
+run_split : (p : PartState) (front back : List Event) → IsRunFrom p (front ++ back)
+    → IsRunFrom p front × IsRunFrom (state_from p front) back
 unfolding IsRunFrom state_from
 run_split p [] back r = (tt, r)
 run_split p (e ∷ front) back r =
     let more = run_split (state_after p (step_of e)) front back r.2 in
     ((r.0, r.1, more.0), more.1)
 
-pub state_parts : (p : PartState) (front back : List Event) → state_from p (front ++ back) ≡ state_from (state_from p front) back
+pub state_parts : (p : PartState) (front back : List Event)
+    → state_from p (front ++ back) ≡ state_from (state_from p front) back
 unfolding state_from
 state_parts p [] back = refl
 state_parts p (e ∷ front) back = state_parts (state_after p (step_of e)) front back
@@ -30,7 +32,8 @@ pub record IsFrontOf (spec : PartSpec) (front back : List Event) : Type 0 where
   pub tied : IsTied (state_of spec front)
   pub more : IsRunFrom (state_of spec front) back
 
-pub front_of : (spec : PartSpec) (journal front back : List Event) → IsFitSpec spec → IsRun spec journal → journal ≡ front ++ back
+pub front_of : (spec : PartSpec) (journal front back : List Event) → IsFitSpec spec → IsRun spec journal
+    → journal ≡ front ++ back
     → IsFrontOf spec front back
 front_of spec journal front back fits run parts =
     let r = run_split (opening spec) front back (subst (IsRun spec) parts run) in

@@ -1,4 +1,6 @@
-use Rattle.std.proofs.Common.{◌≡◌, ℕ, ◌==◌, ◌&&◌, eqb, not, if◌then◌else◌, is_some, unwrap_or, Bool, true, false, Option, Some, None, Result, Ok, Err, List, [], ◌∷◌, ◌+◌, ◌≤◌, length, cond, refl, sym, ap, subst, ◌∙◌, true≢false, arith}
+use Rattle.std.proofs.Common.{◌≡◌, ℕ, ◌==◌, ◌&&◌, eqb, not, if◌then◌else◌, is_some, unwrap_or, Bool, true, false}
+use Rattle.std.proofs.Common.{Option, Some, None, Result, Ok, Err, List, [], ◌∷◌, ◌+◌, ◌≤◌, length, cond, refl, sym}
+use Rattle.std.proofs.Common.{ap, subst, ◌∙◌, true≢false, arith}
 use Rattle.std.specs.List.{AllByRecursion}
 use Rattle.std.proofs.lemmas.Bool.{and_parts, cond-false, cond-true}
 use Rattle.nook_data.specs.declared.classes.Accept.{Accept}
@@ -30,7 +32,8 @@ use Rattle.machine_defs.specs.BurstFaults.{faults_of_burst}
 use Rattle.machine_defs.specs.Services.{checked}
 use Rattle.part_defs.specs.Calls.{after_admit, after_enter, after_invoke, answer_in}
 use Rattle.part_defs.proofs.PartCases.{entered_by, invoked_by, reply_by, serve_by, with_burst}
-use Rattle.part_defs.specs.Crossing.{Crossed, after_crossing, call_replied, closes_call, failed_crossing, fails, goes_on}
+use Rattle.part_defs.specs.Crossing.{Crossed, after_crossing, call_replied, closes_call, failed_crossing, fails}
+use Rattle.part_defs.specs.Crossing.{goes_on}
 use Rattle.part_defs.specs.Crossing.{is_accepted, is_last, kernel_call, next_mode, next_stage, refused_service}
 use Rattle.part_defs.specs.Crossing.{shadow_fault, shadow_replied, stage_in}
 use Rattle.part_defs.specs.Domain.{context_of, domain_burst, first_argument, second_argument, stopped_domain}
@@ -39,7 +42,8 @@ use Rattle.part_defs.specs.Runs.{IsRunFrom, event_of, state_after, state_from, s
 use Rattle.part_defs.specs.Stages.{collects, gives_up_part, inits, is_given_up, loads_image, replays_open, replays_set}
 use Rattle.part_defs.specs.Stages.{resets, resumes, stage_due, stage_stepped, stops}
 use Rattle.part_defs.specs.State.{PartState}
-use Rattle.part_defs.specs.Steps.{after_arrival, burst_stepped, enabled, is_driven, is_inside, is_ready, is_running, stepped}
+use Rattle.part_defs.specs.Steps.{after_arrival, burst_stepped, enabled, is_driven, is_inside, is_ready, is_running}
+use Rattle.part_defs.specs.Steps.{stepped}
 use Rattle.part_laws.proofs.Counts.{counted_from}
 use Rattle.part_laws.proofs.DeviceStays.{spec_after}
 use Rattle.part_laws.proofs.Places.{split}
@@ -89,17 +93,21 @@ either_lives : (b : Bool) (x y : Crossed) → is_dead x.state.mode ≡ false →
 either_lives true x y h k = h
 either_lives false x y h k = k
 
-crossed_lives : (context : ℕ) (e : BurstEnd) (p : PartState) → is_dead p.mode ≡ false → is_dead (after_crossing context e p).state.mode ≡ false
+crossed_lives : (context : ℕ) (e : BurstEnd) (p : PartState) → is_dead p.mode ≡ false
+    → is_dead (after_crossing context e p).state.mode ≡ false
 unfolding after_crossing fails next_stage
 crossed_lives context (ends.Trap cause) p h = refl
 crossed_lives context (ends.Kcall number) p h =
     either_lives (is_last context p) (failed_crossing p (refused_service number context p) fail.TooManyCrossings)
     (kernel_call number context p) refl
-    (served_mode number context p (checked number (first_argument context p.domain) (second_argument context p.domain) p.spec.class p.domain.entries) h)
+    (served_mode number context p
+    (checked number (first_argument context p.domain) (second_argument context p.domain) p.spec.class
+    p.domain.entries) h)
 crossed_lives context ends.Pause p h =
     either_lives (is_last context p) (failed_crossing p end.Pause fail.TooManyCrossings) (goes_on p end.Pause) refl h
 crossed_lives context (ends.Reply status) p h =
-    either_lives (context == 16) (shadow_replied status p) (call_replied status p (call_of_thread context p.log.pending))
+    either_lives (context == 16) (shadow_replied status p)
+    (call_replied status p (call_of_thread context p.log.pending))
     (either_lives (is_accepted status p) (goes_on (next_stage p) (end.Reply status))
     (failed_crossing p (end.Reply status) (shadow_fault status (stage_in p.mode))) (next_mode_lives p.mode p h) refl)
     (reply_mode status p (call_of_thread context p.log.pending) h)
@@ -114,7 +122,8 @@ stop_gives_up p d = by_test (is_given_up p) d
     by_test true d = refl
     by_test false d = absurd cc
 
-stage_gives_up : (m : Mode) (p : PartState) → is_dead m ≡ false → is_dead (stage_stepped (with_mode m p)).state.mode ≡ true
+stage_gives_up : (m : Mode) (p : PartState) → is_dead m ≡ false
+    → is_dead (stage_stepped (with_mode m p)).state.mode ≡ true
     → IsGivingUp p p.failures (stage_stepped (with_mode m p)).event
 unfolding stage_stepped collects resets loads_image inits replays_set replays_open resumes
 stage_gives_up mode.Running p a d = absurd cc
@@ -156,9 +165,11 @@ pub gives_up : (p : PartState) (s : Step) → is_dead p.mode ≡ false → is_de
     → IsGivingUp p p.failures (stepped p s).event
 unfolding stepped after_invoke after_enter burst_stepped after_arrival
 gives_up p (step.Invoke t o) a d =
-    absurd (lives_and_dies p.mode (stepped p (step.Invoke t o)).state.mode (invoke_mode p t o (static_check p.spec.class p.spec.blocks o)) a d)
+    absurd (lives_and_dies p.mode (stepped p (step.Invoke t o)).state.mode
+    (invoke_mode p t o (static_check p.spec.class p.spec.blocks o)) a d)
 gives_up p (step.Enter t) a d =
-    absurd (lives_and_dies p.mode (stepped p (step.Enter t)).state.mode (enter_mode p t (call_of_thread t p.log.pending)) a d)
+    absurd (lives_and_dies p.mode (stepped p (step.Enter t)).state.mode
+    (enter_mode p t (call_of_thread t p.log.pending)) a d)
 gives_up p (step.Burst context) a d =
     let b = domain_burst context (faults_of_burst (p.bursts + 1) p.spec.faults) p.domain in
     absurd (true≢false (sym d ∙ crossed_lives context b.ending (with_burst b.domain p) a))
@@ -187,13 +198,17 @@ dead_gone p t d = (d, dead_driven p.mode (context_of 16 p.domain.contexts) d t.d
 pub gone_bursts : (p : PartState) (context : ℕ) → Gone p → enabled p (step.Burst context) ≡ true → ⊥
 unfolding enabled
 gone_bursts p context g e = split (eqb context 16)
-    (λ t. true≢false (sym (sym (cond-true (eqb context 16) (is_driven p) (is_running p.mode && is_inside (call_of_thread context p.log.pending)) t) ∙ e) ∙ g.1))
+    (λ t. true≢false (sym (sym (cond-true (eqb context 16) (is_driven p) served t) ∙ e) ∙ g.1))
     (λ t. dead_runs p.mode g.0 (and_parts (is_running p.mode) (is_inside (call_of_thread context p.log.pending))
-    (sym (cond-false (eqb context 16) (is_driven p) (is_running p.mode && is_inside (call_of_thread context p.log.pending)) t) ∙ e)).0)
+    (sym (cond-false (eqb context 16) (is_driven p) served t) ∙ e)).0)
+  where
+    served : Bool
+    served = is_running p.mode && is_inside (call_of_thread context p.log.pending)
 
 gone_enters : (p : PartState) (thread : ℕ) → Gone p → enabled p (step.Enter thread) ≡ true → ⊥
 unfolding enabled
-gone_enters p thread g e = dead_runs p.mode g.0 (and_parts (is_running p.mode) (is_ready p (call_of_thread thread p.log.pending)) e).0
+gone_enters p thread g e =
+    dead_runs p.mode g.0 (and_parts (is_running p.mode) (is_ready p (call_of_thread thread p.log.pending)) e).0
 
 -- ---- its answers
 
@@ -201,13 +216,15 @@ abbrev told_in : Event → Option Answer
 told_in (event.Invoke call thread o a) = a
 told_in _ = None
 
-dead_answer : (m : Mode) (t : ℕ) (o : Op) (p : PartState) → is_dead m ≡ true → answer_in m t o p ≡ Some (answered.Gone p.failures)
+dead_answer : (m : Mode) (t : ℕ) (o : Op) (p : PartState) → is_dead m ≡ true
+    → answer_in m t o p ≡ Some (answered.Gone p.failures)
 dead_answer (mode.Boot s) t o p d = absurd cc
 dead_answer mode.Running t o p d = absurd cc
 dead_answer (mode.Recovering s) t o p d = absurd cc
 dead_answer (mode.Dead collected) t o p d = refl
 
-dead_told : (p : PartState) (t : ℕ) (o : Op) → is_dead p.mode ≡ true → told_in (event_of p (step.Invoke t o)) ≡ Some (answer_given_up p.spec p.failures o)
+dead_told : (p : PartState) (t : ℕ) (o : Op) → is_dead p.mode ≡ true
+    → told_in (event_of p (step.Invoke t o)) ≡ Some (answer_given_up p.spec p.failures o)
 unfolding stepped after_invoke
 dead_told p t o d = by_check (static_check p.spec.class p.spec.blocks o)
   where
@@ -224,7 +241,8 @@ stage_told (event.Stage s answers released) = s
 stage_told _ = stage.Collect
 
 dead_stage : (m : Mode) (p : PartState) → is_dead m ≡ true → is_some (stage_due m) ≡ true
-    → (stage_told (stage_stepped (with_mode m p)).event ≡ stage.Collect) × (answers_in (stage_stepped (with_mode m p)).event ≡ [])
+    → (stage_told (stage_stepped (with_mode m p)).event ≡ stage.Collect)
+    × (answers_in (stage_stepped (with_mode m p)).event ≡ [])
 unfolding stage_stepped collects
 dead_stage (mode.Dead false) p d s = (refl, refl)
 dead_stage (mode.Dead true) p d s = absurd cc
@@ -236,7 +254,8 @@ stage_due_of : (p : PartState) → enabled p step.Stage ≡ true → is_some (st
 unfolding enabled
 stage_due_of p e = (and_parts (is_some (stage_due p.mode)) (not (is_driven p)) e).0
 
-event_given_up : (p : PartState) (e : Event) → Gone p → enabled p (step_of e) ≡ true → event_of p (step_of e) ≡ e → IsOfGivenUp p.spec p.failures e
+event_given_up : (p : PartState) (e : Event) → Gone p → enabled p (step_of e) ≡ true → event_of p (step_of e) ≡ e
+    → IsOfGivenUp p.spec p.failures e
 unfolding stepped
 event_given_up p (event.Invoke call t o a) g may same = sym (ap told_in same) ∙ dead_told p t o g.0
 event_given_up p (event.Enter call t attempt a) g may same = gone_enters p t g may
@@ -262,18 +281,21 @@ same_failures : (p : PartState) (e : Event) → Gone p → enabled p (step_of e)
     → (state_after p (step_of e)).failures ≡ p.failures
 unfolding IsRunFrom state_from
 same_failures p e g may same =
-    let counted : (state_after p (step_of e)).failures ≡ p.failures + failures_of (e ∷ []) = (counted_from p (e ∷ []) (may, same, tt)).failures' in
+    let counted : (state_after p (step_of e)).failures ≡ p.failures + failures_of (e ∷ []) =
+    (counted_from p (e ∷ []) (may, same, tt)).failures' in
     let one : failures_of (e ∷ []) ≡ cond (carries_failure e) 1 0 + failures_of [] = count_more carries_failure e [] in
     let none : cond (carries_failure e) 1 0 ≤ 0 = none_counted (carries_failure e) (no_failure p e g may) in
     let rest : failures_of [] ≡ 0 = refl in
     omega arith
 
-pub given_up_from : (spec : PartSpec) (failures : ℕ) (p : PartState) (events : List Event) → Gone p → p.spec ≡ spec → p.failures ≡ failures
+pub given_up_from : (spec : PartSpec) (failures : ℕ) (p : PartState) (events : List Event) → Gone p → p.spec ≡ spec
+    → p.failures ≡ failures
     → IsRunFrom p events → AllByRecursion (IsOfGivenUp spec failures) events
 unfolding IsRunFrom
 given_up_from spec failures p [] g s n r = tt
 given_up_from spec failures p (e ∷ events) g s n r = (
-  subst (λ (k : ℕ). IsOfGivenUp spec k e) n (subst (λ (x : PartSpec). IsOfGivenUp x p.failures e) s (event_given_up p e g r.0 r.1)),
+  subst (λ (k : ℕ). IsOfGivenUp spec k e) n
+      (subst (λ (x : PartSpec). IsOfGivenUp x p.failures e) s (event_given_up p e g r.0 r.1)),
   given_up_from spec failures (state_after p (step_of e)) events (gone_stays p (step_of e) g r.0)
       (spec_after p (step_of e) ∙ s) (same_failures p e g r.0 r.1 ∙ n) r.2,
 )

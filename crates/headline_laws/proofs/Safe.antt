@@ -36,12 +36,14 @@ kept_transparent spec journal kept = record {
 }
 
 -- the part behind one event more
-one_further : (p : PartState) (front : List Event) (e : Event) → state_from p (front ++ e ∷ []) ≡ state_after (state_from p front) (step_of e)
+one_further : (p : PartState) (front : List Event) (e : Event)
+    → state_from p (front ++ e ∷ []) ≡ state_after (state_from p front) (step_of e)
 unfolding state_from
 one_further p front e = state_parts p front (e ∷ [])
 
 -- the event that gives a part up
-giving_up_in : (spec : PartSpec) (front back : List Event) (e : Event) → IsFitSpec spec → IsFrontOf spec front (e ∷ back)
+giving_up_in : (spec : PartSpec) (front back : List Event) (e : Event) → IsFitSpec spec
+    → IsFrontOf spec front (e ∷ back)
     → is_dead (state_of spec front).mode ≡ false → is_dead (state_of spec (front ++ e ∷ [])).mode ≡ true
     → IsGivingUp (state_of spec front) (failures_of front) e
 unfolding IsRunFrom
@@ -70,15 +72,18 @@ run_safe spec journal valid run =
           giving_up_in spec front back e fits (front_of spec journal front (e ∷ back) fits run parts) alive dead;
       given_up = λ front back parts dead.
           let f = front_of spec journal front back fits run parts in
-          given_up_from spec (failures_of front) (state_of spec front) back (dead_gone (state_of spec front) f.tied dead)
+          given_up_from spec (failures_of front) (state_of spec front) back
+          (dead_gone (state_of spec front) f.tied dead)
           (run_spec spec front f.run) (run_measured spec front fits f.run).failures f.more;
     }
 
 -- a part in which a burst may be taken was not given up
-burst_alive : (spec : PartSpec) (front back : List Event) (e : Event) → IsFrontOf spec front (e ∷ back) → is_burst e ≡ true
+burst_alive : (spec : PartSpec) (front back : List Event) (e : Event) → IsFrontOf spec front (e ∷ back)
+    → is_burst e ≡ true
     → is_dead (state_of spec front).mode ≡ false
 unfolding IsRunFrom
-burst_alive spec front back (event.Burst context call burst count end acts a failure) f b = split (is_dead (state_of spec front).mode)
+burst_alive spec front back (event.Burst context call burst count end acts a failure) f b =
+    split (is_dead (state_of spec front).mode)
     (λ dead. absurd (gone_bursts (state_of spec front) context (dead_gone (state_of spec front) f.tied dead) f.more.0))
     (λ alive. alive)
 burst_alive spec front back (event.Invoke call t o a) f b = absurd cc
@@ -94,4 +99,5 @@ transparent_before spec journal b valid run broken =
     let x = broken_at 1 (known_first spec.class spec.blocks) journal b broken in
     let f = front_of spec journal x.front (x.event ∷ x.back) (valid_fits spec valid) run x.parts in
     subst (IsTransparent spec) (sym (before_break spec.class spec.blocks journal b x))
-    (kept_transparent spec x.front (record { run = f.run; contract = x.kept; alive = burst_alive spec x.front x.back x.event f x.burst }))
+    (kept_transparent spec x.front
+    (record { run = f.run; contract = x.kept; alive = burst_alive spec x.front x.back x.event f x.burst }))

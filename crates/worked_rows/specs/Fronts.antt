@@ -1,5 +1,5 @@
 use Rattle.std.specs.Prelude.{ℕ, ◌-◌, ◌++◌, if◌then◌else◌, true, Option, Some, None, List, [], ◌∷◌, length, take}
-use Rattle.std.specs.Prelude.{codes, drop, replicate}
+use Rattle.std.specs.Prelude.{codes, count_by, drop, replicate}
 use Rattle.nook_data.specs.Answers.{answers_of}
 use Rattle.nook_data.specs.declared.calls.Answer.{Answer}
 use Rattle.nook_data.specs.declared.calls.Op.{Op}
@@ -15,13 +15,13 @@ use Rattle.promise_defs.specs.Contract.{first_break}
 use Rattle.part_defs.specs.Runs.{state_after, state_of, step_of}
 use Rattle.part_defs.specs.State.{PartState}
 use Rattle.part_defs.specs.Steps.{opening}
-use Rattle.part_laws.specs.Bound.{carries_failure}
+use Rattle.part_laws.specs.Bound.{carries_failure, is_burst}
 use Rattle.part_laws.specs.Facts.{is_dead}
-use Rattle.headline_laws.specs.Recoveries.{while_away}
+use Rattle.headline_laws.specs.Recoveries.{is_stage, while_away}
 use Rattle.run_defs.specs.References.{block_image, net_image, sound_image}
 use Rattle.run_defs.specs.Simulation.{Simulation, Choice, begins, choices_of, journals_of, runs}
 use Rattle.worked_rows.specs.Cases.{of_part}
-use Rattle.worked_rows.specs.Scenarios.{disk, link, stream, strike, thread}
+use Rattle.worked_rows.specs.Scenarios.{disk, driver, link, stream, strike, thread}
 use Rattle.worked_rows.specs.Verdicts.{Verdict, verdict_of}
 
 -- Runs that go wrong late: what is found of the events before.
@@ -128,7 +128,7 @@ frail_disk = disk 2 0 block_image (strike 4 0 fault.Trap ∷ [])
 abbrev pub frail_disk_ops : List Op
 frail_disk_ops = op.Write 1 (replicate 16 1) ∷ op.Read 1 1 ∷ op.Read 7 1 ∷ op.Get 0 ∷ []
 
--- ---- a recovery with every stage
+-- ---- a recovery as long as it may be
 
 -- the events up to and with the first failure
 abbrev pub up_to_failure : List Event → List Event
@@ -140,10 +140,23 @@ abbrev pub first_recovery : PartSpec → List Event → List Event
 first_recovery spec journal =
     while_away (state_of spec (up_to_failure journal)) (drop (length (up_to_failure journal)) journal)
 
--- all four keys are set and the stream is open, and the driver traps in the Play
-abbrev pub busy_stream : PartSpec
-busy_stream = stream 1 sound_image (strike 8 0 fault.Trap ∷ [])
+-- a driver that yields as often as it may before each of its replies, so each call has 32 bursts
+abbrev pub slow_text : List ℕ
+slow_text =
+    codes ".class sound\n"
+    ++ codes ".entry init init\n.entry open slow\n.entry play slow\n.entry close slow\n.entry get slow\n.entry set slow\n"
+    ++ codes "init: LI r1 2\nKCALL 3\nLI r7 30\nJMP more\n"
+    ++ codes "slow: LI r7 31\n"
+    ++ codes "more: LI r6 1\n"
+    ++ codes "yield: KCALL 8\nSUB r7 r6\nBNE r7 r0 yield\nRET r0\n"
 
-abbrev pub busy_stream_ops : List Op
-busy_stream_ops =
-    op.Set 0 16000 ∷ op.Set 1 7 ∷ op.Set 2 2 ∷ op.Set 3 1 ∷ op.Open ∷ op.Play (10 ∷ []) ∷ op.Close ∷ []
+-- all four keys are set and the stream is open, and the driver traps in the Play
+abbrev pub slow_stream : PartSpec
+slow_stream = stream 1 (driver slow_text) (strike 193 0 fault.Trap ∷ [])
+
+abbrev pub slow_stream_ops : List Op
+slow_stream_ops = op.Set 0 16000 ∷ op.Set 1 7 ∷ op.Set 2 2 ∷ op.Set 3 1 ∷ op.Open ∷ op.Play (10 ∷ []) ∷ []
+
+-- how many stages and how many bursts some events have
+abbrev pub lengths_of : List Event → ℕ × ℕ
+lengths_of events = (count_by is_stage events, count_by is_burst events)

@@ -1,13 +1,12 @@
 //! Runs that go wrong late: what their fronts promise, what a part answers that is given up, and the longest recovery.
 #![tactic(auto, unfolding(crate::proofs::OnLiterals::nook_on_literals))]
 
-ghost use Rattle.std.specs.Prelude.{[], ◌∷◌, ◌≡◌, Some, count_by, false, true};
-ghost use Rattle.headline_laws.specs.Recoveries.{is_stage};
+ghost use Rattle.std.specs.Prelude.{[], ◌∷◌, ◌≡◌, Some, false, true};
 ghost use Rattle.nook_data.specs.declared.calls.Answer.TheVariants as answer;
-ghost use Rattle.part_laws.specs.Bound.{is_burst};
-ghost use Rattle.worked_rows.specs.Fronts.{busy_stream, busy_stream_ops, early_end, first_recovery, frail_disk};
-ghost use Rattle.worked_rows.specs.Fronts.{frail_disk_ops, journal_of, late_break, lying_disk, lying_disk_ops};
-ghost use Rattle.worked_rows.specs.Fronts.{lying_link, lying_link_ops, lying_stream, lying_stream_ops, transparent};
+ghost use Rattle.worked_rows.specs.Fronts.{early_end, first_recovery, frail_disk, frail_disk_ops, journal_of};
+ghost use Rattle.worked_rows.specs.Fronts.{late_break, lengths_of, lying_disk, lying_disk_ops, lying_link};
+ghost use Rattle.worked_rows.specs.Fronts.{lying_link_ops, lying_stream, lying_stream_ops, slow_stream};
+ghost use Rattle.worked_rows.specs.Fronts.{slow_stream_ops, transparent};
 
 /// A disk's driver stores nothing in its last Write: event 14 breaks clause 3, and the Read after it shows no disk. The
 /// 13 events before are one run of a disk that never fails.
@@ -46,8 +45,8 @@ pub fn disk_is_given_up()
     } }
 {}
 
-/// A stream with all four keys set recovers while it is open: this takes every stage that there is, eleven.
-pub fn stream_recovers_in_eleven_stages()
-    ensures stages { count_by is_stage (first_recovery busy_stream (journal_of busy_stream busy_stream_ops)) ≡ 11 }
-    ensures bursts { count_by is_burst (first_recovery busy_stream (journal_of busy_stream busy_stream_ops)) ≡ 7 }
+/// A stream with all four keys set fails while it is open, and its driver takes 32 bursts for each call. The recovery
+/// has every stage that there is, and no recovery is longer.
+pub fn slow_stream_recovers()
+    ensures { lengths_of (first_recovery slow_stream (journal_of slow_stream slow_stream_ops)) ≡ (11, 192) }
 {}

@@ -140,8 +140,6 @@ def read_by(reader: str, file: str) -> str:
     return found[0].body if len(found) == 1 else ""
 
 
-
-
 def inputs() -> dict[str, dict[str, Row]]:
     """For each kind of object of an input what may stand at the keys that all of its kind have, or that one class has."""
     entry = matched(rf"number_at entry ({ATOM}) ({ATOM}) d", equations(IMAGE, "places_from")[-1].body, IMAGE, "an entry's place")
@@ -282,10 +280,10 @@ def services() -> list[Row]:
 def clauses() -> list[Row]:
     """The clauses of the contracts by number, with what a driver did that breaks each."""
     told = {int(each): words for each, words in rows(REPORT_PAGE, "| Clause | The driver |")}
-    found = [{"number": int(body), "name": name, "broken": told.get(int(body), "")} for name, body in by_variant(CLAUSES, "clause_number").items()]
-    if [row["number"] for row in found] != list(told):
+    numbered = {name: int(body) for name, body in by_variant(CLAUSES, "clause_number").items()}
+    if list(numbered.values()) != list(told):
         raise UnknownShape(f"{REPORT_PAGE}: the table of clauses has not the numbers of clause_number in {CLAUSES}")
-    return found
+    return [{"number": each, "name": name, "broken": told[each]} for name, each in numbered.items()]
 
 
 def words_of(name: str) -> list[str]:

@@ -1,4 +1,4 @@
-"""The editors' files of the assembler's language, made of the tables of the sources: vim's syntax and VS Code's grammar."""
+"""The editors' files of the assembler's language, made of the sources' tables: vim's syntax, VS Code's grammar."""
 
 from __future__ import annotations
 

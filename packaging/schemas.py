@@ -16,8 +16,8 @@ DRAFT = "https://json-schema.org/draft/2020-12/schema"
 GENERATED = "This file is generated: checks/tables"
 ABOUT_SCENARIO = "What a schema cannot say docs/SCENARIO.md does: that names differ, the class of an assembler text, " \
     f"places below the number of parts. Numbers are digits alone. {GENERATED}"
-ABOUT_CAMPAIGN = "What a schema cannot say docs/CAMPAIGN.md does: that the part is one of the base, which has at most " \
-    f"{LIMITS['MOST_FAULTS'] - 1} faults of its own, and that the base has at most {LIMITS['MOST_CAMPAIGN_OPS']} " \
+ABOUT_CAMPAIGN = "What a schema cannot say docs/CAMPAIGN.md does: that the part is one of the base, which has at " \
+    f"most {LIMITS['MOST_FAULTS'] - 1} faults of its own, and that the base has at most {LIMITS['MOST_CAMPAIGN_OPS']} " \
     f"operations. {GENERATED}"
 
 # What is said of a value beside its range, by the kind of object and the key.
@@ -114,7 +114,8 @@ def part_schema(kind: DriverClass) -> Schema:
     of_all = [key for key in kind.keys if all(key in each.keys for each in CLASSES.values())]
     own = {key: noted("part", key) for key in kind.keys if key not in of_all}
     driver = {**ref("driver"), "properties": {"image": {"properties": {"class": {"const": kind.name}}}}}
-    properties = {"name": ref("name"), "class": True, **own, "limit": ref("limit"), "driver": driver, "faults": ref("faults")}
+    after = {"limit": ref("limit"), "driver": driver, "faults": ref("faults")}
+    properties = {"name": ref("name"), "class": True, **own, **after}
     if set(properties) != set(kind.keys):
         raise ValueError(f"a part of class {kind.name} has keys that this schema does not know: {kind.keys}")
     return closed(properties, tuple(key for key, allowed in INPUTS["part"].items() if allowed.optional))
@@ -227,8 +228,10 @@ def scenario_schema() -> Schema:
 
 def campaign_schema() -> Schema:
     """The schema of a campaign."""
-    properties = {"base": {"$ref": "scenario.schema.json"}, "part": noted("campaign", "part"), "faults": noted("campaign", "faults")}
-    return {"$schema": DRAFT, "title": "A campaign of nooks", "$comment": ABOUT_CAMPAIGN, "type": "object", **closed(properties)}
+    base = {"$ref": "scenario.schema.json"}
+    properties = {"base": base, **{key: noted("campaign", key) for key in ("part", "faults")}}
+    head = {"$schema": DRAFT, "title": "A campaign of nooks", "$comment": ABOUT_CAMPAIGN, "type": "object"}
+    return {**head, **closed(properties)}
 
 
 def scenario_text() -> str:

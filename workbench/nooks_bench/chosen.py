@@ -66,7 +66,8 @@ def templates(selection: Selection) -> list[Fault]:
         if not FAULT_KINDS[kind]:
             found.append({"kind": kind})
         else:
-            key, numbers = ("register", selection.registers) if kind == "reg" else ("address", selection.addresses)
+            is_register = "register" in FAULT_KINDS[kind]
+            key, numbers = ("register", selection.registers) if is_register else ("address", selection.addresses)
             found.extend({"kind": kind, key: number, "value": value} for number in numbers for value in values)
     return found
 

@@ -1,5 +1,5 @@
-"""The facts of the simulator: names, numbers, keys, limits and the memory map, from the tables that checks/tables reads from
-the sources (tables.json). No other module has one of them of its own."""
+"""The facts of the simulator: names, numbers, keys, limits and the memory map, from the tables that checks/tables reads
+from the sources (tables.json). No other module has one of them of its own."""
 
 from __future__ import annotations
 
@@ -22,8 +22,8 @@ TABLES = read_tables()
 
 @dataclass(frozen=True)
 class Allowed:
-    """What may stand at a key of an input: a number of a range, or a list of so many items; if these are numbers, `each`
-    has their range. All of it is None where an object or a name stands."""
+    """What may stand at a key of an input: a number of a range, or a list of so many items, of which `each` says what
+    one may be if it is a number or a list again. All of it is None if an object or a name stands there."""
 
     least: int | None = None
     most: int | None = None
@@ -71,8 +71,8 @@ class Register:
 
 @dataclass(frozen=True)
 class DriverClass:
-    """A class of drivers: the number by which one registers, its entries, the keys of a part, and the registers. Some keys
-    may stand in scenarios of version 2 alone."""
+    """A class of drivers: the number by which one registers, its entries, the keys of a part, and the registers. Some
+    keys may stand in scenarios of version 2 alone."""
 
     name: str
     code: int
@@ -84,8 +84,9 @@ class DriverClass:
 
 def class_of(row: dict[str, Any]) -> DriverClass:
     """A class, by its row."""
-    lists = (tuple(row[name]) for name in ("entries", "keys", "keys_of_version_2"))
-    return DriverClass(row["name"], row["code"], *lists, tuple(Register(**each) for each in row["registers"]))
+    entries, keys, later = (tuple(row[name]) for name in ("entries", "keys", "keys_of_version_2"))
+    registers = tuple(Register(**each) for each in row["registers"])
+    return DriverClass(row["name"], row["code"], entries, keys, later, registers)
 
 
 def numbered(table: str, told: str = "name") -> dict[int, str]:

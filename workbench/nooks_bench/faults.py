@@ -24,9 +24,7 @@ RANGES = {
     "every": (1, LIMITS["MOST_TURNS"]),
     "random": (1, 1_000_000),
     "seed": SCHEDULES["drawn"]["start"].ends,
-    "address": FAULT_KINDS["poke"]["address"].ends,
-    "register": FAULT_KINDS["reg"]["register"].ends,
-    "value": FAULT_KINDS["poke"]["value"].ends,
+    **{key: allowed.ends for keys in FAULT_KINDS.values() for key, allowed in keys.items()},
 }
 
 

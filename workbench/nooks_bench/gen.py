@@ -204,9 +204,8 @@ def run(args: argparse.Namespace) -> int:
 def add_to(commands: argparse._SubParsersAction[argparse.ArgumentParser]) -> None:
     parser = commands.add_parser("gen", help="operations to try one's own driver with", description=ABOUT)
     parser.add_argument("driver", metavar="DRIVER", help="an assembler text")
-    parser.add_argument(
-        "--ops", type=int, default=32, metavar="N", help=f"N operations in all (default 32; a campaign takes {LIMITS['MOST_CAMPAIGN_OPS']})"
-    )
+    about = f"N operations in all (default 32; a campaign takes {LIMITS['MOST_CAMPAIGN_OPS']})"
+    parser.add_argument("--ops", type=int, default=32, metavar="N", help=about)
     parser.add_argument("--seed", type=int, default=1, metavar="S", help="what is drawn begins from it (default 1)")
     parser.add_argument("--threads", type=int, default=2, metavar="T", help="T threads (default 2)")
     parser.add_argument("--blocks", type=int, default=16, metavar="B", help="a disk of B blocks (default 16)")

@@ -12,7 +12,6 @@ Scenario = dict[str, Any]
 Fault = dict[str, Any]
 
 
-
 def read_scenario(file: str) -> Scenario:
     """The scenario of a file, which is exact JSON or as `build` takes it."""
     value = built(file).plain()

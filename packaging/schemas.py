@@ -17,8 +17,8 @@ GENERATED = "This file is generated: checks/tables"
 ABOUT_SCENARIO = "What a schema cannot say docs/SCENARIO.md does: that names differ, the class of an assembler text, " \
     f"places below the number of parts. Numbers are digits alone. {GENERATED}"
 ABOUT_CAMPAIGN = "What a schema cannot say docs/CAMPAIGN.md does: that the part is one of the base, which has at " \
-    f"most {LIMITS['MOST_FAULTS'] - 1} faults of its own, and that the base has at most {LIMITS['MOST_CAMPAIGN_OPS']} " \
-    f"operations. {GENERATED}"
+    f"most {LIMITS['MOST_FAULTS'] - 1} faults of its own, and that the base has at most " \
+    f"{LIMITS['MOST_CAMPAIGN_OPS']} operations. {GENERATED}"
 
 # What is said of a value beside its range, by the kind of object and the key.
 NOTES = {

@@ -48,7 +48,7 @@ install: check-program
 	sed '1s|.*|#!$(PYTHON)|' workbench/nooks-bench > $(DESTDIR)$(sharedir)/nooks-bench
 	chmod 755 $(DESTDIR)$(sharedir)/nooks-bench
 	ln -sfn ../share/nooks/nooks-bench $(DESTDIR)$(bindir)/nooks-bench
-	$(data) workbench/nooks_bench/*.py workbench/nooks_bench/py.typed $(DESTDIR)$(sharedir)/nooks_bench
+	$(data) workbench/nooks_bench/*.py $(addprefix workbench/nooks_bench/,py.typed tables.json) $(DESTDIR)$(sharedir)/nooks_bench
 	$(data) workbench/nooks_bench/schemas/*.json $(DESTDIR)$(sharedir)/nooks_bench/schemas
 	ln -sfn nooks_bench/schemas $(DESTDIR)$(sharedir)/schemas
 	for page in nooks.1 nooks-bench.1; do \

@@ -1,17 +1,38 @@
-"""What crates.txt says of the crates: the line of each, and what it stands on."""
+"""What crates.txt says of the crates: the line of each, what it stands on, and what it is."""
 
 from __future__ import annotations
 
+import sys
 from pathlib import Path
 
 TOP = Path(__file__).resolve().parent.parent
 CRATES = TOP / "crates"
 
+# What a crate may be (docs/ARCHITECTURE.md): a layer with a view of its own, laws over definitions, worked cases and tests, or
+# apart for the build alone.
+MARKS = ("layer", "law", "cases", "build")
+
 
 def lines_of_crates() -> dict[str, str]:
-    """The line of each crate in crates.txt, by its name."""
-    lines = (line.split("#")[0] for line in (TOP / "crates.txt").read_text(encoding="utf-8").splitlines())
-    return {line.partition(":")[0].split()[0]: line for line in lines if ":" in line}
+    """The line of each crate in crates.txt, by its name, without the mark behind it."""
+    marks()
+    return {name: line for name, line, _ in parted_lines()}
+
+
+def parted_lines() -> list[tuple[str, str, str]]:
+    """The lines of crates.txt that name a crate: its name, the line, and what stands behind it as a comment."""
+    lines = (TOP / "crates.txt").read_text(encoding="utf-8").splitlines()
+    parted = [line.partition("#") for line in lines]
+    return [(line.partition(":")[0].split()[0], line.rstrip(), note.strip()) for line, _, note in parted if ":" in line]
+
+
+def marks() -> dict[str, str]:
+    """What each crate is, by its name. A line without a mark is refused."""
+    found = {name: note for name, _, note in parted_lines()}
+    for name, note in found.items():
+        if note not in MARKS:
+            sys.exit(f"crates.txt: the line of {name} has {note!r} behind it, and has to have # and one of {', '.join(MARKS)}")
+    return found
 
 
 def below_each(lines: dict[str, str]) -> dict[str, list[str]]:

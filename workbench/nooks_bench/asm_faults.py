@@ -8,50 +8,20 @@ from __future__ import annotations
 import difflib
 import re
 from dataclasses import dataclass, field
-from typing import Iterable, Sequence
+from typing import Iterable
 
-MOST_WORDS = 2_048
+from .facts import ASM_FAULTS, CLASSES, INPUTS, MEMORY_MAP, MOST_WORD, OPERANDS
+from .words import either
 
-CLASSES = {
-    "block": ("init", "read", "write", "get", "set"),
-    "net": ("init", "send", "poll", "get", "set"),
-    "sound": ("init", "open", "play", "close", "get", "set"),
-}
-
-# The operands of each instruction: `a` and `b` are registers, `imm` is a number or a label.
-FORMS = {
-    "LI": "a imm",
-    "LUI": "a imm",
-    "MOV": "a b",
-    "ADD": "a b",
-    "SUB": "a b",
-    "AND": "a b",
-    "OR": "a b",
-    "XOR": "a b",
-    "SHL": "a b",
-    "SHR": "a b",
-    "ADDI": "a b imm",
-    "LD": "a b imm",
-    "ST": "a b imm",
-    "JMP": "imm",
-    "BEQ": "a b imm",
-    "BNE": "a b imm",
-    "BLT": "a b imm",
-    "JAL": "a imm",
-    "JR": "a",
-    "IN": "a imm",
-    "OUT": "a imm",
-    "KCALL": "imm",
-    "RET": "a",
-    "FAULT": "",
-}
+# The operands of each instruction.
+FORMS = OPERANDS
 
 # The operands of each directive.
 DIRECTIVES = {".class": "name", ".entry": "name imm", ".text": "", ".data": "", ".word": "imm"}
 
 # The greatest number that may stand in an instruction, and in the directives that have one.
-MOST_IMMEDIATE = 65_535
-MOST_OF_DIRECTIVE = {".word": 4_294_967_295, ".entry": 2_047}
+MOST_IMMEDIATE = 2**16 - 1
+MOST_OF_DIRECTIVE = {".word": MOST_WORD, ".entry": INPUTS["image"]["entry"].ends[1]}
 
 WANTED = {"a": "a register", "b": "a register", "imm": "a number or a label", "name": "a name"}
 
@@ -193,11 +163,11 @@ def unknown_name(line: Line, text: Text) -> Said | None:
         return None
     if first.text == ".class" and line.operands:
         named = line.operands[0]
-        return Said(named.column, f"{named.text!r} is not a class: block, net or sound{nearest(named.text, CLASSES)}")
+        return Said(named.column, f"{named.text!r} is not a class: {either(CLASSES)}{nearest(named.text, CLASSES)}")
     if first.text == ".entry" and line.operands:
         named = line.operands[0]
         kind = text.kind(line.number)
-        entries = ", ".join(CLASSES[kind]) if kind else ""
+        entries = ", ".join(CLASSES[kind].entries) if kind else ""
         return Said(named.column, f"{named.text!r} is not an entry of class {kind}: {entries}")
     if first.text.upper() in FORMS:
         return Said(first.column, f"{first.text!r} is not a mnemonic: mnemonics are upper case, {first.text.upper()}")
@@ -297,20 +267,20 @@ def missing_label(line: Line, text: Text) -> Said | None:
 
 
 def text_too_long(line: Line, _: Text) -> Said | None:
-    return Said(first_column(line), f"one word of text too many: a driver has at most {MOST_WORDS}")
+    return Said(first_column(line), f"one word of text too many: a driver has at most {MEMORY_MAP['TEXT_WORDS']}")
 
 
 def data_too_long(line: Line, _: Text) -> Said | None:
-    return Said(first_column(line), f"one initial word too many: a driver has at most {MOST_WORDS}")
+    return Said(first_column(line), f"one initial word too many: a driver has at most {MEMORY_MAP['DATA_WORDS']}")
 
 
 def missing_entry(_: Line, text: Text) -> Said | None:
     """The text has no class, or not all of its entries."""
     kind = text.kind()
     if kind is None:
-        return Said(1, "the text ends without a class: .class block, net or sound")
+        return Said(1, f"the text ends without a class: .class {either(CLASSES)}")
     given = {line.operands[0].text for line in text.statements(".entry") if line.operands}
-    missing = [name for name in CLASSES[kind] if name not in given]
+    missing = [name for name in CLASSES[kind].entries if name not in given]
     if not missing:
         return None
     entries = "entry" if len(missing) == 1 else "entries"
@@ -321,18 +291,21 @@ def first_column(line: Line) -> int:
     return line.tokens[0].column if line.tokens else 1
 
 
-# For each kind of fault what finds it, and what it is if that finds nothing.
-KINDS = {
-    1: (bad_token, "not a token"),
-    2: (unknown_name, "an unknown name"),
-    3: (wrong_operands, "wrong operands"),
-    4: (number_range, "a number out of its range"),
-    5: (second_time, "a second definition"),
-    6: (missing_label, "an undefined label"),
-    7: (text_too_long, "too many words of text"),
-    8: (data_too_long, "too many initial words"),
-    9: (missing_entry, "an entry is missing"),
+# For each kind of fault, by its name, what finds it, and what it is if that finds nothing.
+FINDERS = {
+    "bad_token": (bad_token, "not a token"),
+    "unknown_name": (unknown_name, "an unknown name"),
+    "wrong_operands": (wrong_operands, "wrong operands"),
+    "number_range": (number_range, "a number out of its range"),
+    "double_label": (second_time, "a second definition"),
+    "missing_label": (missing_label, "an undefined label"),
+    "text_too_long": (text_too_long, "too many words of text"),
+    "data_too_long": (data_too_long, "too many initial words"),
+    "missing_entry": (missing_entry, "an entry is missing"),
 }
+
+# The same by number.
+KINDS = {number: FINDERS[name] for number, name in ASM_FAULTS.items()}
 
 
 def asm_fault(kind: int | None, number: int, source: str) -> Said:
@@ -347,8 +320,3 @@ def asm_fault(kind: int | None, number: int, source: str) -> Said:
 def named_class(source: str) -> str | None:
     """The class that an assembler text names."""
     return Text.of(source).kind()
-
-
-def entries_of(kind: str) -> Sequence[str]:
-    """The entries of a class, in its order."""
-    return CLASSES[kind]

@@ -6,14 +6,15 @@ from __future__ import annotations
 import json
 from dataclasses import dataclass
 
+from .facts import LIMITS
 from .outcomes import Judge, Outcome, Row, judge_of, parse_row
 from .program import Mistake, Program
 from .report import Report, parse_report
 from .scenario import Fault, Scenario, operations, with_faults
 
 # The most operations of a campaign's base, and the most faults of its part.
-MOST_OPERATIONS = 64
-MOST_OWN_FAULTS = 63
+MOST_OPERATIONS = LIMITS["MOST_CAMPAIGN_OPS"]
+MOST_OWN_FAULTS = LIMITS["MOST_FAULTS"] - 1
 
 Results = list[Outcome]
 

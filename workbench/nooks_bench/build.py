@@ -7,13 +7,14 @@ import os
 import sys
 from dataclasses import dataclass
 
+from .facts import SCHEDULES
 from .jsontext import json_text
 from .program import Mistake, Program, find_program
 from .refused import MOST_BYTES, explain_fault, parse_fault
 from .source import Misplaced, Node, read_source, read_text
 
-# The most items of a repetition: more than any list of a scenario may have.
-MOST_REPEATED = 65_536
+# The most items of a repetition: as many as the longest list of a scenario may have.
+MOST_REPEATED = SCHEDULES["listed"]["picks"].length[1]
 
 ABOUT = """Writes the scenario of FILE (- is standard input) as the program reads it. FILE is JSON that may also
 have: comments from // to the line's end; a comma after a last item; "notes" in any object, which are left out;

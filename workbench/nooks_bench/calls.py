@@ -4,6 +4,7 @@ from __future__ import annotations
 
 from dataclasses import dataclass, field
 
+from .facts import WORDS
 from .report import Event, Part, Report
 
 # Who answered a call. A wrong operation is answered at its invocation, whatever the driver does.
@@ -15,7 +16,7 @@ GONE = "with gone, since the part is given up"
 NOT = "not answered"
 
 # The answers of an operation that is wrong by itself (docs/REPORT.md).
-WRONG = ("bad_class", "bad_length", "bad_range", "bad_key", "bad_value")
+WRONG = WORDS["wrong"]
 
 
 def answerer(answer: str) -> str:

@@ -5,14 +5,15 @@ from __future__ import annotations
 import random
 from typing import Sequence
 
-from .faults import GREATEST, REGISTERS, Selection
+from .facts import FAULT_KINDS, MEMORY_MAP, MOST_WORD, REGISTERS
+from .faults import Selection
 from .probe import Probe
 from .program import Mistake
 from .report import SHADOW, Event, Part
 from .scenario import Fault
 
 # What a driver has of its own: initial words and heap, stacks, buffers. Drawn pokes go there if no address is named.
-OWN_WORDS = (2048, 7359)
+OWN_WORDS = (MEMORY_MAP["DATA_START"], MEMORY_MAP["BUFFERS_END"] - 1)
 
 
 def bursts_of_call(part: Part, call: int, attempt: int | None) -> list[Event]:
@@ -62,10 +63,11 @@ def templates(selection: Selection) -> list[Fault]:
     values = selection.values or (1,)
     found: list[Fault] = []
     for kind in selection.kinds:
-        if kind in ("trap", "hang"):
+        if not FAULT_KINDS[kind]:
             found.append({"kind": kind})
         else:
-            key, numbers = ("register", selection.registers) if kind == "reg" else ("address", selection.addresses)
+            is_register = "register" in FAULT_KINDS[kind]
+            key, numbers = ("register", selection.registers) if is_register else ("address", selection.addresses)
             found.extend({"kind": kind, key: number, "value": value} for number in numbers for value in values)
     return found
 
@@ -79,13 +81,13 @@ def drawn(selection: Selection, places: list[tuple[int, int]], probe: Probe) -> 
     for _ in range(selection.random or 0):
         burst, after = draw.choice(places)
         fault: Fault = {"burst": burst, "after": after, "kind": draw.choice(selection.kinds)}
-        if fault["kind"] in ("poke", "code"):
+        if "address" in FAULT_KINDS[fault["kind"]]:
             low, high = OWN_WORDS if fault["kind"] == "poke" else (0, max(words, 1) - 1)
             fault["address"] = draw.choice(selection.addresses) if selection.addresses else draw.randint(low, high)
-        if fault["kind"] == "reg":
+        if "register" in FAULT_KINDS[fault["kind"]]:
             fault["register"] = draw.choice(selection.registers) if selection.registers else draw.randrange(REGISTERS)
-        if fault["kind"] in ("poke", "code", "reg"):
-            fault["value"] = draw.choice(selection.values) if selection.values else draw.randint(0, GREATEST)
+        if "value" in FAULT_KINDS[fault["kind"]]:
+            fault["value"] = draw.choice(selection.values) if selection.values else draw.randint(0, MOST_WORD)
         found.append(fault)
     return found
 

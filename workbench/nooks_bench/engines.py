@@ -37,14 +37,14 @@ def run_local(path: str, batches: Sequence[Batch], jobs: int) -> Iterator[tuple[
 
 
 def package_file(folder: str) -> str:
-    """This package as one file, for workers that do not have it."""
+    """This package with its tables as one file, for workers that do not have it."""
     import zipfile
 
     package = os.path.dirname(os.path.abspath(__file__))
     path = os.path.join(folder, "nooks_bench.zip")
     with zipfile.ZipFile(path, "w") as packed:
         for name in sorted(os.listdir(package)):
-            if name.endswith(".py"):
+            if name.endswith((".py", ".json")):
                 packed.write(os.path.join(package, name), f"nooks_bench/{name}")
     return path
 

@@ -5,29 +5,26 @@ from __future__ import annotations
 import argparse
 from dataclasses import dataclass
 
+from .facts import FAULT_KINDS, INPUTS, LIMITS, MOST_WORD, SCHEDULES
 from .program import Mistake
 from .words import parse_ranges
 
-KINDS = ("trap", "hang", "poke", "code", "reg")
-
-GREATEST = 4_294_967_295
-REGISTERS = 16
+KINDS = tuple(FAULT_KINDS)
 
 # The kinds that an option about what strikes is for.
-USERS = {"address": ("poke", "code"), "register": ("reg",), "value": ("poke", "code", "reg")}
+USERS = {option: tuple(kind for kind, keys in FAULT_KINDS.items() if option in keys)
+         for option in ("address", "register", "value")}
 
 # The least and the greatest number of each option (docs/SCENARIO.md).
 RANGES = {
-    "part": (0, 7),
-    "burst": (1, GREATEST),
-    "call": (1, GREATEST),
-    "try": (1, GREATEST),
-    "every": (1, 4096),
+    "part": INPUTS["operation"]["part"].ends,
+    "burst": INPUTS["fault"]["burst"].ends,
+    "call": (1, MOST_WORD),
+    "try": (1, MOST_WORD),
+    "every": (1, LIMITS["MOST_TURNS"]),
     "random": (1, 1_000_000),
-    "seed": (0, 18_446_744_073_709_551_615),
-    "address": (0, GREATEST),
-    "register": (0, REGISTERS - 1),
-    "value": (0, GREATEST),
+    "seed": SCHEDULES["drawn"]["start"].ends,
+    **{key: allowed.ends for keys in FAULT_KINDS.values() for key, allowed in keys.items()},
 }
 
 

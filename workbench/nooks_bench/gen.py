@@ -10,31 +10,29 @@ from dataclasses import dataclass
 from typing import Any
 
 from .asm_faults import named_class
+from .facts import CLASSES, INPUTS, LIMITS, MOST_WORD
 from .faults import check_range
 from .jsontext import json_text
 from .program import Mistake
 from .source import read_text
+from .words import either
 
 ABOUT = """Writes a scenario with operations for the driver of an assembler text, as `build` takes it. The operations
 are of the driver's class and drawn from --seed; their sizes, places and values lie at the edges of what may be asked.
 The scenario names the driver's file, from the folder of --output on, or from this folder on."""
 
-# Sizes of frames and of plays: the least and the most, and some around a page's half and end.
-SIZES = (1, 2, 4, 16, 31, 32, 33, 63, 64)
-COUNTS = (1, 2, 7, 8)
-WORDS_OF_BLOCK = 16
-MOST_BLOCKS = 8
-MOST_WORD = 4_294_967_295
-
-# The greatest value that an application may set, by class and key (docs/DEVICES.md).
-MOST_VALUES = {
-    "block": (1, 8, MOST_WORD, MOST_WORD),
-    "net": (1_000, 1, 255, MOST_WORD),
-    "sound": (48_000, 10, 2, MOST_WORD),
-}
+# The most words of a frame and samples of a play; and sizes of these, the least and the most, and some around a page's
+# half and end.
+MOST_SIZE = LIMITS["MOST_FRAME_WORDS"]
+SIZES = (1, 2, 4, 16, MOST_SIZE // 2 - 1, MOST_SIZE // 2, MOST_SIZE // 2 + 1, MOST_SIZE - 1, MOST_SIZE)
+WORDS_OF_BLOCK = LIMITS["BLOCK_WORDS"]
+MOST_BLOCKS = LIMITS["MOST_BLOCKS"]
+COUNTS = (1, 2, MOST_BLOCKS - 1, MOST_BLOCKS)
 
 # What a scenario may have (docs/SCENARIO.md).
-MOST_THREADS, MOST_OPS, MOST_ARRIVALS, MOST_DISK, MOST_LIMIT = 16, 256, 256, 256, 16
+MOST_THREADS = INPUTS["scenario"]["threads"].length[1]
+MOST_OPS = INPUTS["thread"]["ops"].length[1]
+MOST_ARRIVALS = INPUTS["part"]["arrivals"].length[1]
 
 Operation = dict[str, Any]
 
@@ -65,7 +63,7 @@ class Work:
 
     def size(self) -> int:
         """The number of words of a frame or a play."""
-        return self.draw.choice((0, 65)) if self.is_beyond() else self.draw.choice(SIZES)
+        return self.draw.choice((0, MOST_SIZE + 1)) if self.is_beyond() else self.draw.choice(SIZES)
 
     def is_beyond(self) -> bool:
         """Whether an operation asks for more than there is, which the kernel answers by itself."""
@@ -97,12 +95,13 @@ class Work:
 
     def register(self) -> Operation:
         """A get or a set, which each class has."""
+        registers = CLASSES[self.kind].registers
         if self.is_beyond():
-            return {"op": "get", "key": 4}
-        key = self.draw.randrange(4)
+            return {"op": "get", "key": len(registers)}
+        key = self.draw.randrange(len(registers))
         if self.draw.randrange(2):
             return {"op": "get", "key": key}
-        most = MOST_VALUES[self.kind][key]
+        most = registers[key].most
         return {
             "op": "set",
             "key": key,
@@ -172,7 +171,7 @@ def class_of(driver: str) -> str:
     """The class of a driver's text."""
     kind = named_class(read_text(driver))
     if kind is None:
-        raise Mistake(f"{driver}: no line names a class: .class block, net or sound")
+        raise Mistake(f"{driver}: no line names a class: .class {either(CLASSES)}")
     return kind
 
 
@@ -186,8 +185,8 @@ def driver_from(driver: str, output: str | None) -> str:
 def run(args: argparse.Namespace) -> int:
     check_range("threads", args.threads, (1, MOST_THREADS))
     check_range("ops", args.ops, (1, MOST_OPS * args.threads))
-    check_range("blocks", args.blocks, (1, MOST_DISK))
-    check_range("limit", args.limit, (0, MOST_LIMIT))
+    check_range("blocks", args.blocks, INPUTS["part"]["blocks"].ends)
+    check_range("limit", args.limit, INPUTS["part"]["limit"].ends)
     kind = class_of(args.driver)
     asked = Asked(driver_from(args.driver, args.output), args.ops, args.threads, args.blocks, args.limit, args.beyond)
     text = json_text(scenario_of(kind, asked, args.seed)) + "\n"
@@ -205,9 +204,8 @@ def run(args: argparse.Namespace) -> int:
 def add_to(commands: argparse._SubParsersAction[argparse.ArgumentParser]) -> None:
     parser = commands.add_parser("gen", help="operations to try one's own driver with", description=ABOUT)
     parser.add_argument("driver", metavar="DRIVER", help="an assembler text")
-    parser.add_argument(
-        "--ops", type=int, default=32, metavar="N", help="N operations in all (default 32; a campaign takes 64)"
-    )
+    about = f"N operations in all (default 32; a campaign takes {LIMITS['MOST_CAMPAIGN_OPS']})"
+    parser.add_argument("--ops", type=int, default=32, metavar="N", help=about)
     parser.add_argument("--seed", type=int, default=1, metavar="S", help="what is drawn begins from it (default 1)")
     parser.add_argument("--threads", type=int, default=2, metavar="T", help="T threads (default 2)")
     parser.add_argument("--blocks", type=int, default=16, metavar="B", help="a disk of B blocks (default 16)")

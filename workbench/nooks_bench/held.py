@@ -9,15 +9,16 @@ from __future__ import annotations
 import re
 from dataclasses import dataclass
 
+from .facts import MEMORY_MAP, SERVICE_NUMBERS
 from .report import Event, Part
 from .words import counted
 
 HEAP = "heap"
 BORROW = "borrow"
-COPY_WORDS = 64
+COPY_WORDS = MEMORY_MAP["OBJECT_WORDS"]
 
 SERVED = re.compile(r"service (\d+) (\d+) \d+ = (\d+)(?: \[.*)?")
-ALLOC, FREE, BORROWS, GIVES_BACK = 1, 2, 4, 5
+ALLOC, FREE, BORROWS, GIVES_BACK = (SERVICE_NUMBERS[name] for name in ("alloc", "free", "borrow", "give_back"))
 
 # Of a leak this many pieces are named.
 MOST_NAMED = 4

@@ -7,6 +7,7 @@ import re
 from dataclasses import dataclass
 from typing import Any, Callable, Iterable
 
+from .facts import FAULT_KINDS, STATUSES
 from .program import Mistake
 from .report import Event, Part, Report
 from .scenario import Fault, Scenario
@@ -173,7 +174,7 @@ class Judge:
             if row != base:
                 raise Mistake(f"a fault that does not strike has another row than the base: {fault}")
             return Outcome(MISSED)
-        if fault["kind"] not in ("trap", "hang") or self.is_open or self.base.status or row.status == 7:
+        if FAULT_KINDS[fault["kind"]] or self.is_open or self.base.status or row.status == STATUSES["contract_broken"]:
             return None
         if row.lost or base.lost:
             return None
@@ -201,7 +202,7 @@ class Judge:
         ours, theirs = report.parts[self.part], self.base.parts[self.part]
         struck = [event for event in ours.bursts() if event.burst == fault["burst"] and event.failed]
         base = self.burst(fault)
-        stops = fault["kind"] in ("trap", "hang")
+        stops = not FAULT_KINDS[fault["kind"]]
         if struck and base and (stops or struck[0].cause != base.cause):
             return plain_cause(struck[0].cause or "")
         if ours.failures > theirs.failures:

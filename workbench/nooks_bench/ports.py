@@ -2,6 +2,8 @@
 
 from __future__ import annotations
 
+from .facts import CLASSES
+
 # For each class the ports that it has by direction, with what each is.
 PORTS: dict[str, dict[tuple[str, int], str]] = {
     "block": {
@@ -32,11 +34,7 @@ COMMANDS: dict[str, dict[int, str]] = {
 
 # The registers of ports 8 to 11, with what they are after a reset.
 FIRST_REGISTER = 8
-REGISTERS: dict[str, tuple[tuple[str, int], ...]] = {
-    "block": (("cache", 0), ("ahead", 0), ("label", 0), ("label", 0)),
-    "net": (("speed", 100), ("duplex", 1), ("filter", 0), ("label", 0)),
-    "sound": (("rate", 8000), ("volume", 5), ("channels", 1), ("label", 0)),
-}
+REGISTERS = {name: tuple((each.name, each.default) for each in kind.registers) for name, kind in CLASSES.items()}
 
 # The port whose word lasts until the next OUT or a reset, which makes it 0.
 LASTING: dict[str, int] = {"block": 1, "net": 1}

@@ -6,14 +6,15 @@ from __future__ import annotations
 import functools
 from dataclasses import dataclass, field
 
+from .facts import LIMITS, OPCODES
 from .pool import each_done
 from .program import Program
 from .report import Event, parse_report
-from .scenario import MOST_FAULTS, Fault, Scenario, with_faults
+from .scenario import Fault, Scenario, with_faults
 
 # A word that stops the driver and names its own address: IN r0 from a port that no device has, the address added to
 # this number. So the trap `bad_port` names the address.
-TELLTALE = 0x14000000
+TELLTALE = OPCODES["IN"] << 24
 FIRST_PORT = 0x8000
 
 
@@ -41,7 +42,7 @@ class Probe:
     def address(self, burst: int, after: int) -> int | None:
         """The address of the instruction that a burst comes to after some turns; None if it is none of the image's.
         Every word of the text is made one that names its address, as many at a time as there may be faults."""
-        room = MOST_FAULTS - len(self.scenario["parts"][self.part].get("faults", []))
+        room = LIMITS["MOST_FAULTS"] - len(self.scenario["parts"][self.part].get("faults", []))
         if room <= 0:
             return None
         chunks = [range(first, min(first + room, len(self.listing))) for first in range(0, len(self.listing), room)]

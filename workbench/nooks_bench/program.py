@@ -8,6 +8,8 @@ import subprocess
 from dataclasses import dataclass
 from typing import Any
 
+from .facts import STATUSES
+
 TOP = os.path.dirname(os.path.dirname(os.path.dirname(os.path.abspath(__file__))))
 
 # Where the repository's scripts leave the program that they build, from the one that is taken first.
@@ -18,8 +20,8 @@ BUILT = {
 }
 
 # The statuses with which a whole report was written.
-REPORTED = (0, 1, 7)
-REFUSED = 3
+REPORTED = (STATUSES["done"], STATUSES["given_up"], STATUSES["contract_broken"])
+REFUSED = STATUSES["bad_input"]
 
 # How the line of a version begins: that of the program, and that of the plain one.
 NAMES = ("nooks", "plain")

@@ -9,6 +9,7 @@ from dataclasses import dataclass
 from typing import Any
 
 from .asm_faults import asm_fault, named_class
+from .facts import LIMITS
 from .program import Mistake
 from .schema import AnySchema, allowed, allowed_at, known_keys, of_key, schemas_at, unknown_keys
 from .source import Node, Place, deepest
@@ -16,10 +17,10 @@ from .source import Node, Place, deepest
 LINE = re.compile(r"fault (\d+) (\w+)(?: (\d+) line (\d+))? (/\S*)")
 
 # The most bytes of an input that the program reads, and the most operations of a campaign's base.
-MOST_BYTES = 1_048_576
-MOST_MEMBER_OPS = 64
-MOST_THREADS = 16
-MOST_FAULTS = 64
+MOST_BYTES = LIMITS["INPUT_BYTES"]
+MOST_MEMBER_OPS = LIMITS["MOST_CAMPAIGN_OPS"]
+MOST_THREADS = LIMITS["MOST_THREADS"]
+MOST_FAULTS = LIMITS["MOST_FAULTS"]
 
 
 @dataclass(frozen=True)

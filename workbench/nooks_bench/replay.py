@@ -8,6 +8,7 @@ import sys
 from dataclasses import dataclass, field
 
 from .calls import calls_of_threads
+from .facts import SCHEDULES
 from .jsontext import json_text
 from .program import Mistake, Program, find_program
 from .report import SHADOW, Event, Report, parse_report
@@ -15,7 +16,7 @@ from .scenario import Scenario, read_scenario, with_schedule
 from .source import read_text
 
 # The most picks of a listed schedule.
-MOST_PICKS = 65_536
+MOST_PICKS = SCHEDULES["listed"]["picks"].length[1]
 
 ABOUT = """From a scenario and a report of it, of `run threads` or of `run`, the scenario with a listed schedule
 of which `run` gives the same journals and answers. The program is asked for both: that the report is one of the

@@ -5,17 +5,18 @@ from __future__ import annotations
 import re
 from dataclasses import dataclass, field
 
+from .facts import CLASSES, LIMITS, WORDS
 from .program import Mistake
 
 # The context in which the shadow's own calls run.
-SHADOW = 16
+SHADOW = LIMITS["SHADOW"]
 
-PART = re.compile(r"part (\d+) (\w+) (block|net|sound) limit (\d+)")
+PART = re.compile(rf"part (\d+) (\w+) ({'|'.join(CLASSES)}) limit (\d+)")
 EVENT = re.compile(r"(\d+) (invoke|enter|burst|stage|arrive) (.*)")
 INVOKE = re.compile(r"c(\d+) t(\d+) (.*?)(?: -> (.*))?")
 ENTER = re.compile(r"c(\d+) x(\d+) try (\d+)(?: -> (.*))?")
 BURST = re.compile(r"x(\d+) c(\d+) b(\d+) n(\d+) (.*?)(?: -> (.*?))?(?: ! (.*))?")
-STAGE = re.compile(r"(stop|collect|reset|load|init|replay_set \d+ \d+|replay_open|resume)(.*)")
+STAGE = re.compile(rf"((?:{'|'.join(WORDS['stages'])})(?: \d+ \d+)?)(.*)")
 REPLY = re.compile(r" -> c(\d+) ((?:\w+)(?: \[[^]]*\]| \w+)?)")
 ARRIVE = re.compile(r"(\[[^]]*\]) (kept|lost)")
 CONTRACT = re.compile(r"contract (?:kept|broken event (\d+) clause (\d+))")

@@ -11,9 +11,6 @@ from .program import Mistake
 Scenario = dict[str, Any]
 Fault = dict[str, Any]
 
-# The most faults of a part.
-MOST_FAULTS = 64
-
 
 def read_scenario(file: str) -> Scenario:
     """The scenario of a file, which is exact JSON or as `build` takes it."""

@@ -4,13 +4,14 @@ from __future__ import annotations
 
 from typing import Any, Iterator
 
+from .facts import LIMITS
 from .scenario import Scenario
 
 # A place in a scenario, and what is to stand there.
 Path = tuple[Any, ...]
 Change = tuple[Path, Any]
 
-WORDS_OF_BLOCK = 16
+WORDS_OF_BLOCK = LIMITS["BLOCK_WORDS"]
 
 
 def replaced(value: Any, path: Path, new: Any) -> Any:

@@ -8,7 +8,8 @@ import sys
 from typing import Any, Sequence
 
 from .build import built, check
-from .faults import GREATEST, RANGES, add_selection, check_range, selection_of
+from .facts import INPUTS, MOST_WORD
+from .faults import RANGES, add_selection, check_range, selection_of
 from .journal import Journal, heading_of
 from .messages import say
 from .model import Swept
@@ -50,7 +51,8 @@ def scenario_of(program: Program, file: str) -> Scenario:
 
 def check_options(args: argparse.Namespace) -> None:
     """What can be checked before the program is asked."""
-    for option, ends in {"limit": (0, 16), "schedules": (1, GREATEST), "jobs": (1, 4096)}.items():
+    limit = INPUTS["part"]["limit"].ends
+    for option, ends in {"limit": limit, "schedules": (1, MOST_WORD), "jobs": (1, 4096)}.items():
         check_range(option, getattr(args, option), ends)
     greatest = RANGES["seed"][1]
     if args.schedules and args.seed + args.schedules - 1 > greatest:

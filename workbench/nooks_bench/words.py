@@ -5,37 +5,12 @@ from __future__ import annotations
 import re
 from typing import Iterable
 
+from . import facts
 from .program import Mistake
 
-# docs/REPORT.md has these: what the driver did that broke its class's contract.
-CLAUSES = {
-    1: "stored a block that no write inside it covers",
-    2: "stored other words in a block than that write's",
-    3: "replied that a write is done, and a block of it does not hold its words",
-    4: "replied that a read is done, with other words than the disk's",
-    5: "sent a frame in another call than a send, or another frame than that send's",
-    6: "sent a second frame in one send",
-    7: "replied that a send is done, and sent nothing in it",
-    8: "handed a frame up that is not the next of those that it took out of the ring since it was loaded",
-    9: "replied to a recv with nothing handed up, while frames wait in the ring",
-    10: "played a sample that is not the next one of the play inside it",
-    11: "replied that a play is done, and did not play it to its end",
-    12: "changed a register to a value that no set inside it asks for",
-    13: "replied that a set is done, and the register does not hold its value",
-    14: "replied to a get with another value than the register's",
-    15: "replied that a block failed, and no command on that block failed in this attempt",
-}
-
-SERVICES = {
-    1: "alloc",
-    2: "free",
-    3: "register",
-    4: "borrow",
-    5: "give_back",
-    6: "net_rx",
-    7: "log",
-    8: "yield",
-}
+# What the driver did that broke its class's contract, by the clause's number; and the kernel's services.
+CLAUSES = facts.CLAUSES
+SERVICES = facts.SERVICES
 
 # docs/REPORT.md has these: why a driver failed. Each number of a cause has its name in braces.
 CAUSES = {
@@ -44,12 +19,12 @@ CAUSES = {
     "trap bad_read {address}": "it read past the end of memory, at address {address}",
     "trap foreign_write {address}": "it wrote to address {address}, which is not its own",
     "trap bad_port {port}": "its device has no port {port} in that direction",
-    "trap hang": "it ran 4,096 instructions without a call into the kernel",
+    "trap hang": f"it ran {facts.LIMITS['MOST_TURNS']:,} instructions without a call into the kernel",
     "trap explicit": "it came to the instruction FAULT",
     "trap injected": "a fault of the scenario stopped it",
     "bad_param {service} {argument}": "argument {argument} of the service {service_name} failed its check",
     "bad_param {service} 0": "it may not call the service {service_name}",
-    "too_many_crossings": "the 32nd burst of one attempt was no reply",
+    "too_many_crossings": f"the {facts.LIMITS['MOST_BURSTS']}nd burst of one attempt was no reply",
     "bad_reply {status}": "it replied with status {status}, which this call does not have",
     "bad_init {status}": "its init replied with status {status}, and it owes 0 and a register before",
 }
@@ -150,3 +125,9 @@ def cause_words(cause: str) -> str:
 
 def counted(number: int, noun: str) -> str:
     return f"{number} {noun}" + ("" if number == 1 else "s")
+
+
+def either(names: Iterable[str]) -> str:
+    """Names of which one may stand: `block, net or sound`."""
+    *others, last = names
+    return f"{', '.join(others)} or {last}" if others else last

@@ -118,7 +118,7 @@ class Words(unittest.TestCase):
         with open(os.path.join(TOP, "docs/DRIVER_MACHINE.md"), encoding="utf-8") as file:
             named = re.findall(r"(?m)^\| (\d+) \| (\w+) \|", file.read())
         self.assertEqual({int(number): name for number, name in named}, SERVICES)
-        clauses = {int(number): words.replace("such a block", "a block") for number, words in self.table("| Clause |")}
+        clauses = {int(number): words for number, words in self.table("| Clause |")}
         self.assertEqual(clauses, CLAUSES)
 
     def test_lists_are_shortened(self):

@@ -24,6 +24,7 @@ usr/share/nooks/nooks-bench 755
 usr/share/nooks/nooks_bench/cli.py 644
 usr/share/nooks/nooks_bench/schemas/campaign.schema.json 644
 usr/share/nooks/nooks_bench/schemas/scenario.schema.json 644
+usr/share/nooks/nooks_bench/tables.json 644
 usr/share/nooks/vscode/nooks-asm/package.json 644
 usr/share/nooks/vscode/nooks-asm/schemas/scenario.schema.json 644
 usr/share/man/man1/nooks.1.gz 644

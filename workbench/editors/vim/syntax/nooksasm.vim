@@ -1,4 +1,4 @@
-" Vim syntax for the assembler of nooks (docs/ASSEMBLER.md).
+" Vim syntax for the assembler of nooks (docs/ASSEMBLER.md). This file is generated: checks/tables
 if exists("b:current_syntax")
   finish
 endif

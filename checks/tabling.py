@@ -1,0 +1,396 @@
+"""The tables of the simulator, each read from the source that has it: names, numbers, keys, limits and the memory map.
+
+checks/tables writes them as JSON for the workbench. The words in which people are told of a clause or of a register stand in
+the pages of docs/ alone; what a page has as a number is compared with the definitions.
+"""
+
+from __future__ import annotations
+
+import re
+from collections.abc import Callable
+from dataclasses import dataclass
+from typing import Any
+
+from shapes import UnknownShape, body_of, by_variant, constants, equations, last_name, matched, rows, snake, text_of, texts
+from shapes import value_of, variants
+
+LIMITS = "crates/nook_data/src/limits.rt"
+MAP = "crates/nook_data/src/memory_map.rt"
+PROGRAM = "crates/nooks/src/program.rt"
+MNEMONICS = "crates/machine_defs/specs/Mnemonics.antt"
+MACHINE = "crates/nook_data/src/machine.rt"
+SERVICES = "crates/machine_defs/specs/Services.antt"
+CLASSES = "crates/nook_data/specs/Classes.antt"
+CLASS_NAMES = "crates/nook_data/specs/ClassNames.antt"
+CLAUSES = "crates/nook_data/specs/Clauses.antt"
+KEYS = "crates/asm_defs/specs/Keys.antt"
+SCENARIO = "crates/input_defs/specs/ScenarioReading.antt"
+PART = "crates/input_defs/specs/PartReading.antt"
+IMAGE = "crates/input_defs/specs/ImageReading.antt"
+CAMPAIGN = "crates/input_defs/specs/CampaignReading.antt"
+FAULTS = "crates/input_defs/specs/Faults.antt"
+LINES = "crates/report_defs/specs/ReportLines.antt"
+FORMS = "crates/command_forms/specs/Forms.antt"
+TEXTS = "crates/nooks/specs/Texts.antt"
+ENDINGS = "crates/nooks/specs/Endings.antt"
+REPORT_PAGE = "docs/REPORT.md"
+DEVICES_PAGE = "docs/DEVICES.md"
+
+# Which operands a form has, in the words of the assembler's page.
+OPERANDS = {"Bare": "", "A": "a", "Imm": "imm", "AB": "a b", "AImm": "a imm", "ABImm": "a b imm"}
+
+# What stands between spaces in a definition: a word, or something in brackets.
+INNER = r"\((?:[^()]|\([^()]*\))*\)"
+ATOM = rf"(?:\w+|\((?:[^()]|{INNER})*\))"
+
+# How many configuration registers a device has.
+REGISTERS = 4
+
+Row = dict[str, Any]
+
+
+@dataclass(frozen=True)
+class Table:
+    """A table by its name, the files that it is read from, and how."""
+
+    name: str
+    sources: tuple[str, ...]
+    read: Callable[[], Any]
+
+
+def limits() -> dict[str, int]:
+    """The limits of a system, and how much of an input is read."""
+    return {**constants(LIMITS), "INPUT_BYTES": constants(PROGRAM)["LIMIT"], "AUDIT_BYTES": constants(PROGRAM)["AUDIT_LIMIT"]}
+
+
+def memory_map() -> dict[str, int]:
+    """The regions of a domain and their sizes."""
+    return constants(MAP, constants(LIMITS))
+
+
+def numbers() -> dict[str, int]:
+    """The constants that a definition may name; a place among parts or blocks is below the most that there may be."""
+    known = {**limits(), **memory_map()}
+    return {**known, "parts": known["MOST_PARTS"], "blocks": known["MOST_DISK_BLOCKS"]}
+
+
+def key_texts() -> dict[str, str]:
+    """The text of each key by the name of its variant."""
+    return {name: texts(body)[0] for name, body in by_variant(KEYS, "key_text").items()}
+
+
+def keys_of(body: str) -> list[str]:
+    """The texts of the keys that a right side lists."""
+    known = key_texts()
+    return [known[name] for name in re.findall(r"key\.(\w+)", body)]
+
+
+# ---- what may stand at a key
+
+
+def number(least: str, most: str, file: str) -> Row:
+    """A whole number within bounds."""
+    known = numbers()
+    return {"least": value_of(least, known, file), "most": value_of(most, known, file)}
+
+
+def listed(body: str, file: str) -> Row | None:
+    """A list, as `numbers_of` and `list_of` read one: how many items it may have, and what each may be if it is a number."""
+    if found := re.match(rf"numbers_of ({ATOM}) ({ATOM}) ({ATOM})", body):
+        return {"items": list(number(found[1], found[2], file).values()), "each": number("0", found[3], file)}
+    if found := re.match(rf"list_of ({ATOM}) ({ATOM}) ({ATOM})", body):
+        inner = re.search(r"numbers_of .*", found[1].strip("()"))
+        each = listed(inner[0], file) if inner else None
+        return {"items": list(number(found[2], found[3], file).values()), **({"each": each} if each else {})}
+    return None
+
+
+def ranges(file: str, *names: str) -> dict[str, Row]:
+    """What may stand at each key that some definitions of a file read, in their order; nothing if it is an object or a
+    name."""
+    body = "; ".join(equation.body for name in names for equation in equations(file, name))
+    return ranges_of(body, file)
+
+
+def ranges_of(body: str, file: str) -> dict[str, Row]:
+    """What may stand at each key that a right side reads."""
+    known = key_texts()
+    found: dict[str, Row] = {}
+    for way, key, rest in re.findall(rf"(word_at|number_at|required|optional) key\.(\w+)((?: {ATOM})*)", body):
+        words = re.findall(ATOM, rest)
+        made: Row = {}
+        if way == "word_at":
+            made = number("0", "4294967295", file)
+        elif way == "number_at":
+            made = number(words[0], words[1], file)
+        elif words[0].startswith("(whole_number "):
+            made = number(*words[0].strip("()").split(" ", 2)[1:], file)
+        else:
+            made = listed(read_by(words[0], file), file) or {}
+        found[known[key]] = {**made, **({"optional": True} if way == "optional" else {})}
+    return found
+
+
+def read_by(reader: str, file: str) -> str:
+    """What a reader reads by: itself if it stands in brackets, else the right side of its definition in the same file."""
+    if reader.startswith("("):
+        return reader[1:-1]
+    is_here = re.search(rf"(?m)^(?:abbrev|unfoldable) pub {reader} :", text_of(file))
+    found = equations(file, reader) if is_here else ()
+    return found[0].body if len(found) == 1 else ""
+
+
+def inputs() -> dict[str, dict[str, Row]]:
+    """For each kind of object of an input what may stand at the keys that all of its kind have, or that one class has."""
+    entry = matched(rf"number_at entry ({ATOM}) ({ATOM}) d", equations(IMAGE, "places_from")[-1].body, IMAGE, "an entry's place")
+    return {
+        "scenario": ranges(SCENARIO, "scenario_of"),
+        "part": ranges(PART, "part_of", "part_blocks", "part_bad", "part_arrivals"),
+        "bad": ranges(PART, "bad_block_of"),
+        "fault": ranges(PART, "fault_of"),
+        "thread": ranges(SCENARIO, "thread_of"),
+        "operation": ranges(SCENARIO, "op_of"),
+        "image": {**ranges(IMAGE, "image_of"), "entry": number(entry[1], entry[2], IMAGE)},
+        "campaign": ranges(CAMPAIGN, "campaign_of"),
+    }
+
+
+def kinds(file: str, named: str, keys: str, read: str) -> list[Row]:
+    """The names of a kind of thing with the keys that only each has: `named` has the names, `keys` the keys, and `read`
+    what may stand there."""
+    pairs = re.findall(r'\(codes "(\w+)", \w+\.(\w+)\)', body_of(file, named))
+    own, bodies = by_variant(file, keys), by_variant(file, read)
+    if [name for _, name in pairs] != list(own) or list(own) != list(bodies):
+        raise UnknownShape(f"{file}: {named}, {keys} and {read} do not have the same names in the same order")
+    found = []
+    for text, name in pairs:
+        at = ranges_of(bodies[name], file)
+        listed_keys = [key for key in keys_of(own[name]) if key != "kind"]
+        if list(at) != listed_keys:
+            raise UnknownShape(f"{file}: {read} reads {list(at)} of {text}, and {keys} lists {listed_keys}")
+        found.append({"name": text, "keys": at})
+    return found
+
+
+def fault_kinds() -> list[Row]:
+    """The kinds of fault that a scenario may name."""
+    return kinds(PART, "fault_named", "fault_keys", "fault_kind")
+
+
+def schedules() -> list[Row]:
+    """The kinds of schedule."""
+    return kinds(SCENARIO, "schedule_named", "schedule_keys", "schedule_by")
+
+
+def operations() -> list[Row]:
+    """What an application may ask for, each with the class whose parts serve it; none if each class does."""
+    classes = {last_name(equation.arguments.partition(" ")[2]): equation.body for equation in equations(CLASSES, "is_of_class")}
+    names = by_variant(CLASS_NAMES, "class_text")
+    found = []
+    for row in kinds(SCENARIO, "op_named", "op_keys", "op_by"):
+        body = next((body for name, body in classes.items() if snake(name) == row["name"]), "true")
+        own = re.fullmatch(r"same_class class (\w+)", body)
+        if not own and body != "true":
+            raise UnknownShape(f"{CLASSES}: is_of_class of {row['name']} is {body!r}")
+        found.append({"name": row["name"], "class": texts(names[own[1]])[0] if own else None, "keys": row["keys"]})
+    return found
+
+
+# ---- classes, instructions, services
+
+
+def elim_numbers(file: str, name: str) -> dict[str, int]:
+    """The numbers that a definition has by variant: `elim c [ Block ↦ 0 | Net ↦ 1 ]`."""
+    return {variant: int(each) for variant, each in re.findall(r"(\w+) ↦ (\d+)", body_of(file, name))}
+
+
+def by_key(body: str) -> list[int]:
+    """What a right side gives for the keys 0 to 3: `if key == 0 then 100 else 0`, or one number for all."""
+    cases = dict(re.findall(r"if key == (\d+) then (\d+) else", body))
+    last = matched(r"(\d+)$", body, CLASSES, "a number by key")[1]
+    return [int(cases.get(str(key), last)) for key in range(REGISTERS)]
+
+
+def register_names() -> dict[str, list[tuple[str, int, int | None]]]:
+    """The registers as the page of the devices has them: a name, the default, and the maximum if it names one."""
+    found = {}
+    for kind, *cells in rows(DEVICES_PAGE, "| Class | Register 0 | Register 1 | Register 2 | Register 3 |"):
+        named = [matched(r"^(\w+): (\d+)(?:, at most (\d+))?$", cell, DEVICES_PAGE, f"a register of {kind}") for cell in cells]
+        found[kind] = [(each[1], int(each[2]), int(each[3]) if each[3] else None) for each in named]
+    return found
+
+
+def registers(kind: str, defaults: str, maxima: str) -> list[Row]:
+    """The registers of a class by the definitions, with their names from the page, which has to have the same numbers."""
+    found = []
+    pairs = zip(by_key(defaults), by_key(maxima), strict=True)
+    for key, ((default, most), (name, told_default, told_most)) in enumerate(zip(pairs, register_names()[kind], strict=True)):
+        if (told_default, told_most if told_most is not None else 2**32 - 1) != (default, most):
+            raise UnknownShape(f"{DEVICES_PAGE}: register {key} of {kind} is by default {default} and at most {most} in {CLASSES}")
+        found.append({"name": name, "default": default, "most": most})
+    return found
+
+
+def classes() -> list[Row]:
+    """The classes: the number by which a driver registers, its entries, the keys of a part, and the device's registers."""
+    codes = elim_numbers(CLASSES, "class_code")
+    entries, keys = by_variant(KEYS, "entry_keys"), by_variant(PART, "part_keys")
+    defaults, maxima = by_variant(CLASSES, "default_of"), by_variant(CLASSES, "maximum_of")
+    found = []
+    for variant, body in by_variant(CLASS_NAMES, "class_text").items():
+        name = texts(body)[0]
+        later = re.search(r"\(if version == 2 then (.*?) else \[\]\)", keys[variant])
+        found.append({
+            "name": name,
+            "code": codes[variant],
+            "entries": keys_of(entries[variant]),
+            "keys": keys_of(keys[variant]),
+            "keys_of_version_2": keys_of(later[1]) if later else [],
+            "registers": registers(name, defaults[variant], maxima[variant]),
+        })
+    return found
+
+
+def instructions() -> list[Row]:
+    """The instructions of the driver machine in the order of their numbers, each with its operands."""
+    found = []
+    for equation in equations(MNEMONICS, "instruction_row"):
+        row = matched(r'^row \(codes "(\w+)"\) (0x[0-9a-f]+) form\.(\w+) ', equation.body, MNEMONICS, "a row of instruction_row")
+        found.append({"name": row[1], "number": int(row[2], 16), "operands": OPERANDS[row[3]]})
+    order = [last_name(name) for name in re.findall(r"mnemonic\.\w+", body_of(MNEMONICS, "mnemonics"))]
+    if order != [last_name(equation.arguments) for equation in equations(MNEMONICS, "instruction_row")]:
+        raise UnknownShape(f"{MNEMONICS}: mnemonics and instruction_row have another order")
+    return found
+
+
+def services() -> list[Row]:
+    """The kernel's services: the enum has them in the order of their numbers, which the check of a call names."""
+    names = [variant.name for variant in variants(MACHINE, "Service")]
+    pieces = re.split(r"number == (\d+) then", body_of(SERVICES, "checked"))
+    told = {int(each): re.search(r"service\.(\w+)", piece) for each, piece in zip(pieces[1::2], pieces[2::2])}
+    wrong = [each for each, name in told.items() if name and names[each - 1 : each] != [name[1]]]
+    if sorted(told) != list(range(1, len(names) + 1)) or wrong:
+        raise UnknownShape(f"{SERVICES}: the numbers of `checked` are not those of the enum Service in {MACHINE}")
+    return [{"number": each, "name": snake(name)} for each, name in enumerate(names, 1)]
+
+
+# ---- a report, and how the program ends
+
+
+def clauses() -> list[Row]:
+    """The clauses of the contracts by number, with what a driver did that breaks each."""
+    told = {int(each): words for each, words in rows(REPORT_PAGE, "| Clause | The driver |")}
+    numbered = {name: int(body) for name, body in by_variant(CLAUSES, "clause_number").items()}
+    if list(numbered.values()) != list(told):
+        raise UnknownShape(f"{REPORT_PAGE}: the table of clauses has not the numbers of clause_number in {CLAUSES}")
+    return [{"number": each, "name": name, "broken": told[each]} for name, each in numbered.items()]
+
+
+def words_of(name: str) -> list[str]:
+    """The first words of the texts that a definition has by variant, each once, in their order."""
+    firsts = [texts(body)[0].split(" ")[0] for body in by_variant(LINES, name).values() if texts(body)]
+    return list(dict.fromkeys(firsts))
+
+
+def report() -> dict[str, list[str]]:
+    """The words of a report's events."""
+    return {
+        "stages": words_of("stage_text"),
+        "acts": words_of("act_text"),
+        "ends": words_of("end_text"),
+        "answers": words_of("answer_text"),
+        "causes": words_of("cause_text"),
+        "traps": words_of("trap_text"),
+        "wrong": [snake(name) for name in wrong_answers()],
+    }
+
+
+def wrong_answers() -> list[str]:
+    """The answers of an operation that is wrong by itself."""
+    checks = ("static_check", "check_op", "check_range", "check_length")
+    bodies = " ".join(equation.body for name in checks for equation in equations(CLASSES, name))
+    named = set(re.findall(r"answer\.(\w+)", bodies))
+    return [name for name in by_variant(LINES, "answer_text") if name in named]
+
+
+def fault_lines() -> list[Row]:
+    """The faults of an input by number, those of a scenario first."""
+    lines = [texts(body)[0] for body in by_variant(FAULTS, "fault_text").values()]
+    lines += [line for name in ("bad_header_text", "not_mirror_text", "no_such_burst_text") for line in texts(body_of(TEXTS, name))]
+    named = [matched(r"^(?:fault )?(\d+) (\w+)", line, FAULTS, "the line of a fault") for line in lines]
+    return [{"number": int(each[1]), "name": each[2]} for each in named]
+
+
+def asm_faults() -> list[Row]:
+    """The faults of an assembler text by number."""
+    return [{"number": int(body), "name": snake(name)} for name, body in by_variant(FAULTS, "asm_number").items()]
+
+
+def help_lines() -> list[tuple[str, str]]:
+    """The lines of `--help`: the words, and what is said of them."""
+    found = [re.split("  +", line, maxsplit=1) for line in texts(body_of(TEXTS, "help_text"))]
+    return [(words, about) for words, about in found]
+
+
+def statuses() -> list[Row]:
+    """How the program ends, by number."""
+    told = dict(help_lines())
+    numbered = by_variant(ENDINGS, "code_of")
+    if [f"status {each}" for each in numbered.values()] != [words for words in told if words.startswith("status ")]:
+        raise UnknownShape(f"{TEXTS}: the statuses of help_text are not those of code_of in {ENDINGS}")
+    return [{"number": int(each), "name": snake(name), "means": told[f"status {each}"]} for name, each in numbered.items()]
+
+
+def forms() -> list[Row]:
+    """The forms of words, as `--help` has them, each with whether an input is read. A word in capitals stands for a number."""
+    found = []
+    told = {words.removeprefix("nooks "): about for words, about in help_lines() if words.startswith("nooks ")}
+    reading = by_variant(FORMS, "is_reading")
+    for equation in equations(FORMS, "IsForm"):
+        name = re.findall(r"\b[A-Z]\w*", equation.arguments)[-1]
+        words = form_words(equation.body)
+        known = [each for each in told if same_form(each.split(" "), words)]
+        if len(known) != 1:
+            raise UnknownShape(f"{TEXTS}: help_text has {len(known)} lines of the form {name} of {FORMS}")
+        found.append({"words": known[0], "name": snake(name), "reads": reading[name] == "true", "about": told[known[0]]})
+    if len(found) != len(told):
+        raise UnknownShape(f"{TEXTS}: help_text has {len(told)} forms of words, and IsForm in {FORMS} has {len(found)}")
+    return sorted(found, key=lambda row: list(told).index(row["words"]))
+
+
+def form_words(body: str) -> list[str | None]:
+    """The words of a form, None for a number."""
+    literal = matched(r"words ≡ (.*?) ∷ \[\]", body, FORMS, "a form of words")[1]
+    return [texts(word)[0] if word.startswith("codes") else None for word in literal.split(" ∷ ")]
+
+
+def same_form(told: list[str], words: list[str | None]) -> bool:
+    """Whether words of `--help` are those of a form, with a word in capitals for each number."""
+    return len(told) == len(words) and all(each == word or (word is None and each.isupper()) for each, word in zip(told, words))
+
+
+TABLES = (
+    Table("instructions", (MNEMONICS,), instructions),
+    Table("services", (MACHINE, SERVICES), services),
+    Table("classes", (CLASSES, CLASS_NAMES, KEYS, PART, DEVICES_PAGE), classes),
+    Table("operations", (SCENARIO, CLASSES), operations),
+    Table("fault_kinds", (PART,), fault_kinds),
+    Table("schedules", (SCENARIO,), schedules),
+    Table("inputs", (SCENARIO, PART, IMAGE, CAMPAIGN), inputs),
+    Table("clauses", (CLAUSES, REPORT_PAGE), clauses),
+    Table("report", (LINES, CLASSES), report),
+    Table("fault_lines", (FAULTS, TEXTS), fault_lines),
+    Table("asm_faults", (FAULTS,), asm_faults),
+    Table("statuses", (ENDINGS, TEXTS), statuses),
+    Table("forms", (FORMS, TEXTS), forms),
+    Table("limits", (LIMITS, PROGRAM), limits),
+    Table("memory_map", (MAP,), memory_map),
+)
+
+ABOUT = "Made by checks/tables from the sources that it names here; no other place of the workbench has these facts."
+
+
+def tables() -> dict[str, Any]:
+    """All tables, and for each the files that it is read from."""
+    sources = {table.name: list(table.sources) for table in TABLES}
+    return {"about": ABOUT, "sources": sources, **{table.name: table.read() for table in TABLES}}

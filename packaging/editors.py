@@ -1,0 +1,106 @@
+"""The editors' files of the assembler's language, made of the sources' tables: vim's syntax, VS Code's grammar."""
+
+from __future__ import annotations
+
+import json
+
+import described  # noqa: F401  (it has the workbench on the path)
+
+from nooks_bench.facts import CLASSES, OPERANDS, REGISTERS
+
+# Instructions by what they are about, as an editor colours them; those that stand in no list compute.
+MOVES = ("LI", "LUI", "MOV", "LD", "ST")
+JUMPS = ("JMP", "BEQ", "BNE", "BLT", "JAL", "JR")
+OUTSIDE = ("IN", "OUT", "KCALL", "RET", "FAULT")
+SUMS = tuple(name for name in OPERANDS if name not in (*MOVES, *JUMPS, *OUTSIDE))
+
+VIM = r"""" Vim syntax for the assembler of nooks (docs/ASSEMBLER.md). This file is generated: checks/tables
+if exists("b:current_syntax")
+  finish
+endif
+
+syntax case match
+
+syntax match nooksasmComment /;.*$/
+
+" A definition is a name and a colon with nothing between.
+syntax match nooksasmLabel /\<[A-Za-z_][A-Za-z0-9_]\{0,31}:/
+
+syntax match nooksasmDirective /\.\(class\|entry\|text\|data\|word\)\>/
+syntax keyword nooksasmClass CLASSES
+
+syntax keyword nooksasmMove MOVES
+syntax keyword nooksasmSum SUMS
+syntax keyword nooksasmJump JUMPS
+syntax keyword nooksasmOutside OUTSIDE
+
+syntax match nooksasmRegister /\<r\(REGISTERS\)\>/
+syntax match nooksasmNumber /\<[0-9]\+\>/
+syntax match nooksasmNumber /\<0x[0-9A-Fa-f]\+\>/
+
+highlight default link nooksasmComment Comment
+highlight default link nooksasmLabel Label
+highlight default link nooksasmDirective PreProc
+highlight default link nooksasmClass Type
+highlight default link nooksasmMove Statement
+highlight default link nooksasmSum Operator
+highlight default link nooksasmJump Conditional
+highlight default link nooksasmOutside Special
+highlight default link nooksasmRegister Identifier
+highlight default link nooksasmNumber Number
+
+let b:current_syntax = "nooksasm"
+"""
+
+
+def unknown() -> list[str]:
+    """The names of the lists that are of no instruction."""
+    return [name for name in (*MOVES, *JUMPS, *OUTSIDE) if name not in OPERANDS]
+
+
+def checked() -> None:
+    """Ends with an error if a list has a name that no instruction has."""
+    if unknown():
+        raise ValueError(f"packaging/editors.py colours what is no instruction: {', '.join(unknown())}")
+
+
+def registers(bar: str) -> str:
+    """The numbers of the registers as a pattern: `[0-9]|1[0-5]`, with the editor's own bar."""
+    return bar.join(["[0-9]", f"1[0-{REGISTERS - 11}]"])
+
+
+def vim_syntax() -> str:
+    """The text of vim's syntax file."""
+    checked()
+    lists = {"CLASSES": tuple(CLASSES), "MOVES": MOVES, "SUMS": SUMS, "JUMPS": JUMPS, "OUTSIDE": OUTSIDE}
+    text = VIM.replace("REGISTERS", registers("\\|"))
+    for name, words in lists.items():
+        text = text.replace(f" {name}\n", f" {' '.join(words)}\n")
+    return text
+
+
+def grammar() -> str:
+    """The text of VS Code's grammar."""
+    checked()
+    rules = [
+        ("comment.line.semicolon", ";.*$"),
+        ("entity.name.function.label", "(?<![A-Za-z0-9_.])[A-Za-z_][A-Za-z0-9_]{0,31}:"),
+        ("keyword.control.directive", r"\.(class|entry|text|data|word)\b"),
+        ("storage.type.class", word_of(tuple(CLASSES))),
+        ("keyword.operator", word_of(SUMS)),
+        ("keyword.control.jump", word_of(JUMPS)),
+        ("keyword.other.move", word_of(MOVES)),
+        ("support.function.outside", word_of(OUTSIDE)),
+        ("variable.language.register", rf"\br({registers('|')})\b"),
+        ("constant.numeric", r"\b(0x[0-9A-Fa-f]+|[0-9]+)\b"),
+    ]
+    lines = [f"    {json.dumps({'name': f'{name}.nooksasm', 'match': match})}" for name, match in rules]
+    about = "This file is generated: checks/tables"
+    head = {"name": "nooks assembler", "scopeName": "source.nooksasm", "$comment": about}
+    named = ",\n".join(f"  {json.dumps(key)}: {json.dumps(value)}" for key, value in head.items())
+    return "{\n" + named + ',\n  "patterns": [\n' + ",\n".join(lines) + "\n  ]\n}\n"
+
+
+def word_of(names: tuple[str, ...]) -> str:
+    """The pattern of a whole word that is one of some names."""
+    return rf"\b({'|'.join(names)})\b"

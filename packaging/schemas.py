@@ -1,0 +1,242 @@
+"""The schemas of scenarios and campaigns, made of the tables of the sources. What they say in words stands here."""
+
+from __future__ import annotations
+
+from typing import Any
+
+import described  # noqa: F401  (it has the workbench on the path)
+
+from nooks_bench.facts import CLASSES, FAULT_KINDS, INPUTS, LIMITS, MOST_WORD, OPERATIONS, SCHEDULES
+from nooks_bench.facts import Allowed, DriverClass, Keys
+from nooks_bench.jsontext import json_text
+
+Schema = dict[str, Any]
+
+DRAFT = "https://json-schema.org/draft/2020-12/schema"
+GENERATED = "This file is generated: checks/tables"
+ABOUT_SCENARIO = "What a schema cannot say docs/SCENARIO.md does: that names differ, the class of an assembler text, " \
+    f"places below the number of parts. Numbers are digits alone. {GENERATED}"
+ABOUT_CAMPAIGN = "What a schema cannot say docs/CAMPAIGN.md does: that the part is one of the base, which has at " \
+    f"most {LIMITS['MOST_FAULTS'] - 1} faults of its own, and that the base has at most " \
+    f"{LIMITS['MOST_CAMPAIGN_OPS']} operations. {GENERATED}"
+
+# What is said of a value beside its range, by the kind of object and the key.
+NOTES = {
+    ("part", "limit"): "the failures after which the part is not recovered any more; 0 if it is left out",
+    ("part", "blocks"): f"the blocks of the disk, {LIMITS['BLOCK_WORDS']} words each",
+    ("part", "bad"): "version 2 only: the bad blocks",
+    ("part", "arrivals"): "the frames that come from the wire, in order",
+    ("bad", "block"): "below the part's blocks",
+    ("bad", "after"): "the commands on that block that still succeed",
+    ("image", "data"): "the initial words of the data area",
+    ("fault", "burst"): "the burst that it strikes, counted from 1 over the whole run of the part",
+    ("fault", "after"): "the turns of that burst that come before it",
+    ("operation", "part"): "a place below the number of parts",
+    ("campaign", "part"): "the part that is struck: a place below the number of the base's parts",
+    ("campaign", "faults"): "one for each member",
+}
+
+# What stands in the lists of objects.
+ITEMS = {
+    ("scenario", "parts"): "part",
+    ("scenario", "threads"): "thread",
+    ("part", "bad"): "bad",
+    ("part", "faults"): "fault",
+    ("thread", "ops"): "operation",
+    ("image", "data"): "image_word",
+    ("image", "text"): "image_word",
+    ("campaign", "faults"): "scenario.schema.json#/$defs/fault",
+}
+
+# The keys of parts whose schemas stand by themselves.
+SHARED = ("limit", "faults")
+
+
+def ref(name: str) -> Schema:
+    """A reference to a schema of this file's own, or of another file."""
+    return {"$ref": name if "#" in name else f"#/$defs/{name}"}
+
+
+def whole(least: int, most: int) -> Schema:
+    return {"type": "integer", "minimum": least, "maximum": most}
+
+
+def many(ends: tuple[int, int], items: Schema) -> Schema:
+    """A list of so many items."""
+    least, most = ends
+    return {"type": "array", **({"minItems": least} if least else {}), "maxItems": most, "items": items}
+
+
+def of_value(allowed: Allowed, items: str = "") -> Schema:
+    """The schema of a value: a number or a list."""
+    if allowed == OPERATIONS["write"]["data"]:
+        return ref("words")
+    if allowed.items is not None:
+        inner = of_value(allowed.each) if allowed.each else ref(items)
+        return many(allowed.items, inner)
+    return ref("word") if allowed.ends == (0, MOST_WORD) else whole(*allowed.ends)
+
+
+def noted(kind: str, key: str) -> Schema:
+    """The schema of the value at a key of a kind of object, with what is said of it."""
+    made = of_value(INPUTS[kind][key], ITEMS.get((kind, key), ""))
+    about = NOTES.get((kind, key))
+    if about and "$ref" in made:
+        made = whole(*INPUTS[kind][key].ends)
+    return {**made, **({"description": about} if about else {})}
+
+
+def closed(properties: Schema, optional: tuple[str, ...] = ()) -> Schema:
+    """An object with just these keys, of which some may be left out."""
+    required = [key for key in properties if key not in optional]
+    return {"properties": properties, "required": required, "additionalProperties": False}
+
+
+def chosen(key: str, names: list[str], schemas: list[str]) -> Schema:
+    """An object one of whose keys tells by its name which schema it has."""
+    cases = [
+        {"if": {"properties": {key: {"const": name}}, "required": [key]}, "then": ref(schema)}
+        for name, schema in zip(names, schemas, strict=True)
+    ]
+    return {"type": "object", "properties": {key: {"enum": names}}, "required": [key], "allOf": cases}
+
+
+def by_name(key: str, table: dict[str, Keys], before: Schema, ending: str = "") -> dict[str, Schema]:
+    """A schema for each name of a table: the keys that all have, and those that only this one has."""
+    return {
+        f"{name}{ending}": closed({**before, key: True, **{each: of_value(keys[each]) for each in keys}})
+        for name, keys in table.items()
+    }
+
+
+def part_schema(kind: DriverClass) -> Schema:
+    """A part of a class: what all have, and between these the keys that not every class has."""
+    of_all = [key for key in kind.keys if all(key in each.keys for each in CLASSES.values())]
+    own = {key: noted("part", key) for key in kind.keys if key not in of_all}
+    driver = {**ref("driver"), "properties": {"image": {"properties": {"class": {"const": kind.name}}}}}
+    after = {"limit": ref("limit"), "driver": driver, "faults": ref("faults")}
+    properties = {"name": ref("name"), "class": True, **own, **after}
+    if set(properties) != set(kind.keys):
+        raise ValueError(f"a part of class {kind.name} has keys that this schema does not know: {kind.keys}")
+    return closed(properties, tuple(key for key, allowed in INPUTS["part"].items() if allowed.optional))
+
+
+def entries_schema(kind: DriverClass) -> Schema:
+    return closed({name: ref("entry") for name in kind.entries})
+
+
+def image_schema() -> Schema:
+    """An image, whose class tells its entries."""
+    names = list(CLASSES)
+    cases = chosen("class", names, [f"{name}_entries" for name in names])["allOf"]
+    for case in cases:
+        case["then"] = {"properties": {"entries": case["then"]}}
+    properties = {"class": {"enum": names}, "data": noted("image", "data"), "entries": {"type": "object"},
+                  "text": noted("image", "text")}
+    return {"type": "object", **closed(properties), "allOf": cases}
+
+
+def driver_schema() -> Schema:
+    """A driver: its text or its image."""
+    text = {"type": "string", "description": "an assembler text of the part's class"}
+    return {
+        "type": "object",
+        "description": "either the text of a driver or its image",
+        "properties": {"asm": text, "image": ref("image")},
+        "minProperties": 1,
+        "maxProperties": 1,
+        "additionalProperties": False,
+    }
+
+
+def simple_schemas() -> dict[str, Schema]:
+    """Words, and names."""
+    longest = LIMITS["MOST_NAME_BYTES"]
+    return {
+        "word": whole(0, MOST_WORD),
+        "words": many(OPERATIONS["write"]["data"].length, ref("word")),
+        "name": {
+            "type": "string",
+            "pattern": f"^[a-z0-9_]{{1,{longest}}}$",
+            "description": f"1 to {longest} of a to z, 0 to 9 and _; no earlier one has it",
+        },
+        "image_word": {
+            "type": "string",
+            "pattern": "^[0-9a-fA-F]{8}$",
+            "description": "exactly eight hexadecimal digits",
+        },
+    }
+
+
+def part_schemas() -> dict[str, Schema]:
+    """Parts, drivers and images."""
+    names = list(CLASSES)
+    bad = {"type": "object", **closed({key: noted("bad", key) for key in INPUTS["bad"]})}
+    return {
+        "part": chosen("class", names, [f"{name}_part" for name in names]),
+        **{key: noted("part", key) for key in SHARED},
+        **{f"{name}_part": part_schema(kind) for name, kind in CLASSES.items()},
+        "bad": bad,
+        "driver": driver_schema(),
+        "image": image_schema(),
+        "entry": whole(*INPUTS["image"]["entry"].ends),
+        **{f"{name}_entries": entries_schema(kind) for name, kind in CLASSES.items()},
+    }
+
+
+def fault_schemas() -> dict[str, Schema]:
+    """Faults."""
+    places = ("burst", "after")
+    return {
+        "fault": chosen("kind", list(FAULT_KINDS), [f"{name}_fault" for name in FAULT_KINDS]),
+        **{key: noted("fault", key) for key in places},
+        **by_name("kind", FAULT_KINDS, {key: ref(key) for key in places}, "_fault"),
+    }
+
+
+def work_schemas() -> dict[str, Schema]:
+    """Schedules, threads and operations."""
+    names = list(OPERATIONS)
+    thread = closed({"name": ref("name"), "ops": noted("thread", "ops")})
+    return {
+        "schedule": chosen("kind", list(SCHEDULES), list(SCHEDULES)),
+        **by_name("kind", SCHEDULES, {}),
+        "thread": {"type": "object", **thread},
+        "operation": chosen("op", names, names),
+        "place": noted("operation", "part"),
+        **by_name("op", OPERATIONS, {"part": ref("place")}),
+    }
+
+
+def scenario_schema() -> Schema:
+    """The schema of a scenario as the program reads it."""
+    least, most = INPUTS["scenario"]["version"].ends
+    later = {key for kind in CLASSES.values() for key in kind.keys_of_version_2}
+    properties = {"version": {"enum": list(range(least, most + 1))}, "schedule": ref("schedule"),
+                  "parts": noted("scenario", "parts"), "threads": noted("scenario", "threads")}
+    return {
+        "$schema": DRAFT,
+        "title": "A scenario of nooks",
+        "$comment": ABOUT_SCENARIO,
+        "type": "object",
+        **closed(properties, ("schedule",)),
+        "if": {"properties": {"version": {"const": least}}, "required": ["version"]},
+        "then": {"properties": {"parts": {"items": {"properties": {key: False for key in sorted(later)}}}}},
+        "$defs": {**simple_schemas(), **part_schemas(), **fault_schemas(), **work_schemas()},
+    }
+
+
+def campaign_schema() -> Schema:
+    """The schema of a campaign."""
+    base = {"$ref": "scenario.schema.json"}
+    properties = {"base": base, **{key: noted("campaign", key) for key in ("part", "faults")}}
+    head = {"$schema": DRAFT, "title": "A campaign of nooks", "$comment": ABOUT_CAMPAIGN, "type": "object"}
+    return {**head, **closed(properties)}
+
+
+def scenario_text() -> str:
+    return json_text(scenario_schema()) + "\n"
+
+
+def campaign_text() -> str:
+    return json_text(campaign_schema()) + "\n"

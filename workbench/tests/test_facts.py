@@ -1,0 +1,82 @@
+"""The tables of the sources: the file is current, and what the workbench says of a thing it says of each and of no other."""
+
+import os
+import re
+import subprocess
+import unittest
+import zipfile
+from tempfile import TemporaryDirectory
+
+from common import TOP, program
+
+from nooks_bench import asm_faults, engines, facts, heatmap_svg, ports, refused, times, words
+from nooks_bench.outcomes import COUNTED
+
+
+class Tables(unittest.TestCase):
+    def test_the_files_are_current(self):
+        ended = subprocess.run([os.path.join(TOP, "checks/tables"), "--check"], capture_output=True, text=True, check=False)
+        self.assertEqual((ended.returncode, ended.stderr), (0, ""), ended.stdout)
+
+    def test_help_is_that_of_the_program(self):
+        told = re.findall(r"(?m)^nooks (\S+(?: \S+)*)  +(\S.*)$", program().ask(["--help"], "").out)
+        self.assertEqual([(row["words"], row["about"]) for row in facts.TABLES["forms"]], told)
+        statuses = re.findall(r"(?m)^status (\d+) +(\S.*)$", program().ask(["--help"], "").out)
+        self.assertEqual([(str(row["number"]), row["means"]) for row in facts.TABLES["statuses"]], statuses)
+
+    def test_what_is_read_is_what_help_says(self):
+        reading = {row["words"].split(" ")[0] for row in facts.TABLES["forms"] if row["reads"]}
+        for name in sorted(reading - {"trace"}):
+            self.assertEqual(program().ask([name], "").status, facts.STATUSES["bad_input"], name)
+        self.assertEqual(reading, {"run", "asm", "dis", "list", "audit", "campaign", "mirror", "trace"})
+
+    def test_a_table_of_each_kind(self):
+        self.assertEqual(facts.OPERANDS["BLT"], "a b imm")
+        self.assertEqual((facts.OPCODES["FAULT"], facts.SERVICES[6], facts.REGISTERS), (24, "net_rx", 16))
+        self.assertEqual(facts.CLASSES["sound"].entries[1:4], ("open", "play", "close"))
+        self.assertEqual([each.default for each in facts.CLASSES["net"].registers], [100, 1, 0, 0])
+        self.assertEqual(facts.CLASSES["block"].keys_of_version_2, ("bad",))
+        self.assertEqual(facts.FAULT_KINDS["reg"]["register"].ends, (0, 15))
+        self.assertEqual(facts.INPUTS["fault"]["after"].ends, (0, 4095))
+        self.assertEqual(facts.INPUTS["part"]["arrivals"].each.length, (1, 64))
+        self.assertEqual((facts.FAULT_LINES[10], facts.FAULT_LINES[14]), ("double_name", "no_such_burst"))
+        self.assertEqual(facts.MEMORY_MAP["MEMORY_WORDS"], 8192)
+        with self.assertRaises(ValueError):
+            facts.INPUTS["part"]["faults"].ends
+        with self.assertRaises(ValueError):
+            facts.INPUTS["part"]["limit"].length
+
+    def test_workers_get_the_tables(self):
+        with TemporaryDirectory() as folder, zipfile.ZipFile(engines.package_file(folder)) as packed:
+            self.assertIn("nooks_bench/tables.json", packed.namelist())
+
+
+class EachAndNoOther(unittest.TestCase):
+    def test_causes(self):
+        traps = {f"trap {name}" for name in facts.WORDS["traps"]}
+        known = {form.split(" {")[0].removesuffix(" 0") for form in words.CAUSES}
+        self.assertEqual(known, traps | set(facts.WORDS["causes"]) - {"trap"})
+
+    def test_letters(self):
+        self.assertEqual(tuple(times.STAGES), facts.WORDS["stages"])
+        self.assertEqual(set(times.ACTS), set(facts.WORDS["acts"]))
+        self.assertEqual(tuple(times.STRIKES), tuple(facts.FAULT_KINDS))
+        for letters in (times.STAGES, times.ACTS, times.STRIKES):
+            self.assertEqual(len(set(letters.values())), len(letters))
+
+    def test_losses(self):
+        self.assertEqual(set(times.LOSSES), set(COUNTED))
+
+    def test_faults_of_an_input(self):
+        of_scenarios = {name for number, name in facts.FAULT_LINES.items() if number <= 10}
+        self.assertEqual({*refused.FINDERS, "bad_asm"}, of_scenarios)
+        self.assertEqual(tuple(asm_faults.FINDERS), tuple(facts.ASM_FAULTS.values()))
+
+    def test_instructions_and_ports(self):
+        self.assertLessEqual(set(heatmap_svg.KINDS), set(facts.OPERANDS))
+        self.assertEqual(set(ports.PORTS), set(facts.CLASSES))
+        self.assertEqual(set(ports.COMMANDS), set(facts.CLASSES))
+
+
+if __name__ == "__main__":
+    unittest.main()

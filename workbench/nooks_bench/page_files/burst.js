@@ -3,7 +3,7 @@
 import { LongList, element, linked } from "./elements.js";
 import { at } from "./history.js";
 
-const ROW = 18;
+const TURN_ROW = 18;
 const MOST_WORDS = 12;
 
 export class BurstView {
@@ -13,8 +13,8 @@ export class BurstView {
     this.part = null;
     this.burst = null;
     this.turn = 0;
-    this.items = new LongList("items mono", ROW, (place) => this.itemRow(place + 1));
-    this.source = new LongList("source mono", ROW, (place) => this.sourceRow(place));
+    this.items = new LongList("items mono", TURN_ROW, (place) => this.itemRow(place + 1));
+    this.source = new LongList("source mono", TURN_ROW, (place) => this.sourceRow(place));
     this.head = element("div", { class: "burst-head" });
     this.slider = element("input", { type: "range", min: 0, "aria-label": "turn of the burst", oninput: () => go(Number(this.slider.value)) });
     this.where = element("output", { class: "turn-where" });

@@ -32,7 +32,7 @@ export function addressOf(part, event, turn = 0) {
 export function linked(text, part) {
   const pieces = [];
   let end = 0;
-  for (const found of text.matchAll(/\bevents? (\d+)(?: to (\d+))?|\bfrom event (\d+) to (\d+)/g)) {
+  for (const found of text.matchAll(/\bevents? (\d+)(?: to (\d+))?/g)) {
     pieces.push(text.slice(end, found.index));
     const numbers = found[0].split(/(\d+)/);
     for (const piece of numbers) {

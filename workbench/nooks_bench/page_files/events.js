@@ -2,7 +2,7 @@
 
 import { LongList, element } from "./elements.js";
 
-const ROW = 38;
+const EVENT_ROW = 38;
 
 /** What stands before an event's words: that it broke the contract, failed, or was struck by a fault. */
 export function markOf(part, event) {
@@ -14,7 +14,7 @@ export function markOf(part, event) {
 export class EventList {
   /** `go` is called with the event that was chosen. */
   constructor(go) {
-    this.list = new LongList("events", ROW, (place) => this.row(place));
+    this.list = new LongList("events", EVENT_ROW, (place) => this.row(place));
     this.go = go;
     this.part = null;
     this.event = 0;

@@ -1,4 +1,4 @@
-"""Which deed broke the contract: of the event that a report names, the act on the device, or the crossing at its end."""
+"""Which deed broke the contract: of the event that a report names an act on the device, or the crossing at its end."""
 
 from __future__ import annotations
 

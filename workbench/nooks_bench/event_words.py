@@ -18,7 +18,7 @@ STAGES = {
     "stop": "The driver is stopped: all of its contexts end",
     "collect": "The kernel takes back what the driver held",
     "reset": "The device is reset",
-    "load": "The driver's image is loaded anew",
+    "load": "The driver's image is loaded",
     "init": "The shadow enters the driver at its init",
     "replay_set": "The shadow enters the driver at its set, to bring register {0} back to {1}",
     "replay_open": "The shadow enters the driver at its open, to open the stream again",
@@ -72,7 +72,8 @@ class Sentences:
         call = before.call(event.call)
         what = asked(call) if call else f"c{event.call}"
         if event.answer is not None:
-            return f"{self.name(event.context)}'s {what} is answered {AT_ENTER}, without the driver: {short(event.answer)}."
+            told = f"is answered {AT_ENTER}, without the driver: {short(event.answer)}"
+            return f"{self.name(event.context)}'s {what} {told}."
         again = f", its try {event.attempt}: it starts from the beginning" if event.attempt > 1 else ""
         return f"{self.name(event.context)}'s {what} goes into the driver, context {event.context}{again}."
 

@@ -1,5 +1,5 @@
-"""What the page shows of a run, as JSON: for each part its events in words, its lanes, its state by rows, and the bursts
-that were traced. The page's script shows it and computes nothing of it."""
+"""What the page shows of a run, as JSON: for each part its events in words, its lanes, its state by rows, and the
+bursts that were traced. The page's script shows it and computes nothing of it."""
 
 from __future__ import annotations
 

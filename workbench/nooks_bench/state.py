@@ -1,7 +1,7 @@
-"""The state of a part after each event, computed from its events: the one place in which it is.
+"""The state of a part after each event, computed from its events, and nowhere else.
 
-Everything here follows from the lines of a report (docs/REPORT.md). What a report does not tell, such as the words of the
-driver's memory or the block register of a disk, is no part of it."""
+Everything here follows from the lines of a report (docs/REPORT.md). What a report does not tell, such as the words of
+the driver's memory or the block register of a disk, is no part of it."""
 
 from __future__ import annotations
 
@@ -92,7 +92,7 @@ class Following:
         self.now = PartState(BOOT, "load", self.defaults, self.defaults)
 
     def change(self, **fields: object) -> None:
-        self.now = replace(self.now, **fields)  # type: ignore[arg-type]
+        self.now = replace(self.now, **fields)
 
     def see(self, event: Event) -> PartState:
         """The state after an event."""

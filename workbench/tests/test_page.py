@@ -23,7 +23,7 @@ WRITE_CUT = example_path("write-cut.json")
 
 def page_of(path: str, *words: str) -> str:
     status, out, err = bench("page", path, *words)
-    assert (status, err) == (0, ""), err
+    assert (status, err.count("\n") <= 1) == (0, True), err
     return out
 
 
@@ -44,10 +44,10 @@ def many_events() -> dict:
 class Pages(unittest.TestCase):
     def test_it_asks_for_nothing(self):
         page = page_of(WRITE_CUT)
-        self.assertNotIn("@import", page)
+        self.assertFalse("@import" in page or "url(http" in page)
         self.assertEqual(set(re.findall(r"https?://[^\"'\s]*", page)), {"http://www.w3.org/2000/svg"})
         self.assertEqual(re.findall(r"(?:src|href)=\"([^\"]*)\"", page), ["data:,"])
-        self.assertIn("default-src 'none'", page)
+        self.assertTrue("default-src 'none'; script-src 'sha256-" in page)
 
     def test_text_of_a_scenario_is_no_markup(self):
         made = example("write-cut.json")
@@ -55,7 +55,7 @@ class Pages(unittest.TestCase):
         with file_of(made) as path:
             page = page_of(path)
         self.assertEqual(page.count("<script"), 2)
-        self.assertNotIn("<!--", page)
+        self.assertFalse("<!--" in page)
         self.assertIn("; </script><script>alert(1)</script><!-- <b>", data_of(page)["parts"][0]["source"]["lines"])
 
     def test_every_example(self):
@@ -97,9 +97,9 @@ class Pages(unittest.TestCase):
         self.assertEqual(len(part["bursts"]), 10)
         burst = part["bursts"]["5"]
         self.assertEqual([len(burst["items"]), burst["items"][-1]], [206, [0, 205, "trap"]])
-        self.assertEqual(burst["items"][0][:3], [1, 24, "r5 = 16"])
+        self.assertEqual(burst["items"][0][:3], [1, 18, "r5 = 16"])
         self.assertEqual(burst["registers"]["5"], [[0, 0], [1, 16]])
-        self.assertEqual(part["source"]["words"]["24"][0], 31)
+        self.assertEqual(part["source"]["words"]["18"], [25, "LI r5 16", []])
         read = part["bursts"]["10"]
         self.assertEqual(read["areas"]["5312"], "buffer of context 1")
         self.assertEqual(read["words"]["5312"][0][1], 12)
@@ -173,7 +173,7 @@ class Scripts(unittest.TestCase):
                 wanted = re.findall(r'^import .* from "\./(.*)";$', file.read(), re.MULTILINE)
             self.assertLessEqual(set(wanted), set(MODULES[:place]), name)
         self.assertEqual(sorted(MODULES), sorted(name for name in os.listdir(FOLDER) if name.endswith(".js")))
-        self.assertNotRegex(script_text(), r"(?m)^(import|export) ")
+        self.assertEqual(re.findall(r"(?m)^(?:import|export) .*", script_text()), [])
 
     @unittest.skipUnless(shutil.which("node"), "there is no node, which reads the modules")
     def test_node_reads_them(self):

@@ -61,16 +61,17 @@ class Reports(unittest.TestCase):
                 before = states[event.number - 1]
                 if event.kind == "stage":
                     self.assertEqual((event.text, before.shadow), (before.stage, False), event.line)
-                self.assertEqual(event.kind == "burst" and event.context == 16, before.shadow and not event.kind in ("invoke", "arrive"), event.line)
+                self.assertEqual(event.kind == "burst" and event.context == 16, before.shadow and event.kind not in ("invoke", "arrive"), event.line)
 
     def test_busy_names_the_stage_that_is_due(self):
         busy = 0
         for part, states in self.runs:
             for event in part.events:
-                if event.kind == "invoke" and (event.answer or "").startswith("busy "):
-                    self.assertEqual(event.answer.split(" ")[1], states[event.number - 1].stage.split(" ")[0])
-                    busy += 1
-        self.assertGreater(busy, 0)
+                for answer in (event.answer or "", *(each for _, each in event.replies)):
+                    if answer.startswith("busy "):
+                        self.assertEqual(answer.split(" ")[1], states[event.number - 1].stage.split(" ")[0])
+                        busy += 1
+        self.assertGreater(busy, 2)
 
     def test_collect_names_what_was_held(self):
         found = 0

@@ -102,11 +102,11 @@ def burst_rows(part: Part, event: Event, traces: dict[int, Trace], source: Sourc
     before = since_reset(part, event)
     device = [*port_line(part, before, traces.get), *register_lines(part, before)]
     return {
-        "head": head_lines(trace, part, event, source),
+        "head": f"context {trace.context}, {head_lines(trace, part, event, source)[1]}",
         "device": "; ".join(device),
         "items": [item_of(item, source, part.kind) for item in trace.items],
         **changed_rows(trace),
-        "end": short(trace.end.partition(" ")[2]),
+        "end": short(event.text),
         "cause": cause_words(event.cause) if event.cause else "",
         "breaks": deed_place(trace, deed, event),
     }

@@ -30,9 +30,17 @@ def parts() -> list[Part]:
     for path in sorted(glob.glob(example_path("*.report"))):
         with open(path, encoding="utf-8") as file:
             found.extend(parse_report(file.read()).parts)
-    for seed in range(60):
-        found.extend(parse_report(program().report(scenario(seed))).parts)
-    return found
+    drawn = [scenario(seed) for seed in range(40)] + [opening(start) for start in range(8)]
+    return found + [part for each in drawn for part in parse_report(program().report(each)).parts]
+
+
+def opening(start: int) -> dict:
+    """Two threads that open a stream and leave it while its driver fails, under a drawn schedule."""
+    part = {"name": "audio", "class": "sound", "limit": 9, "driver": {"asm": example_text("sound.asm")},
+            "faults": [{"burst": burst, "after": 0, "kind": "trap"} for burst in (3, 6, 9, 12)]}
+    asked = [{"part": 0, "op": name} for name in ("open", "close") * 4]
+    threads = [{"name": name, "ops": asked} for name in ("one", "two")]
+    return {"version": 1, "schedule": {"kind": "drawn", "start": start}, "parts": [part], "threads": threads}
 
 
 class Table(unittest.TestCase):

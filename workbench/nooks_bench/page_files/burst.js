@@ -1,6 +1,6 @@
 /** A traced burst, turn by turn, beside the driver's text, with the registers and the words that change. */
 
-import { LongList, element, linked } from "./elements.js";
+import { LongList, element } from "./elements.js";
 import { at } from "./history.js";
 
 const TURN_ROW = 18;
@@ -24,10 +24,12 @@ export class BurstView {
     const button = (text, label, move) => element("button", { type: "button", title: label, "aria-label": label, onclick: () => go(this.turn + move) }, text);
     this.whole = element("div", { class: "burst-whole" },
       element("div", { class: "bar turn-bar" }, button("\u25b2", "one turn back (arrow up)", -1), button("\u25bc", "one turn on (arrow down)", 1), this.slider, this.where),
-      this.said, this.items.holder,
-      element("h4", {}, "Registers after this turn"), this.registers,
-      element("h4", {}, "Words of memory that this burst changed"), this.words,
-      element("h4", {}, "The driver's text"), this.source.holder);
+      this.said, element("div", { class: "row item heads" }, ...[["turn", "number"], ["line", "number"], ["the driver's text", "instruction"], ["what it does", "effect"]].map(([text, kind]) => element("span", { class: `cell ${kind}` }, text))),
+      this.items.holder,
+      element("div", { class: "below" },
+        element("div", {}, element("h4", {}, "Registers after this turn"), this.registers),
+        element("div", { class: "text" }, element("h4", {}, "The driver's text"), this.source.holder)),
+      element("h4", {}, "Words of memory that this burst changed"), this.words);
     this.without = element("p", { class: "none" });
     this.holder = element("div", { class: "burst" }, this.head, this.without, this.whole);
   }
@@ -73,9 +75,8 @@ export class BurstView {
   }
 
   showHead(number) {
-    const [first, start] = this.burst.head;
-    this.head.replaceChildren(element("h3", {}, `Burst ${number}, turn by turn`), element("p", {}, ...linked(first, this.part.place)), element("p", {}, start),
-      this.burst.device ? element("p", {}, `device before: ${this.burst.device}`) : "");
+    const { head, device } = this.burst;
+    this.head.replaceChildren(element("h3", {}, `Burst ${number}, turn by turn`), element("p", {}, head), device ? element("p", {}, `device before: ${device}`) : "");
     const item = this.burst.items[this.turn - 1];
     const turns = this.burst.items.filter((each) => each[0]).length;
     this.where.textContent = this.turn === 0 ? `before turn 1 of ${turns}` : item[0] ? `turn ${item[0]} of ${turns}` : `a fault, after turn ${item[1]}`;
@@ -83,12 +84,15 @@ export class BurstView {
     const said = [];
     if (this.turn > 0 && this.turn === this.burst.breaks) said.push(element("b", { class: "broken" }, "CONTRACT BROKEN by this turn. "));
     if (item && !item[0]) said.push(element("b", { class: "fault-text" }, `FAULT of the scenario: ${item[2]}. `));
-    if (ends) said.push(`The burst ends: ${this.burst.end}${this.burst.cause ? ` (${this.burst.cause})` : ""}`);
+    if (ends) said.push(`The burst ends: ${this.burst.cause || this.burst.end}.`);
     this.said.replaceChildren(...said);
   }
 
-  instructionOf(item) {
-    return item[3] ?? this.part.source.words[item[1]]?.[1] ?? "";
+  /** Where a turn's instruction stands, and the driver's text there. A word that was written over is shown as it is now. */
+  textOf(item) {
+    const [line, instruction] = this.part.source.words[item[1]] ?? [0, ""];
+    if (item[3] || !line || !this.lines) return [`@${item[1]}`, item[3] ? `${item[3]} (written over)` : instruction];
+    return [String(line), this.lines[line - 1].split(";")[0].trim()];
   }
 
   itemRow(place) {
@@ -98,9 +102,10 @@ export class BurstView {
     if (!item[0]) {
       return element("div", { class: `row item fault-row ${chosen}`, ...choose }, element("span", { class: "cell wide" }, `-- fault strikes after ${item[1]}: ${item[2]}`));
     }
-    const breaks = place === this.burst.breaks ? "  \u25c0 BREAKS THE CONTRACT" : "";
-    const cells = [[String(item[0]), "number"], [String(item[1]), "number"], [this.instructionOf(item), "instruction"], [item[2] + breaks, `effect ${breaks ? "broken" : ""}`]];
-    return element("div", { class: `row item ${chosen}`, title: item[2], ...choose }, ...cells.map(([text, kind]) => element("span", { class: `cell ${kind}` }, text)));
+    const breaks = place === this.burst.breaks;
+    const [line, text] = this.textOf(item);
+    const cells = [[String(item[0]), "number"], [line, "number"], [text, "instruction"], [(breaks ? "\u25c0 BREAKS THE CONTRACT: " : "") + item[2], `effect ${breaks ? "broken" : ""}`]];
+    return element("div", { class: `row item ${chosen}`, title: `at ${item[1]}: ${item[2]}`, ...choose }, ...cells.map(([text, kind]) => element("span", { class: `cell ${kind}` }, text)));
   }
 
   showRegisters() {

@@ -85,7 +85,7 @@ export class LongList {
   show(place) {
     const top = place * this.rowHeight;
     const high = this.holder.clientHeight || 300;
-    const margin = Math.min(2 * this.rowHeight, high / 3);
+    const margin = high / 3;
     if (top - margin < this.holder.scrollTop) this.holder.scrollTop = Math.max(0, top - margin);
     if (top + this.rowHeight + margin > this.holder.scrollTop + high) {
       this.holder.scrollTop = top + this.rowHeight + margin - high;

@@ -9,12 +9,20 @@ const TOP = 20;
 export const MARGIN = 86;
 const SHADOW = 16;
 
+
+// How wide an event is if all of them fit, at least and at most, and if they do not.
+const NARROW = 18;
+const WIDE = 64;
+const USUAL = 24;
+
+// Acts that reach beyond the device.
 const OUTWARD = "stpr";
 
 /** How wide an event is drawn, and how many stand side by side. */
 export function columnsOf(part, width, zoom) {
   const room = Math.max(width - MARGIN - 8, 100);
-  const step = Math.max(12, Math.min(34, room / Math.max(part.events.length, 1))) * zoom;
+  const all = room / Math.max(part.events.length, 1);
+  const step = (all < NARROW ? USUAL : Math.min(all, WIDE)) * zoom;
   return { step, count: Math.max(1, Math.floor(room / step)) };
 }
 
@@ -97,7 +105,7 @@ class Drawing {
     for (const event of this.events()) {
       const stage = this.lanes.stages[event];
       if (!stage) continue;
-      const text = this.step >= 32 && stage[1].length <= 7 ? stage[1] : stage[0];
+      const text = stageText(stage, this.step);
       this.add(shape("text", { x: this.middle(event), y: this.y + 11, "text-anchor": "middle", class: "stage" }, `stage ${stage[1]}`, text));
     }
     this.y += LANE;
@@ -183,8 +191,8 @@ class Drawing {
       const burst = this.lanes.bursts[event];
       if (!burst) continue;
       const context = burst[0] === SHADOW ? "S" : String(burst[0]);
-      this.letter(event, context, "context", `burst ${burst[1]}, context ${burst[0]}`);
-      if (this.part.failed.has(event)) this.cross(event, `the driver fails at event ${event}`);
+      if (this.part.failed.has(event)) this.cross(event, `burst ${burst[1]}, context ${burst[0]}: the driver fails`);
+      else this.letter(event, context, "context", `burst ${burst[1]}, context ${burst[0]}`);
     }
     this.y += LANE;
   }
@@ -226,7 +234,7 @@ class Drawing {
   now(event, high) {
     if (this.isSeen(this.part.broken)) {
       const x = this.middle(this.part.broken);
-      this.add(shape("line", { x1: x, y1: TOP - 4, x2: x, y2: high, class: "broken-line" }, "the contract is broken here"));
+      this.shapes.unshift(shape("line", { x1: x, y1: TOP - 4, x2: x, y2: high, class: "broken-line" }, "the contract is broken here"));
     }
     if (!this.isSeen(event)) return;
     const x = this.left(event);
@@ -234,6 +242,11 @@ class Drawing {
     this.add(shape("rect", { x: this.middle(event) - 17, y: 0, width: 34, height: 15, rx: 3, class: "now-flag" }),
       shape("text", { x: this.middle(event), y: 11.5, "text-anchor": "middle", class: "now-number" }, "", String(event)));
   }
+}
+
+/** A stage by its name if that fits, else by its letter. */
+function stageText([letter, name], step) {
+  return name.length * 5.4 <= step ? name : letter;
 }
 
 /** Stripes for what is held, so that it differs by more than its colour. */
@@ -271,12 +284,14 @@ function laneWords(part, event) {
 }
 
 /** What the marks of the lanes mean: a class of a shape, and words. Only those that the part has are told. */
-export function legendOf(part) {
+export function legendOf(part, step) {
   const modes = new Set(part.lanes.spans.map(([mode]) => mode));
   const calls = part.lanes.threads.flatMap(([, , each]) => each);
   const by = new Set(calls.map((call) => call[3]));
   const acts = new Set(Object.values(part.lanes.acts).map((act) => act[0]));
   const entries = ["starts", "serves", "recovers", "given up"].filter((mode) => modes.has(mode)).map((mode) => ["box", mode.replace(" ", "-"), mode]);
+  const stages = new Map(Object.values(part.lanes.stages).filter((stage) => stageText(stage, step) !== stage[1]));
+  for (const [letter, name] of stages) entries.push(["letter", "stage-swatch", name, letter]);
   entries.push(["box", "held-swatch", "call held"], ["box", "inside", "call inside the driver"]);
   const answers = { "by the driver": ["disc", "by-driver", "answered by the driver"], "by the shadow": ["diamond", "by-shadow", "answered by the shadow"],
     "at its enter": ["disc", "at-enter", "answered at its enter"] };

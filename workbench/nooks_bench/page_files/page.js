@@ -42,12 +42,12 @@ class Page {
     return this.data.parts[this.here.part];
   }
 
-  /** Makes the elements that stay. */
+  /** Makes the elements that stay. What happened is told at the beginning, and in print. */
   build() {
     const button = (text, label, act) => element("button", { type: "button", title: label, "aria-label": label, onclick: act }, text);
     this.tabs = element("nav", { class: "tabs", "aria-label": "parts" }, ...this.data.parts.map((part, place) =>
       element("button", { type: "button", onclick: () => this.goPart(place) }, `${part.name}`, element("small", {}, ` part ${part.place}, ${part.head}`))));
-    this.summary = element("details", { class: "summary", open: true });
+    this.summary = element("section", { class: "summary" });
     this.overview = element("canvas", { class: "overview", height: 10, "aria-hidden": "true", onclick: (click) => this.chooseOverview(click) });
     this.lanes = element("div", { class: "lanes" });
     this.legend = element("div", { class: "legend" });
@@ -57,16 +57,16 @@ class Page {
     this.link = element("a", { class: "link", title: "a link to this event" }, "link");
     this.help = element("dl", { class: "keys", hidden: true }, ...KEYS.flatMap(([keys, about]) => [element("dt", {}, keys), element("dd", {}, about)]));
     const bar = element("div", { class: "bar event-bar" },
-      button("\u23ee", "the beginning (Home)", () => this.goEvent(0)), button("\u25c0 back", "one event back (arrow left)", () => this.goEvent(this.here.event - 1)),
-      button("on \u25b6", "one event on (arrow right)", () => this.goEvent(this.here.event + 1)), button("\u23ed", "the last event (End)", () => this.goEvent(this.part.events.length)),
+      button("|\u25c0", "the beginning (Home)", () => this.goEvent(0)), button("\u25c0 back", "one event back (arrow left)", () => this.goEvent(this.here.event - 1)),
+      button("on \u25b6", "one event on (arrow right)", () => this.goEvent(this.here.event + 1)), button("\u25b6|", "the last event (End)", () => this.goEvent(this.part.events.length)),
       this.play, this.next = button("next \u26a0", "the next place where something went wrong (n)", () => this.goWrong(1)), this.slider, this.where, this.link,
       button("keys ?", "the keys (?)", () => this.toggleKeys()));
     this.said = element("div", { class: "said", "aria-live": "polite" });
     this.state = element("div", { class: "state" });
     const column = (name, title, ...children) => element("section", { class: `column ${name}` }, element("h2", {}, title), ...children);
     document.body.append(
-      element("header", {}, element("h1", {}, this.data.title), element("p", { class: "status" }, this.data.status)), this.tabs, this.summary,
-      element("div", { class: "top" }, this.overview, this.lanes, this.legend, bar, this.help, this.said),
+      element("header", {}, element("h1", {}, this.data.title), this.tabs, element("p", { class: "status" }, this.data.status)),
+      element("div", { class: "top" }, this.overview, this.lanes, this.legend, bar, this.help, this.summary, this.said),
       element("main", {}, column("of-events", "Events", this.events.list.holder), this.stateColumn = column("of-state", "State after the event", this.state),
         column("of-burst", "What the driver did", this.burst.holder)),
       element("footer", {}, ...this.data.made.map((line) => element("p", {}, line))));
@@ -111,9 +111,10 @@ class Page {
     this.slider.max = String(part.events.length);
     this.next.hidden = part.marks.length === 0;
     [...this.tabs.children].forEach((tab, place) => tab.setAttribute("aria-pressed", String(place === this.here.part)));
-    this.summary.replaceChildren(element("summary", {}, `What happened to ${part.name}`),
+    this.summary.replaceChildren(element("h2", {}, `What happened to ${part.name}`),
       element("ul", {}, ...part.summary.map((line) => element("li", { class: line.startsWith("CONTRACT") ? "broken" : line.startsWith("failed") ? "failed" : "" }, ...linked(line, part.place)))));
-    this.legend.replaceChildren(...legendOf(part).map((entry) => element("span", { class: "entry" }, legendMark(entry), entry[2])));
+    const { step } = columnsOf(part, this.lanes.clientWidth, this.zoom);
+    this.legend.replaceChildren(...legendOf(part, step).map((entry) => element("span", { class: "entry" }, legendMark(entry), entry[2])));
     this.drawOverview();
   }
 
@@ -132,9 +133,10 @@ class Page {
 
   showSaid() {
     const { event } = this.here;
+    this.summary.classList.toggle("later", event > 0);
     if (event === 0) {
-      const about = "The beginning: nothing has happened yet. The arrow right, or the button, goes to the first event.";
-      this.said.replaceChildren(element("p", { class: "sentence" }, about));
+      const about = "The beginning: nothing has happened yet. The key \u2192, or the button "on", goes to the first event; a click on a lane goes to any.";
+      this.said.replaceChildren(element("p", { class: "line" }, about));
       return;
     }
     const [words, line, , notes] = this.part.events[event - 1];

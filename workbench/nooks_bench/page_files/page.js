@@ -135,7 +135,7 @@ class Page {
     const { event } = this.here;
     this.summary.classList.toggle("later", event > 0);
     if (event === 0) {
-      const about = "The beginning: nothing has happened yet. The key \u2192, or the button "on", goes to the first event; a click on a lane goes to any.";
+      const about = "The beginning: nothing has happened yet. The key \u2192, or the button 'on', goes to the first event; a click on a lane goes to any.";
       this.said.replaceChildren(element("p", { class: "line" }, about));
       return;
     }

@@ -42,14 +42,15 @@ check-program:
 	@$(generate) version > /dev/null
 
 install: check-program
-	install -d $(addprefix $(DESTDIR),$(bindir) $(mandir) $(docdir)/docs/maps $(bashdir) $(zshdir) $(vimdir)/syntax \
-	    $(vimdir)/ftdetect $(sharedir)/nooks_bench/schemas)
+	install -d $(addprefix $(DESTDIR),$(bindir) $(mandir) $(docdir)/docs/maps $(docdir)/docs/pages $(bashdir) $(zshdir) $(vimdir)/syntax \
+	    $(vimdir)/ftdetect $(sharedir)/nooks_bench/schemas $(sharedir)/nooks_bench/page_files)
 	install -m 755 $(program) $(DESTDIR)$(bindir)/nooks
 	sed '1s|.*|#!$(PYTHON)|' workbench/nooks-bench > $(DESTDIR)$(sharedir)/nooks-bench
 	chmod 755 $(DESTDIR)$(sharedir)/nooks-bench
 	ln -sfn ../share/nooks/nooks-bench $(DESTDIR)$(bindir)/nooks-bench
 	$(data) workbench/nooks_bench/*.py $(addprefix workbench/nooks_bench/,py.typed tables.json) $(DESTDIR)$(sharedir)/nooks_bench
 	$(data) workbench/nooks_bench/schemas/*.json $(DESTDIR)$(sharedir)/nooks_bench/schemas
+	$(data) workbench/nooks_bench/page_files/* $(DESTDIR)$(sharedir)/nooks_bench/page_files
 	ln -sfn nooks_bench/schemas $(DESTDIR)$(sharedir)/schemas
 	for page in nooks.1 nooks-bench.1; do \
 	    $(generate) $$page > $(DESTDIR)$(mandir)/$$page && gzip -9nf $(DESTDIR)$(mandir)/$$page || exit 1; done
@@ -63,6 +64,7 @@ install: check-program
 	gzip -9nc CHANGELOG.md > $(DESTDIR)$(docdir)/changelog.gz
 	$(data) docs/*.md $(DESTDIR)$(docdir)/docs
 	$(data) docs/maps/* $(DESTDIR)$(docdir)/docs/maps
+	$(data) docs/pages/* $(DESTDIR)$(docdir)/docs/pages
 	cp -R examples $(DESTDIR)$(docdir)
 	chmod -R u+rwX,go+rX,go-w $(DESTDIR)$(docdir) $(DESTDIR)$(sharedir)
 	chmod 644 $(DESTDIR)$(mandir)/nooks*.1.gz $(addprefix $(DESTDIR)$(bashdir)/,nooks nooks-bench) \

@@ -21,6 +21,7 @@ SUBCOMMANDS = {
     "sweep": "what becomes of each of a set of faults",
     "map": "a sweep as an SVG",
     "timeline": "a report as lanes, as an SVG or as text",
+    "page": "a run as one HTML page, event by event",
     "explain": "a report, or the line of a refused input, for people",
     "trace": "one burst, turn by turn, beside the driver's source",
     "replay": "the schedule that gives a report of threads again",

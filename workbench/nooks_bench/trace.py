@@ -4,6 +4,7 @@ from __future__ import annotations
 
 import argparse
 import json
+from typing import Callable
 
 from .build import built
 from .folding import short_event
@@ -62,14 +63,18 @@ def register_lines(part: Part, before: list[Event]) -> list[str]:
             for number, (word, burst) in sorted(known.items()) if word != named[number][1]]
 
 
-def port_line(program: Program, scenario: Scenario, part: Part, before: list[Event]) -> list[str]:
-    """The word that a lasting port got last, by the traces of the bursts before."""
+def port_line(part: Part, before: list[Event], trace_of: Callable[[int], Trace | None]) -> list[str]:
+    """The word that a lasting port got last, by the traces of the bursts before. `trace_of` has none of a burst that is
+    not looked at."""
     port = LASTING.get(part.kind)
     if port is None:
         return []
     name = port_name(part.kind, "OUT", port)
     for event in reversed(before[-MOST_BURSTS_BACK:]):
-        for turn in reversed(traced(program, scenario, part.place, event.burst).turns()):
+        trace = trace_of(event.burst)
+        if trace is None:
+            return [f"{name}: not known, since burst {event.burst} is not traced"]
+        for turn in reversed(trace.turns()):
             if turn.mnemonic == "OUT" and turn.operands[1] == str(port):
                 return [f"{name} = {turn.value(0)} (set in b{event.burst}, context {event.context})"]
     if len(before) > MOST_BURSTS_BACK:
@@ -170,8 +175,8 @@ def end_lines(trace: Trace, event: Event, strikes: list[Strike]) -> list[str]:
 
 def head_lines(trace: Trace, part: Part, event: Event, source: Source) -> list[str]:
     """What the burst is, and the registers as it begins."""
-    asked = {each.call: short(each.text) for each in part.events if each.kind == "invoke"}
-    whose = f"c{trace.call} {asked[trace.call]}" if trace.call else "a stage of its start"
+    asked = next((each.text for each in part.events if each.kind == "invoke" and each.call == trace.call), "")
+    whose = f"c{trace.call} {short(asked)}" if trace.call else "a stage of its start"
     registers = "".join(f", r{number} = {word}" for number, word in trace.registers.items())
     near = source.near(trace.counter)
     at = f"{trace.counter} ({near})" if near else str(trace.counter)
@@ -194,7 +199,8 @@ def trace_lines(program: Program, scenario: Scenario, place: int, burst: int) ->
     trace = traced(program, scenario, place, burst)
     source = source_of(program, scenario["parts"][place]["driver"])
     before = since_reset(part, event)
-    device = [*port_line(program, scenario, part, before), *register_lines(part, before)]
+    device = [*port_line(part, before, lambda number: traced(program, scenario, place, number)),
+              *register_lines(part, before)]
     lines = head_lines(trace, part, event, source)
     lines += [f"device: {'; '.join(device)}"] if device else []
     rows = rows_of(trace, source, part.kind)

@@ -28,6 +28,7 @@ CALLS = {
     "sweep": ["sweep", BLOCK, "--every", "50", "--quiet"],
     "map": ["map", BLOCK, "--every", "50", "--quiet", "--no-instructions"],
     "timeline": ["timeline", REPORT],
+    "page": ["page", BLOCK, "--traces", "1000"],
     "explain": ["explain", REPORT],
     "replay": ["replay", BLOCK, REPORT],
     "shrink": ["shrink", BLOCK, "--status", "0", "--quiet"],

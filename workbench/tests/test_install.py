@@ -22,6 +22,7 @@ FILES = """
 usr/bin/nooks 755
 usr/share/nooks/nooks-bench 755
 usr/share/nooks/nooks_bench/cli.py 644
+usr/share/nooks/nooks_bench/page_files/page.js 644
 usr/share/nooks/nooks_bench/schemas/campaign.schema.json 644
 usr/share/nooks/nooks_bench/schemas/scenario.schema.json 644
 usr/share/nooks/nooks_bench/tables.json 644
@@ -39,6 +40,7 @@ usr/share/doc/nooks/README.md 644
 usr/share/doc/nooks/changelog.gz 644
 usr/share/doc/nooks/docs/WORKBENCH.md 644
 usr/share/doc/nooks/docs/maps/block-traps.svg 644
+usr/share/doc/nooks/docs/pages/write-cut.png 644
 usr/share/doc/nooks/examples/block.json 644
 """
 
@@ -99,6 +101,7 @@ class Installed(unittest.TestCase):
     def test_all_modules_and_pages_are_there(self):
         for pattern, folder in [
             ("workbench/nooks_bench/*.py", "usr/share/nooks/nooks_bench"),
+            ("workbench/nooks_bench/page_files/*", "usr/share/nooks/nooks_bench/page_files"),
             ("docs/*.md", "usr/share/doc/nooks/docs"),
             ("examples/*", "usr/share/doc/nooks/examples"),
         ]:
@@ -117,6 +120,9 @@ class Installed(unittest.TestCase):
         swept = run(["nooks-bench", "sweep", example_path("block.json"), "--quiet"], env=environment, cwd="/")
         self.assertEqual(swept.returncode, 0, swept.stderr)
         self.assertIn("faults", swept.stdout)
+        page = run(["nooks-bench", "page", example_path("block.json")], env=environment, cwd="/")
+        self.assertEqual((page.returncode, page.stderr), (0, ""))
+        self.assertIn("</html>", page.stdout)
         self.assertFalse([name for name in self.files() if "__pycache__" in name])
 
     def test_man_pages(self):
@@ -235,6 +241,7 @@ class Pip(unittest.TestCase):
             swept = run([command, "sweep", example_path("block.json"), "--quiet"], env=away, cwd=folder)
             self.assertEqual((swept.returncode, swept.stderr), (0, ""))
             self.assertIn(" faults\n", swept.stdout)
+            self.assertIn("</html>", run([command, "page", example_path("block.json")], env=away, cwd=folder).stdout)
             os.symlink(program().path, os.path.join(folder, "nooks"))
             on_path = {"PATH": f"{folder}:/usr/bin:/bin"}
             self.assertEqual(run([command, "build", example_path("block.json")], env=on_path, cwd=folder).returncode, 0)

@@ -1,0 +1,75 @@
+"""page: a run as one HTML file, in which each event can be looked at."""
+
+from __future__ import annotations
+
+import argparse
+import os
+import sys
+from typing import Any
+
+from .listing import source_of
+from .messages import say
+from .page_bursts import important, traces_of
+from .page_data import PartRun, page_data
+from .page_text import page_text
+from .picture import command_text, hash_of, version_of
+from .program import Mistake, Program, find_program
+from .report import parse_report
+from .scenario import Scenario, read_scenario
+from .times import PartTimes, times_of
+from .unstruck import strikes_of_report
+
+ABOUT = """Writes one page, an HTML file that needs no network and no server: the run event by event, with what is so
+after each, and its bursts turn by turn beside the driver's text. SCENARIO is exact JSON or as `build` takes it."""
+
+DEFAULT_TRACES = 200
+
+
+def part_run(program: Program, scenario: Scenario, times: PartTimes, most: int) -> PartRun:
+    """A part of the run, with at most so many of its bursts traced."""
+    part = times.part
+    driver = scenario["parts"][part.place]["driver"]
+    bursts = important(part, {strike.event for strike in times.struck()})
+    if len(bursts) > most:
+        about = f"{most:,} of {len(bursts):,} bursts are traced, first those that failed or were struck"
+        say(f"part {part.place} {part.name}: {about}; --traces N traces N")
+    traces = traces_of(program, scenario, part, bursts[:most])
+    return PartRun(times, source_of(program, driver), driver.get("asm", ""), traces)
+
+
+def data_of(args: argparse.Namespace) -> dict[str, Any]:
+    """The data of the page that the options ask for."""
+    program = find_program(args.program)
+    scenario = read_scenario(args.file)
+    text = program.report(scenario)
+    report = parse_report(text)
+    times = times_of(report, strikes_of_report(report, scenario))
+    runs = [part_run(program, scenario, each, args.traces) for each in times]
+    title = args.title or os.path.splitext(os.path.basename(args.file))[0]
+    made = [command_text(args), f"{version_of(program)}; scenario {hash_of(scenario)}"]
+    return page_data(title, report, runs, made)
+
+
+def run(args: argparse.Namespace) -> int:
+    if args.traces < 0:
+        raise Mistake("--traces takes a number from 0 on")
+    text = page_text(data_of(args))
+    if not args.output:
+        sys.stdout.write(text)
+        return 0
+    try:
+        with open(args.output, "w", encoding="utf-8") as file:
+            file.write(text)
+    except OSError as error:
+        raise Mistake(f"{args.output}: {error.strerror}") from error
+    return 0
+
+
+def add_to(commands: argparse._SubParsersAction[argparse.ArgumentParser]) -> None:
+    parser = commands.add_parser("page", help="a run as one HTML page, event by event", description=ABOUT)
+    parser.add_argument("file", metavar="SCENARIO", help="a scenario; - is standard input")
+    parser.add_argument("--title", metavar="TEXT", help="the page's title (default: the file's name)")
+    traced = f"trace at most N bursts of each part (default {DEFAULT_TRACES})"
+    parser.add_argument("--traces", type=int, default=DEFAULT_TRACES, metavar="N", help=traced)
+    parser.add_argument("-o", "--output", metavar="FILE", help="write to FILE")
+    parser.set_defaults(run=run)

@@ -1,0 +1,112 @@
+"""The traced bursts of a part, as the page has them: turns with what they do, and the registers and words that change.
+
+An item of a burst is a turn, or a fault between turns. Items are counted from 1; 0 is the burst's start."""
+
+from __future__ import annotations
+
+import re
+from typing import Any, Iterator
+
+from .deeds import Deed
+from .listing import Source
+from .memory import area
+from .program import Program
+from .report import Event, Part
+from .scenario import Scenario
+from .state_rows import History
+from .trace import effect, head_lines, port_line, register_lines, since_reset, strike_text, traced
+from .trace_text import REG_FAULT, Struck, Trace, Turn
+from .words import cause_words, short
+
+WORD_FAULT = re.compile(r"(?:poke|code) (\d+) (\d+)")
+
+REGISTERS = 16
+
+
+def important(part: Part, struck: set[int]) -> list[int]:
+    """The bursts of a part in the order in which they are traced: those that failed, broke the contract or were struck,
+    then all others from the first on."""
+    broken = part.broken[0] if part.broken else 0
+    bursts = part.bursts()
+    first = [each for each in bursts if each.failed or each.number == broken or each.number in struck]
+    chosen = {each.number for each in first}
+    return [each.burst for each in first] + [each.burst for each in bursts if each.number not in chosen]
+
+
+def traces_of(program: Program, scenario: Scenario, part: Part, bursts: list[int]) -> dict[int, Trace]:
+    """The traces of some bursts of a part."""
+    return {burst: traced(program, scenario, part.place, burst) for burst in bursts}
+
+
+def source_rows(source: Source) -> dict[str, Any]:
+    """The driver's text: for each address the number of its line, its instruction and the names that stand there. Of an
+    image there are no lines, and number is 0."""
+    return {
+        str(address): [source.lines.get(address, (0, ""))[0], text, source.shown_names(address)]
+        for address, text in source.words.items()
+    }
+
+
+def item_of(item: Turn | Struck, source: Source, kind: str) -> list[Any]:
+    """A turn: number, address, what it does, and its instruction if that is not the one of the driver's text. A fault:
+    0, the turns before it, and what it does."""
+    if isinstance(item, Struck):
+        return [0, item.after, strike_text(item.text)]
+    made = [item.number, item.address, effect(item, kind)]
+    return made if source.words.get(item.address) == item.instruction else [*made, item.instruction]
+
+
+def changes(trace: Trace) -> Iterator[tuple[int, str, int, int]]:
+    """What each item changes: its place, `register` or `word`, which, and what it is then."""
+    for place, item in enumerate(trace.items, 1):
+        if isinstance(item, Struck):
+            if found := REG_FAULT.fullmatch(item.text):
+                yield place, "register", int(found[1]), int(found[2])
+            elif found := WORD_FAULT.fullmatch(item.text):
+                yield place, "word", int(found[1]), int(found[2])
+            continue
+        if item.register:
+            yield place, "register", *item.register
+        if item.stored:
+            yield place, "word", *item.stored
+
+
+def changed_rows(trace: Trace) -> dict[str, Any]:
+    """The registers with their histories, and the words that change, each with what it belongs to."""
+    registers: dict[str, History] = {str(number): [(0, trace.registers.get(number, 0))] for number in range(REGISTERS)}
+    words: dict[str, History] = {}
+    for place, what, which, now in changes(trace):
+        if what == "register":
+            registers[str(which)].append((place, now))
+        else:
+            words.setdefault(str(which), []).append((place, now))
+    return {"registers": registers, "words": words, "areas": {name: area(int(name)) for name in words}}
+
+
+def acting(trace: Trace) -> list[int]:
+    """For each act on the device the place of its turn."""
+    return [place for place, item in enumerate(trace.items, 1) if isinstance(item, Turn) for _ in item.acts]
+
+
+def deed_place(trace: Trace, deed: Deed | None, event: Event) -> int:
+    """The place of the turn that broke the contract, 0 if none of this burst did."""
+    if deed is None or deed.event != event.number:
+        return 0
+    acts = acting(trace)
+    return acts[deed.act] if deed.act is not None and deed.act < len(acts) else len(trace.items)
+
+
+def burst_rows(part: Part, event: Event, traces: dict[int, Trace], source: Source, deed: Deed | None) -> dict[str, Any]:
+    """All of one traced burst."""
+    trace = traces[event.burst]
+    before = since_reset(part, event)
+    device = [*port_line(part, before, traces.get), *register_lines(part, before)]
+    return {
+        "head": f"context {trace.context}, {head_lines(trace, part, event, source)[1]}",
+        "device": "; ".join(device),
+        "items": [item_of(item, source, part.kind) for item in trace.items],
+        **changed_rows(trace),
+        "end": short(event.text),
+        "cause": cause_words(event.cause) if event.cause else "",
+        "breaks": deed_place(trace, deed, event),
+    }

@@ -1,0 +1,165 @@
+/** A traced burst, turn by turn, beside the driver's text, with the registers and the words that change. */
+
+import { LongList, element } from "./elements.js";
+import { at } from "./history.js";
+
+const TURN_ROW = 18;
+const MOST_WORDS = 12;
+
+export class BurstView {
+  /** `go` is called with the item that was chosen. */
+  constructor(go) {
+    this.go = go;
+    this.part = null;
+    this.burst = null;
+    this.turn = 0;
+    this.items = new LongList("items mono", TURN_ROW, (place) => this.itemRow(place + 1));
+    this.source = new LongList("source mono", TURN_ROW, (place) => this.sourceRow(place));
+    this.head = element("div", { class: "burst-head" });
+    this.slider = element("input", { type: "range", min: 0, "aria-label": "turn of the burst", oninput: () => go(Number(this.slider.value)) });
+    this.where = element("output", { class: "turn-where" });
+    this.registers = element("div", { class: "registers mono" });
+    this.words = element("div", { class: "changed-words mono" });
+    this.said = element("div", { class: "turn-said" });
+    const button = (text, label, move) => element("button", { type: "button", title: label, "aria-label": label, onclick: () => go(this.turn + move) }, text);
+    this.whole = element("div", { class: "burst-whole" },
+      element("div", { class: "bar turn-bar" }, button("\u25b2", "one turn back (arrow up)", -1), button("\u25bc", "one turn on (arrow down)", 1), this.slider, this.where),
+      this.said, element("div", { class: "row item heads" }, ...[["turn", "number"], ["line", "number"], ["the driver's text", "instruction"], ["what it does", "effect"]].map(([text, kind]) => element("span", { class: `cell ${kind}` }, text))),
+      this.items.holder,
+      element("div", { class: "below" },
+        element("div", {}, element("h4", {}, "Registers after this turn"), this.registers),
+        element("div", { class: "text" }, element("h4", {}, "The driver's text"), this.source.holder)),
+      element("h4", {}, "Words of memory that this burst changed"), this.words);
+    this.without = element("p", { class: "none" });
+    this.holder = element("div", { class: "burst" }, this.head, this.without, this.whole);
+  }
+
+  /** The driver's text of another part. An image has no lines: its words stand in their place. */
+  take(part) {
+    this.part = part;
+    this.lines = part.source.lines.length > 1 ? part.source.lines : null;
+    this.addresses = Object.keys(part.source.words).map(Number).sort((one, other) => one - other);
+    this.source.resize(this.lines ? this.lines.length : this.addresses.length);
+  }
+
+  /** Where a burst is looked at first: where it broke the contract, else at its end. */
+  firstTurn(number) {
+    const burst = this.part.bursts[number];
+    return burst ? burst.breaks || burst.items.length : 0;
+  }
+
+  last(number) {
+    const burst = this.part.bursts[number];
+    return burst ? burst.items.length : 0;
+  }
+
+  show(number, turn) {
+    this.burst = this.part.bursts[number] ?? null;
+    this.turn = turn;
+    this.whole.hidden = this.burst === null;
+    this.without.hidden = this.burst !== null;
+    if (this.burst === null) {
+      this.head.replaceChildren(element("h3", {}, number ? `Burst ${number}` : "Burst"));
+      const command = `nooks-bench trace ${this.part.place} ${number} SCENARIO`;
+      this.without.textContent = number ? `This burst was not traced when the page was made. \`${command}\` shows it.` : "This event is no burst: the driver does not run.";
+      return;
+    }
+    this.showHead(number);
+    this.items.resize(this.burst.items.length);
+    this.slider.max = String(this.burst.items.length);
+    this.slider.value = String(turn);
+    this.items.show(Math.max(turn - 1, 0));
+    this.showRegisters();
+    this.showWords();
+    this.showSource();
+  }
+
+  showHead(number) {
+    const { head, device } = this.burst;
+    this.head.replaceChildren(element("h3", {}, `Burst ${number}, turn by turn`), element("p", {}, head), device ? element("p", {}, `device before: ${device}`) : "");
+    const item = this.burst.items[this.turn - 1];
+    const turns = this.burst.items.filter((each) => each[0]).length;
+    this.where.textContent = this.turn === 0 ? `before turn 1 of ${turns}` : item[0] ? `turn ${item[0]} of ${turns}` : `a fault, after turn ${item[1]}`;
+    const ends = this.turn === this.burst.items.length;
+    const said = [];
+    if (this.turn > 0 && this.turn === this.burst.breaks) said.push(element("b", { class: "broken" }, "CONTRACT BROKEN by this turn. "));
+    if (item && !item[0]) said.push(element("b", { class: "fault-text" }, `FAULT of the scenario: ${item[2]}. `));
+    if (ends) said.push(`The burst ends: ${this.burst.cause || this.burst.end}.`);
+    this.said.replaceChildren(...said);
+  }
+
+  /** Where a turn's instruction stands, and the driver's text there. A word that was written over is shown as it is now. */
+  textOf(item) {
+    const [line, instruction] = this.part.source.words[item[1]] ?? [0, ""];
+    if (item[3] || !line || !this.lines) return [`@${item[1]}`, item[3] ? `${item[3]} (written over)` : instruction];
+    return [String(line), this.lines[line - 1].split(";")[0].trim()];
+  }
+
+  itemRow(place) {
+    const item = this.burst.items[place - 1];
+    const chosen = place === this.turn ? "chosen" : place > this.turn ? "later" : "";
+    const choose = { onclick: () => this.go(place) };
+    if (!item[0]) {
+      return element("div", { class: `row item fault-row ${chosen}`, ...choose }, element("span", { class: "cell wide" }, `-- fault strikes after ${item[1]}: ${item[2]}`));
+    }
+    const breaks = place === this.burst.breaks;
+    const [line, text] = this.textOf(item);
+    const cells = [[String(item[0]), "number"], [line, "number"], [text, "instruction"], [(breaks ? "\u25c0 BREAKS THE CONTRACT: " : "") + item[2], `effect ${breaks ? "broken" : ""}`]];
+    return element("div", { class: `row item ${chosen}`, title: `at ${item[1]}: ${item[2]}`, ...choose }, ...cells.map(([text, kind]) => element("span", { class: `cell ${kind}` }, text)));
+  }
+
+  showRegisters() {
+    const cells = Object.entries(this.burst.registers).map(([number, history]) => {
+      const [since, word] = at(history, this.turn);
+      const isNew = since === this.turn && this.turn > 0;
+      return element("span", { class: isNew ? "register new" : "register", title: since ? `set by item ${since}` : "as the burst found it" },
+        element("span", { class: "register-name" }, `r${number}`), `${isNew ? "\u25b8" : " "}${word}`);
+    });
+    this.registers.replaceChildren(...cells);
+  }
+
+  /** The words that changed, the last one first. */
+  showWords() {
+    const known = Object.entries(this.burst.words).map(([address, history]) => [address, at(history, this.turn)]).filter(([, entry]) => entry !== null);
+    known.sort(([, one], [, other]) => other[0] - one[0]);
+    const rows = known.slice(0, MOST_WORDS).map(([address, [since, word]]) =>
+      element("span", { class: since === this.turn ? "word new" : "word", title: `${this.burst.areas[address]}, set by item ${since}` }, `${since === this.turn ? "\u25b8" : " "}[${address}] = ${word}`));
+    const areas = new Set(known.map(([address]) => this.burst.areas[address]));
+    if (known.length > MOST_WORDS) rows.push(`.. ${known.length} words`);
+    if (known.length) rows.push(element("span", { class: "none" }, ` ${[...areas].join(", ")}`));
+    this.words.replaceChildren(...(known.length ? rows : [element("span", { class: "none" }, "none so far")]));
+  }
+
+  /** The line of the text of the turn that is looked at, or of the first one. */
+  lineOf(turn) {
+    const items = this.burst.items;
+    const item = items[turn - 1]?.[0] ? items[turn - 1] : items.slice(Math.max(turn - 1, 0)).find((each) => each[0]) ?? items.findLast((each) => each[0]);
+    if (!item) return -1;
+    return this.lines ? (this.part.source.words[item[1]]?.[0] ?? 0) - 1 : this.addresses.indexOf(item[1]);
+  }
+
+  showSource() {
+    this.line = this.lineOf(this.turn);
+    if (this.line >= 0) this.source.show(this.line);
+    else this.source.draw();
+  }
+
+  sourceRow(place) {
+    const chosen = this.burst !== null && place === this.line ? "chosen" : "";
+    const address = this.addresses[place];
+    const text = this.lines ? this.lines[place] : this.wordText(address);
+    return element("div", { class: `row line ${chosen}` }, element("span", { class: "cell number" }, String(this.lines ? place + 1 : address)), element("span", { class: "cell effect" }, text));
+  }
+
+  wordText(address) {
+    const [, text, names] = this.part.source.words[address];
+    return names.map((name) => `${name}: `).join("") + text;
+  }
+
+  /** Everything at once, for print. */
+  draw(most) {
+    if (this.burst === null) return;
+    this.items.draw(most);
+    this.source.draw(most);
+  }
+}

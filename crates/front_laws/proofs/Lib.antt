@@ -1,0 +1,14 @@
+pub mod Same
+pub mod Ordered
+pub mod Striking
+pub mod Past
+pub mod Unreached
+pub mod Within
+pub mod Alike
+pub mod Deeds
+pub mod GuardStep
+pub mod GuardRun
+pub mod Needed
+pub mod Owned
+pub mod WholeRuns
+pub mod GuardedRuns

@@ -206,7 +206,7 @@ opening_own : (spec : PartSpec) → (opening spec).spec.faults ≡ spec.faults
 unfolding opening
 opening_own spec = refl
 
-opening_behind : (spec : PartSpec) (faults : List Fault) → opening (with_behind faults spec) ≡ with_own ((opening spec).spec.faults ++ faults) (opening spec)
+pub opening_behind : (spec : PartSpec) (faults : List Fault) → opening (with_behind faults spec) ≡ with_own ((opening spec).spec.faults ++ faults) (opening spec)
 opening_behind spec faults =
     opening_with (spec.faults ++ faults) spec ∙ ap (λ (own : List Fault). with_own (own ++ faults) (opening spec)) (sym (opening_own spec))
 
@@ -232,7 +232,7 @@ guarded_well spec journal fits g =
 
 -- where no clause is broken there is no trap
 
-step_free : (p : PartState) (k : Known) (s : Step) → broken k (event_of p s) ≡ [] → (guard p k s ≡ None) × (guarded p k s ≡ p)
+pub step_free : (p : PartState) (k : Known) (s : Step) → broken k (event_of p s) ≡ [] → (guard p k s ≡ None) × (guarded p k s ≡ p)
 unfolding guarded
 step_free p k (step.Invoke thread o) h = (refl, refl)
 step_free p k (step.Enter thread) h = (refl, refl)
@@ -243,7 +243,7 @@ step_free p k (step.Burst context) h = (
   ap (λ (cs : List Clause). with_trap (trap_for cs (guard_trap context p k)) p) h,
 )
 
-first_kept : (place : ℕ) (k : Known) (e : Event) (events : List Event) → break_from place k (e ∷ events) ≡ None
+pub first_kept : (place : ℕ) (k : Known) (e : Event) (events : List Event) → break_from place k (e ∷ events) ≡ None
     → (broken k e ≡ []) × (break_from (suc place) (known_after k e) events ≡ None)
 unfolding break_from
 first_kept place k e events h = by_clauses (broken k e) refl

@@ -77,7 +77,7 @@ more_more p q r a b = record {
   bursts_rise = let x = a.bursts_rise in let y = b.bursts_rise in omega arith;
 }
 
-trap_more : (p q : PartState) (s : Step) (o : Option Fault) → IsTrapOf p s o q → HasMore p (state_after q s)
+pub trap_more : (p q : PartState) (s : Step) (o : Option Fault) → IsTrapOf p s o q → HasMore p (state_after q s)
 trap_more p q s None h = record {
   later = [];
   spec = spec_after q s ∙ ap (λ (r : PartState). r.spec) h
@@ -94,7 +94,7 @@ trap_more p q s (Some f) h = record {
 
 -- the part after a choice under the guard
 
-abbrev IsNextSeat : RunningPart → Option Choice → ℕ → RunningPart → Type 0
+abbrev pub IsNextSeat : RunningPart → Option Choice → ℕ → RunningPart → Type 0
 IsNextSeat seat None place next = next ≡ seat
 IsNextSeat seat (Some c) place next =
     ((c.part ≡ place → ⊥) × (next ≡ seat)) ⊎ ((c.part ≡ place) × (next ≡ part_after c.step (guarded_seat c.step seat)))
@@ -274,7 +274,7 @@ set_of (x ∷ parts) (spec ∷ specs) zero seat new at h a =
     (h spec (subst (λ (y : RunningPart). IsOf y spec) (same_inside at) a.0), a.1)
 set_of (x ∷ parts) (spec ∷ specs) (suc i) seat new at h a = (a.0, set_of parts specs i seat new at h a.1)
 
-more_of : (seat new : RunningPart) (spec : PartSpec) → HasMore seat.run.state new.run.state → IsOf seat spec → IsOf new spec
+pub more_of : (seat new : RunningPart) (spec : PartSpec) → HasMore seat.run.state new.run.state → IsOf seat spec → IsOf new spec
 more_of seat new spec more is =
     let e : new.run.state.spec ≡ record spec { faults = seat.run.state.spec.faults ++ more.later } =
     more.spec ∙ ap (λ (x : PartSpec). record x { faults = seat.run.state.spec.faults ++ more.later }) is in

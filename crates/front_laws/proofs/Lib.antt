@@ -12,3 +12,6 @@ pub mod Needed
 pub mod Owned
 pub mod WholeRuns
 pub mod GuardedRuns
+pub mod GuardedParts
+pub mod Unique
+pub mod Free

@@ -51,7 +51,7 @@ abbrev pub At : Simulation → ℕ → RunningPart → Type 0
 At s place seat = slice_get s.parts place ≡ Some seat
 
 -- the part after a choice: another part's step leaves it, its own adds an event
-abbrev IsNextSeat : RunningPart → Option Choice → ℕ → RunningPart → Type 0
+abbrev pub IsNextSeat : RunningPart → Option Choice → ℕ → RunningPart → Type 0
 IsNextSeat seat None place next = next ≡ seat
 IsNextSeat seat (Some c) place next = ((c.part ≡ place → ⊥) × (next ≡ seat)) ⊎ ((c.part ≡ place) × (next ≡ part_after c.step seat))
 
@@ -81,7 +81,7 @@ next_by s place seat (Some c) choices at = by_part (slice_get s.parts c.part) re
       )
     ]
 
-next_seat : (s : Simulation) (place : ℕ) (seat : RunningPart) (choices : List Choice) → At s place seat
+pub next_seat : (s : Simulation) (place : ℕ) (seat : RunningPart) (choices : List Choice) → At s place seat
     → HasNext (taken s choices) seat (pick_of s choices) place
 unfolding taken
 next_seat s place seat choices at = next_by s place seat (pick_of s choices) choices at
@@ -242,7 +242,7 @@ opens_at [] place spec h = none_is_some h
 opens_at (x ∷ specs) zero spec h = ap (λ (y : PartSpec). Some (opening_part y)) (same_inside h)
 opens_at (x ∷ specs) (suc place) spec h = opens_at specs place spec h
 
-begins_at : (scenario : Scenario) (place : ℕ) (spec : PartSpec) → slice_get scenario.parts place ≡ Some spec
+pub begins_at : (scenario : Scenario) (place : ℕ) (spec : PartSpec) → slice_get scenario.parts place ≡ Some spec
     → At (begins scenario) place (opening_part spec)
 unfolding begins
 begins_at scenario place spec h = opens_at scenario.parts place spec h

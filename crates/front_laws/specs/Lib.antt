@@ -1,3 +1,4 @@
 pub mod Fronts
 pub mod Guarded
 pub mod Owned
+pub mod GuardedParts

@@ -1,8 +1,9 @@
 //! Whole scenarios: a fault that is not reached, and the guarded run.
 
 ghost use Rattle.front_laws.specs.Fronts.{IsUnreached};
+ghost use Rattle.front_laws.specs.GuardedParts.{IsGuardedPart, NoneBreaks};
 ghost use Rattle.front_laws.specs.Owned.{owned, struck_at};
-ghost use Rattle.guard_defs.specs.GuardedRuns.{IsGuardedSchedule, guarded_scenario};
+ghost use Rattle.guard_defs.specs.GuardedRuns.{IsGuardedSchedule, guarded_runs, guarded_scenario};
 ghost use Rattle.nook_data.specs.Members.{struck};
 ghost use Rattle.nook_data.specs.declared.scenario.Fault.{Fault};
 ghost use Rattle.nook_data.specs.declared.scenario.PartSpec.{PartSpec};
@@ -35,4 +36,24 @@ pub fn a_fault_that_is_not_reached_leaves_the_run()
 pub fn the_guarded_run_is_a_scheduled_run()
     ensures { (scenario : Scenario) (s : Simulation) → IsGuardedSchedule scenario s
         → IsScheduledRun (guarded_scenario scenario s) s }
+{}
+
+/// Each part of a guarded run of a scenario has a guarded run, and its faults are its own with the guard's traps behind
+/// them. So its journal breaks no clause, and it has at most as many traps as its limit and one.
+pub fn each_part_of_a_guarded_run_is_guarded()
+    ensures { (scenario : Scenario) (place : ℕ) (steps : ℕ) (spec : PartSpec) (seat : RunningPart)
+        → slice_get scenario.parts place ≡ Some spec
+        → slice_get (guarded_runs steps (begins scenario)).parts place ≡ Some seat → IsGuardedPart spec seat }
+{}
+
+/// A scenario has at most one guarded run.
+pub fn a_scenario_has_one_guarded_run()
+    ensures { (scenario : Scenario) (s t : Simulation) → IsGuardedSchedule scenario s
+        → IsGuardedSchedule scenario t → s ≡ t }
+{}
+
+/// A scheduled run in which no part breaks a clause is the guarded run, so that it has no trap.
+pub fn a_scheduled_run_that_breaks_nothing_is_guarded()
+    ensures { (scenario : Scenario) (s : Simulation) → IsScheduledRun scenario s → NoneBreaks s
+        → IsGuardedSchedule scenario s }
 {}

@@ -9,3 +9,4 @@ pub mod ClauseCases
 mod OnLiterals
 mod InputOnLiterals
 mod TraceOnLiterals
+mod GuardOnLiterals

@@ -15,3 +15,4 @@ pub mod MachineLaws
 pub mod Verdicts
 pub mod OtherClasses
 pub mod Clauses
+pub mod GuardedCases

@@ -3,6 +3,7 @@
 
 pub mod assembling;
 pub mod clauses;
+pub mod guarded;
 pub mod inputs;
 pub mod machine;
 pub mod recovered;

@@ -210,7 +210,7 @@ pub opening_behind : (spec : PartSpec) (faults : List Fault) → opening (with_b
 opening_behind spec faults =
     opening_with (spec.faults ++ faults) spec ∙ ap (λ (own : List Fault). with_own (own ++ faults) (opening spec)) (sym (opening_own spec))
 
-fit_behind : (spec : PartSpec) (faults : List Fault) → IsFitSpec spec → IsFitSpec (with_behind faults spec)
+pub fit_behind : (spec : PartSpec) (faults : List Fault) → IsFitSpec spec → IsFitSpec (with_behind faults spec)
 fit_behind spec faults h = record { text = h.text; initial = h.initial }
 
 pub guarded_well : (spec : PartSpec) (journal : List Event) → IsFitSpec spec → IsGuardedRun spec journal → IsGuardedWell spec journal

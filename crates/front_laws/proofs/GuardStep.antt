@@ -34,7 +34,7 @@ use Rattle.front_laws.specs.Fronts.{IsCutShort, put_behind}
 use Rattle.front_laws.specs.Guarded.{IsFirstWrong, IsStopped, acts_in, broken_by}
 use Rattle.front_laws.proofs.Deeds.{first_wrong, front_broken, some_broken}
 use Rattle.front_laws.proofs.Ordered.{burst_rises, own_burst}
-use Rattle.front_laws.proofs.Past.{burst_cut}
+use Rattle.front_laws.proofs.Past.{burst_cut, turns_high}
 use Rattle.front_laws.proofs.Within.{HasDeed, deed_kept, deed_reached, is_crossing}
 
 -- deeds of a crossing
@@ -169,7 +169,11 @@ stopped_with context p k x clause more runs breaks =
       kept = ap (λ (r : PartState). broken k (event_of r (step.Burst context))) g ∙ ap (broken k) event_made
           ∙ ap (broken_by call k) (front_deeds n made.acts (deeds_across (crossed context p d)) few)
           ∙ front_broken n call k ds (omega arith);
+      within = less_than f.after _ _ ea reached (turns_high 4096 p.domain.entries (own_faults p) (machine_of x p.domain) []);
     }
+  where
+    less_than : (a b c : ℕ) → a ≡ b → b < c → c ≤ 4096 → a < 4096
+    less_than a b c e h l = omega arith
 
 pub stopped : (context : ℕ) (p : PartState) (k : Known) (clause : Clause) (more : List Clause)
     → broken k (event_of p (step.Burst context)) ≡ clause ∷ more → IsStopped context p k

@@ -319,7 +319,7 @@ opened_of c n (seat ∷ parts) (spec ∷ specs) a h =
     ∙ ap (λ (xs : List RunningPart). seat_with (c n (opening spec).spec.faults) (opening_part spec) ∷ xs)
     (opened_of c (n + 1) parts specs a.1 (λ i j x own e at. h (suc i) j x own (omega arith) at))
 
-begins_of : (scenario : Scenario) (n : ℕ) → AreOf (guarded_runs n (begins scenario)).parts scenario.parts
+pub begins_of : (scenario : Scenario) (n : ℕ) → AreOf (guarded_runs n (begins scenario)).parts scenario.parts
 unfolding begins
 begins_of scenario n = runs_of n (begins scenario) scenario.parts (opening_of scenario.parts)
 

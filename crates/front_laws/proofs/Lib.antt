@@ -15,3 +15,4 @@ pub mod GuardedRuns
 pub mod GuardedParts
 pub mod Unique
 pub mod Free
+pub mod ValidGuarded

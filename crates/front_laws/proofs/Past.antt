@@ -101,6 +101,17 @@ turns_low (suc left) entries faults m acts h =
     (let more : 4096 - left ≤ turns_from left entries rest m' acts' = turns_low left entries rest m' acts' (omega arith) in omega arith))
     (λ b e. rw (turns_over left entries faults m acts b none e) (omega arith)))
 
+pub turns_high : (left : ℕ) (entries : List Entry) (faults : List Fault) (m : Machine) (acts : List Act)
+    → turns_from left entries faults m acts ≤ 4096
+unfolding turns_from
+turns_high zero entries faults m acts = omega arith
+turns_high (suc left) entries faults m acts =
+    by_option (strikes_at (4096 - suc left) entries faults m).stopped
+    (λ cause some. rw (turns_stop left entries faults m acts cause some) (omega arith))
+    (λ none. by_going (one_turn left entries faults m acts)
+    (λ m' rest acts' e. rw (turns_on left entries faults m m' acts acts' rest none e) (turns_high left entries rest m' acts'))
+    (λ b e. rw (turns_over left entries faults m acts b none e) (omega arith)))
+
 -- a burst that does not reach the fault
 
 burst_behind : (f : Fault) (left : ℕ) (entries : List Entry) (faults : List Fault) (m : Machine) (acts : List Act)

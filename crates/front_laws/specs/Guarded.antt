@@ -1,6 +1,7 @@
-use Rattle.std.specs.Prelude.{◌≡◌, ◌≤◌, ℕ, suc, ◌+◌, None, Some, List, [], ◌∷◌, ◌++◌, take, length, filter, fold}
+use Rattle.std.specs.Prelude.{◌≡◌, ◌≤◌, ◌<◌, ℕ, suc, ◌+◌, None, Some, List, [], ◌∷◌, ◌++◌, take, length, filter, fold}
 use Rattle.nook_data.specs.Types.{Act, Clause, Event, PartSpec}
 use Rattle.nook_data.specs.Clauses.{all_clauses, clause_number}
+use Rattle.nook_data.specs.declared.limits.TheConstants.{MOST_TURNS}
 use Rattle.nook_data.specs.declared.machine.TrapCause.TheVariants as trap
 use Rattle.nook_data.specs.declared.steps.End.TheVariants as end
 use Rattle.nook_data.specs.declared.steps.Event.TheVariants as event
@@ -34,7 +35,8 @@ abbrev pub known_at : PartSpec → List Event → Known
 known_at spec journal = fold known_after (known_at_first spec) journal
 
 -- a burst under the guard, where it would break a clause without: the acts before the first deed that does are kept,
--- the rest does not happen, nothing is answered, and the driver fails by an injected trap; no clause is broken
+-- the rest does not happen, nothing is answered, and the driver fails by an injected trap; no clause is broken. The
+-- trap's place is one that a burst can come to
 pub record IsStopped (context : ℕ) (p : PartState) (k : Known) : Type 0 where
   pub made : event_of (guarded p k (step.Burst context)) (step.Burst context)
       ≡ event.Burst context (served_number context p) (p.bursts + 1) (guard_trap context p k).after end.Trap
@@ -42,6 +44,7 @@ pub record IsStopped (context : ℕ) (p : PartState) (k : Known) : Type 0 where
       (acts_in (event_of p (step.Burst context))))
       None (Some (fail.Trap trap.Injected))
   pub kept : broken k (event_of (guarded p k (step.Burst context)) (step.Burst context)) ≡ []
+  pub within : (guard_trap context p k).after < MOST_TURNS
 
 -- a guarded run is a run of the part with the traps behind its own faults, and it breaks no clause; each trap is a
 -- failure, so there are at most as many as the limit allows

@@ -3,14 +3,16 @@
 ghost use Rattle.front_laws.specs.Fronts.{IsUnreached};
 ghost use Rattle.front_laws.specs.GuardedParts.{IsGuardedPart, NoneBreaks};
 ghost use Rattle.front_laws.specs.Owned.{owned, struck_at};
+ghost use Rattle.guard_defs.specs.Guard.{HasRoom};
 ghost use Rattle.guard_defs.specs.GuardedRuns.{IsGuardedSchedule, guarded_runs, guarded_scenario};
 ghost use Rattle.nook_data.specs.Members.{struck};
+ghost use Rattle.nook_data.specs.Valid.{IsValidScenario};
 ghost use Rattle.nook_data.specs.declared.scenario.Fault.{Fault};
 ghost use Rattle.nook_data.specs.declared.scenario.PartSpec.{PartSpec};
 ghost use Rattle.nook_data.specs.declared.scenario.Scenario.{Scenario};
 ghost use Rattle.run_defs.specs.Simulation.{IsScheduledRun, RunningPart, Simulation, answer_table, begins};
 ghost use Rattle.run_defs.specs.Simulation.{journals_of, runs};
-ghost use Rattle.std.specs.Prelude.{ℕ, Some, slice_get, ◌≡◌};
+ghost use Rattle.std.specs.Prelude.{ℕ, All, Some, slice_get, ◌≡◌};
 
 /// A fault that a part's journal does not reach leaves the whole run of the scenario as it is: after as many steps the
 /// struck scenario's run is the same but for that fault. So the struck scenario's scheduled run has the same journals
@@ -56,4 +58,10 @@ pub fn a_scenario_has_one_guarded_run()
 pub fn a_scheduled_run_that_breaks_nothing_is_guarded()
     ensures { (scenario : Scenario) (s : Simulation) → IsScheduledRun scenario s → NoneBreaks s
         → IsGuardedSchedule scenario s }
+{}
+
+/// The guarded scenario of a valid scenario is valid, where each part's list of faults has room for the traps.
+pub fn the_guarded_scenario_is_valid()
+    ensures { (scenario : Scenario) (steps : ℕ) → IsValidScenario scenario → All HasRoom scenario.parts
+        → IsValidScenario (guarded_scenario scenario (guarded_runs steps (begins scenario))) }
 {}

@@ -1,5 +1,6 @@
-use Rattle.std.specs.Prelude.{◌≡◌, ℕ, ◌+◌, true, List, [], ◌∷◌, ◌++◌, Option, Some, None}
+use Rattle.std.specs.Prelude.{◌≡◌, ◌≤◌, ℕ, ◌+◌, true, List, [], ◌∷◌, ◌++◌, length, Option, Some, None}
 use Rattle.nook_data.specs.Types.{Clause, Context, Event, Fault, PartSpec, Step}
+use Rattle.nook_data.specs.declared.limits.TheConstants.{MOST_FAULTS}
 use Rattle.nook_data.specs.declared.scenario.FaultKind.TheVariants as fault
 use Rattle.nook_data.specs.declared.steps.Step.TheVariants as step
 use Rattle.machine_defs.specs.BurstFaults.{faults_of_burst}
@@ -96,3 +97,7 @@ IsGuardedRun spec journal = IsGuardedFrom (opening spec) (known_at_first spec) j
 -- the traps of a guarded run of a part
 abbrev pub traps_of : PartSpec → List Event → List Fault
 traps_of spec journal = traps_from (opening spec) (known_at_first spec) journal
+
+-- a part has room in its list of faults for the traps that its guarded run may need
+abbrev pub HasRoom : PartSpec → Type 0
+HasRoom spec = length spec.faults + (spec.limit + 1) ≤ MOST_FAULTS

@@ -16,3 +16,4 @@ pub mod GuardedParts
 pub mod Unique
 pub mod Free
 pub mod ValidGuarded
+pub mod Transparent

@@ -4,4 +4,5 @@
 
 pub mod fronts;
 pub mod guards;
+pub mod promises;
 pub mod runs;

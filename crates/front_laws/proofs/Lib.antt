@@ -17,3 +17,4 @@ pub mod Unique
 pub mod Free
 pub mod ValidGuarded
 pub mod Transparent
+pub mod Reaching

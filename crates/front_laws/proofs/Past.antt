@@ -64,7 +64,7 @@ by_going (over b) goes ends = ends b refl
 
 -- how many turns
 
-turns_stop : (left : ℕ) (entries : List Entry) (faults : List Fault) (m : Machine) (acts : List Act) (cause : TrapCause)
+pub turns_stop : (left : ℕ) (entries : List Entry) (faults : List Fault) (m : Machine) (acts : List Act) (cause : TrapCause)
     → (strikes_at (4096 - suc left) entries faults m).stopped ≡ Some cause
     → turns_from (suc left) entries faults m acts ≡ 4096 - suc left
 turns_stop left entries faults m acts cause e =

@@ -66,13 +66,13 @@ is_crossing (ends.Kcall number) = true
 is_crossing (ends.Reply status) = true
 is_crossing e = false
 
-abbrev AddsOne : List Act → List Act → Type 0
+abbrev pub AddsOne : List Act → List Act → Type 0
 AddsOne acts acts' = (more : List Act) × (acts' ≡ acts ++ more) × (length more ≤ 1)
 
-abbrev EndsOne : List Act → Burst → Type 0
+abbrev pub EndsOne : List Act → Burst → Type 0
 EndsOne acts b = (more : List Act) × (b.acts ≡ acts ++ more) × (length more ≤ 1) × (is_crossing b.ending ≡ true → more ≡ [])
 
-abbrev GoesOne : List Act → Going → Type 0
+abbrev pub GoesOne : List Act → Going → Type 0
 GoesOne acts (on m rest acts') = AddsOne acts acts'
 GoesOne acts (over b) = EndsOne acts b
 
@@ -87,7 +87,7 @@ crossing_one left acts rest m a None h = split (nat_le 64 (length (acts ++ acts_
     (λ e. rw e (acts_of a, refl, few_acts a, λ c. let no : false ≡ true = c in absurd cc))
     (λ e. rw e (acts_of a, refl, few_acts a))
 
-turn_one : (left : ℕ) (entries : List Entry) (faults : List Fault) (m : Machine) (acts : List Act)
+pub turn_one : (left : ℕ) (entries : List Entry) (faults : List Fault) (m : Machine) (acts : List Act)
     → (strikes_at (4096 - suc left) entries faults m).stopped ≡ None → GoesOne acts (one_turn left entries faults m acts)
 turn_one left entries faults m acts none =
     let s : Struck = strikes_at (4096 - suc left) entries faults m in

@@ -2,3 +2,4 @@ pub mod Fronts
 pub mod Guarded
 pub mod Owned
 pub mod GuardedParts
+pub mod GuardedPast

@@ -1,6 +1,6 @@
 -- The deeds before the first that breaks a clause break none.
-use Rattle.std.proofs.Common.{◌≡◌, ◌≤◌, ◌<◌, ℕ, zero, suc, Bool, false, nat_lt, Some, None, List, [], ◌∷◌, ◌++◌, length, take, filter, fold, find, refl, sym, ap, ◌∙◌, arith, take_all}
-use Rattle.std.proofs.lemmas.Bool.{ltb-false, ltb-true, or_from}
+use Rattle.std.proofs.Common.{true, ◌≡◌, ◌≤◌, ◌<◌, ℕ, zero, suc, Bool, false, nat_lt, Some, None, List, [], ◌∷◌, ◌++◌, length, take, filter, fold, find, refl, sym, ap, ◌∙◌, arith, take_all}
+use Rattle.std.proofs.lemmas.Bool.{ltb-false, ltb-true, or_from, or_left, or_right}
 use Rattle.std.specs.List.{AllByRecursion}
 use Rattle.nook_data.specs.Clauses.{all_clauses}
 use Rattle.nook_data.specs.declared.clause.Clause.{Clause}
@@ -135,3 +135,51 @@ first_wrong call k (d ∷ ds) h = by_option (clause_of_deed call k d)
       told = first_none call k d ds none ∙ more.told;
       first_broken = ap (λ (n : ℕ). broken_by call (fold (after_deed call) k (take n (d ∷ ds))) (more.wrong ∷ [])) z ∙ more.first_broken;
     })
+
+-- deeds that follow the first wrong one change nothing before it
+
+pub before_front : (call : ℕ) (k : Known) (front rest rest' : List Deed) → deeds_before call k (front ++ rest) < length front
+    → deeds_before call k (front ++ rest') ≡ deeds_before call k (front ++ rest)
+before_front call k [] rest rest' h = absurd (omega arith)
+before_front call k (d ∷ front) rest rest' h = by_option (clause_of_deed call k d)
+    (λ c some. before_first call k d (front ++ rest') c some ∙ sym (before_first call k d (front ++ rest) c some))
+    (λ none. let one : deeds_before call k (d ∷ (front ++ rest)) ≡ suc (deeds_before call (after_deed call k d) (front ++ rest)) =
+    before_none call k d (front ++ rest) none in
+    before_none call k d (front ++ rest') none ∙ ap suc (before_front call (after_deed call k d) front rest rest' (omega arith)) ∙ sym one)
+
+-- a deed that is found breaks a clause
+
+find_true : (test : Clause → Bool) (clauses : List Clause) (c : Clause) → find test clauses ≡ Some c → test c ≡ true
+find_true test [] c h = let no : None ≡ Some c = h in absurd cc
+find_true test (x ∷ clauses) c h = split (test x)
+    (λ e. let same : Some x ≡ Some c = rw (e, find) at h in
+    let one : x ≡ c = cc in ap test (sym one) ∙ e)
+    (λ e. find_true test clauses c (rw (e, find) at h))
+
+some_breaks : (call : ℕ) (k : Known) (ds : List Deed) → deeds_before call k ds < length ds → (c : Clause) × (is_broken_by c call k ds ≡ true)
+some_breaks call k [] h = absurd (omega arith)
+some_breaks call k (d ∷ ds) h = by_option (clause_of_deed call k d)
+    (λ c some. (c, or_left (breaks c k (call_of call k.calls) d) (is_broken_by c call (after_deed call k d) ds)
+    (find_true (λ x. breaks x k (call_of call k.calls) d) all_clauses c some)))
+    (λ none. let one : deeds_before call k (d ∷ ds) ≡ suc (deeds_before call (after_deed call k d) ds) = before_none call k d ds none in
+    let more = some_breaks call (after_deed call k d) ds (omega arith) in
+    (more.0, or_right (breaks more.0 k (call_of call k.calls) d) (is_broken_by more.0 call (after_deed call k d) ds) more.1))
+
+none_false : (test : Clause → Bool) (clauses : List Clause) → filter test clauses ≡ [] → AllByRecursion (λ c. test c ≡ false) clauses
+none_false test [] h = tt
+none_false test (c ∷ clauses) h = split (test c)
+    (λ e. let no : c ∷ filter test clauses ≡ [] = rw (e, filter) at h in absurd cc)
+    (λ e. (e, none_false test clauses (rw (e, filter) at h)))
+
+abbrev pub IsSome : List Clause → Type 0
+IsSome [] = ⊥
+IsSome (c ∷ more) = Unit {0}
+
+pub broken_some : (call : ℕ) (k : Known) (ds : List Deed) → deeds_before call k ds < length ds → IsSome (broken_by call k ds)
+broken_some call k ds h = by_clauses (broken_by call k ds) refl (some_breaks call k ds h)
+  where
+    by_clauses : (cs : List Clause) → broken_by call k ds ≡ cs → (c : Clause) × (is_broken_by c call k ds ≡ true) → IsSome cs
+    by_clauses (c ∷ more) e some = tt
+    by_clauses [] e (c, is) =
+        let never : is_broken_by c call k ds ≡ false =
+        each_clause (λ x. is_broken_by x call k ds) (none_false (λ x. is_broken_by x call k ds) all_clauses e) c in absurd cc

@@ -49,7 +49,7 @@ few_deeds (end.Reply status) None (Some cause) = omega arith
 few_deeds end.Pause a failure = omega arith
 few_deeds end.Trap a failure = omega arith
 
-abbrev deeds_across : Crossed → List Deed
+abbrev pub deeds_across : Crossed → List Deed
 deeds_across c = crossing_deeds c.end c.answer c.failure
 
 no_crossing : (context : ℕ) (e : BurstEnd) (p : PartState) → is_crossing e ≡ false → deeds_across (after_crossing context e p) ≡ []
@@ -61,23 +61,23 @@ no_crossing context (ends.Reply status) p h = let no : true ≡ false = h in abs
 
 -- a step of a burst by what runs in its context
 
-abbrev own_faults : PartState → List Fault
+abbrev pub own_faults : PartState → List Fault
 own_faults p = faults_of_burst (p.bursts + 1) p.spec.faults
 
-abbrev crossed : ℕ → PartState → DomainBurst → Crossed
+abbrev pub crossed : ℕ → PartState → DomainBurst → Crossed
 crossed context p b = after_crossing context b.ending (with_burst b.domain p)
 
-event_is : (context : ℕ) (p : PartState) → event_of p (step.Burst context)
+pub event_is : (context : ℕ) (p : PartState) → event_of p (step.Burst context)
     ≡ (burst_step context p (burst_by context (own_faults p) p.domain (context_of context p.domain.contexts))).event
 unfolding stepped burst_stepped domain_burst
 event_is context p = refl
 
 -- the deeds of a burst's event
-abbrev step_deeds : ℕ → PartState → DomainBurst → List Deed
+abbrev pub step_deeds : ℕ → PartState → DomainBurst → List Deed
 step_deeds context p b = map acts b.acts ++ deeds_across (crossed context p b)
 
 -- where nothing runs there is no deed
-none_breaks : (context : ℕ) (p : PartState) (k : Known) → context_of context p.domain.contexts ≡ None
+pub none_breaks : (context : ℕ) (p : PartState) (k : Known) → context_of context p.domain.contexts ≡ None
     → broken k (event_of p (step.Burst context)) ≡ []
 none_breaks context p k none =
     ap (broken k) (event_is context p ∙ ap (λ (o : Option Context). (burst_step context p (burst_by context (own_faults p) p.domain o)).event) none)
@@ -90,7 +90,7 @@ trap_event : (context : ℕ) (p : PartState) (b : DomainBurst) → b.ending ≡ 
 unfolding after_crossing
 trap_event context p b h = ap (λ (e : BurstEnd). (burst_event context p b (after_crossing context e (with_burst b.domain p))).event) h
 
-has_deed : (context : ℕ) (p : PartState) (d : DomainBurst) (b : Burst) (n : ℕ) → d.acts ≡ b.acts → d.ending ≡ b.ending
+pub has_deed : (context : ℕ) (p : PartState) (d : DomainBurst) (b : Burst) (n : ℕ) → d.acts ≡ b.acts → d.ending ≡ b.ending
     → n < length (step_deeds context p d) → HasDeed n b
 has_deed context p d b n ea ee h = split (nat_lt n (length b.acts))
     (λ e. inl (ltb-true n (length b.acts) e))

@@ -18,3 +18,4 @@ pub mod Free
 pub mod ValidGuarded
 pub mod Transparent
 pub mod Reaching
+pub mod GuardedPast

@@ -94,3 +94,22 @@ order_rises (f ∷ xs) = insert_rises 0 f (in_order xs) (omega arith) (order_ris
 pub burst_rises : (n : ℕ) (faults : List Fault) → IsRising 0 (faults_of_burst n faults)
 unfolding faults_of_burst
 burst_rises n faults = order_rises (filter (is_of_burst n) faults)
+
+-- two faults, of which the one strikes before the other, are put behind in either order
+pub behind_both : (t f : Fault) (ys : List Fault) → t.after < f.after → put_behind t (put_behind f ys) ≡ put_behind f (put_behind t ys)
+behind_both t f [] h =
+    behind_here t f [] (lt-leb f.after t.after h) ∙ sym (behind_later f t [] (le-leb t.after f.after (omega arith)))
+behind_both t f (g ∷ ys) h = split (nat_le g.after t.after)
+    (λ gt. let low : g.after ≤ t.after = leb-true g.after t.after gt in
+    let gf : nat_le g.after f.after ≡ true = le-leb g.after f.after (omega arith) in
+    ap (put_behind t) (behind_later f g ys gf) ∙ behind_later t g (put_behind f ys) gt
+    ∙ ap (λ (xs : List Fault). g ∷ xs) (behind_both t f ys h)
+    ∙ sym (ap (put_behind f) (behind_later t g ys gt) ∙ behind_later f g (put_behind t ys) gf))
+    (λ tg. let tf : nat_le t.after f.after ≡ true = le-leb t.after f.after (omega arith) in
+    split (nat_le g.after f.after)
+    (λ gf. ap (put_behind t) (behind_later f g ys gf) ∙ behind_here t g (put_behind f ys) tg
+    ∙ sym (ap (put_behind f) (behind_here t g ys tg) ∙ behind_later f t (g ∷ ys) tf
+    ∙ ap (λ (xs : List Fault). t ∷ xs) (behind_later f g ys gf)))
+    (λ fg. ap (put_behind t) (behind_here f g ys fg) ∙ behind_here t f (g ∷ ys) (lt-leb f.after t.after h)
+    ∙ sym (ap (put_behind f) (behind_here t g ys tg) ∙ behind_later f t (g ∷ ys) tf
+    ∙ ap (λ (xs : List Fault). t ∷ xs) (behind_here f g ys fg))))

@@ -36,7 +36,7 @@ in_context f context p (Some x) h =
     ap (λ (b : Burst). after_burst context x b p.domain)
     (burst_past f p.domain.entries (faults_of_burst (p.bursts + 1) p.spec.faults) (machine_of x p.domain) h)
 
-behind_same : (f : Fault) (context : ℕ) (p : PartState) → turns_made p (context_of context p.domain.contexts) ≤ f.after
+pub behind_same : (f : Fault) (context : ℕ) (p : PartState) → turns_made p (context_of context p.domain.contexts) ≤ f.after
     → domain_burst context (put_behind f (faults_of_burst (p.bursts + 1) p.spec.faults)) p.domain
     ≡ domain_burst context (faults_of_burst (p.bursts + 1) p.spec.faults) p.domain
 unfolding domain_burst

@@ -32,3 +32,7 @@ IsPastGuardedFrom f p k (e ∷ events) = IsPastGuarded f p k (step_of e)
 -- no burst of a part's guarded run reaches the fault
 abbrev pub IsUnreachedGuarded : Fault → PartSpec → List Event → Type 0
 IsUnreachedGuarded f spec journal = IsPastGuardedFrom f (opening spec) (known_at_first spec) journal
+
+-- a fault among the faults of a part, behind the first so many, which are the part's own
+abbrev pub inserted : ℕ → Fault → List Fault → List Fault
+inserted count f faults = take count faults ++ f ∷ drop count faults

@@ -18,6 +18,7 @@ use Rattle.machine_defs.proofs.BurstKeeps.{split}
 use Rattle.machine_defs.specs.Burst.{Burst, burst}
 use Rattle.machine_defs.specs.BurstFaults.{faults_of_burst}
 use Rattle.part_defs.proofs.PartCases.{burst_by, burst_step}
+use Rattle.part_defs.specs.Calls.{Stepped}
 use Rattle.part_defs.specs.Domain.{DomainBurst, after_burst, context_of, domain_burst, machine_of}
 use Rattle.part_defs.specs.Runs.{event_of}
 use Rattle.part_defs.specs.State.{PartState}
@@ -32,7 +33,7 @@ use Rattle.front_laws.proofs.GuardStep.{crossed, deeds_across, event_is, has_dee
 use Rattle.front_laws.proofs.Ordered.{behind_both, burst_rises, other_burst, own_burst}
 use Rattle.front_laws.proofs.Past.{burst_acts_front, burst_past}
 use Rattle.front_laws.proofs.Reaching.{burst_act_made, burst_crossing_last, burst_turns_cut}
-use Rattle.front_laws.proofs.Same.{IsSameBurst, event_same}
+use Rattle.front_laws.proofs.Same.{IsSameBurst, burst_same, event_same}
 use Rattle.front_laws.proofs.Unreached.{behind_same}
 use Rattle.front_laws.proofs.Within.{HasDeed, deed_reached, is_crossing}
 
@@ -121,3 +122,114 @@ module _ (f : Fault) (context : ℕ) (p : PartState) (k : Known) (x : Context) (
       crosses : length made.acts ≤ place → HasDeed place made → is_crossing made.ending ≡ true
       crosses low (inl act) = absurd (omega arith)
       crosses low (inr is) = is
+
+-- ---- the guard's trap, with a fault that its burst does not reach
+
+turns_in_same : (p q : PartState) (n : ℕ) (o : Option Context)
+    → ((x : Context) → o ≡ Some x → turns_before n q.domain.entries (own_faults q) (machine_of x q.domain)
+    ≡ turns_before n p.domain.entries (own_faults p) (machine_of x p.domain))
+    → turns_in q n o ≡ turns_in p n o
+turns_in_same p q n None h = refl
+turns_in_same p q n (Some x) h = h x refl
+
+abbrev trap_at : PartState → ℕ → Fault
+trap_at p after = record { burst = p.bursts + 1; after = after; kind = fault.Trap }
+
+some_trap : (cs : List Clause) (t : Fault) → IsSome cs → trap_for cs t ≡ Some t
+some_trap [] t h = absurd h
+some_trap (c ∷ more) t h = refl
+
+module _ (faults : List Fault) (p : PartState) (k : Known) (context : ℕ) where
+  abbrev with' : PartState
+  with' = with_own faults p
+
+  abbrev s' : Step
+  s' = step.Burst context
+
+  -- the burst is the same
+  other_guard : own_faults with' ≡ own_faults p → guard with' k s' ≡ guard p k s'
+  other_guard e =
+      let ev : event_of with' s' ≡ event_of p s' =
+      event_same faults p s' (ap (λ (xs : List Fault). domain_burst context xs p.domain) e) in
+      let after : turns_in with' (deeds_before (served_number context p) k (deeds_in (event_of with' s'))) (context_of context p.domain.contexts)
+      ≡ turns_in p (deeds_before (served_number context p) k (deeds_in (event_of p s'))) (context_of context p.domain.contexts) =
+      ap (λ (y : Event). turns_in with' (deeds_before (served_number context p) k (deeds_in y)) (context_of context p.domain.contexts)) ev
+      ∙ turns_in_same p with' (deeds_before (served_number context p) k (deeds_in (event_of p s'))) (context_of context p.domain.contexts)
+      (λ x runs. ap (λ (xs : List Fault). turns_before (deeds_before (served_number context p) k (deeds_in (event_of p s'))) p.domain.entries xs (machine_of x p.domain)) e) in
+      ap (λ (n : ℕ). trap_for (broken k (event_of with' s')) (trap_at p n)) after
+      ∙ ap (λ (y : Event). trap_for (broken k y) (guard_trap context p k)) ev
+
+  -- the burst breaks nothing
+  free_guard : IsSameBurst faults p s' → broken k (event_of p s') ≡ [] → guard with' k s' ≡ None
+  free_guard h none =
+      ap (λ (cs : List Clause). trap_for cs (guard_trap context with' k)) (ap (broken k) (event_same faults p s' h) ∙ none)
+
+  -- the burst breaks a clause, and the fault stands behind the guard's trap
+  module _ (f : Fault) (x : Context) (e : own_faults with' ≡ put_behind f (own_faults p)) (runs : context_of context p.domain.contexts ≡ Some x)
+      (clause : Clause) (more : List Clause) (breaks : broken k (event_of p s') ≡ clause ∷ more)
+      (early : (guard_trap context p k).after < f.after) where
+    event_made : event_of p s' ≡ (burst_step context p (after_burst context x (made f context p k x (own_faults p)) p.domain)).event
+    event_made =
+        event_is context p ∙ ap (λ (o : Option Context). (burst_step context p (burst_by context (own_faults p) p.domain o)).event) runs
+
+    event_struck : event_of with' s' ≡ (burst_step context p (after_burst context x (struck f context p k x (own_faults p)) p.domain)).event
+    event_struck =
+        event_is context with'
+        ∙ ap (λ (xs : List Fault). (burst_step context with' (burst_by context xs p.domain (context_of context p.domain.contexts))).event) e
+        ∙ ap (λ (o : Option Context). (burst_step context with' (burst_by context (put_behind f (own_faults p)) p.domain o)).event) runs
+        ∙ ap (λ (t : Stepped). t.event) (burst_same faults context p (after_burst context x (struck f context p k x (own_faults p)) p.domain))
+
+    deed : ℕ
+    deed = place f context p k x (own_faults p)
+
+    deed_is : deeds_before (served_number context p) k (deeds_in (event_of p s')) ≡ place f context p k x (own_faults p)
+    deed_is = ap (λ (y : Event). deeds_before (served_number context p) k (deeds_in y)) event_made
+
+    after_is : (guard_trap context p k).after
+        ≡ turns_before (place f context p k x (own_faults p)) p.domain.entries (own_faults p) (machine_of x p.domain)
+    after_is =
+        ap (λ (n : ℕ). turns_in p n (context_of context p.domain.contexts)) deed_is
+        ∙ ap (turns_in p (place f context p k x (own_faults p))) runs
+
+    less : place f context p k x (own_faults p) < length (deeds f context p k x (own_faults p) (made f context p k x (own_faults p)))
+    less = some_broken (served_number context p) k (deeds f context p k x (own_faults p) (made f context p k x (own_faults p))) clause more
+        (ap (broken k) (sym event_made) ∙ breaks)
+
+    wrong : IsAsWrong f context p k x (own_faults p) (struck f context p k x (own_faults p))
+    wrong = still_wrong f context p k x (own_faults p) less
+        (subst (λ (n : ℕ). n < f.after) after_is early)
+
+    struck_guard : guard with' k s' ≡ Some (guard_trap context p k)
+    struck_guard =
+        let after : turns_in with' (deeds_before (served_number context p) k (deeds_in (event_of with' s'))) (context_of context p.domain.contexts)
+        ≡ (guard_trap context p k).after =
+        ap (λ (y : Event). turns_in with' (deeds_before (served_number context p) k (deeds_in y)) (context_of context p.domain.contexts)) event_struck
+        ∙ ap (λ (n : ℕ). turns_in with' n (context_of context p.domain.contexts)) wrong.before
+        ∙ ap (turns_in with' (place f context p k x (own_faults p))) runs
+        ∙ ap (λ (xs : List Fault). turns_before (place f context p k x (own_faults p)) p.domain.entries xs (machine_of x p.domain)) e
+        ∙ before_same f (place f context p k x (own_faults p)) p.domain.entries (own_faults p) (machine_of x p.domain)
+        (subst (λ (n : ℕ). n < f.after) after_is early)
+        ∙ sym after_is in
+        ap (λ (n : ℕ). trap_for (broken k (event_of with' s')) (trap_at p n)) after
+        ∙ ap (λ (y : Event). trap_for (broken k y) (guard_trap context p k)) event_struck
+        ∙ some_trap _ (guard_trap context p k) wrong.wrong
+
+    -- the burst with the trap does not come to the fault
+    turns_few : turns_made (with_own (p.spec.faults ++ guard_trap context p k ∷ []) p) (context_of context p.domain.contexts) ≤ f.after
+    turns_few =
+        let t : Fault = guard_trap context p k in
+        let q : PartState = with_own (p.spec.faults ++ t ∷ []) p in
+        let behind : own_faults q ≡ put_behind t (own_faults p) =
+        own_burst (p.bursts + 1) p.spec.faults t (eq-eqb (p.bursts + 1) (p.bursts + 1) refl) in
+        let has = has_deed context p (after_burst context x (made f context p k x (own_faults p)) p.domain) (made f context p k x (own_faults p))
+        (place f context p k x (own_faults p)) refl refl less in
+        let reached = deed_reached (place f context p k x (own_faults p)) p.domain.entries (own_faults p) (machine_of x p.domain) has in
+        let cut : turns_of p.domain.entries (put_behind t (own_faults p)) (machine_of x p.domain) ≡ t.after =
+        burst_turns_cut t p.domain.entries (own_faults p) (machine_of x p.domain) refl (burst_rises (p.bursts + 1) p.spec.faults)
+        (subst (λ (n : ℕ). n < turns_of p.domain.entries (own_faults p) (machine_of x p.domain)) (sym after_is) reached) in
+        let all : turns_made q (context_of context p.domain.contexts) ≡ t.after =
+        ap (turns_made q) runs ∙ ap (λ (xs : List Fault). turns_of p.domain.entries xs (machine_of x p.domain)) behind ∙ cut in
+        below (turns_made q (context_of context p.domain.contexts)) t.after all early
+      where
+        below : (a b : ℕ) → a ≡ b → b < f.after → a ≤ f.after
+        below a b e h = omega arith

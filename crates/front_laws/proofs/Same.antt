@@ -135,7 +135,7 @@ crossing_same faults context (ends.Reply status) p = split (context == 16)
 
 -- bursts and stages
 
-burst_same : (faults : List Fault) (context : ℕ) (p : PartState) (b : DomainBurst)
+pub burst_same : (faults : List Fault) (context : ℕ) (p : PartState) (b : DomainBurst)
     → burst_step context (with_own faults p) b ≡ carried faults (burst_step context p b)
 burst_same faults context p b = ap (burst_event context p b) (crossing_same faults context b.ending (with_burst b.domain p))
 

@@ -8,3 +8,4 @@ pub mod ClauseCases
 mod OnLiterals
 mod InputOnLiterals
 mod TraceOnLiterals
+mod GuardOnLiterals

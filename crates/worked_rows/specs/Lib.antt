@@ -16,3 +16,4 @@ pub mod Verdicts
 pub mod OtherClasses
 pub mod Clauses
 pub mod Fronts
+pub mod GuardedCases

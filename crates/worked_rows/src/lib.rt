@@ -4,6 +4,7 @@
 pub mod assembling;
 pub mod clauses;
 pub mod fronts;
+pub mod guarded;
 pub mod inputs;
 pub mod machine;
 pub mod recovered;

@@ -1,0 +1,61 @@
+use Rattle.std.specs.Prelude.{◌≡◌, ◌≤◌, ℕ, ◌+◌, nat_le, if◌then◌else◌, Option, Some, None, List, [], ◌∷◌}
+use Rattle.nook_data.specs.Types.{Act, Context, Event, Fault, PartSpec, Step}
+use Rattle.nook_data.specs.declared.machine.BurstEnd.TheVariants as ends
+use Rattle.nook_data.specs.declared.machine.TrapCause.TheVariants as trap
+use Rattle.nook_data.specs.declared.steps.Step.TheVariants as step
+use Rattle.guard_defs.specs.Guard.{with_own}
+use Rattle.guard_defs.specs.Turns.{turns_of}
+use Rattle.machine_defs.specs.Burst.{Burst}
+use Rattle.machine_defs.specs.BurstFaults.{faults_of_burst}
+use Rattle.part_defs.specs.Domain.{context_of, machine_of}
+use Rattle.part_defs.specs.Runs.{IsRun, state_after, state_of, step_of}
+use Rattle.part_defs.specs.State.{PartState}
+use Rattle.part_defs.specs.Steps.{opening}
+
+-- What a fault leaves as it is: the events before its burst, and the bursts that do not reach its place.
+
+-- a part of a scenario with other faults
+abbrev pub with_faults : List Fault → PartSpec → PartSpec
+with_faults faults spec = record spec { faults = faults }
+
+-- the events are as much a run of the part with other faults, and lead to the same part but for these
+pub record IsSameRun (spec : PartSpec) (faults : List Fault) (events : List Event) : Type 0 where
+  pub there : IsRun spec events → IsRun (with_faults faults spec) events
+  pub back : IsRun (with_faults faults spec) events → IsRun spec events
+  pub state : state_of (with_faults faults spec) events ≡ with_own faults (state_of spec events)
+
+-- a fault behind those of a burst that strike no later, so before those of later places
+abbrev pub put_behind : Fault → List Fault → List Fault
+put_behind f [] = f ∷ []
+put_behind f (g ∷ faults) = if nat_le g.after f.after then g ∷ put_behind f faults else f ∷ g ∷ faults
+
+-- the turns of the next burst of what runs in a context; none where nothing runs
+abbrev pub turns_made : PartState → Option Context → ℕ
+turns_made p None = 0
+turns_made p (Some x) = turns_of p.domain.entries (faults_of_burst (p.bursts + 1) p.spec.faults) (machine_of x p.domain)
+
+-- a step does not reach a fault: it is no burst of the fault's number, or one that makes at most so many turns
+abbrev pub IsPast : Fault → PartState → Step → Type 0
+IsPast f p (step.Burst context) = p.bursts + 1 ≡ f.burst
+    → turns_made p (context_of context p.domain.contexts) ≤ f.after
+IsPast f p s = Unit {0}
+
+-- no step of the events reaches the fault
+unfoldable pub IsPastFrom : Fault → PartState → List Event → Type 0
+IsPastFrom f p [] = Unit {0}
+IsPastFrom f p (e ∷ events) = IsPast f p (step_of e) × IsPastFrom f (state_after p (step_of e)) events
+
+-- no burst of a part's journal reaches the fault
+abbrev pub IsUnreached : Fault → PartSpec → List Event → Type 0
+IsUnreached f spec journal = IsPastFrom f (opening spec) journal
+
+-- faults in rising order of their places, the first at this place or later
+abbrev pub IsRising : ℕ → List Fault → Type 0
+IsRising place [] = Unit {0}
+IsRising place (f ∷ faults) = (place ≤ f.after) × IsRising f.after faults
+
+-- a burst that an injected trap ends after so many turns, with these acts
+pub record IsCutShort (turns : ℕ) (acts : List Act) (b : Burst) : Type 0 where
+  pub acts_of_turns : b.acts ≡ acts
+  pub count : b.count ≡ turns
+  pub ending : b.ending ≡ ends.Trap trap.Injected

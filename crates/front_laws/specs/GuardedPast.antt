@@ -1,0 +1,38 @@
+use Rattle.std.specs.Prelude.{◌≡◌, ◌≤◌, ◌<◌, ℕ, ◌+◌, Option, Some, None, List, [], ◌∷◌, ◌++◌, take, drop, length}
+use Rattle.nook_data.specs.Types.{Event, Fault, PartSpec, Step}
+use Rattle.nook_data.specs.declared.steps.Step.TheVariants as step
+use Rattle.guard_defs.specs.Guard.{guard, guarded, known_at_first}
+use Rattle.part_defs.specs.Domain.{context_of}
+use Rattle.part_defs.specs.Runs.{state_after, step_of}
+use Rattle.part_defs.specs.State.{PartState}
+use Rattle.part_defs.specs.Steps.{opening}
+use Rattle.promise_defs.specs.Contract.{Known, known_after}
+use Rattle.front_laws.specs.Fronts.{turns_made}
+
+-- What a fault leaves as it is of a guarded run.
+
+-- a burst under the guard does not come to a fault: it makes at most as many turns as the fault is after, or the guard's
+-- trap stands before the fault's place. At the trap's own place the fault would strike first
+abbrev pub StaysBefore : Fault → PartState → ℕ → Option Fault → Type 0
+StaysBefore f p context None = turns_made p (context_of context p.domain.contexts) ≤ f.after
+StaysBefore f p context (Some stop) = stop.after < f.after
+
+-- a guarded step does not reach a fault
+abbrev pub IsPastGuarded : Fault → PartState → Known → Step → Type 0
+IsPastGuarded f p k (step.Burst context) =
+    p.bursts + 1 ≡ f.burst → StaysBefore f p context (guard p k (step.Burst context))
+IsPastGuarded f p k s = Unit {0}
+
+-- no step of a guarded run reaches the fault
+unfoldable pub IsPastGuardedFrom : Fault → PartState → Known → List Event → Type 0
+IsPastGuardedFrom f p k [] = Unit {0}
+IsPastGuardedFrom f p k (e ∷ events) = IsPastGuarded f p k (step_of e)
+    × IsPastGuardedFrom f (state_after (guarded p k (step_of e)) (step_of e)) (known_after k e) events
+
+-- no burst of a part's guarded run reaches the fault
+abbrev pub IsUnreachedGuarded : Fault → PartSpec → List Event → Type 0
+IsUnreachedGuarded f spec journal = IsPastGuardedFrom f (opening spec) (known_at_first spec) journal
+
+-- a fault among the faults of a part, behind the first so many, which are the part's own
+abbrev pub inserted : ℕ → Fault → List Fault → List Fault
+inserted count f faults = take count faults ++ f ∷ drop count faults

@@ -1,0 +1,5 @@
+pub mod Fronts
+pub mod Guarded
+pub mod Owned
+pub mod GuardedParts
+pub mod GuardedPast

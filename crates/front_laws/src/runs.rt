@@ -1,0 +1,67 @@
+//! Whole scenarios: a fault that is not reached, and the guarded run.
+
+ghost use Rattle.front_laws.specs.Fronts.{IsUnreached};
+ghost use Rattle.front_laws.specs.GuardedParts.{IsGuardedPart, NoneBreaks};
+ghost use Rattle.front_laws.specs.Owned.{owned, struck_at};
+ghost use Rattle.guard_defs.specs.Guard.{HasRoom};
+ghost use Rattle.guard_defs.specs.GuardedRuns.{IsGuardedSchedule, guarded_runs, guarded_scenario};
+ghost use Rattle.nook_data.specs.Members.{struck};
+ghost use Rattle.nook_data.specs.Valid.{IsValidScenario};
+ghost use Rattle.nook_data.specs.declared.scenario.Fault.{Fault};
+ghost use Rattle.nook_data.specs.declared.scenario.PartSpec.{PartSpec};
+ghost use Rattle.nook_data.specs.declared.scenario.Scenario.{Scenario};
+ghost use Rattle.run_defs.specs.Simulation.{IsScheduledRun, RunningPart, Simulation, answer_table, begins};
+ghost use Rattle.run_defs.specs.Simulation.{journals_of, runs};
+ghost use Rattle.std.specs.Prelude.{ℕ, All, Some, slice_get, ◌≡◌};
+
+/// A fault that a part's journal does not reach leaves the whole run of the scenario as it is: after as many steps the
+/// struck scenario's run is the same but for that fault. So the struck scenario's scheduled run has the same journals
+/// and answers.
+pub fn a_fault_that_is_not_reached_leaves_the_run()
+    ensures steps { (scenario : Scenario) (place : ℕ) (fault : Fault) (steps : ℕ) (spec : PartSpec)
+        (seat : RunningPart) → slice_get scenario.parts place ≡ Some spec
+        → slice_get (runs steps (begins scenario)).parts place ≡ Some seat
+        → IsUnreached fault spec seat.run.journal
+        → runs steps (begins (struck scenario place fault))
+        ≡ owned (struck_at place fault) (runs steps (begins scenario)) }
+    ensures whole { (scenario : Scenario) (place : ℕ) (fault : Fault) (s : Simulation) (spec : PartSpec)
+        (seat : RunningPart) → IsScheduledRun scenario s → slice_get scenario.parts place ≡ Some spec
+        → slice_get s.parts place ≡ Some seat → IsUnreached fault spec seat.run.journal
+        → IsScheduledRun (struck scenario place fault) (owned (struck_at place fault) s) }
+    ensures same { (place : ℕ) (fault : Fault) (s : Simulation)
+        → (journals_of (owned (struck_at place fault) s) ≡ journals_of s)
+        × (answer_table (owned (struck_at place fault) s) ≡ answer_table s) }
+{}
+
+/// The guarded run of a scenario is the scheduled run of the guarded scenario, each part of which has its own faults
+/// and behind them the guard's traps. So what holds of every scheduled run holds of it.
+pub fn the_guarded_run_is_a_scheduled_run()
+    ensures { (scenario : Scenario) (s : Simulation) → IsGuardedSchedule scenario s
+        → IsScheduledRun (guarded_scenario scenario s) s }
+{}
+
+/// Each part of a guarded run of a scenario has a guarded run, and its faults are its own with the guard's traps behind
+/// them. So its journal breaks no clause, and it has at most as many traps as its limit and one.
+pub fn each_part_of_a_guarded_run_is_guarded()
+    ensures { (scenario : Scenario) (place : ℕ) (steps : ℕ) (spec : PartSpec) (seat : RunningPart)
+        → slice_get scenario.parts place ≡ Some spec
+        → slice_get (guarded_runs steps (begins scenario)).parts place ≡ Some seat → IsGuardedPart spec seat }
+{}
+
+/// A scenario has at most one guarded run.
+pub fn a_scenario_has_one_guarded_run()
+    ensures { (scenario : Scenario) (s t : Simulation) → IsGuardedSchedule scenario s
+        → IsGuardedSchedule scenario t → s ≡ t }
+{}
+
+/// A scheduled run in which no part breaks a clause is the guarded run, so that it has no trap.
+pub fn a_scheduled_run_that_breaks_nothing_is_guarded()
+    ensures { (scenario : Scenario) (s : Simulation) → IsScheduledRun scenario s → NoneBreaks s
+        → IsGuardedSchedule scenario s }
+{}
+
+/// The guarded scenario of a valid scenario is valid, where each part's list of faults has room for the traps.
+pub fn the_guarded_scenario_is_valid()
+    ensures { (scenario : Scenario) (steps : ℕ) → IsValidScenario scenario → All HasRoom scenario.parts
+        → IsValidScenario (guarded_scenario scenario (guarded_runs steps (begins scenario))) }
+{}

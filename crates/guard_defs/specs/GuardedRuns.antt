@@ -1,0 +1,46 @@
+use Rattle.std.specs.Prelude.{◌≡◌, ℕ, zero, suc, List, [], ◌∷◌, Some, None, map, fold, slice_get, option_map}
+use Rattle.nook_data.specs.Types.{PartSpec, Scenario, Step}
+use Rattle.promise_defs.specs.Contract.{Known, known_after}
+use Rattle.run_defs.specs.Schedules.{picked}
+use Rattle.run_defs.specs.Simulation.{Choice, RunningPart, Simulation, actor_of, begins, choices_of, stepped_by}
+use Rattle.guard_defs.specs.Guard.{guarded, known_at_first}
+
+-- The guarded run of a scenario: its scheduled run, in which each burst that would break a clause is made with the
+-- guard's trap behind the faults of its part.
+
+-- what is known of a part by its journal
+abbrev pub known_of : RunningPart → Known
+known_of seat = fold known_after (known_at_first seat.run.state.spec) seat.run.journal
+
+-- a part as it takes a step under the guard
+abbrev pub guarded_seat : Step → RunningPart → RunningPart
+guarded_seat s seat = record seat { run = record seat.run { state = guarded seat.run.state (known_of seat) s } }
+
+-- the simulation after the choice that the schedule picks, made under the guard
+unfoldable pub guarded_taken : Simulation → List Choice → Simulation
+guarded_taken s choices =
+    let p = picked s.order (map actor_of choices) in
+    elim (slice_get choices p.place) [
+      | None ↦ record s { order = p.order }
+      | Some c ↦ stepped_by s p.order c (option_map (guarded_seat c.step) (slice_get s.parts c.part))
+    ]
+
+-- at most so many steps under the guard, until no actor has one
+unfoldable pub guarded_runs : ℕ → Simulation → Simulation
+guarded_runs zero s = s
+guarded_runs (suc more) s =
+    elim (choices_of s) [ [] ↦ s | (c ∷ choices) ↦ guarded_runs more (guarded_taken s (c ∷ choices)) ]
+
+-- a part as a scenario gives it
+abbrev pub spec_of : RunningPart → PartSpec
+spec_of seat = seat.run.state.spec
+
+-- the guarded scenario, by its guarded run: each part has its own faults and behind them the traps, as they were found
+abbrev pub guarded_scenario : Scenario → Simulation → Scenario
+guarded_scenario scenario s = record scenario { parts = map spec_of s.parts }
+
+-- the simulation is the whole guarded run of the scenario: no actor has a step left
+pub record IsGuardedSchedule (scenario : Scenario) (s : Simulation) : Type 0 where
+  pub steps : ℕ
+  pub reached : guarded_runs steps (begins scenario) ≡ s
+  pub ended : choices_of s ≡ []

@@ -1,0 +1,4 @@
+pub mod Deeds
+pub mod Turns
+pub mod Guard
+pub mod GuardedRuns

@@ -3,4 +3,5 @@ mod Fronts
 mod FirstBreak
 mod GivenUp
 mod Away
+mod Failing
 pub mod Safe

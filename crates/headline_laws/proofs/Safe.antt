@@ -1,6 +1,8 @@
 use Rattle.std.proofs.Common.{◌≡◌, ℕ, ◌-◌, true, false, Some, List, [], ◌∷◌, ◌++◌, take, sym, ap, subst, ◌∙◌}
 use Rattle.nook_data.specs.declared.steps.Event.{Event}
 use Rattle.nook_data.specs.declared.steps.Event.TheVariants as event
+use Rattle.nook_data.specs.declared.steps.Mode.TheVariants as mode
+use Rattle.nook_data.specs.declared.steps.Stage.TheVariants as stage
 use Rattle.nook_data.specs.declared.scenario.PartSpec.{PartSpec}
 use Rattle.nook_data.specs.declared.verdicts.Break.{Break}
 use Rattle.nook_data.specs.Valid.{IsValidPart}
@@ -15,11 +17,12 @@ use Rattle.part_laws.proofs.ReadAloud.{kept_agrees, kept_licensed, kept_shows_on
 use Rattle.part_laws.proofs.RunBound.{run_bound}
 use Rattle.part_laws.proofs.StepsFit.{run_collecting, run_isolated}
 use Rattle.part_laws.proofs.ValidFits.{valid_fits}
-use Rattle.part_laws.specs.Bound.{failures_of, is_burst}
+use Rattle.part_laws.specs.Bound.{carries_failure, failures_of, is_burst}
 use Rattle.part_laws.specs.Facts.{is_dead}
 use Rattle.part_laws.specs.Fit.{IsFitSpec}
 use Rattle.part_laws.specs.Recovery.{IsKeptRun}
 use Rattle.headline_laws.proofs.Away.{short_away}
+use Rattle.headline_laws.proofs.Failing.{failure_stops}
 use Rattle.headline_laws.proofs.FirstBreak.{before_break, broken_at}
 use Rattle.headline_laws.proofs.Fronts.{IsFrontOf, front_of, state_parts}
 use Rattle.headline_laws.proofs.GivenUp.{dead_gone, given_up_from, gives_up, gone_bursts}
@@ -54,6 +57,14 @@ giving_up_in spec front back e fits f alive dead =
     subst (λ (n : ℕ). IsGivingUp p n e) (run_measured spec front fits f.run).failures
     (subst (λ (x : Event). IsGivingUp p p.failures x) f.more.1 (gives_up p (step_of e) alive now))
 
+-- an event that carries a failure
+failing_in : (spec : PartSpec) (front back : List Event) (e : Event) → IsFrontOf spec front (e ∷ back)
+    → carries_failure e ≡ true → (state_of spec (front ++ e ∷ [])).mode ≡ mode.Recovering stage.Stop
+unfolding IsRunFrom
+failing_in spec front back e f failed =
+    ap (λ (q : PartState). q.mode) (one_further (opening spec) front e)
+    ∙ failure_stops (state_of spec front) e f.more.1 failed
+
 pub run_safe : (spec : PartSpec) (journal : List Event) → IsValidPart spec → IsRun spec journal → IsSafe spec journal
 run_safe spec journal valid run =
     let fits : IsFitSpec spec = valid_fits spec valid in
@@ -62,6 +73,8 @@ run_safe spec journal valid run =
       isolated = run_isolated spec journal fits run;
       collecting = run_collecting spec journal fits run;
       bounded = run_bound spec journal fits run;
+      failing = λ front back e parts failed.
+          failing_in spec front back e (front_of spec journal front (e ∷ back) fits run parts) failed;
       recovery = λ front back parts.
           let f = front_of spec journal front back fits run parts in
           short_away (state_of spec front) back f.fit f.tied f.more;

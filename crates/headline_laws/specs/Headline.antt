@@ -3,13 +3,15 @@ use Rattle.std.specs.Prelude.{◌≡◌, ◌≤◌, true, false, None, List, [],
 use Rattle.std.specs.List.{AllByRecursion}
 use Rattle.nook_data.specs.declared.steps.Event.{Event}
 use Rattle.nook_data.specs.declared.scenario.PartSpec.{PartSpec}
+use Rattle.nook_data.specs.declared.steps.Mode.TheVariants as mode
+use Rattle.nook_data.specs.declared.steps.Stage.TheVariants as stage
 use Rattle.promise_defs.specs.Contract.{first_break}
 use Rattle.promise_defs.specs.Ideal.{Ideal, IsClassRun}
 use Rattle.promise_defs.specs.Isolation.{IsIsolated}
 use Rattle.promise_defs.specs.Licence.{IsLicensed}
 use Rattle.part_defs.specs.Runs.{IsRun, state_of}
 use Rattle.promise_defs.specs.Trace.{trace}
-use Rattle.part_laws.specs.Bound.{failures_of, most_events}
+use Rattle.part_laws.specs.Bound.{carries_failure, failures_of, most_events}
 use Rattle.part_laws.specs.Collection.{IsCollecting}
 use Rattle.part_laws.specs.Facts.{is_dead}
 use Rattle.part_laws.specs.Recovery.{Agrees, ShowsDevice}
@@ -37,6 +39,9 @@ pub record IsSafe (spec : PartSpec) (journal : List Event) : Type 0 where
   pub collecting : IsCollecting spec journal
   -- the journal has no more events than its calls, failures and arrivals are worth, so every recovery ends
   pub bounded : length journal ≤ most_events journal
+  -- an event that carries a failure begins a recovery
+  pub failing : (front back : List Event) (e : Event) → journal ≡ front ++ e ∷ back → carries_failure e ≡ true
+      → (state_of spec (front ++ e ∷ [])).mode ≡ mode.Recovering stage.Stop
   -- after every front of the journal, one that ends with a failure among them, the driver is soon back: until the part
   -- is Running or Dead, or fails again, it takes at most 11 stages and 192 bursts, each of at most 4,096 turns
   pub recovery : (front back : List Event) → journal ≡ front ++ back

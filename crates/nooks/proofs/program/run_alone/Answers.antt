@@ -3,9 +3,6 @@ use Rattle.nooks.proofs.Called.{form_ended, unformed_ended}
 use Rattle.nooks.proofs.Written.{no_form_ends}
 use Rattle.nooks.proofs.program.run_alone.Goals as goal
 
-pub run_form-requires-alone : goal.run_form-requires-alone
-run_form-requires-alone g c = c.requires c.in-Some.asked c.in-Some.ensures.found
-
 pub returns-in-Some-clause-ends : goal.returns-in-Some-clause-ends
 returns-in-Some-clause-ends g c =
     form_ended _ c.in-Some.asked _ _ _ c.run_form.result c.in-Some.ensures.found c.run_form.ensures.ends c.run_form.ensures.taken

@@ -15,7 +15,7 @@ use Rattle.memchr.specs.Find.{NoneBefore, Nowhere, Passes, is_byte}
 use Rattle.audit_input.specs.Handed.{HandsNothing, NamesNoLength}
 
 -- no digit of a number is a line feed
-no_feed : (n i : ℕ) → n < 100000000 → i < length (decimal n) → get_or (decimal n) i 0 ≡ 10 → ⊥
+pub no_feed : (n i : ℕ) → n < 100000000 → i < length (decimal n) → get_or (decimal n) i 0 ≡ 10 → ⊥
 no_feed n i small low e =
     let few : n < 2 ^ 64 = omega (arith, small) in
     not_in_digits (numerals_by_value _ tells_digits) (decimal n) 10 (digits_decimal (numerals_by_value _ tells_digits) n few)

@@ -3,6 +3,8 @@ use Rattle.std.specs.Prelude.{◌≡◌, ℕ, ◌≤◌, ◌==◌, ◌&&◌, nat
 use Rattle.std.specs.Prelude.{None, List, [], ◌∷◌, codes, decimal}
 use Rattle.command_forms.specs.declared.words.Form.{Form}
 use Rattle.command_forms.specs.declared.words.Form.TheVariants as form
+use Rattle.command_forms.specs.declared.words.WaitingForm.{WaitingForm}
+use Rattle.command_forms.specs.declared.words.WaitingForm.TheVariants as waiting
 
 -- the words are of this form; numbers are in decimal, with no sign and no leading zero
 abbrev pub IsForm : List (List ℕ) → Form → Type 0
@@ -54,6 +56,21 @@ limit_of asked = 1048576
 -- nothing is read for these words
 abbrev pub AskUnread : List (List ℕ) → Type 0
 AskUnread words = (form : Form) → IsForm words form → is_reading form ≡ false
+
+-- it waits for nobody: threads and mirrors alone wait, for their turns at a part
+abbrev pub is_alone : Form → Bool
+is_alone form.RunThreads = false
+is_alone form.Mirror = false
+is_alone asked = true
+
+-- what these words ask for waits for nobody
+abbrev pub AskAlone : List (List ℕ) → Type 0
+AskAlone words = (form : Form) → IsForm words form → is_alone form ≡ true
+
+-- the form that a waiting form is
+abbrev pub form_for : WaitingForm → Form
+form_for waiting.RunThreads = form.RunThreads
+form_for waiting.Mirror = form.Mirror
 
 -- the text begins with neither a sign nor a zero
 abbrev pub is_plain : List ℕ → Bool

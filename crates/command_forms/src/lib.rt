@@ -1,6 +1,8 @@
 //! The forms of words that the program knows: what it is asked to do.
 #![tactic(auto)]
 
+mod laws;
 mod words;
 
-pub use words::{Form, form_of};
+pub use laws::words_are_of_one_form;
+pub use words::{Form, WaitingForm, form_of, waiting_form_of};

@@ -1,7 +1,7 @@
 //! The forms of words that the program knows.
 
 ghost use Rattle.std.specs.Prelude.{◌≡◌, ℕ, ◌≤◌, [], ◌∷◌, codes, decimal, map, string_bytes, IfNone, IfSome};
-ghost use Rattle.command_forms.specs.Forms.{IsForm, IsNoForm, is_plain, within};
+ghost use Rattle.command_forms.specs.Forms.{AskAlone, IsForm, IsNoForm, form_for, is_plain, within};
 
 /// What the program is asked to do.
 #[derive(Clone, Copy, Debug, PartialEq, Eq)]
@@ -34,6 +34,15 @@ pub enum Form {
     Version,
 }
 
+/// A form that waits for a turn at a part: threads call the part, or the two sides of a mirror.
+#[derive(Clone, Copy, Debug, PartialEq, Eq)]
+pub enum WaitingForm {
+    /// `run threads`.
+    RunThreads,
+    /// `mirror`.
+    Mirror,
+}
+
 /// The greatest number of a generated scenario.
 const MOST_GENERATED: u32 = 256;
 
@@ -49,6 +58,18 @@ pub fn form_of(words: &[String]) -> Option<Form>
         [word] => form_of_word(word.as_str()),
         [word, second] => form_of_two(word.as_str(), second.as_str()),
         [word, second, third] => form_of_three(word.as_str(), second.as_str(), third.as_str()),
+        _ => None,
+    }
+}
+
+/// The form of the words that waits; `None` exactly where they ask for nothing that does.
+pub fn waiting_form_of(words: &[String]) -> Option<WaitingForm>
+    ensures found { IfSome result (λ waiting. IsForm (map string_bytes words.now) (form_for waiting)) }
+    ensures none { IfNone result (AskAlone (map string_bytes words.now)) }
+{
+    match form_of(words) {
+        Some(Form::RunThreads) => Some(WaitingForm::RunThreads),
+        Some(Form::Mirror) => Some(WaitingForm::Mirror),
         _ => None,
     }
 }

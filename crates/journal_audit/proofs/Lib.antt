@@ -12,3 +12,4 @@ pub mod OnPart
 pub mod Hearing
 pub mod SectionSteps
 pub mod Naming
+pub mod OnBus

@@ -9,6 +9,7 @@ mod comparing;
 mod cursor;
 mod ending;
 mod last;
+mod own;
 mod script;
 mod section;
 mod stop;
@@ -16,3 +17,4 @@ mod tally;
 mod words;
 
 pub use auditing::audit;
+pub use own::own_listeners;

@@ -9,6 +9,7 @@ ghost use Rattle.journal_audit.specs.Tallies.{SumsUp, judged_in};
 ghost use Rattle.report_text.specs.Statuses.{status_number};
 ghost use Rattle.request_taps.specs.Bus.{result_of, seen, settled, told_all};
 
+use crate::own::own_listeners;
 use crate::section::Section;
 use nook_data::calls::AnswerTable;
 use nook_data::lists::Items;
@@ -20,19 +21,6 @@ use report_text::{PartReport, ReportStatus};
 use request_taps::Bus;
 use std::alloc::Global;
 use std::marker::Model;
-
-/// The total at which a listener of the program's own has heard enough.
-const ENOUGH: u64 = 1_000_000;
-
-/// Every part.
-const ALL_PARTS: u8 = 255;
-
-/// The kinds of events that the program's own listeners hear.
-const FAILURES: u8 = 32;
-
-const BURSTS: u8 = 4;
-
-const ANSWERS: u8 = 64;
 
 /// What is kept of the sections that are over: the answers, what the program's own listeners heard, and whether some
 /// part broke its contract or was given up.
@@ -123,16 +111,12 @@ fn is_given_up(section: &Section) -> bool
     section.spec().limit < section.part().failures()
 }
 
-/// The program's own listeners.
+/// The program's own listeners, none of which has heard anything.
 fn own_taps(alloc: Global) -> Result<Bus<CountListener>, NoMemory>
     ensures { IfOk result (λ taps. map (seen ⟦<CountListener as Listener>⟧.listening) taps
         ≡ map settled own_listeners) }
 {
-    let listeners = vec![in alloc;
-        CountListener::new(ALL_PARTS, FAILURES, ENOUGH),
-        CountListener::new(ALL_PARTS, BURSTS, ENOUGH),
-        CountListener::new(ALL_PARTS, ANSWERS, ENOUGH),
-    ]?;
+    let listeners = own_listeners(alloc)?;
     Bus::of(alloc, listeners)
 }
 

@@ -36,7 +36,7 @@ fitting_run s [] h = tt
 fitting_run s (e ∷ events) h = (h.0, h.1, fitting_run (section_after s _) events h.3)
 
 -- journals that fit are runs of their parts
-fitting_runs : (threads : List ThreadSpec) (place : ℕ) (specs : List PartSpec) (journals : List (List Event))
+pub fitting_runs : (threads : List ThreadSpec) (place : ℕ) (specs : List PartSpec) (journals : List (List Event))
     → AllFit threads place specs journals → AreRuns specs journals
 unfolding AllFit
 fitting_runs threads place [] [] h = tt
@@ -45,7 +45,7 @@ fitting_runs threads place (spec ∷ specs) [] h = absurd h
 fitting_runs threads place (spec ∷ specs) (journal ∷ journals) h =
     (fitting_run (opening_section threads place spec) journal h.0, fitting_runs threads (suc place) specs journals h.1)
 
-sound_report : (scenario : Scenario) (report : List ℕ) → IsValidScenario scenario → audited scenario report ≡ None → IsSound scenario report
+pub sound_report : (scenario : Scenario) (report : List ℕ) → IsValidScenario scenario → audited scenario report ≡ None → IsSound scenario report
 sound_report scenario report valid fits =
     let told = report_read scenario report fits in record {
       journals = told.0;

@@ -1,4 +1,5 @@
 pub mod Audits
+pub mod Called
 pub mod Campaigns
 pub mod Mirrors
 pub mod Reports

@@ -77,7 +77,7 @@ known_status true gone = (ended.ContractBroken, refl)
 known_status false true = (ended.GivenUp, refl)
 known_status false false = (ended.Done, refl)
 
-run_status : (specs : List PartSpec) (journals : List (List Event)) → (status : Status) × IsReportStatus (status_of specs journals) status
+pub run_status : (specs : List PartSpec) (journals : List (List Event)) → (status : Status) × IsReportStatus (status_of specs journals) status
 run_status specs journals = known_status (has_break specs journals) (has_given_up specs journals)
 
 -- a status that is told by its number is the run's
@@ -221,12 +221,6 @@ summary_begun number report sink made front =
     }
 
 -- ---- what is made of a simulated run
-
--- listeners that are settled, seen one by one or all at once
-pub settled_all : {A : Type 0} → (listening : A → Listening) (listeners : List A)
-    → map (λ l. settled (listening l)) listeners ≡ map settled (map listening listeners)
-settled_all listening [] = refl
-settled_all listening (l ∷ listeners) = ap (λ taps. settled (listening l) ∷ taps) (settled_all listening listeners)
 
 -- the listeners of a bus count what they hear of the run
 pub scheduled_of : (scenario : Scenario) (hearing : List Listening) (run : Run) (old new : List (Tap Listening)) → old ≡ map settled hearing

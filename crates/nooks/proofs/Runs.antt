@@ -4,7 +4,7 @@ use Rattle.std.proofs.lemmas.Bool.{le-leb, leb-true}
 use Rattle.nook_io.specs.Causes.{ReadsAll, Rose}
 use Rattle.nook_io.specs.Listening.{Listening}
 use Rattle.nooks.specs.Answers.{Answers}
-use Rattle.nooks.specs.Endings.{AnswersBytes, AnswersWords, IsAnswered, IsWritten, ReadsFor, input_for}
+use Rattle.nooks.specs.Endings.{AnswersBytes, AnswersWords, IsAnswerStatus, IsWritten, ReadsFor, input_for}
 use Rattle.command_forms.specs.Forms.{is_reading, limit_of}
 use Rattle.nooks.specs.Streams.{Change, Input, Reads, TooLong, Whole, input_of}
 use Rattle.nooks.specs.declared.program.Status.{Status}
@@ -86,9 +86,9 @@ answered_bytes words hearing told rest faults after text status answer = record 
 -- where neither side failed
 pub plain_ends : (words : List (List ℕ)) (hearing : List Listening) (told : List ℕ) (rest : Option (List ℕ)) (faults after : ℕ) (sink : Change)
     (status : Status)
-    → (IsAnswered status
+    → (IsAnswerStatus status
     → IsWritten (AnswersWords words hearing (record { before = record { told = Some told; faults = faults }; after = record { told = rest; faults = after } })) sink status)
-    → IsAnswered status ⊎ (status ≡ ended.NoMemory)
+    → IsAnswerStatus status ⊎ (status ≡ ended.NoMemory)
     → (status ≡ ended.NoMemory) ⊎ ((text : List ℕ) × AnswersBytes words hearing told text status)
 plain_ends words hearing told rest faults after sink status written (inl is) =
     let w = written is in inr (w.text, answered_bytes words hearing told rest faults after w.text status w.answer)

@@ -3,11 +3,13 @@ use Rattle.std.proofs.Common.{◌≡◌, ℕ, List, [], Bool, true, false, is_so
 use Rattle.nook_io.specs.Listening.{Listening}
 use Rattle.input_defs.specs.ScenarioReading.{scenario_from}
 use Rattle.nook_data.specs.declared.scenario.Scenario.{Scenario}
+use Rattle.burst_trace.proofs.Retold.{tells_burst}
 use Rattle.burst_trace.specs.Text.{IsTraceText}
 use Rattle.burst_trace.specs.Writing.{Traces, text_in}
 use Rattle.report_text.proofs.WroteLemmas.{prefix_longer}
 use Rattle.report_text.specs.declared.write.WriteStop.{WriteStop}
-use Rattle.nooks.specs.Answers.{AnswersInput, Says}
+use Rattle.nooks.specs.Answers.{AnswersInput, IsTraceOf, Says}
+use Rattle.run_defs.specs.Simulation.{journals_of}
 use Rattle.nooks.specs.Endings.{IsBegun, IsWritten, Writes}
 use Rattle.nooks.specs.Streams.{Change, Gains, GainsFront, Whole}
 use Rattle.nooks.specs.Texts.{no_such_burst_text}
@@ -16,12 +18,22 @@ use Rattle.nooks.specs.declared.program.Status.TheVariants as ended
 use Rattle.command_forms.specs.declared.words.Form.TheVariants as form
 use Rattle.nooks.proofs.Written.{writes_more}
 
+-- the trace of a burst tells it
+pub is_trace_of : (bytes : List ℕ) (scenario : Scenario) (part burst : ℕ) (text : List ℕ) → scenario_from bytes ≡ Ok scenario
+    → IsTraceText scenario part burst (Some text) → IsTraceOf bytes part burst text
+is_trace_of bytes scenario part burst text reading is = record {
+  scenario = scenario;
+  reading = reading;
+  trace = is;
+  tells = tells_burst scenario.parts (journals_of is.simulation) part burst text is.text_is;
+}
+
 whole_by : (bytes : List ℕ) (scenario : Scenario) (part burst : ℕ) (sink : Change) (hearing : List Listening) (trace : Option (List ℕ))
     → scenario_from bytes ≡ Ok scenario → IsTraceText scenario part burst trace → true ≡ is_some trace → Gains sink (text_in trace)
     → IsWritten (AnswersInput (form.Trace part burst) (Whole bytes) hearing) sink ended.Done
 whole_by bytes scenario part burst sink hearing None reading is there gained = absurd (true≢false there)
 whole_by bytes scenario part burst sink hearing (Some text) reading is there gained =
-    record { text = text; answer = inr (record { scenario = scenario; reading = reading; trace = is }, refl); gained = gained }
+    record { text = text; answer = inr (is_trace_of bytes scenario part burst text reading is, refl); gained = gained }
 
 front_by : (bytes : List ℕ) (scenario : Scenario) (part burst : ℕ) (sink : Change) (hearing : List Listening) (trace : Option (List ℕ))
     → scenario_from bytes ≡ Ok scenario → IsTraceText scenario part burst trace → GainsFront sink (text_in trace)
@@ -35,7 +47,7 @@ front_by bytes scenario part burst sink hearing None reading is front = record {
 front_by bytes scenario part burst sink hearing (Some text) reading is front = record {
   text = text;
   status = ended.Done;
-  answer = inr (record { scenario = scenario; reading = reading; trace = is }, refl);
+  answer = inr (is_trace_of bytes scenario part burst text reading is, refl);
   gained = front;
 }
 

@@ -12,8 +12,8 @@ use Rattle.scenario_read.specs.Gives.{Fails}
 use Rattle.scenario_read.specs.declared.stop.ScenarioFault.{ScenarioFault}
 use Rattle.scenario_read.specs.declared.stop.ScenarioFault.TheVariants as stops
 use Rattle.request_taps.specs.declared.tap.Tap.{Tap}
-use Rattle.nooks.specs.Answers.{Answers, AnswersInput, IsFaultOf, IsRefused, IsReported, Says}
-use Rattle.nooks.specs.Endings.{AnswersWords, Ends, IsAnswerTo, IsAnswered, IsBegun, IsCut, IsWritten, ReadsFor, StopWrites, Writes}
+use Rattle.nooks.specs.Answers.{Answers, AnswersInput, IsFaultOf, IsRefusalLine, IsReported, Says}
+use Rattle.nooks.specs.Endings.{AnswersWords, Ends, IsAnswerTo, IsAnswerStatus, IsBegun, IsCut, IsWritten, ReadsFor, StopWrites, Writes}
 use Rattle.command_forms.specs.Forms.{Asks, is_reading, limit_of}
 use Rattle.nooks.specs.Streams.{Change, Gains, GainsFront, GainsNothing, HasFailed, Input, Reads, TooLong, Whole}
 use Rattle.nooks.specs.Texts.{at_root, usage_text}
@@ -25,7 +25,7 @@ use Rattle.command_forms.specs.declared.words.Form.TheVariants as form
 -- ---- one text
 
 -- a text that was written whole
-pub says_written : (status : Status) (text : List ℕ) (sink : Change) → IsAnswered status → Gains sink text → Writes (Says text status) sink status
+pub says_written : (status : Status) (text : List ℕ) (sink : Change) → IsAnswerStatus status → Gains sink text → Writes (Says text status) sink status
 says_written ended.Done text sink is gained = record { text = text; answer = (refl, refl); gained = gained }
 says_written ended.GivenUp text sink is gained = record { text = text; answer = (refl, refl); gained = gained }
 says_written ended.Usage text sink is gained = record { text = text; answer = (refl, refl); gained = gained }
@@ -143,7 +143,7 @@ worded : (words : List (List ℕ)) (asked : Option Form) (hearing : List Listeni
 worded words asked hearing source asks text status answer = record { asked = asked; asks = asks; answer = answer }
 
 pub ends_answered : (words : List (List ℕ)) (asked : Option Form) (hearing : List Listening) (source : Change) (sink : Change)
-    (status : Status) → Asks words asked → Ends asked hearing source sink status → IsAnswered status
+    (status : Status) → Asks words asked → Ends asked hearing source sink status → IsAnswerStatus status
     → IsWritten (AnswersWords words hearing source) sink status
 ends_answered words asked hearing source sink ended.Done asks ends is = written_more _ _ sink _ (worded words asked hearing source asks) ends
 ends_answered words asked hearing source sink ended.GivenUp asks ends is = written_more _ _ sink _ (worded words asked hearing source asks) ends
@@ -169,7 +169,7 @@ ends_cut words asked hearing source sink ended.ContractBroken asks ends is = abs
 ends_cut words asked hearing source sink ended.AuditNo asks ends is = absurd is
 
 pub ends_complete : (asked : Option Form) (hearing : List Listening) (source : Change) (sink : Change) (status : Status)
-    → Ends asked hearing source sink status → (HasFailed source → ⊥) → (HasFailed sink → ⊥) → IsAnswered status ⊎ (status ≡ ended.NoMemory)
+    → Ends asked hearing source sink status → (HasFailed source → ⊥) → (HasFailed sink → ⊥) → IsAnswerStatus status ⊎ (status ≡ ended.NoMemory)
 ends_complete asked hearing source sink ended.Done ends read wrote = inl tt
 ends_complete asked hearing source sink ended.GivenUp ends read wrote = inl tt
 ends_complete asked hearing source sink ended.Usage ends read wrote = inl tt
@@ -227,7 +227,7 @@ scenario_answered_by_threads bytes scenario hearing sink status reading ends =
 
 -- bytes that are refused
 pub refused : (asked : Form) (bytes : List ℕ) (hearing : List Listening) (T : Type 0) (reading : Result T Refusal) (stop : ScenarioFault)
-    (sink : Change) (status : Status) → ((text : List ℕ) → IsRefused reading text → IsFaultOf asked bytes text) → Fails stop reading
+    (sink : Change) (status : Status) → ((text : List ℕ) → IsRefusalLine reading text → IsFaultOf asked bytes text) → Fails stop reading
     → StopWrites stop sink status → Writes (AnswersInput asked (Whole bytes) hearing) sink status
 refused asked bytes hearing T reading (stops.Bad refusal) sink status same fails ends =
     writes_more (Says (fault_line refusal) ended.BadInput) (AnswersInput asked (Whole bytes) hearing) sink status

@@ -32,6 +32,7 @@ use Rattle.sim_run.specs.Published.{published}
 use Rattle.threaded_run.specs.Threaded.{AreAnswered, IsThreaded, in_parts}
 use Rattle.headline_laws.specs.Headline.{AreSafe}
 use Rattle.image_list.specs.ListText.{list_text}
+use Rattle.burst_trace.specs.Retold.{TellsBurst}
 use Rattle.burst_trace.specs.Text.{IsTraceText}
 use Rattle.scenario_write.specs.ScenarioText.{scenario_line}
 use Rattle.audit_input.specs.Handed.{Hands, HandsNothing}
@@ -216,11 +217,12 @@ pub record IsMirrorOf (bytes : List ℕ) (hearing : List Listening) (text : List
 
 -- ---- traces
 
--- the trace of a burst of a part, in the scheduled run of the scenario that some bytes are
+-- the trace of a burst of a part, in the scheduled run of the scenario that some bytes are; it tells that burst
 pub record IsTraceOf (bytes : List ℕ) (part burst : ℕ) (text : List ℕ) : Type 0 where
   pub scenario : Scenario
   pub reading : scenario_from bytes ≡ Ok scenario
   pub trace : IsTraceText scenario part burst (Some text)
+  pub tells : TellsBurst scenario.parts (journals_of trace.simulation) part burst text
 
 -- a text and a status are these two
 abbrev pub Says : List ℕ → Status → List ℕ → Status → Type 0
@@ -242,7 +244,7 @@ Does asked bytes hearing text status = ⊥
 -- ---- faults of an input
 
 -- the line of the fault for which a reading is refused
-pub record IsRefused {T : Type 0} (reading : Result T Refusal) (text : List ℕ) : Type 0 where
+pub record IsRefusalLine {T : Type 0} (reading : Result T Refusal) (text : List ℕ) : Type 0 where
   pub refusal : Refusal
   pub is : reading ≡ Err refusal
   pub text_is : text ≡ fault_line refusal
@@ -251,7 +253,7 @@ pub record IsRefused {T : Type 0} (reading : Result T Refusal) (text : List ℕ)
 abbrev pub IsScenarioFault : List ℕ → List ℕ → Type 0
 IsScenarioFault scenario text =
     ((limit_of form.Run < length scenario) × (text ≡ fault_line (at_root fault.TooMany)))
-    ⊎ ((length scenario ≤ limit_of form.Run) × IsRefused (scenario_from scenario) text)
+    ⊎ ((length scenario ≤ limit_of form.Run) × IsRefusalLine (scenario_from scenario) text)
 
 -- some bytes hand in a scenario with a fault
 pub record HandsFault (bytes text : List ℕ) : Type 0 where
@@ -276,15 +278,16 @@ pub record HasNoBurst (bytes : List ℕ) (part burst : ℕ) (text : List ℕ) : 
 
 -- the line of the first fault of some bytes
 abbrev pub IsFaultOf : Form → List ℕ → List ℕ → Type 0
-IsFaultOf form.Run bytes text = IsRefused (scenario_from bytes) text
-IsFaultOf form.RunThreads bytes text = IsRefused (scenario_from bytes) text
-IsFaultOf form.Asm bytes text = IsRefused (image_from_asm bytes) text
-IsFaultOf form.Dis bytes text = IsRefused (image_from bytes) text
+IsFaultOf form.Run bytes text = IsRefusalLine (scenario_from bytes) text
+IsFaultOf form.RunThreads bytes text = IsRefusalLine (scenario_from bytes) text
+IsFaultOf form.Asm bytes text = IsRefusalLine (image_from_asm bytes) text
+IsFaultOf form.Dis bytes text = IsRefusalLine (image_from bytes) text
 IsFaultOf form.Audit bytes text = (HandsNothing bytes × (text ≡ bad_header_text)) ⊎ HandsFault bytes text
-IsFaultOf form.Campaign bytes text = IsRefused (campaign_from bytes) text
-IsFaultOf form.Mirror bytes text = IsRefused (scenario_from bytes) text ⊎ IsUnserved bytes text
-IsFaultOf form.List bytes text = IsRefused (listing_from bytes) text
-IsFaultOf (form.Trace part burst) bytes text = IsRefused (scenario_from bytes) text ⊎ HasNoBurst bytes part burst text
+IsFaultOf form.Campaign bytes text = IsRefusalLine (campaign_from bytes) text
+IsFaultOf form.Mirror bytes text = IsRefusalLine (scenario_from bytes) text ⊎ IsUnserved bytes text
+IsFaultOf form.List bytes text = IsRefusalLine (listing_from bytes) text
+IsFaultOf (form.Trace part burst) bytes text =
+    IsRefusalLine (scenario_from bytes) text ⊎ HasNoBurst bytes part burst text
 IsFaultOf asked bytes text = ⊥
 
 -- ---- the answer

@@ -1,15 +1,26 @@
 -- How a call of the program ends: what each status says of its source and its sink.
-use Rattle.std.specs.Prelude.{◌≡◌, ℕ, ⊤, ◌⊎◌, true, List, Option, Some, None}
+use Rattle.std.specs.Prelude.{◌≡◌, ℕ, ◌+◌, ◌≤◌, ⊤, ◌⊎◌, true, List, Option, Some, None, Ok}
 use Rattle.nook_io.specs.Listening.{Listening}
+use Rattle.nook_io.specs.Causes.{TakesAtMost}
+use Rattle.nook_io.specs.declared.whole.ReadStop.{ReadStop}
+use Rattle.nook_io.specs.declared.whole.ReadStop.TheVariants as stopped
+use Rattle.nook_data.specs.declared.scenario.Scenario.{Scenario}
+use Rattle.headline_laws.specs.Headline.{AreSafe}
+use Rattle.report_defs.specs.ReportText.{report_text, status_of}
+use Rattle.input_defs.specs.ScenarioReading.{scenario_from}
+use Rattle.input_defs.specs.declared.input.InputFault.TheVariants as fault
 use Rattle.input_defs.specs.Faults.{fault_line}
 use Rattle.scenario_read.specs.declared.stop.ScenarioFault.{ScenarioFault}
 use Rattle.scenario_read.specs.declared.stop.ScenarioFault.TheVariants as stop
-use Rattle.nooks.specs.Answers.{Answers, Says}
-use Rattle.command_forms.specs.Forms.{Asks, is_reading, limit_of}
-use Rattle.nooks.specs.Streams.{Change, Gains, GainsFront, GainsNothing, HasFailed, Input, Reads, TooLong, input_of}
+use Rattle.nooks.specs.Answers.{Answers, Left, Says}
+use Rattle.nooks.specs.Texts.{at_root}
+use Rattle.command_forms.specs.Forms.{Asks, IsForm, is_reading, limit_of}
+use Rattle.nooks.specs.Streams.{Change, Gains, GainsFront, GainsNothing, HasFailed, Input, Reads, TooLong, Whole}
+use Rattle.nooks.specs.Streams.{input_of}
 use Rattle.nooks.specs.declared.program.Status.{Status}
 use Rattle.nooks.specs.declared.program.Status.TheVariants as ended
 use Rattle.command_forms.specs.declared.words.Form.{Form}
+use Rattle.command_forms.specs.declared.words.Form.TheVariants as form
 
 -- ---- statuses
 
@@ -26,17 +37,24 @@ code_of ended.ContractBroken = 7
 code_of ended.AuditNo = 8
 
 -- the status of an answer that was written whole
-abbrev pub IsAnswered : Status → Type 0
-IsAnswered ended.ReadFault = ⊥
-IsAnswered ended.WriteFault = ⊥
-IsAnswered ended.NoMemory = ⊥
-IsAnswered status = ⊤
+abbrev pub IsAnswerStatus : Status → Type 0
+IsAnswerStatus ended.ReadFault = ⊥
+IsAnswerStatus ended.WriteFault = ⊥
+IsAnswerStatus ended.NoMemory = ⊥
+IsAnswerStatus status = ⊤
 
 -- the status of an answer that a fault of the sink, or want of memory, may have cut
 abbrev pub IsCut : Status → Type 0
 IsCut ended.WriteFault = ⊤
 IsCut ended.NoMemory = ⊤
 IsCut status = ⊥
+
+-- the status of a report that was written whole
+abbrev pub HasReport : Status → Type 0
+HasReport ended.Done = ⊤
+HasReport ended.GivenUp = ⊤
+HasReport ended.ContractBroken = ⊤
+HasReport status = ⊥
 
 -- ---- the answer to a call
 
@@ -71,6 +89,23 @@ pub record AnswersBytes (words : List (List ℕ)) (hearing : List Listening) (by
   pub asks : Asks words asked
   pub answer : Answers asked (input_for asked bytes) hearing text status
 
+-- ---- what a report promises
+
+-- the words ask for the report of a scenario's run
+abbrev pub AskReport : List (List ℕ) → Type 0
+AskReport words = IsForm words form.Run ⊎ IsForm words form.RunThreads
+
+-- a text is the report of a run of the scenario that was read, in which every part is safe
+pub record IsSafeReport (source : Change) (text : List ℕ) (status : Status) : Type 0 where
+  pub bytes : List ℕ
+  pub read : Reads source (limit_of form.Run) (Whole bytes)
+  pub scenario : Scenario
+  pub reading : scenario_from bytes ≡ Ok scenario
+  pub left : Left
+  pub safe : AreSafe scenario.parts left.journals
+  pub text_is : text
+      ≡ report_text scenario left.journals left.answers left.taps (status_of scenario.parts left.journals)
+
 -- ---- what a sink gains of an answer, of which `Answer` says which texts it may be, and with which status
 
 -- an answer with this status was written whole
@@ -98,7 +133,31 @@ abbrev pub StopWrites : ScenarioFault → Change → Status → Type 0
 StopWrites (stop.Bad refusal) sink status = Writes (Says (fault_line refusal) ended.BadInput) sink status
 StopWrites stop.NoMemory sink status = (status ≡ ended.NoMemory) × GainsNothing sink
 
+-- how the telling of why a source was not read to its end ended
+abbrev pub ReadStopWrites : ReadStop → Change → Status → Type 0
+ReadStopWrites stopped.TooLong sink status =
+    Writes (Says (fault_line (at_root fault.TooMany)) ended.BadInput) sink status
+ReadStopWrites stopped.Fault sink status = (status ≡ ended.ReadFault) × GainsNothing sink
+ReadStopWrites stopped.NoMemory sink status = (status ≡ ended.NoMemory) × GainsNothing sink
+
 -- how a call ended that read the source for what is asked: a fault of the source leaves the sink as it was
 abbrev pub Ends : Option Form → List Listening → Change → Change → Status → Type 0
 Ends asked hearing source sink ended.ReadFault = HasFailed source × GainsNothing sink
 Ends asked hearing source sink status = Writes (IsAnswerTo asked hearing source) sink status
+
+-- ---- the call
+
+-- of whatever form the words are, at most one byte more than its limit was taken of the source
+abbrev pub TakesFor : List (List ℕ) → Change → Type 0
+TakesFor words source =
+    (asked : Form) → IsForm words asked → TakesAtMost source.before.told source.after.told (limit_of asked + 1)
+
+-- how a call for these words ended
+pub record EndsWords (words : List (List ℕ)) (hearing : List Listening) (source sink : Change)
+    (status : Status) : Type 0 where
+  pub asked : Option Form
+  pub asks : Asks words asked
+  pub ends : Ends asked hearing source sink status
+  pub taken : TakesFor words source
+  pub source_later : source.before.faults ≤ source.after.faults
+  pub sink_later : sink.before.faults ≤ sink.after.faults

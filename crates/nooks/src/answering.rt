@@ -1,6 +1,7 @@
-//! The forms of words that read an input: what its bytes are answered with, or the line of their first fault.
+//! The forms of words that read an input and wait for nobody: what its bytes are answered with, or the line of their
+//! first fault.
 
-ghost use Rattle.std.specs.Prelude.{◌≡◌, ℕ, ◌≤◌, List, Some, Ok, Err, map, IfOk, IsTrue};
+ghost use Rattle.std.specs.Prelude.{◌≡◌, ℕ, ◌+◌, ◌≤◌, List, Some, Ok, Err, map, IfOk, IsTrue};
 ghost use Rattle.report_defs.specs.Campaigns.{IsTable, table_text};
 ghost use Rattle.nook_data.specs.Members.{IsValidCampaign};
 ghost use Rattle.asm_defs.specs.Disassembler.{disassembled};
@@ -8,11 +9,12 @@ ghost use Rattle.input_defs.specs.Faults.{fault_line as line_of};
 ghost use Rattle.input_defs.specs.ImageReading.{image_from_asm};
 ghost use Rattle.asm_defs.specs.ImageText.{image_text};
 ghost use Rattle.nook_io.specs.Listening.{Listening};
+ghost use Rattle.nook_io.specs.Causes.{TakesAtMost};
 ghost use Rattle.nook_data.specs.declared.campaign.MemberRow.{MemberRow};
 ghost use Rattle.nook_data.specs.Valid.{IsValidScenario};
 ghost use Rattle.nooks.specs.Answers.{AnswersInput, IsReported, Says};
-ghost use Rattle.nooks.specs.Endings.{Ends, StopWrites, Writes};
-ghost use Rattle.command_forms.specs.Forms.{is_reading, limit_of};
+ghost use Rattle.nooks.specs.Endings.{Ends, ReadStopWrites, StopWrites, Writes};
+ghost use Rattle.command_forms.specs.Forms.{is_alone, is_reading, limit_of};
 ghost use Rattle.nooks.specs.Streams.{Whole, change};
 ghost use Rattle.nooks.specs.Texts.{at_root as root_refusal};
 ghost use Rattle.request_taps.specs.Bus.{seen, settled};
@@ -21,9 +23,8 @@ ghost use Rattle.scenario_read.specs.Gives.{Gives};
 use crate::auditing::run_audit;
 use crate::heard::{Heard, all_heard};
 use crate::listing::run_list;
-use crate::mirroring::serve_bytes;
 use crate::program::{AUDIT_LIMIT, LIMIT, Status, finish};
-use crate::simulated::{run_threads_and_report, simulate_and_report};
+use crate::simulated::simulate_and_report;
 use crate::tracing::trace_bytes;
 use asm_defs::assembler::AsmFault;
 use command_forms::Form;
@@ -33,40 +34,38 @@ use input_defs::input::{InputFault, Path, Refusal};
 use nook_data::campaign::Campaign;
 use nook_data::memory::NoMemory;
 use nook_data::scenario::{Image, Scenario};
-use nook_io::outside::{Gate, Listener, Sink, Source};
+use nook_io::outside::{Listener, Sink, Source};
 use nook_io::whole::{ReadStop, read_all};
 use report_text::WriteStop;
 use request_taps::Bus;
 use scenario_read::{ScenarioFault, fault_line, read_campaign, read_image, read_scenario};
 use std::alloc::Global;
-use std::sync::Wait;
 use std::thread::Threads;
 
-/// Reads the source and answers its bytes. The form is one that reads.
-pub fn read_and_answer<R: Threads + Wait + Sync, S: Source, K: Sink, G: Gate, T: Drop>(
+/// Reads the source and answers its bytes. The form is one that reads, and waits for nobody.
+pub fn read_and_answer<R: Threads + Sync, S: Source, K: Sink, T: Drop>(
     rt: &R,
     alloc: Global,
     asked: Form,
     source: &mut S,
     sink: &mut K,
     listeners: Vec<T>,
-    gate: &G,
 ) -> Status
 where
     Heard<T>: Listener,
-    requires { IsTrue (is_reading asked) }
+    requires reading { IsTrue (is_reading asked) }
+    requires alone { IsTrue (is_alone asked) }
     ensures ends { Ends (Some asked)
         (map (λ v. ⟦<Heard<T> as Listener>⟧.listening (record { value = v })) listeners.items)
         (change S.left S.count source.old source.new) (change K.held K.count sink.old sink.new) result }
     ensures unwritten { result ≡ Status.ReadFault → sink.new ≡ sink.old }
+    ensures taken { TakesAtMost (S.left source.old) (S.left source.new) (limit_of asked + 1) }
     ensures source_later { S.count source.old ≤ S.count source.new }
     ensures sink_later { K.count sink.old ≤ K.count sink.new }
 {
     match read_all(alloc, source, limit_of(asked)) {
-        Ok(bytes) => answer(rt, alloc, asked, bytes.as_slice(), sink, listeners, gate),
-        Err(ReadStop::TooLong) => refuse(alloc, sink, &at_root(alloc, InputFault::TooMany)),
-        Err(ReadStop::Fault) => Status::ReadFault,
-        Err(ReadStop::NoMemory) => Status::NoMemory,
+        Ok(bytes) => answer(rt, alloc, asked, bytes.as_slice(), sink, listeners),
+        Err(stop) => refuse_source(alloc, stop, sink),
     }
 }
 
@@ -80,19 +79,32 @@ fn limit_of(asked: Form) -> u32
     }
 }
 
+/// Ends a call whose source was not read to its end within the limit.
+pub fn refuse_source<K: Sink>(alloc: Global, stop: ReadStop, sink: &mut K) -> Status
+    ensures ends { ReadStopWrites stop (change K.held K.count sink.old sink.new) result }
+    ensures unwritten { result ≡ Status.ReadFault → sink.new ≡ sink.old }
+    ensures later { K.count sink.old ≤ K.count sink.new }
+{
+    match stop {
+        ReadStop::TooLong => refuse(alloc, sink, &at_root(alloc, InputFault::TooMany)),
+        ReadStop::Fault => Status::ReadFault,
+        ReadStop::NoMemory => Status::NoMemory,
+    }
+}
+
 /// Answers the bytes of the source, or tells their first fault.
-fn answer<R: Threads + Wait + Sync, K: Sink, G: Gate, T: Drop>(
+fn answer<R: Threads + Sync, K: Sink, T: Drop>(
     rt: &R,
     alloc: Global,
     asked: Form,
     bytes: &[u8],
     sink: &mut K,
     listeners: Vec<T>,
-    gate: &G,
 ) -> Status
 where
     Heard<T>: Listener,
-    requires { IsTrue (is_reading asked) }
+    requires reading { IsTrue (is_reading asked) }
+    requires alone { IsTrue (is_alone asked) }
     ensures ends { Writes (AnswersInput asked (Whole bytes.now)
         (map (λ v. ⟦<Heard<T> as Listener>⟧.listening (record { value = v })) listeners.items))
         (change K.held K.count sink.old sink.new) result }
@@ -100,15 +112,18 @@ where
 {
     match asked {
         Form::Run => run_scenario(alloc, bytes, sink, listeners),
-        Form::RunThreads => run_scenario_by_threads(rt, alloc, bytes, sink, listeners, gate),
         Form::Asm => run_asm(alloc, bytes, sink),
         Form::Dis => run_dis(alloc, bytes, sink),
         Form::Audit => run_audit(alloc, bytes, sink),
         Form::Campaign => run_campaign(rt, alloc, bytes, sink),
-        Form::Mirror => serve_bytes(rt, alloc, bytes, sink, listeners),
         Form::List => run_list(alloc, bytes, sink),
         Form::Trace { part, burst } => trace_bytes(alloc, bytes, part, burst, sink),
-        Form::Gen { .. } | Form::GenScenario { .. } | Form::Help | Form::Version => unreachable!(),
+        Form::RunThreads
+        | Form::Mirror
+        | Form::Gen { .. }
+        | Form::GenScenario { .. }
+        | Form::Help
+        | Form::Version => unreachable!(),
     }
 }
 
@@ -132,28 +147,6 @@ where
     }
 }
 
-/// Runs the threads of the scenario of some bytes and writes the report.
-fn run_scenario_by_threads<R: Threads + Wait + Sync, K: Sink, G: Gate, T: Drop>(
-    rt: &R,
-    alloc: Global,
-    bytes: &[u8],
-    sink: &mut K,
-    listeners: Vec<T>,
-    gate: &G,
-) -> Status
-where
-    Heard<T>: Listener,
-    ensures ends { Writes (AnswersInput Form.RunThreads (Whole bytes.now)
-        (map (λ v. ⟦<Heard<T> as Listener>⟧.listening (record { value = v })) listeners.items))
-        (change K.held K.count sink.old sink.new) result }
-    ensures later { K.count sink.old ≤ K.count sink.new }
-{
-    match read_scenario(alloc, bytes) {
-        Ok(scenario) => report_threads(rt, alloc, &scenario, sink, listeners, gate),
-        Err(stop) => refuse_for(alloc, sink, &stop),
-    }
-}
-
 /// Simulates a scenario, which listeners hear, and writes the report.
 fn report_run<K: Sink, T: Drop>(
     alloc: Global,
@@ -171,29 +164,6 @@ where
 {
     match bus_of(alloc, listeners) {
         Ok(mut taps) => simulate_and_report(alloc, scenario, sink, &mut taps),
-        Err(NoMemory) => Status::NoMemory,
-    }
-}
-
-/// Runs the threads of a scenario, which listeners hear, and writes the report.
-fn report_threads<R: Threads + Wait + Sync, K: Sink, G: Gate, T: Drop>(
-    rt: &R,
-    alloc: Global,
-    scenario: &Scenario,
-    sink: &mut K,
-    listeners: Vec<T>,
-    gate: &G,
-) -> Status
-where
-    Heard<T>: Listener,
-    requires { IsValidScenario scenario.now }
-    ensures ends { Writes (IsReported Form.RunThreads scenario.now
-        (map (λ v. ⟦<Heard<T> as Listener>⟧.listening (record { value = v })) listeners.items))
-        (change K.held K.count sink.old sink.new) result }
-    ensures later { K.count sink.old ≤ K.count sink.new }
-{
-    match bus_of(alloc, listeners) {
-        Ok(mut taps) => run_threads_and_report(rt, alloc, scenario, sink, &mut taps, gate),
         Err(NoMemory) => Status::NoMemory,
     }
 }
@@ -234,7 +204,7 @@ fn run_dis<K: Sink>(alloc: Global, bytes: &[u8], sink: &mut K) -> Status
 }
 
 /// Runs the campaign of some bytes and writes its table.
-fn run_campaign<R: Threads + Wait + Sync, K: Sink>(
+fn run_campaign<R: Threads + Sync, K: Sink>(
     rt: &R,
     alloc: Global,
     bytes: &[u8],
@@ -251,7 +221,7 @@ fn run_campaign<R: Threads + Wait + Sync, K: Sink>(
 }
 
 /// Writes the table of a campaign, a batch of its members after the other.
-fn give_table<R: Threads + Wait + Sync, K: Sink>(
+fn give_table<R: Threads + Sync, K: Sink>(
     rt: &R,
     alloc: Global,
     campaign: &Campaign,

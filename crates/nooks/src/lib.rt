@@ -14,6 +14,8 @@ mod program;
 mod simulated;
 mod texts;
 mod tracing;
+mod waiting;
 
 pub use command_forms::{Form, form_of};
-pub use program::{AUDIT_LIMIT, LIMIT, OWN_LISTENERS, Status, run, run_plain};
+pub use journal_audit::own_listeners;
+pub use program::{AUDIT_LIMIT, LIMIT, Status, run, run_alone, run_alone_plain, run_plain};

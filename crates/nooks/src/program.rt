@@ -1,11 +1,11 @@
 //! The whole program as one call over a source and a sink.
 
-ghost use Rattle.std.specs.Prelude.{◌≡◌, ℕ, ◌≤◌, ◌⊎◌, List, None, Some, IsTrue, map, string_bytes};
-ghost use Rattle.nook_io.specs.Causes.{Rose};
+ghost use Rattle.std.specs.Prelude.{◌≡◌, ℕ, ◌+◌, ◌≤◌, ◌⊎◌, List, None, Some, IsTrue, map, string_bytes};
+ghost use Rattle.nook_io.specs.Causes.{Rose, TakesAtMost};
 ghost use Rattle.nooks.specs.Answers.{Says};
-ghost use Rattle.nooks.specs.Endings.{AnswersBytes, AnswersWords, Ends, IsAnswered, IsBegun, IsCut, IsWritten, Writes};
-ghost use Rattle.nooks.specs.Endings.{code_of};
-ghost use Rattle.command_forms.specs.Forms.{AskUnread, is_reading};
+ghost use Rattle.nooks.specs.Endings.{AnswersBytes, AnswersWords, AskReport, Ends, EndsWords, HasReport, IsBegun, IsCut};
+ghost use Rattle.nooks.specs.Endings.{IsAnswerStatus, IsSafeReport, IsWritten, TakesFor, Writes, code_of};
+ghost use Rattle.command_forms.specs.Forms.{AskAlone, AskUnread, is_alone, is_reading, limit_of};
 ghost use Rattle.nooks.specs.Streams.{GainsNothing, change};
 
 use crate::answering::read_and_answer;
@@ -13,7 +13,8 @@ use crate::generating::give_generated;
 use crate::heard::Heard;
 use crate::simulated::run_generated;
 use crate::texts::{HELP, USAGE, VERSION};
-use command_forms::{Form, form_of};
+use crate::waiting::read_and_wait;
+use command_forms::{Form, form_of, waiting_form_of};
 use nook_data::lists::Words8;
 use nook_io::outside::{Gate, Listener, Sink, Source};
 use nook_io::streams_in_memory::{PlainSink, PlainSource};
@@ -27,10 +28,6 @@ pub const LIMIT: u32 = 1_048_576;
 
 /// The most bytes of the input of `audit`: a scenario's length, the scenario and a report.
 pub const AUDIT_LIMIT: u32 = 16_777_216;
-
-/// The program's own listeners, of all parts: the kinds of event that each hears (failures, bursts, answers), and how
-/// many it hears at most.
-pub const OWN_LISTENERS: [(u8, u64); 3] = [(32, 1_000_000), (4, 1_000_000), (64, 1_000_000)];
 
 /// How the program ended. The exit codes are 0 to 8, in this order.
 #[derive(Clone, Copy, Debug, PartialEq, Eq)]
@@ -72,6 +69,8 @@ impl Status {
 /// journal is a run of the part in which no driver changed a kernel object that was not lent to it; and in each part
 /// whose drivers kept the class's contract and that was not given up, the applications saw one run of a device that
 /// never fails.
+///
+/// It waits where the words ask for threads or for a mirror; all else is [`run_alone`], which returns.
 pub fn run<R: Threads + Wait + Sync, S: Source, K: Sink, G: Gate>(
     rt: &R,
     alloc: Global,
@@ -81,18 +80,20 @@ pub fn run<R: Threads + Wait + Sync, S: Source, K: Sink, G: Gate>(
     listeners: Vec<Box<dyn Listener>>,
     gate: &G,
 ) -> Status
-    // the sink gained what the program answers to the words, over what was read of the source
-    ensures answered { IsAnswered result → IsWritten
-        (AnswersWords (map string_bytes words.now)
-        (map (λ b. (⟦<dyn Listener as Listener>⟧ b.vtable).listening b.value) listeners.items)
-        (change S.left S.count source.old source.new))
+    // what the program answers to the words over what was read of the source was written; after a fault of the sink,
+    // or want of memory, a front of it, or nothing
+    ensures written {
+        let hearing = map (λ b. (⟦<dyn Listener as Listener>⟧ b.vtable).listening b.value)
+            listeners.items in
+        let read = change S.left S.count source.old source.new in
+        let asked = AnswersWords (map string_bytes words.now) hearing read in
+        let sent = change K.held K.count sink.old sink.new in
+        (IsAnswerStatus result → IsWritten asked sent result)
+        × (IsCut result → GainsNothing sent ⊎ IsBegun asked sent) }
+    // a report that was written is one of journals of the scenario that was read, in which every part is safe
+    ensures safe { AskReport (map string_bytes words.now) → HasReport result
+        → IsWritten (IsSafeReport (change S.left S.count source.old source.new))
         (change K.held K.count sink.old sink.new) result }
-    // a fault of the sink, or want of memory, leaves a front of that, or nothing
-    ensures cut { IsCut result → GainsNothing (change K.held K.count sink.old sink.new) ⊎ IsBegun
-        (AnswersWords (map string_bytes words.now)
-        (map (λ b. (⟦<dyn Listener as Listener>⟧ b.vtable).listening b.value) listeners.items)
-        (change S.left S.count source.old source.new))
-        (change K.held K.count sink.old sink.new) }
     // a fault is told only where it was
     ensures read_fault { result ≡ Status.ReadFault
         → Rose (S.count source.old) (S.count source.new) × (sink.new ≡ sink.old) }
@@ -100,19 +101,49 @@ pub fn run<R: Threads + Wait + Sync, S: Source, K: Sink, G: Gate>(
     // where neither failed, there is no other end but want of memory
     ensures complete { (Rose (S.count source.old) (S.count source.new) → ⊥)
         → (Rose (K.count sink.old) (K.count sink.new) → ⊥)
-        → IsAnswered result ⊎ (result ≡ Status.NoMemory) }
-    // words that ask for no input leave the source alone, and counts of faults never fall
+        → IsAnswerStatus result ⊎ (result ≡ Status.NoMemory) }
+    // however it ended, at most one byte more than the limit was taken of the source, and none for
+    // words that ask for no input
+    ensures taken { TakesFor (map string_bytes words.now)
+        (change S.left S.count source.old source.new) }
     ensures unread { AskUnread (map string_bytes words.now) → source.new ≡ source.old }
-    ensures source_later { S.count source.old ≤ S.count source.new }
-    ensures sink_later { K.count sink.old ≤ K.count sink.new }
+    // counts of faults never fall
+    ensures later { (S.count source.old ≤ S.count source.new)
+        × (K.count sink.old ≤ K.count sink.new) }
 {
-    match form_of(words) {
-        None => finish(sink, USAGE, Status::Usage),
-        Some(asked) => run_form(rt, alloc, asked, source, sink, listeners, gate),
+    match waiting_form_of(words) {
+        Some(asked) => read_and_wait(rt, alloc, asked, source, sink, listeners, gate),
+        None => run_alone(rt, alloc, words, source, sink, listeners),
     }
 }
 
-/// The same over bytes in memory and a sink that takes everything, neither of which ever fails: where there is memory,
+/// What [`run`] does for words that ask for nothing that waits: it returns. `campaign` alone starts threads, and joins
+/// them.
+pub fn run_alone<R: Threads + Sync, S: Source, K: Sink>(
+    rt: &R,
+    alloc: Global,
+    words: &[String],
+    source: &mut S,
+    sink: &mut K,
+    listeners: Vec<Box<dyn Listener>>,
+) -> Status
+    requires { AskAlone (map string_bytes words.now) }
+    // all that is promised of `run` follows from how it ended
+    ensures ends {
+        let hearing = map (λ b. (⟦<dyn Listener as Listener>⟧ b.vtable).listening b.value)
+            listeners.items in
+        EndsWords (map string_bytes words.now) hearing (change S.left S.count source.old source.new)
+        (change K.held K.count sink.old sink.new) result }
+    ensures unwritten { result ≡ Status.ReadFault → sink.new ≡ sink.old }
+    ensures unread { AskUnread (map string_bytes words.now) → source.new ≡ source.old }
+{
+    match form_of(words) {
+        None => finish(sink, USAGE, Status::Usage),
+        Some(asked) => run_form(rt, alloc, asked, source, sink, listeners),
+    }
+}
+
+/// [`run`] over bytes in memory and a sink that takes everything, neither of which ever fails: where there is memory,
 /// the status is that of what the program answers to the words over these bytes.
 pub fn run_plain<R: Threads + Wait + Sync, G: Gate>(
     rt: &R,
@@ -122,7 +153,8 @@ pub fn run_plain<R: Threads + Wait + Sync, G: Gate>(
     listeners: Vec<Box<dyn Listener>>,
     gate: &G,
 ) -> Status
-    ensures { (result ≡ Status.NoMemory) ⊎ ((text : List ℕ) × AnswersBytes (map string_bytes words.now)
+    ensures { (result ≡ Status.NoMemory) ⊎ ((text : List ℕ) × AnswersBytes
+        (map string_bytes words.now)
         (map (λ b. (⟦<dyn Listener as Listener>⟧ b.vtable).listening b.value) listeners.items)
         bytes text result) }
 {
@@ -131,18 +163,37 @@ pub fn run_plain<R: Threads + Wait + Sync, G: Gate>(
     run(rt, alloc, words, &mut source, &mut sink, listeners, gate)
 }
 
-/// Does what a form asks for.
-fn run_form<R: Threads + Wait + Sync, S: Source, K: Sink, G: Gate, T: Drop>(
+/// The same for words that ask for nothing that waits: it returns.
+pub fn run_alone_plain<R: Threads + Sync>(
+    rt: &R,
+    alloc: Global,
+    words: &[String],
+    bytes: Words8,
+    listeners: Vec<Box<dyn Listener>>,
+) -> Status
+    requires { AskAlone (map string_bytes words.now) }
+    ensures { (result ≡ Status.NoMemory) ⊎ ((text : List ℕ) × AnswersBytes
+        (map string_bytes words.now)
+        (map (λ b. (⟦<dyn Listener as Listener>⟧ b.vtable).listening b.value) listeners.items)
+        bytes text result) }
+{
+    let mut source = PlainSource::new(bytes);
+    let mut sink = PlainSink::new();
+    run_alone(rt, alloc, words, &mut source, &mut sink, listeners)
+}
+
+/// Does what a form asks for that waits for nobody.
+fn run_form<R: Threads + Sync, S: Source, K: Sink, T: Drop>(
     rt: &R,
     alloc: Global,
     asked: Form,
     source: &mut S,
     sink: &mut K,
     listeners: Vec<T>,
-    gate: &G,
 ) -> Status
 where
     Heard<T>: Listener,
+    requires alone { IsTrue (is_alone asked) }
     requires number { (number : ℕ) → asked ≡ Form.Gen number → number ≤ 256 }
     requires scenario { (number : ℕ) → asked ≡ Form.GenScenario number → number ≤ 256 }
     ensures ends { Ends (Some asked)
@@ -150,6 +201,7 @@ where
         (change S.left S.count source.old source.new) (change K.held K.count sink.old sink.new) result }
     ensures unwritten { result ≡ Status.ReadFault → sink.new ≡ sink.old }
     ensures unread { IsTrue (is_reading asked) ⊎ (source.new ≡ source.old) }
+    ensures taken { TakesAtMost (S.left source.old) (S.left source.new) (limit_of asked + 1) }
     ensures source_later { S.count source.old ≤ S.count source.new }
     ensures sink_later { K.count sink.old ≤ K.count sink.new }
 {
@@ -159,20 +211,19 @@ where
         Form::Help => finish(sink, HELP, Status::Done),
         Form::Version => finish(sink, VERSION, Status::Done),
         Form::Run
-        | Form::RunThreads
         | Form::Asm
         | Form::Dis
         | Form::Audit
         | Form::Campaign
-        | Form::Mirror
         | Form::List
-        | Form::Trace { .. } => read_and_answer(rt, alloc, asked, source, sink, listeners, gate),
+        | Form::Trace { .. } => read_and_answer(rt, alloc, asked, source, sink, listeners),
+        Form::RunThreads | Form::Mirror => unreachable!(),
     }
 }
 
 /// Writes a text and ends with a status of its answer, or with a fault of the sink.
 pub fn finish<K: Sink>(sink: &mut K, text: &[u8], status: Status) -> Status
-    requires { IsAnswered status }
+    requires { IsAnswerStatus status }
     ensures ends { Writes (Says text.now status) (change K.held K.count sink.old sink.new) result }
     ensures later { K.count sink.old ≤ K.count sink.new }
 {

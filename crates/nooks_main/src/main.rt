@@ -6,10 +6,10 @@ mod messages;
 
 use echo::Echo;
 use messages::{EXPLAIN, FORMS, STANDARD_INPUT, message_of};
-use nook_io::listeners::{CountListener, FreeGate};
+use nook_io::listeners::FreeGate;
 use nook_io::outside::{Listener, Sink};
 use nook_io::standard_streams::{InSource, OutSink};
-use nooks::{OWN_LISTENERS, Status, run};
+use nooks::{Status, own_listeners, run};
 use std::alloc::{AllocError, Global};
 use std::env::Env;
 use std::io;
@@ -43,8 +43,7 @@ fn answer<R: Input + AllocGlobal + Threads + Wait + Sync, K: Sink>(
 ) -> Result<Status, AllocError> {
     let alloc = rt.alloc();
     let mut listeners: Vec<Box<dyn Listener>> = Vec::new(alloc);
-    for (kinds, limit) in OWN_LISTENERS {
-        let listener = CountListener::new(u8::MAX, kinds, limit);
+    for listener in own_listeners(alloc)? {
         listeners.push(Box::new(alloc, listener)?)?;
     }
     let mut source = InSource::new(rt.reader());

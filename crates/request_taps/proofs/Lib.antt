@@ -1,2 +1,3 @@
 pub mod Taps
 pub mod Totals
+pub mod Settled

@@ -4,12 +4,6 @@ use Rattle.nooks.proofs.answering.answer.Goals as goal
 pub returns-in-Run-clause-ends : goal.returns-in-Run-clause-ends
 returns-in-Run-clause-ends g c = rw (c.in-Run.is) c.run_scenario.ensures.ends
 
-pub returns-in-RunThreads-clause-ends : goal.returns-in-RunThreads-clause-ends
-returns-in-RunThreads-clause-ends g c = rw (c.in-RunThreads.is) c.run_scenario_by_threads.ensures.ends
-
-pub returns-in-Mirror-clause-ends : goal.returns-in-Mirror-clause-ends
-returns-in-Mirror-clause-ends g c = rw (c.in-Mirror.is) c.serve_bytes.ensures.ends
-
 -- whoever listens, these hear nothing
 
 pub returns-in-Asm-clause-ends : goal.returns-in-Asm-clause-ends

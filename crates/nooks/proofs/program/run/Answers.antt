@@ -1,22 +1,65 @@
-use Rattle.std.proofs.Common.{None, Some, refl}
-use Rattle.nooks.proofs.Written.{ends_answered, ends_complete, ends_cut, ends_read_fault, ends_write_fault, no_form_ends}
+use Rattle.nooks.proofs.Called.{form_ended, waiting_asks, words_complete, words_read_fault, words_safe, words_write_fault, words_written}
+use Rattle.command_forms.specs.Forms.{form_for}
 use Rattle.nooks.proofs.program.run.Goals as goal
 
-pub returns-in-Some-clause-answered : goal.returns-in-Some-clause-answered
-returns-in-Some-clause-answered g c = ends_answered _ (Some c.in-Some.asked) _ _ _ c.run_form.result c.in-Some.ensures.found c.run_form.ensures.ends
+-- words of a form that waits
 
-pub returns-in-Some-clause-cut : goal.returns-in-Some-clause-cut
-returns-in-Some-clause-cut g c = ends_cut _ (Some c.in-Some.asked) _ _ _ c.run_form.result c.in-Some.ensures.found c.run_form.ensures.ends
+pub returns-in-Some-clause-written : goal.returns-in-Some-clause-written
+returns-in-Some-clause-written g c = words_written _ _ _ _ c.read_and_wait.result
+    (form_ended _ (form_for c.in-Some.asked) _ _ _ c.read_and_wait.result c.in-Some.ensures.found c.read_and_wait.ensures.ends
+    c.read_and_wait.ensures.taken c.read_and_wait.ensures.source_later c.read_and_wait.ensures.sink_later)
+
+pub returns-in-Some-clause-safe : goal.returns-in-Some-clause-safe
+returns-in-Some-clause-safe g c = words_safe _ _ _ _ c.read_and_wait.result
+    (form_ended _ (form_for c.in-Some.asked) _ _ _ c.read_and_wait.result c.in-Some.ensures.found c.read_and_wait.ensures.ends
+    c.read_and_wait.ensures.taken c.read_and_wait.ensures.source_later c.read_and_wait.ensures.sink_later)
 
 pub returns-in-Some-clause-read_fault : goal.returns-in-Some-clause-read_fault
-returns-in-Some-clause-read_fault g c e =
-    (ends_read_fault (Some c.in-Some.asked) _ _ _ c.run_form.result c.run_form.ensures.ends e, c.run_form.ensures.unwritten e)
+returns-in-Some-clause-read_fault g c e = (
+  words_read_fault _ _ _ _ c.read_and_wait.result
+  (form_ended _ (form_for c.in-Some.asked) _ _ _ c.read_and_wait.result c.in-Some.ensures.found c.read_and_wait.ensures.ends
+  c.read_and_wait.ensures.taken c.read_and_wait.ensures.source_later c.read_and_wait.ensures.sink_later) e,
+  c.read_and_wait.ensures.unwritten e,
+)
 
 pub returns-in-Some-clause-write_fault : goal.returns-in-Some-clause-write_fault
-returns-in-Some-clause-write_fault g c e = ends_write_fault (Some c.in-Some.asked) _ _ _ c.run_form.result c.run_form.ensures.ends e
+returns-in-Some-clause-write_fault g c = words_write_fault _ _ _ _ c.read_and_wait.result
+    (form_ended _ (form_for c.in-Some.asked) _ _ _ c.read_and_wait.result c.in-Some.ensures.found c.read_and_wait.ensures.ends
+    c.read_and_wait.ensures.taken c.read_and_wait.ensures.source_later c.read_and_wait.ensures.sink_later)
 
 pub returns-in-Some-clause-complete : goal.returns-in-Some-clause-complete
-returns-in-Some-clause-complete g c read wrote = ends_complete (Some c.in-Some.asked) _ _ _ c.run_form.result c.run_form.ensures.ends read wrote
+returns-in-Some-clause-complete g c = words_complete _ _ _ _ c.read_and_wait.result
+    (form_ended _ (form_for c.in-Some.asked) _ _ _ c.read_and_wait.result c.in-Some.ensures.found c.read_and_wait.ensures.ends
+    c.read_and_wait.ensures.taken c.read_and_wait.ensures.source_later c.read_and_wait.ensures.sink_later)
 
-pub returns-in-None-clause-cut : goal.returns-in-None-clause-cut
-returns-in-None-clause-cut g c = ends_cut _ None _ _ _ c.finish.result c.in-None.ensures.none (no_form_ends _ _ _ _ c.finish.result refl c.finish.ensures.ends)
+pub returns-in-Some-clause-taken : goal.returns-in-Some-clause-taken
+returns-in-Some-clause-taken g c =
+    (form_ended _ (form_for c.in-Some.asked) _ _ _ c.read_and_wait.result c.in-Some.ensures.found c.read_and_wait.ensures.ends
+    c.read_and_wait.ensures.taken c.read_and_wait.ensures.source_later c.read_and_wait.ensures.sink_later).taken
+
+pub returns-in-Some-clause-unread : goal.returns-in-Some-clause-unread
+returns-in-Some-clause-unread g c unread = waiting_asks _ c.in-Some.asked c.in-Some.ensures.found unread
+
+-- all others
+
+pub returns-in-None-clause-written : goal.returns-in-None-clause-written
+returns-in-None-clause-written g c = words_written _ _ _ _ c.run_alone.result c.run_alone.ensures.ends
+
+pub returns-in-None-clause-safe : goal.returns-in-None-clause-safe
+returns-in-None-clause-safe g c = words_safe _ _ _ _ c.run_alone.result c.run_alone.ensures.ends
+
+pub returns-in-None-clause-read_fault : goal.returns-in-None-clause-read_fault
+returns-in-None-clause-read_fault g c e =
+    (words_read_fault _ _ _ _ c.run_alone.result c.run_alone.ensures.ends e, c.run_alone.ensures.unwritten e)
+
+pub returns-in-None-clause-write_fault : goal.returns-in-None-clause-write_fault
+returns-in-None-clause-write_fault g c = words_write_fault _ _ _ _ c.run_alone.result c.run_alone.ensures.ends
+
+pub returns-in-None-clause-complete : goal.returns-in-None-clause-complete
+returns-in-None-clause-complete g c = words_complete _ _ _ _ c.run_alone.result c.run_alone.ensures.ends
+
+pub returns-in-None-clause-taken : goal.returns-in-None-clause-taken
+returns-in-None-clause-taken g c = c.run_alone.ensures.ends.taken
+
+pub returns-in-None-clause-later : goal.returns-in-None-clause-later
+returns-in-None-clause-later g c = (c.run_alone.ensures.ends.source_later, c.run_alone.ensures.ends.sink_later)

@@ -1,6 +1,10 @@
 use Rattle.std.proofs.Common.{Err, ap, inr}
-use Rattle.nooks.proofs.Traces.{trace_begun}
+use Rattle.nooks.proofs.Traces.{trace_begun, trace_written}
 use Rattle.nooks.proofs.tracing.trace.Goals as goal
+
+pub returns-in-Ok-true-clause-ends : goal.returns-in-Ok-true-clause-ends
+returns-in-Ok-true-clause-ends g c bytes hearing reading =
+    trace_written bytes c.args.scenario.now c.args.part c.args.burst _ hearing reading (rw (c.in-Ok-true.field-0-test) at c.in-Ok-true.ensures.written)
 
 pub returns-in-Err-Fault-clause-ends : goal.returns-in-Err-Fault-clause-ends
 returns-in-Err-Fault-clause-ends g c bytes hearing reading = (

@@ -1,6 +1,6 @@
 use Rattle.std.proofs.Common.{inl}
 use Rattle.nooks.proofs.Written.{kept_told}
-use Rattle.nooks.proofs.answering.report_threads.Goals as goal
+use Rattle.nooks.proofs.waiting.report_threads.Goals as goal
 
 pub returns-in-Ok-clause-ends : goal.returns-in-Ok-clause-ends
 returns-in-Ok-clause-ends g c = c.run_threads_and_report.ensures.ends _ c.in-Ok.ensures

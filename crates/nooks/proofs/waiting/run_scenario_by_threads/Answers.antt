@@ -1,7 +1,7 @@
 use Rattle.input_defs.specs.ScenarioReading.{scenario_from}
 use Rattle.command_forms.specs.declared.words.Form.TheVariants as form
 use Rattle.nooks.proofs.Written.{refused, scenario_answered_by_threads}
-use Rattle.nooks.proofs.answering.run_scenario_by_threads.Goals as goal
+use Rattle.nooks.proofs.waiting.run_scenario_by_threads.Goals as goal
 
 pub returns-in-Ok-clause-ends : goal.returns-in-Ok-clause-ends
 returns-in-Ok-clause-ends g c = scenario_answered_by_threads c.args.bytes.now c.in-Ok.scenario _ _ c.report_threads.result c.in-Ok.ensures.gives c.report_threads.ensures.ends

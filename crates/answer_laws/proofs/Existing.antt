@@ -1,0 +1,261 @@
+-- What waits for nobody has an answer.
+use Rattle.std.proofs.Common.{◌≡◌, ℕ, ◌<◌, ◌≤◌, nat_lt, Bool, true, false, List, [], ◌⊎◌, inl, inr, length, map, IfOk, Option, Some, None, Result, Ok, Err, refl, sym, true≢false}
+use Rattle.std.proofs.lemmas.Bool.{ltb-false, ltb-true}
+use Rattle.asm_defs.specs.Disassembler.{disassembled}
+use Rattle.asm_defs.specs.ImageText.{image_text}
+use Rattle.audit_input.proofs.Once.{hands_or_not}
+use Rattle.audit_input.specs.Handed.{Hands}
+use Rattle.burst_trace.specs.Text.{trace_text}
+use Rattle.command_forms.specs.Forms.{AskAlone, Asks, IsForm, is_alone, is_reading, limit_of}
+use Rattle.command_forms.specs.declared.words.Form.{Form}
+use Rattle.command_forms.specs.declared.words.Form.TheVariants as form
+use Rattle.input_defs.specs.CampaignReading.{campaign_from}
+use Rattle.input_defs.specs.Faults.{fault_line}
+use Rattle.input_defs.specs.ImageReading.{image_from, image_from_asm}
+use Rattle.input_defs.specs.ScenarioReading.{scenario_from}
+use Rattle.input_defs.specs.declared.input.InputFault.TheVariants as fault
+use Rattle.input_defs.specs.declared.input.Refusal.{Refusal}
+use Rattle.nook_data.specs.Members.{IsValidCampaign}
+use Rattle.nook_data.specs.Valid.{IsValidScenario}
+use Rattle.nook_data.specs.declared.campaign.Campaign.{Campaign}
+use Rattle.nook_data.specs.declared.scenario.Image.{Image}
+use Rattle.nook_data.specs.declared.scenario.Scenario.{Scenario}
+use Rattle.nook_io.specs.Listening.{Listening, tap_result}
+use Rattle.nooks.proofs.Audits.{sound_report}
+use Rattle.nooks.proofs.Campaigns.{has_members}
+use Rattle.nooks.proofs.Reports.{run_status}
+use Rattle.nooks.proofs.Safety.{all_safe}
+use Rattle.nooks.proofs.Traces.{is_trace_of}
+use Rattle.nooks.specs.Answers.{Answers, AnswersInput, IsFaultOf, IsRefusalLine, IsReported, IsScheduled, IsSummary, IsWhole, Left, listing_from}
+use Rattle.nooks.specs.Answers.{verdict_status}
+use Rattle.nooks.specs.Endings.{AnswersBytes, input_for}
+use Rattle.nooks.specs.Streams.{Input, TooLong, Whole}
+use Rattle.nooks.specs.Texts.{at_root, bad_header_text, help_text, no_such_burst_text, usage_text, verdict_text, version_text}
+use Rattle.nooks.specs.declared.program.Status.{Status}
+use Rattle.nooks.specs.declared.program.Status.TheVariants as ended
+use Rattle.reading_laws.proofs.CampaignsRead.{campaign_is_valid}
+use Rattle.reading_laws.proofs.ScenariosRead.{scenario_is_valid}
+use Rattle.report_defs.specs.Campaigns.{table_text}
+use Rattle.report_defs.specs.ReportText.{report_text, status_of, summary_line}
+use Rattle.run_defs.specs.Generated.{generated}
+use Rattle.run_defs.specs.Simulation.{IsScheduledRun, Simulation, answer_table, begins, journals_of}
+use Rattle.run_laws.proofs.Reached.{parts_answered}
+use Rattle.run_laws.specs.Audit.{audited}
+use Rattle.scenario_gen.proofs.Limits.{generated_is_valid}
+use Rattle.scenario_write.specs.ScenarioText.{scenario_line}
+use Rattle.sim_run.proofs.Ending.{runs_scheduled, scheduled_ends}
+use Rattle.sim_run.specs.Published.{published}
+
+-- a text and a status
+abbrev HasAnswer : (List ℕ → Status → Type 0) → Type 0
+HasAnswer Answer = (text : List ℕ) × ((status : Status) × Answer text status)
+
+answer_by : {A B : List ℕ → Status → Type 0} → ((text : List ℕ) (status : Status) → A text status → B text status) → HasAnswer A → HasAnswer B
+answer_by more a = (a.0, (a.1.0, more a.0 a.1.0 a.1.1))
+
+-- ---- runs
+
+abbrev left_by : (scenario : Scenario) (hearing : List Listening) (s : Simulation) → IsScheduledRun scenario s → Left
+left_by scenario hearing s run = record {
+  journals = journals_of s;
+  answers = answer_table s;
+  taps = map (λ l. tap_result l (published run.steps (begins scenario))) hearing;
+}
+
+scheduled_by : (scenario : Scenario) (hearing : List Listening) (s : Simulation) (run : IsScheduledRun scenario s)
+    → IsScheduled scenario hearing (left_by scenario hearing s run)
+scheduled_by scenario hearing s run =
+    record { simulation = s; scheduled = run; same_journals = refl; same_answers = refl; told = refl }
+
+whole_by : (scenario : Scenario) (hearing : List Listening) (s : Simulation) (run : IsScheduledRun scenario s) → IsValidScenario scenario
+    → IsWhole scenario (left_by scenario hearing s run)
+whole_by scenario hearing s run valid = record {
+  safe = all_safe scenario (journals_of s) valid (runs_scheduled scenario s run);
+  answered = parts_answered scenario s valid run;
+}
+
+report_exists : (scenario : Scenario) (hearing : List Listening) → IsValidScenario scenario → HasAnswer (IsReported form.Run scenario hearing)
+report_exists scenario hearing valid =
+    let end = scheduled_ends scenario valid in
+    let left : Left = left_by scenario hearing end.0 end.1 in
+    let status = run_status scenario.parts (journals_of end.0) in
+    (report_text scenario left.journals left.answers left.taps (status_of scenario.parts left.journals), (status.0, record {
+      left = left;
+      run = scheduled_by scenario hearing end.0 end.1;
+      whole = whole_by scenario hearing end.0 end.1 valid;
+      status_is = status.1;
+      text_is = refl;
+    }))
+
+summary_exists : (number : ℕ) → number ≤ 256 → HasAnswer (IsSummary number)
+summary_exists number most =
+    let valid : IsValidScenario (generated number) = generated_is_valid number most in
+    let end = scheduled_ends (generated number) valid in
+    let status = run_status (generated number).parts (journals_of end.0) in
+    (summary_line number (generated number).parts (journals_of end.0), (status.0, record {
+      left = left_by (generated number) [] end.0 end.1;
+      run = scheduled_by (generated number) [] end.0 end.1;
+      whole = whole_by (generated number) [] end.0 end.1 valid;
+      status_is = status.1;
+      text_is = refl;
+    }))
+
+-- ---- inputs
+
+-- an input that is refused
+refused_by : (asked : Form) (bytes : List ℕ) (hearing : List Listening) (T : Type 0) (r : Result T Refusal) (refusal : Refusal) → r ≡ Err refusal
+    → ((text : List ℕ) → IsRefusalLine r text → IsFaultOf asked bytes text) → HasAnswer (AnswersInput asked (Whole bytes) hearing)
+refused_by asked bytes hearing T r refusal is more =
+    (fault_line refusal, (ended.BadInput, inl (more (fault_line refusal) (record { refusal = refusal; is = is; text_is = refl }), refl)))
+
+run_exists : (bytes : List ℕ) (hearing : List Listening) (r : Result Scenario Refusal) → scenario_from bytes ≡ r → IfOk r IsValidScenario
+    → HasAnswer (AnswersInput form.Run (Whole bytes) hearing)
+run_exists bytes hearing (Ok scenario) is valid =
+    answer_by (λ text status reported. inr (record { scenario = scenario; reading = is; reported = reported }))
+    (report_exists scenario hearing valid)
+run_exists bytes hearing (Err refusal) is valid =
+    refused_by form.Run bytes hearing Scenario (scenario_from bytes) refusal is (λ text line. line)
+
+asm_exists : (bytes : List ℕ) (hearing : List Listening) (r : Result Image Refusal) → image_from_asm bytes ≡ r
+    → HasAnswer (AnswersInput form.Asm (Whole bytes) hearing)
+asm_exists bytes hearing (Ok image) is =
+    (image_text image, (ended.Done, inr (record { image = image; reading = is; text_is = refl }, refl)))
+asm_exists bytes hearing (Err refusal) is = refused_by form.Asm bytes hearing Image (image_from_asm bytes) refusal is (λ text line. line)
+
+dis_exists : (bytes : List ℕ) (hearing : List Listening) (r : Result Image Refusal) → image_from bytes ≡ r
+    → HasAnswer (AnswersInput form.Dis (Whole bytes) hearing)
+dis_exists bytes hearing (Ok image) is =
+    (disassembled image, (ended.Done, inr (record { image = image; reading = is; text_is = refl }, refl)))
+dis_exists bytes hearing (Err refusal) is = refused_by form.Dis bytes hearing Image (image_from bytes) refusal is (λ text line. line)
+
+list_exists : (bytes : List ℕ) (hearing : List Listening) (r : Result (List ℕ) Refusal) → listing_from bytes ≡ r
+    → HasAnswer (AnswersInput form.List (Whole bytes) hearing)
+list_exists bytes hearing (Ok text) is = (text, (ended.Done, inr (is, refl)))
+list_exists bytes hearing (Err refusal) is = refused_by form.List bytes hearing (List ℕ) (listing_from bytes) refusal is (λ text line. line)
+
+campaign_exists : (bytes : List ℕ) (hearing : List Listening) (r : Result Campaign Refusal) → campaign_from bytes ≡ r → IfOk r IsValidCampaign
+    → HasAnswer (AnswersInput form.Campaign (Whole bytes) hearing)
+campaign_exists bytes hearing (Ok campaign) is valid =
+    let table = has_members campaign valid in
+    (table_text table.0, (ended.Done, inr (record {
+      campaign = campaign;
+      reading = is;
+      rows = table.0;
+      members = table.1.1;
+      text_is = refl;
+    }, refl)))
+campaign_exists bytes hearing (Err refusal) is valid =
+    refused_by form.Campaign bytes hearing Campaign (campaign_from bytes) refusal is (λ text line. line)
+
+-- ---- traces
+
+traced : (bytes : List ℕ) (part burst : ℕ) (hearing : List Listening) (scenario : Scenario) (s : Simulation) (trace : Option (List ℕ))
+    → scenario_from bytes ≡ Ok scenario → IsScheduledRun scenario s → trace ≡ trace_text scenario.parts (journals_of s) part burst
+    → HasAnswer (AnswersInput (form.Trace part burst) (Whole bytes) hearing)
+traced bytes part burst hearing scenario s None reading run is = (no_such_burst_text, (ended.BadInput, inl (inr (record {
+  scenario = scenario;
+  reading = reading;
+  none = record { simulation = s; scheduled = run; text_is = is };
+  text_is = refl;
+}), refl)))
+traced bytes part burst hearing scenario s (Some text) reading run is = (text, (ended.Done, inr (
+  is_trace_of bytes scenario part burst text reading (record { simulation = s; scheduled = run; text_is = is }),
+  refl,
+)))
+
+trace_exists : (bytes : List ℕ) (part burst : ℕ) (hearing : List Listening) (r : Result Scenario Refusal) → scenario_from bytes ≡ r
+    → IfOk r IsValidScenario → HasAnswer (AnswersInput (form.Trace part burst) (Whole bytes) hearing)
+trace_exists bytes part burst hearing (Ok scenario) is valid =
+    let end = scheduled_ends scenario valid in
+    traced bytes part burst hearing scenario end.0 (trace_text scenario.parts (journals_of end.0) part burst) is end.1 refl
+trace_exists bytes part burst hearing (Err refusal) is valid =
+    refused_by (form.Trace part burst) bytes hearing Scenario (scenario_from bytes) refusal is (λ text line. inl line)
+
+-- ---- audits
+
+verdict_exists : (bytes handed report : List ℕ) (hearing : List Listening) (r : Result Scenario Refusal) → Hands bytes handed report
+    → length handed ≤ limit_of form.Run → scenario_from handed ≡ r → IfOk r IsValidScenario
+    → HasAnswer (AnswersInput form.Audit (Whole bytes) hearing)
+verdict_exists bytes handed report hearing (Ok scenario) hands short is valid =
+    (verdict_text (audited scenario report), (verdict_status (audited scenario report), inr (record {
+      handed = handed;
+      report = report;
+      hands = hands;
+      short = short;
+      scenario = scenario;
+      reading = is;
+      verdict = record { text_is = refl; status_is = refl; sound = sound_report scenario report valid };
+    })))
+verdict_exists bytes handed report hearing (Err refusal) hands short is valid =
+    (fault_line refusal, (ended.BadInput, inl (inr (record {
+      scenario = handed;
+      report = report;
+      hands = hands;
+      fault = inr (short, record { refusal = refusal; is = is; text_is = refl });
+    }), refl)))
+
+by_length : (bytes handed report : List ℕ) (hearing : List Listening) (long : Bool) → Hands bytes handed report
+    → nat_lt (limit_of form.Run) (length handed) ≡ long → HasAnswer (AnswersInput form.Audit (Whole bytes) hearing)
+by_length bytes handed report hearing true hands is =
+    (fault_line (at_root fault.TooMany), (ended.BadInput, inl (inr (record {
+      scenario = handed;
+      report = report;
+      hands = hands;
+      fault = inl (ltb-true (limit_of form.Run) (length handed) is, refl);
+    }), refl)))
+by_length bytes handed report hearing false hands is =
+    verdict_exists bytes handed report hearing (scenario_from handed) hands (ltb-false (limit_of form.Run) (length handed) is) refl
+    (scenario_is_valid handed)
+
+audit_exists : (bytes : List ℕ) (hearing : List Listening) → HasAnswer (AnswersInput form.Audit (Whole bytes) hearing)
+audit_exists bytes hearing = by_handed (hands_or_not bytes)
+  where
+    by_handed : ((scenario : List ℕ) × ((report : List ℕ) × Hands bytes scenario report)) ⊎ ((scenario report : List ℕ) → Hands bytes scenario report → ⊥)
+        → HasAnswer (AnswersInput form.Audit (Whole bytes) hearing)
+    by_handed (inl h) = by_length bytes h.0 h.1.0 hearing (nat_lt (limit_of form.Run) (length h.0)) h.1.1 refl
+    by_handed (inr none) = (bad_header_text, (ended.BadInput, inl (inl (none, refl), refl)))
+
+-- ---- forms
+
+input_exists : (asked : Form) (input : Input) (hearing : List Listening) → is_alone asked ≡ true → is_reading asked ≡ true
+    → HasAnswer (AnswersInput asked input hearing)
+input_exists asked TooLong hearing alone reading = (fault_line (at_root fault.TooMany), (ended.BadInput, (refl, refl)))
+input_exists form.Run (Whole bytes) hearing alone reading = run_exists bytes hearing (scenario_from bytes) refl (scenario_is_valid bytes)
+input_exists form.RunThreads (Whole bytes) hearing alone reading = absurd (true≢false (sym alone))
+input_exists form.Asm (Whole bytes) hearing alone reading = asm_exists bytes hearing (image_from_asm bytes) refl
+input_exists form.Dis (Whole bytes) hearing alone reading = dis_exists bytes hearing (image_from bytes) refl
+input_exists (form.Gen number) (Whole bytes) hearing alone reading = absurd (true≢false (sym reading))
+input_exists (form.GenScenario number) (Whole bytes) hearing alone reading = absurd (true≢false (sym reading))
+input_exists form.Audit (Whole bytes) hearing alone reading = audit_exists bytes hearing
+input_exists form.Campaign (Whole bytes) hearing alone reading =
+    campaign_exists bytes hearing (campaign_from bytes) refl (campaign_is_valid bytes)
+input_exists form.Mirror (Whole bytes) hearing alone reading = absurd (true≢false (sym alone))
+input_exists form.List (Whole bytes) hearing alone reading = list_exists bytes hearing (listing_from bytes) refl
+input_exists (form.Trace part burst) (Whole bytes) hearing alone reading =
+    trace_exists bytes part burst hearing (scenario_from bytes) refl (scenario_is_valid bytes)
+input_exists form.Help (Whole bytes) hearing alone reading = absurd (true≢false (sym reading))
+input_exists form.Version (Whole bytes) hearing alone reading = absurd (true≢false (sym reading))
+
+form_exists : (words : List (List ℕ)) (asked : Form) (input : Input) (hearing : List Listening) → IsForm words asked → is_alone asked ≡ true
+    → HasAnswer (Answers (Some asked) input hearing)
+form_exists words form.Run input hearing is alone = input_exists form.Run input hearing alone refl
+form_exists words form.RunThreads input hearing is alone = absurd (true≢false (sym alone))
+form_exists words form.Asm input hearing is alone = input_exists form.Asm input hearing alone refl
+form_exists words form.Dis input hearing is alone = input_exists form.Dis input hearing alone refl
+form_exists words (form.Gen number) input hearing is alone = summary_exists number is.2
+form_exists words (form.GenScenario number) input hearing is alone = (scenario_line (generated number), (ended.Done, (refl, refl)))
+form_exists words form.Audit input hearing is alone = input_exists form.Audit input hearing alone refl
+form_exists words form.Campaign input hearing is alone = input_exists form.Campaign input hearing alone refl
+form_exists words form.Mirror input hearing is alone = absurd (true≢false (sym alone))
+form_exists words form.List input hearing is alone = input_exists form.List input hearing alone refl
+form_exists words (form.Trace part burst) input hearing is alone = input_exists (form.Trace part burst) input hearing alone refl
+form_exists words form.Help input hearing is alone = (help_text, (ended.Done, (refl, refl)))
+form_exists words form.Version input hearing is alone = (version_text, (ended.Done, (refl, refl)))
+
+pub words_exist : (words : List (List ℕ)) (asked : Option Form) (hearing : List Listening) (bytes : List ℕ) → Asks words asked → AskAlone words
+    → (text : List ℕ) × ((status : Status) × AnswersBytes words hearing bytes text status)
+words_exist words None hearing bytes asks alone =
+    (usage_text, (ended.Usage, record { asked = None; asks = asks; answer = (refl, refl) }))
+words_exist words (Some asked) hearing bytes asks alone =
+    answer_by (λ text status answer. record { asked = Some asked; asks = asks; answer = answer })
+    (form_exists words asked (input_for (Some asked) bytes) hearing asks (alone asked asks))

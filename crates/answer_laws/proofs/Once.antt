@@ -1,0 +1,343 @@
+-- What waits for nobody has at most one answer.
+use Rattle.std.proofs.Common.{◌≡◌, ℕ, ◌==◌, ◌<◌, ◌≤◌, if◌then◌else◌, true, false, List, [], ◌∷◌, ◌⊎◌, inl, inr, length, map, Option, Some, None, Result, Ok, Err, refl, sym, ap, ap₂, ◌∙◌, subst, true≢false, arith}
+use Rattle.std.specs.List.{AllZip}
+use Rattle.asm_defs.specs.Disassembler.{disassembled}
+use Rattle.asm_defs.specs.ImageText.{image_text}
+use Rattle.audit_input.proofs.Once.{hands_once}
+use Rattle.audit_input.specs.Handed.{Hands, HandsNothing}
+use Rattle.audited_runs.proofs.Texts.{results_same}
+use Rattle.burst_trace.specs.Text.{IsTraceText, trace_text}
+use Rattle.command_forms.proofs.OneForm.{one_form}
+use Rattle.command_forms.specs.Forms.{AskAlone, Asks, IsForm, is_alone, is_reading, limit_of}
+use Rattle.command_forms.specs.declared.words.Form.{Form}
+use Rattle.command_forms.specs.declared.words.Form.TheVariants as form
+use Rattle.fault_campaign.proofs.Tables.{table_once}
+use Rattle.input_defs.specs.CampaignReading.{campaign_from}
+use Rattle.input_defs.specs.Faults.{fault_line}
+use Rattle.input_defs.specs.ImageReading.{image_from, image_from_asm}
+use Rattle.input_defs.specs.ScenarioReading.{scenario_from}
+use Rattle.input_defs.specs.declared.input.Refusal.{Refusal}
+use Rattle.nook_data.specs.Members.{member}
+use Rattle.nook_data.specs.declared.calls.Answer.{Answer}
+use Rattle.nook_data.specs.declared.campaign.Campaign.{Campaign}
+use Rattle.nook_data.specs.declared.campaign.MemberRow.{MemberRow}
+use Rattle.nook_data.specs.declared.scenario.Fault.{Fault}
+use Rattle.nook_data.specs.declared.scenario.PartSpec.{PartSpec}
+use Rattle.nook_data.specs.declared.scenario.Scenario.{Scenario}
+use Rattle.nook_data.specs.declared.steps.Event.{Event}
+use Rattle.nook_io.specs.Listening.{Listening, heard_events, tap_result}
+use Rattle.nooks.specs.Answers.{Answers, AnswersInput, AreMembers, HandsFault, HasNoBurst, IsAsmOf, IsAuditOf, IsFaultOf, IsImageOf, IsMember, IsRefusalLine, IsReportOf}
+use Rattle.nooks.specs.Answers.{IsReportStatus, IsReported, IsScenarioFault, IsScheduled, IsSummary, IsTableOf, IsTraceOf, IsVerdict, Left, listing_from, verdict_status}
+use Rattle.nooks.specs.Endings.{AnswersBytes, input_for}
+use Rattle.nooks.specs.Streams.{Input, TooLong, Whole}
+use Rattle.nooks.specs.Texts.{no_such_burst_text, verdict_text}
+use Rattle.nooks.specs.declared.program.Status.{Status}
+use Rattle.nooks.specs.declared.program.Status.TheVariants as ended
+use Rattle.report_defs.specs.Campaigns.{IsRowOf, IsTable, table_text}
+use Rattle.report_defs.specs.ReportText.{report_text, status_of, summary_line}
+use Rattle.run_defs.specs.Generated.{generated}
+use Rattle.run_defs.specs.Simulation.{IsScheduledRun, Simulation, answer_table, begins, journals_of, runs}
+use Rattle.run_laws.specs.Audit.{audited}
+use Rattle.sim_run.proofs.Ending.{scheduled_once}
+use Rattle.sim_run.proofs.Publishing.{journals_are_heard}
+use Rattle.sim_run.specs.Published.{heard_in_journals, published}
+
+-- ---- what was read
+
+ok_once : {T E : Type 0} (r : Result T E) (a b : T) → r ≡ Ok a → r ≡ Ok b → a ≡ b
+ok_once r a b e f = cc
+
+err_once : {T E : Type 0} (r : Result T E) (a b : E) → r ≡ Err a → r ≡ Err b → a ≡ b
+err_once r a b e f = cc
+
+not_both : {P : Type 0} {T E : Type 0} (r : Result T E) (a : T) (b : E) → r ≡ Ok a → r ≡ Err b → P
+not_both r a b e f = absurd (cc)
+
+some_once : {T : Type 0} (a b : T) → Some a ≡ Some b → a ≡ b
+some_once a b e = cc
+
+not_none : {P T : Type 0} (o : Option T) (a : T) → Some a ≡ o → None ≡ o → P
+not_none o a e f = absurd (cc)
+
+refusal_once : {T : Type 0} (r : Result T Refusal) (text other : List ℕ) → IsRefusalLine r text → IsRefusalLine r other → text ≡ other
+refusal_once r text other a b = a.text_is ∙ (ap fault_line (err_once r a.refusal b.refusal a.is b.is) ∙ sym b.text_is)
+
+-- ---- statuses
+
+abbrev status_by : ℕ → Status
+status_by number = if number == 0 then ended.Done else if number == 1 then ended.GivenUp else ended.ContractBroken
+
+told_status : (number : ℕ) (status : Status) → IsReportStatus number status → status ≡ status_by number
+told_status number ended.Done is = rw is refl
+told_status number ended.GivenUp is = rw is refl
+told_status number ended.Usage is = absurd is
+told_status number ended.BadInput is = absurd is
+told_status number ended.ReadFault is = absurd is
+told_status number ended.WriteFault is = absurd is
+told_status number ended.NoMemory is = absurd is
+told_status number ended.ContractBroken is = rw is refl
+told_status number ended.AuditNo is = absurd is
+
+-- ---- runs
+
+-- what a listener counts of a run that is not stopped is what it counts of its journals
+counted : (scenario : Scenario) (s : Simulation) (run : IsScheduledRun scenario s) (l : Listening)
+    → heard_events l (published run.steps (begins scenario)) ≡ heard_in_journals l 0 (journals_of s)
+counted scenario s run l =
+    journals_are_heard l scenario run.steps ∙ ap (λ t. heard_in_journals l 0 (journals_of t)) run.reached
+
+taps_once : (scenario : Scenario) (hearing : List Listening) (s t : Simulation) (run : IsScheduledRun scenario s) (again : IsScheduledRun scenario t)
+    → map (λ l. tap_result l (published run.steps (begins scenario))) hearing ≡ map (λ l. tap_result l (published again.steps (begins scenario))) hearing
+taps_once scenario hearing s t run again =
+    results_same (published run.steps (begins scenario)) (published again.steps (begins scenario)) hearing (λ l.
+    counted scenario s run l
+    ∙ (ap (λ x. heard_in_journals l 0 (journals_of x)) (scheduled_once scenario s t run again) ∙ sym (counted scenario t again l)))
+
+journals_once : (scenario : Scenario) (hearing : List Listening) (x y : Left) → IsScheduled scenario hearing x → IsScheduled scenario hearing y
+    → x.journals ≡ y.journals
+journals_once scenario hearing x y a b =
+    a.same_journals
+    ∙ (ap journals_of (scheduled_once scenario a.simulation b.simulation a.scheduled b.scheduled) ∙ sym b.same_journals)
+
+answers_once : (scenario : Scenario) (hearing : List Listening) (x y : Left) → IsScheduled scenario hearing x → IsScheduled scenario hearing y
+    → x.answers ≡ y.answers
+answers_once scenario hearing x y a b =
+    a.same_answers
+    ∙ (ap answer_table (scheduled_once scenario a.simulation b.simulation a.scheduled b.scheduled) ∙ sym b.same_answers)
+
+totals_once : (scenario : Scenario) (hearing : List Listening) (x y : Left) → IsScheduled scenario hearing x → IsScheduled scenario hearing y
+    → x.taps ≡ y.taps
+totals_once scenario hearing x y a b = a.told ∙ (taps_once scenario hearing a.simulation b.simulation a.scheduled b.scheduled ∙ sym b.told)
+
+statuses_once : (parts : List PartSpec) (xs ys : List (List Event)) (status end : Status) → xs ≡ ys → IsReportStatus (status_of parts xs) status
+    → IsReportStatus (status_of parts ys) end → status ≡ end
+statuses_once parts xs ys status end e a b =
+    told_status (status_of parts xs) status a
+    ∙ (ap (λ js. status_by (status_of parts js)) e ∙ sym (told_status (status_of parts ys) end b))
+
+texts_same : (scenario : Scenario) (x y : Left) → x.journals ≡ y.journals → x.answers ≡ y.answers → x.taps ≡ y.taps
+    → report_text scenario x.journals x.answers x.taps (status_of scenario.parts x.journals)
+    ≡ report_text scenario y.journals y.answers y.taps (status_of scenario.parts y.journals)
+texts_same scenario x y journals answers taps = rw (journals, answers, taps) refl
+
+reported_once : (scenario : Scenario) (hearing : List Listening) (text other : List ℕ) (status end : Status)
+    → IsReported form.Run scenario hearing text status → IsReported form.Run scenario hearing other end → (text ≡ other) × (status ≡ end)
+reported_once scenario hearing text other status end a b =
+    let journals = journals_once scenario hearing a.left b.left a.run b.run in
+    (
+      a.text_is
+      ∙ (texts_same scenario a.left b.left journals (answers_once scenario hearing a.left b.left a.run b.run)
+      (totals_once scenario hearing a.left b.left a.run b.run) ∙ sym b.text_is),
+      statuses_once scenario.parts a.left.journals b.left.journals status end journals a.status_is b.status_is,
+    )
+
+summary_once : (number : ℕ) (text other : List ℕ) (status end : Status) → IsSummary number text status → IsSummary number other end
+    → (text ≡ other) × (status ≡ end)
+summary_once number text other status end a b =
+    let journals = journals_once (generated number) [] a.left b.left a.run b.run in
+    (
+      a.text_is ∙ (ap (summary_line number (generated number).parts) journals ∙ sym b.text_is),
+      statuses_once (generated number).parts a.left.journals b.left.journals status end journals a.status_is b.status_is,
+    )
+
+-- ---- each form
+
+report_once : (bytes : List ℕ) (hearing : List Listening) (text other : List ℕ) (status end : Status)
+    → IsReportOf form.Run bytes hearing text status → IsReportOf form.Run bytes hearing other end → (text ≡ other) × (status ≡ end)
+report_once bytes hearing text other status end a b =
+    let same = ok_once (scenario_from bytes) a.scenario b.scenario a.reading b.reading in
+    reported_once b.scenario hearing text other status end (subst (λ s. IsReported form.Run s hearing text status) same a.reported) b.reported
+
+image_once : (bytes text other : List ℕ) → IsImageOf bytes text → IsImageOf bytes other → text ≡ other
+image_once bytes text other a b =
+    a.text_is ∙ (ap image_text (ok_once (image_from_asm bytes) a.image b.image a.reading b.reading) ∙ sym b.text_is)
+
+asm_once : (bytes text other : List ℕ) → IsAsmOf bytes text → IsAsmOf bytes other → text ≡ other
+asm_once bytes text other a b =
+    a.text_is ∙ (ap disassembled (ok_once (image_from bytes) a.image b.image a.reading b.reading) ∙ sym b.text_is)
+
+rows_of : (campaign : Campaign) (faults : List Fault) (rows : List MemberRow)
+    → AllZip (λ fault row. IsMember (member campaign fault) row) faults rows → AllZip (λ fault row. IsRowOf (member campaign fault) row) faults rows
+rows_of campaign [] [] are = tt
+rows_of campaign [] (row ∷ rows) are = absurd are
+rows_of campaign (fault ∷ faults) [] are = absurd are
+rows_of campaign (fault ∷ faults) (row ∷ rows) are = (
+  record { simulation = are.0.simulation; scheduled = are.0.scheduled; same = are.0.row_is },
+  rows_of campaign faults rows are.1,
+)
+
+members_once : (one other : Campaign) (rows others : List MemberRow) → one ≡ other → AreMembers one rows → AreMembers other others → rows ≡ others
+members_once one other rows others e a b =
+    table_once other rows others (rows_of other other.faults rows (subst (λ c. AreMembers c rows) e a)) (rows_of other other.faults others b)
+
+table_is_one : (bytes text other : List ℕ) → IsTableOf bytes text → IsTableOf bytes other → text ≡ other
+table_is_one bytes text other a b =
+    a.text_is
+    ∙ (ap table_text (members_once a.campaign b.campaign a.rows b.rows
+    (ok_once (campaign_from bytes) a.campaign b.campaign a.reading b.reading) a.members b.members) ∙ sym b.text_is)
+
+verdict_once : (scenario : Scenario) (report text other : List ℕ) (status end : Status) → IsVerdict scenario report text status
+    → IsVerdict scenario report other end → (text ≡ other) × (status ≡ end)
+verdict_once scenario report text other status end a b = (a.text_is ∙ sym b.text_is, a.status_is ∙ sym b.status_is)
+
+audit_once : (bytes text other : List ℕ) (status end : Status) → IsAuditOf bytes text status → IsAuditOf bytes other end
+    → (text ≡ other) × (status ≡ end)
+audit_once bytes text other status end a b =
+    let same = hands_once bytes a.handed a.report b.handed b.report a.hands b.hands in
+    let scenario = ok_once (scenario_from b.handed) a.scenario b.scenario (subst (λ h. scenario_from h ≡ Ok a.scenario) same.0 a.reading) b.reading in
+    verdict_once b.scenario b.report text other status end
+    (subst (λ r. IsVerdict b.scenario r text status) same.1 (subst (λ s. IsVerdict s a.report text status) scenario a.verdict)) b.verdict
+
+trace_at : (scenario : Scenario) (part burst : ℕ) (one other : Option (List ℕ)) → IsTraceText scenario part burst one
+    → IsTraceText scenario part burst other → one ≡ other
+trace_at scenario part burst one other a b =
+    a.text_is
+    ∙ (ap (λ s. trace_text scenario.parts (journals_of s) part burst)
+    (scheduled_once scenario a.simulation b.simulation a.scheduled b.scheduled) ∙ sym b.text_is)
+
+traces_once : (bytes : List ℕ) (part burst : ℕ) (scenario again : Scenario) (one other : Option (List ℕ)) → scenario_from bytes ≡ Ok scenario
+    → scenario_from bytes ≡ Ok again → IsTraceText scenario part burst one → IsTraceText again part burst other → one ≡ other
+traces_once bytes part burst scenario again one other a b x y =
+    trace_at again part burst one other
+    (subst (λ s. IsTraceText s part burst one) (ok_once (scenario_from bytes) scenario again a b) x) y
+
+trace_once : (bytes : List ℕ) (part burst : ℕ) (text other : List ℕ) → IsTraceOf bytes part burst text → IsTraceOf bytes part burst other
+    → text ≡ other
+trace_once bytes part burst text other a b =
+    some_once text other (traces_once bytes part burst a.scenario b.scenario (Some text) (Some other) a.reading b.reading a.trace b.trace)
+
+-- ---- faults
+
+scenario_fault_once : (handed text other : List ℕ) → IsScenarioFault handed text → IsScenarioFault handed other → text ≡ other
+scenario_fault_once handed text other (inl a) (inl b) = a.1 ∙ sym b.1
+scenario_fault_once handed text other (inl a) (inr b) = let long = a.0 in let short = b.0 in absurd (omega (arith, long, short))
+scenario_fault_once handed text other (inr a) (inl b) = let short = a.0 in let long = b.0 in absurd (omega (arith, long, short))
+scenario_fault_once handed text other (inr a) (inr b) = refusal_once (scenario_from handed) text other a.1 b.1
+
+audit_fault_once : (bytes text other : List ℕ) → IsFaultOf form.Audit bytes text → IsFaultOf form.Audit bytes other → text ≡ other
+audit_fault_once bytes text other (inl a) (inl b) = a.1 ∙ sym b.1
+audit_fault_once bytes text other (inl a) (inr b) = absurd (a.0 b.scenario b.report b.hands)
+audit_fault_once bytes text other (inr a) (inl b) = absurd (b.0 a.scenario a.report a.hands)
+audit_fault_once bytes text other (inr a) (inr b) =
+    scenario_fault_once b.scenario text other
+    (subst (λ h. IsScenarioFault h text) (hands_once bytes a.scenario a.report b.scenario b.report a.hands b.hands).0 a.fault) b.fault
+
+scenario_has_no_fault : {P : Type 0} (handed text : List ℕ) (scenario : Scenario) → length handed ≤ limit_of form.Run → scenario_from handed ≡ Ok scenario
+    → IsScenarioFault handed text → P
+scenario_has_no_fault handed text scenario short reading (inl a) = let long = a.0 in absurd (omega (arith, long, short))
+scenario_has_no_fault handed text scenario short reading (inr a) = not_both (scenario_from handed) scenario a.1.refusal reading a.1.is
+
+audit_has_no_fault : {P : Type 0} (bytes text other : List ℕ) (status : Status) → IsAuditOf bytes text status → IsFaultOf form.Audit bytes other → P
+audit_has_no_fault bytes text other status a (inl b) = absurd (b.0 a.handed a.report a.hands)
+audit_has_no_fault bytes text other status a (inr b) =
+    scenario_has_no_fault a.handed other a.scenario a.short a.reading
+    (subst (λ h. IsScenarioFault h other) (hands_once bytes b.scenario b.report a.handed a.report b.hands a.hands).0 b.fault)
+
+trace_fault_once : (bytes : List ℕ) (part burst : ℕ) (text other : List ℕ) → IsFaultOf (form.Trace part burst) bytes text
+    → IsFaultOf (form.Trace part burst) bytes other → text ≡ other
+trace_fault_once bytes part burst text other (inl a) (inl b) = refusal_once (scenario_from bytes) text other a b
+trace_fault_once bytes part burst text other (inl a) (inr b) = not_both (scenario_from bytes) b.scenario a.refusal b.reading a.is
+trace_fault_once bytes part burst text other (inr a) (inl b) = not_both (scenario_from bytes) a.scenario b.refusal a.reading b.is
+trace_fault_once bytes part burst text other (inr a) (inr b) = a.text_is ∙ sym b.text_is
+
+trace_has_no_fault : {P : Type 0} (bytes : List ℕ) (part burst : ℕ) (text other : List ℕ) → IsTraceOf bytes part burst text
+    → IsFaultOf (form.Trace part burst) bytes other → P
+trace_has_no_fault bytes part burst text other a (inl b) = not_both (scenario_from bytes) a.scenario b.refusal a.reading b.is
+trace_has_no_fault bytes part burst text other a (inr b) =
+    not_none None text (traces_once bytes part burst a.scenario b.scenario (Some text) None a.reading b.reading a.trace b.none) refl
+
+-- ---- answers
+
+-- of an answer that is a fault's line or what a form does
+module _ (Faulty : List ℕ → Type 0) (Doing : List ℕ → Status → Type 0)
+    (faults : (text other : List ℕ) → Faulty text → Faulty other → text ≡ other)
+    (does : (text other : List ℕ) (status end : Status) → Doing text status → Doing other end → (text ≡ other) × (status ≡ end))
+    (apart : (text other : List ℕ) (status : Status) → Doing text status → Faulty other → ⊥) where
+  pub either_once : (text other : List ℕ) (status end : Status) → (Faulty text × (status ≡ ended.BadInput)) ⊎ Doing text status
+      → (Faulty other × (end ≡ ended.BadInput)) ⊎ Doing other end → (text ≡ other) × (status ≡ end)
+  either_once text other status end (inl a) (inl b) = (faults text other a.0 b.0, a.1 ∙ sym b.1)
+  either_once text other status end (inl a) (inr b) = absurd (apart other text end b a.0)
+  either_once text other status end (inr a) (inl b) = absurd (apart text other status a b.0)
+  either_once text other status end (inr a) (inr b) = does text other status end a b
+
+-- what ends as done
+done_once : (Does : List ℕ → Type 0) → ((text other : List ℕ) → Does text → Does other → text ≡ other)
+    → (text other : List ℕ) (status end : Status) → Does text × (status ≡ ended.Done) → Does other × (end ≡ ended.Done)
+    → (text ≡ other) × (status ≡ end)
+done_once Does does text other status end a b = (does text other a.0 b.0, a.1 ∙ sym b.1)
+
+input_once : (asked : Form) (input : Input) (hearing : List Listening) (text other : List ℕ) (status end : Status) → is_alone asked ≡ true
+    → AnswersInput asked input hearing text status → AnswersInput asked input hearing other end → (text ≡ other) × (status ≡ end)
+input_once asked TooLong hearing text other status end alone a b = (a.0 ∙ sym b.0, a.1 ∙ sym b.1)
+input_once form.Run (Whole bytes) hearing text other status end alone a b =
+    either_once (IsFaultOf form.Run bytes) (IsReportOf form.Run bytes hearing) (refusal_once (scenario_from bytes)) (report_once bytes hearing)
+    (λ t u s r f. not_both (scenario_from bytes) r.scenario f.refusal r.reading f.is) text other status end a b
+input_once form.RunThreads (Whole bytes) hearing text other status end alone a b = absurd (true≢false (sym alone))
+input_once form.Asm (Whole bytes) hearing text other status end alone a b =
+    either_once (IsFaultOf form.Asm bytes) (λ t s. IsImageOf bytes t × (s ≡ ended.Done)) (refusal_once (image_from_asm bytes))
+    (done_once (IsImageOf bytes) (image_once bytes))
+    (λ t u s r f. not_both (image_from_asm bytes) r.0.image f.refusal r.0.reading f.is) text other status end a b
+input_once form.Dis (Whole bytes) hearing text other status end alone a b =
+    either_once (IsFaultOf form.Dis bytes) (λ t s. IsAsmOf bytes t × (s ≡ ended.Done)) (refusal_once (image_from bytes))
+    (done_once (IsAsmOf bytes) (asm_once bytes))
+    (λ t u s r f. not_both (image_from bytes) r.0.image f.refusal r.0.reading f.is) text other status end a b
+input_once (form.Gen number) (Whole bytes) hearing text other status end alone (inl a) b = absurd a.0
+input_once (form.Gen number) (Whole bytes) hearing text other status end alone (inr a) b = absurd a
+input_once (form.GenScenario number) (Whole bytes) hearing text other status end alone (inl a) b = absurd a.0
+input_once (form.GenScenario number) (Whole bytes) hearing text other status end alone (inr a) b = absurd a
+input_once form.Audit (Whole bytes) hearing text other status end alone a b =
+    either_once (IsFaultOf form.Audit bytes) (IsAuditOf bytes) (audit_fault_once bytes) (audit_once bytes)
+    (λ t u s r f. audit_has_no_fault bytes t u s r f) text other status end a b
+input_once form.Campaign (Whole bytes) hearing text other status end alone a b =
+    either_once (IsFaultOf form.Campaign bytes) (λ t s. IsTableOf bytes t × (s ≡ ended.Done)) (refusal_once (campaign_from bytes))
+    (done_once (IsTableOf bytes) (table_is_one bytes))
+    (λ t u s r f. not_both (campaign_from bytes) r.0.campaign f.refusal r.0.reading f.is) text other status end a b
+input_once form.Mirror (Whole bytes) hearing text other status end alone a b = absurd (true≢false (sym alone))
+input_once form.List (Whole bytes) hearing text other status end alone a b =
+    either_once (IsFaultOf form.List bytes) (λ t s. (listing_from bytes ≡ Ok t) × (s ≡ ended.Done)) (refusal_once (listing_from bytes))
+    (done_once (λ t. listing_from bytes ≡ Ok t) (λ t u x y. ok_once (listing_from bytes) t u x y))
+    (λ t u s r f. not_both (listing_from bytes) t f.refusal r.0 f.is) text other status end a b
+input_once (form.Trace part burst) (Whole bytes) hearing text other status end alone a b =
+    either_once (IsFaultOf (form.Trace part burst) bytes) (λ t s. IsTraceOf bytes part burst t × (s ≡ ended.Done))
+    (trace_fault_once bytes part burst) (done_once (IsTraceOf bytes part burst) (trace_once bytes part burst))
+    (λ t u s r f. trace_has_no_fault bytes part burst t u r.0 f) text other status end a b
+input_once form.Help (Whole bytes) hearing text other status end alone (inl a) b = absurd a.0
+input_once form.Help (Whole bytes) hearing text other status end alone (inr a) b = absurd a
+input_once form.Version (Whole bytes) hearing text other status end alone (inl a) b = absurd a.0
+input_once form.Version (Whole bytes) hearing text other status end alone (inr a) b = absurd a
+
+said_once : (line : List ℕ) (said : Status) (text other : List ℕ) (status end : Status) → (text ≡ line) × (status ≡ said)
+    → (other ≡ line) × (end ≡ said) → (text ≡ other) × (status ≡ end)
+said_once line said text other status end a b = (a.0 ∙ sym b.0, a.1 ∙ sym b.1)
+
+pub answer_once : (asked : Form) (input : Input) (hearing : List Listening) (text other : List ℕ) (status end : Status) → is_alone asked ≡ true
+    → Answers (Some asked) input hearing text status → Answers (Some asked) input hearing other end → (text ≡ other) × (status ≡ end)
+answer_once form.Run input hearing text other status end alone a b = input_once form.Run input hearing text other status end alone a b
+answer_once form.RunThreads input hearing text other status end alone a b = absurd (true≢false (sym alone))
+answer_once form.Asm input hearing text other status end alone a b = input_once form.Asm input hearing text other status end alone a b
+answer_once form.Dis input hearing text other status end alone a b = input_once form.Dis input hearing text other status end alone a b
+answer_once (form.Gen number) input hearing text other status end alone a b = summary_once number text other status end a b
+answer_once (form.GenScenario number) input hearing text other status end alone a b = said_once _ _ text other status end a b
+answer_once form.Audit input hearing text other status end alone a b = input_once form.Audit input hearing text other status end alone a b
+answer_once form.Campaign input hearing text other status end alone a b = input_once form.Campaign input hearing text other status end alone a b
+answer_once form.Mirror input hearing text other status end alone a b = absurd (true≢false (sym alone))
+answer_once form.List input hearing text other status end alone a b = input_once form.List input hearing text other status end alone a b
+answer_once (form.Trace part burst) input hearing text other status end alone a b =
+    input_once (form.Trace part burst) input hearing text other status end alone a b
+answer_once form.Help input hearing text other status end alone a b = said_once _ _ text other status end a b
+answer_once form.Version input hearing text other status end alone a b = said_once _ _ text other status end a b
+
+asked_once : (words : List (List ℕ)) (one two : Option Form) (hearing : List Listening) (bytes text other : List ℕ) (status end : Status)
+    → AskAlone words → Asks words one → Asks words two → Answers one (input_for one bytes) hearing text status
+    → Answers two (input_for two bytes) hearing other end → (text ≡ other) × (status ≡ end)
+asked_once words None None hearing bytes text other status end alone x y a b = said_once _ _ text other status end a b
+asked_once words None (Some two) hearing bytes text other status end alone x y a b = absurd (x two y)
+asked_once words (Some one) None hearing bytes text other status end alone x y a b = absurd (y one x)
+asked_once words (Some one) (Some two) hearing bytes text other status end alone x y a b =
+    answer_once two (input_for (Some two) bytes) hearing text other status end (alone two y)
+    (subst (λ f. Answers (Some f) (input_for (Some f) bytes) hearing text status) (one_form words one two x y) a) b
+
+pub words_once : (words : List (List ℕ)) (hearing : List Listening) (bytes text other : List ℕ) (status end : Status) → AskAlone words
+    → AnswersBytes words hearing bytes text status → AnswersBytes words hearing bytes other end → (text ≡ other) × (status ≡ end)
+words_once words hearing bytes text other status end alone a b =
+    asked_once words a.asked b.asked hearing bytes text other status end alone a.asks b.asks a.answer b.answer

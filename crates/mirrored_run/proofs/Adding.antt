@@ -11,13 +11,14 @@ use Rattle.desk_like.specs.Desks.{DeskView, IsOther}
 use Rattle.mirror_block.specs.Sides.{Invocation, IsAskedFor, IsServed, and_more, answers_gained, answers_given, first_answer, gained, invocations, or_later}
 use Rattle.mirror_block.proofs.Gains.{gained_is}
 use Rattle.mirrored_run.specs.Exchanges.{IsAsking}
+use Rattle.threaded_run.specs.Leaving.{GoesOn}
 use Rattle.mirrored_run.proofs.ClassRuns.{AreChecked, invoked_parts}
 
 -- each call that is invoked in these events is answered in them
 abbrev pub AllAnswered : List Event → Type 0
 AllAnswered events = length (answers_given events) ≡ length (invocations events)
 
-answers_fewer : (events : List Event) → length (answers_given events) ≤ length (invocations events)
+pub answers_fewer : (events : List Event) → length (answers_given events) ≤ length (invocations events)
 answers_fewer [] = omega arith
 answers_fewer (event.Invoke c t o a ∷ events) =
     let more = answers_fewer events in
@@ -124,3 +125,9 @@ pub own_checked : (blocks : ℕ) (o : Op) (more : List Event) (answers : List An
 own_checked blocks o more [] h check = subst (λ (l : List Event). AreChecked blocks (invocations l)) (sym h) tt
 own_checked blocks o more (a ∷ answers) h (inl c) = subst (AreChecked blocks) (sym h.1) (c, tt)
 own_checked blocks o more (a ∷ answers) h (inr none) = absurd cc
+
+-- a journal that goes on behind what was seen, without an invocation, answers the same
+pub same_given : (seen journal : List Event) → AllAnswered seen → GoesOn seen journal → answers_given journal ≡ answers_given seen
+same_given seen journal all g =
+    ap answers_given (sym g.begins) ∙ given_parts seen g.rest all ∙ ap (λ (l : List Answer). answers_given seen ++ l) (others_given g.rest g.others)
+    ∙ append-nil (answers_given seen)

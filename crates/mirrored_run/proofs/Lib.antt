@@ -1,6 +1,7 @@
 pub mod Adding
 pub mod Behind
 pub mod ClassRuns
+pub mod Folding
 pub mod GivingUp
 pub mod Plain
 pub mod Room

@@ -32,7 +32,7 @@ use Rattle.mirror_block.proofs.OneDisk.{one_disk_serves}
 use Rattle.mirror_block.proofs.Plain.{nothing_more, same_device}
 use Rattle.mirrored_run.specs.Exchanges.{ArePlain, Exchange, answers_of, left_events, right_events}
 use Rattle.mirrored_run.specs.Mirrors.{end_medium, is_lost}
-use Rattle.mirrored_run.proofs.Adding.{AllAnswered, Grows, answered_parts, given_parts, others_given, others_invoke, own_checked}
+use Rattle.mirrored_run.proofs.Adding.{AllAnswered, Grows, answered_parts, given_parts, others_invoke, own_checked, same_given}
 use Rattle.mirrored_run.proofs.Behind.{Exchanged, checked_parts, left_seen, right_seen, same_sides, stays_on}
 use Rattle.mirrored_run.proofs.ClassRuns.{AreChecked, ShowsOne, invoked_parts, one_run, shows_one}
 use Rattle.mirrored_run.proofs.GivingUp.{has_gone, unbroken_before}
@@ -208,9 +208,7 @@ side_ends s size v journal disk side clean g run kept is =
     let invoked : invocations journal ≡ invocations v.seen =
     ap invocations (sym g.begins) ∙ invoked_parts v.seen g.rest ∙ ap (λ (l : List Invocation). invocations v.seen ++ l) (others_invoke g.rest g.others)
     ∙ append-nil (invocations v.seen) in
-    let given : answers_given journal ≡ answers_given v.seen =
-    ap answers_given (sym g.begins) ∙ given_parts v.seen g.rest clean.all ∙ ap (λ (l : List Answer). answers_given v.seen ++ l) (others_given g.rest g.others)
-    ∙ append-nil (answers_given v.seen) in
+    let given : answers_given journal ≡ answers_given v.seen = same_given v.seen journal clean.all g in
     let checked : AreChecked s.blocks (invocations journal) =
     subst (AreChecked s.blocks) (sym invoked) (subst (λ (n : ℕ). AreChecked n (invocations v.seen)) (sym side.size) clean.checked) in
     let one : ShowsOne s journal = shows_one s journal side.class run kept checked (ap has_gone given ∙ clean.none refl) in

@@ -1,5 +1,6 @@
--- One step of a mirror's rule that uses up the answers it is given: who was asked, and who stays.
-use Rattle.std.proofs.Common.{◌≡◌, ◌⊎◌, inl, inr, ℕ, ◌||◌, not, is_some, Bool, true, false, Option, Some, None, List, [], ◌∷◌, refl, sym, ap, subst, ◌∙◌, true≢false}
+-- One step of a mirror's rule that uses up the answers it is given: who was asked, who stays, and that the answers behind
+-- these are left over.
+use Rattle.std.proofs.Common.{◌≡◌, ◌⊎◌, inl, inr, ℕ, ◌||◌, not, is_some, Bool, true, false, Option, Some, None, List, [], ◌∷◌, ◌++◌, refl, sym, ap, subst, ◌∙◌, true≢false}
 use Rattle.std.specs.Prelude.{if◌then◌else◌, option_and_then}
 use Rattle.std.proofs.lemmas.Bool.{and_parts}
 use Rattle.nook_data.specs.declared.calls.Answer.{Answer}
@@ -21,16 +22,17 @@ use Rattle.mirrored_run.proofs.GivingUp.{has_gone, is_gone}
 record Says (asked : Bool) (answers : List Answer) (s : Said) : Type 0 where
   are : answers ≡ and_more s.said s.rest
   so : (a : Answer) → s.said ≡ Some a → asked ≡ true
+  more : (later : List Answer) → says asked (answers ++ later) ≡ Some (record { said = s.said; rest = s.rest ++ later })
 
 the_said : (s t : Said) → Some s ≡ Some t → s ≡ t
 the_said s t e = cc
 
 says_so : (asked : Bool) (answers : List Answer) (s : Said) → says asked answers ≡ Some s → Says asked answers s
 says_so false answers s e =
-    subst (Says false answers) (the_said (record { said = None; rest = answers }) s e) (record { are = refl; so = λ a h. absurd cc })
+    subst (Says false answers) (the_said (record { said = None; rest = answers }) s e) (record { are = refl; so = λ a h. absurd cc; more = λ later. refl })
 says_so true [] s e = absurd cc
 says_so true (a ∷ answers) s e =
-    subst (Says true (a ∷ answers)) (the_said (record { said = Some a; rest = answers }) s e) (record { are = refl; so = λ b h. refl })
+    subst (Says true (a ∷ answers)) (the_said (record { said = Some a; rest = answers }) s e) (record { are = refl; so = λ b h. refl; more = λ later. refl })
 
 -- ---- one step
 
@@ -42,23 +44,31 @@ record Asks (blocks : ℕ) (present : Presence) (o : Op) (lefts rights : List An
   left_says : Says present.left lefts left
   right_says : Says (asks_right present o left.said) rights right
   is : mirror_step_of present o left right ≡ z
+  more : (l r : List Answer) → mirror_step blocks present o (lefts ++ l) (rights ++ r)
+      ≡ Some (record { outcome = after_asking present o left.said right.said; left = left.rest ++ l; right = right.rest ++ r })
 
 record Refuses (blocks : ℕ) (present : Presence) (o : Op) (lefts rights : List Answer) (z : MirrorStep) : Type 0 where
   answer : MirrorAnswer
   is : record { outcome = record { present = present; answer = answer }; left = lefts; right = rights } ≡ z
+  more : (l r : List Answer) → mirror_step blocks present o (lefts ++ l) (rights ++ r)
+      ≡ Some (record { outcome = record { present = present; answer = answer }; left = lefts ++ l; right = rights ++ r })
 
 the_step : (x z : MirrorStep) → Some x ≡ Some z → x ≡ z
 the_step x z e = cc
 
 module _ (blocks : ℕ) (present : Presence) (o : Op) (lefts rights : List Answer) (z : MirrorStep) where
+  -- the rule for a Read or a Write
+  abbrev IsStep : Type 0
+  IsStep = (l r : List Answer) → mirror_step blocks present o l r ≡ step_checked (static_check Block blocks o) present o l r
+
   abbrev Result : Type 0
   Result = Asks blocks present o lefts rights z ⊎ Refuses blocks present o lefts rights z
 
   abbrev right_step : List Answer → Said → Option MirrorStep
   right_step rs left = option_and_then (λ right. Some (mirror_step_of present o left right)) (says (asks_right present o left.said) rs)
 
-  asked_step : static_check Block blocks o ≡ None → step_asking present o lefts rights ≡ Some z → Result
-  asked_step checked e = by_left (says present.left lefts) refl e
+  asked_step : IsStep → static_check Block blocks o ≡ None → step_asking present o lefts rights ≡ Some z → Result
+  asked_step rule checked e = by_left (says present.left lefts) refl e
     where
       by_right : (left : Said) (s : Option Said) → says present.left lefts ≡ Some left → says (asks_right present o left.said) rights ≡ s
           → option_and_then (λ right. Some (mirror_step_of present o left right)) s ≡ Some z → Result
@@ -73,32 +83,39 @@ module _ (blocks : ℕ) (present : Presence) (o : Op) (lefts rights : List Answe
             left_says = l;
             right_says = r;
             is = the_step (mirror_step_of present o left right) z e;
+            more = λ ls rs. rule (lefts ++ ls) (rights ++ rs)
+                ∙ ap (λ c. step_checked c present o (lefts ++ ls) (rights ++ rs)) checked
+                ∙ ap (option_and_then (right_step (rights ++ rs))) (l.more ls)
+                ∙ ap (option_and_then (λ right'. Some (mirror_step_of present o (record { said = left.said; rest = left.rest ++ ls }) right'))) (r.more rs);
           })
 
       by_left : (s : Option Said) → says present.left lefts ≡ s → option_and_then (right_step rights) s ≡ Some z → Result
       by_left None h e = absurd cc
       by_left (Some left) h e = by_right left (says (asks_right present o left.said) rights) h refl e
 
-  refused_step : (refusal : Answer) → static_check Block blocks o ≡ Some refusal → step_refused present (refusal_of refusal) lefts rights ≡ Some z → Result
-  refused_step refusal check e = by_refusal (refusal_of refusal) refl e
+  refused_step : IsStep → (refusal : Answer) → static_check Block blocks o ≡ Some refusal → step_refused present (refusal_of refusal) lefts rights ≡ Some z → Result
+  refused_step rule refusal check e = by_refusal (refusal_of refusal) refl e
     where
       by_refusal : (r : Option MirrorAnswer) → refusal_of refusal ≡ r → step_refused present r lefts rights ≡ Some z → Result
       by_refusal None h e = absurd cc
       by_refusal (Some a) h e = inr (record {
         answer = a;
         is = the_step (record { outcome = record { present = present; answer = a }; left = lefts; right = rights }) z e;
+        more = λ ls rs. rule (lefts ++ ls) (rights ++ rs)
+            ∙ ap (λ c. step_checked c present o (lefts ++ ls) (rights ++ rs)) check
+            ∙ ap (λ r. step_refused present r (lefts ++ ls) (rights ++ rs)) h;
       })
 
-  by_check : (c : Option Answer) → static_check Block blocks o ≡ c → step_checked c present o lefts rights ≡ Some z → Result
-  by_check None h e = asked_step h e
-  by_check (Some refusal) h e = refused_step refusal h e
+  by_check : IsStep → (c : Option Answer) → static_check Block blocks o ≡ c → step_checked c present o lefts rights ≡ Some z → Result
+  by_check rule None h e = asked_step rule h e
+  by_check rule (Some refusal) h e = refused_step rule refusal h e
 
 step_taken : (blocks : ℕ) (present : Presence) (o : Op) (lefts rights : List Answer) (z : MirrorStep) → mirror_step blocks present o lefts rights ≡ Some z
     → Asks blocks present o lefts rights z ⊎ Refuses blocks present o lefts rights z
 step_taken blocks present (Read first count) lefts rights z e =
-    by_check blocks present (Read first count) lefts rights z (static_check Block blocks (Read first count)) refl e
+    by_check blocks present (Read first count) lefts rights z (λ l r. refl) (static_check Block blocks (Read first count)) refl e
 step_taken blocks present (Write first words) lefts rights z e =
-    by_check blocks present (Write first words) lefts rights z (static_check Block blocks (Write first words)) refl e
+    by_check blocks present (Write first words) lefts rights z (λ l r. refl) (static_check Block blocks (Write first words)) refl e
 step_taken blocks present (Send frame) lefts rights z e = absurd cc
 step_taken blocks present Recv lefts rights z e = absurd cc
 step_taken blocks present Open lefts rights z e = absurd cc
@@ -108,6 +125,17 @@ step_taken blocks present (Get key) lefts rights z e = absurd cc
 step_taken blocks present (Set key value) lefts rights z e = absurd cc
 
 -- ---- a step that uses up all its answers
+
+-- more answers are left over
+pub step_more : (blocks : ℕ) (present : Presence) (o : Op) (lefts rights l r : List Answer) (x : Outcome)
+    → mirror_step blocks present o lefts rights ≡ Some (record { outcome = x; left = []; right = [] })
+    → mirror_step blocks present o (lefts ++ l) (rights ++ r) ≡ Some (record { outcome = x; left = l; right = r })
+step_more blocks present o lefts rights l r x e = by_step (step_taken blocks present o lefts rights (record { outcome = x; left = []; right = [] }) e)
+  where
+    by_step : Asks blocks present o lefts rights (record { outcome = x; left = []; right = [] }) ⊎ Refuses blocks present o lefts rights (record { outcome = x; left = []; right = [] })
+        → mirror_step blocks present o (lefts ++ l) (rights ++ r) ≡ Some (record { outcome = x; left = l; right = r })
+    by_step (inl k) = k.more l r ∙ ap (λ (z : MirrorStep). Some (record { outcome = z.outcome; left = z.left ++ l; right = z.right ++ r })) k.is
+    by_step (inr k) = k.more l r ∙ ap (λ (z : MirrorStep). Some (record { outcome = z.outcome; left = z.left ++ l; right = z.right ++ r })) k.is
 
 -- an operation that some side answered passed the static check
 pub step_checks : (blocks : ℕ) (present : Presence) (o : Op) (lefts rights : List Answer) (x : Outcome)

@@ -80,7 +80,7 @@ HaveDisk specs present left right disk = ⊥
 
 -- The run of a mirror that leaves two journals and these answers.
 pub record IsMirrorRun (scenario : Scenario) (left right : List Event) (answers : List MirrorAnswer) : Type 0 where
-  -- the operations are the script's, in order, with these answers; each asked the sides that the rule says
+  -- the operations of the script, in order, with these answers
   pub exchanges : List Exchange
   pub ops : ops_of exchanges ≡ mirror_ops scenario
   pub answers_are : answers_of exchanges ≡ answers

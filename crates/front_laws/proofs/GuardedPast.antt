@@ -1,5 +1,5 @@
 -- A step under the guard, with a fault that it does not reach.
-use Rattle.std.proofs.Common.{◌≡◌, ◌≤◌, ◌<◌, ◌⊎◌, inl, inr, ℕ, zero, suc, ◌+◌, ◌==◌, Bool, true, false, nat_le, nat_lt, Option, Some, None, List, [], ◌∷◌, ◌++◌, length, take, drop, map, refl, sym, ap, subst, ◌∙◌, arith, append_assoc, append-nil, length-append, length-take-le, take-append-drop}
+use Rattle.std.proofs.Common.{◌≡◌, ◌≤◌, ◌<◌, inl, inr, ℕ, suc, ◌+◌, ◌==◌, true, nat_le, nat_lt, Option, Some, None, List, [], ◌∷◌, ◌++◌, length, take, drop, map, refl, sym, ap, subst, ◌∙◌, arith, append_assoc, append-nil, length-append, length-take-le, take-append-drop}
 use Rattle.std.proofs.lemmas.Bool.{eq-eqb, eqb-true, leb-false, leb-true, ltb-false, ltb-true, ne_eqb}
 use Rattle.std.proofs.lemmas.List.{drop-append-le, length-map, map-append, take-append-le}
 use Rattle.std.specs.List.{AllByRecursion}
@@ -13,13 +13,13 @@ use Rattle.nook_data.specs.declared.steps.Step.{Step}
 use Rattle.nook_data.specs.declared.steps.Step.TheVariants as step
 use Rattle.guard_defs.specs.Deeds.{deeds_before, deeds_in}
 use Rattle.guard_defs.specs.Guard.{guard, guard_trap, guarded, trap_for, turns_in, with_own, with_trap}
-use Rattle.guard_defs.specs.Turns.{acts_within, turns_before, turns_of}
+use Rattle.guard_defs.specs.Turns.{turns_before, turns_of}
 use Rattle.machine_defs.proofs.BurstKeeps.{split}
 use Rattle.machine_defs.specs.Burst.{Burst, burst}
 use Rattle.machine_defs.specs.BurstFaults.{faults_of_burst}
 use Rattle.part_defs.proofs.PartCases.{burst_by, burst_step}
 use Rattle.part_defs.specs.Calls.{Stepped}
-use Rattle.part_defs.specs.Domain.{DomainBurst, after_burst, context_of, domain_burst, machine_of}
+use Rattle.part_defs.specs.Domain.{after_burst, context_of, domain_burst, machine_of}
 use Rattle.part_defs.specs.Runs.{event_of}
 use Rattle.part_defs.specs.State.{PartState}
 use Rattle.part_defs.specs.Steps.{served_number}

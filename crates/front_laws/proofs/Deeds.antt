@@ -159,8 +159,11 @@ find_true test (x ∷ clauses) c h = split (test x)
 some_breaks : (call : ℕ) (k : Known) (ds : List Deed) → deeds_before call k ds < length ds → (c : Clause) × (is_broken_by c call k ds ≡ true)
 some_breaks call k [] h = absurd (omega arith)
 some_breaks call k (d ∷ ds) h = by_option (clause_of_deed call k d)
-    (λ c some. (c, or_left (breaks c k (call_of call k.calls) d) (is_broken_by c call (after_deed call k d) ds)
-    (find_true (λ x. breaks x k (call_of call k.calls) d) all_clauses c some)))
+    (λ c some. (
+      c,
+      or_left (breaks c k (call_of call k.calls) d) (is_broken_by c call (after_deed call k d) ds)
+          (find_true (λ x. breaks x k (call_of call k.calls) d) all_clauses c some),
+    ))
     (λ none. let one : deeds_before call k (d ∷ ds) ≡ suc (deeds_before call (after_deed call k d) ds) = before_none call k d ds none in
     let more = some_breaks call (after_deed call k d) ds (omega arith) in
     (more.0, or_right (breaks more.0 k (call_of call k.calls) d) (is_broken_by more.0 call (after_deed call k d) ds) more.1))

@@ -60,12 +60,12 @@ guarded_state_more p k (e ∷ events) s = guarded_state_more (state_after (guard
 
 -- what is kept of a part along a guarded run of its scenario
 
-record Follows (spec : PartSpec) (seat : RunningPart) : Type 0 where
-  run : IsGuardedRun spec seat.run.journal
-  state : seat.run.state ≡ guarded_at spec seat.run.journal
-  own : IsOf seat spec
+pub record Follows (spec : PartSpec) (seat : RunningPart) : Type 0 where
+  pub run : IsGuardedRun spec seat.run.journal
+  pub state : seat.run.state ≡ guarded_at spec seat.run.journal
+  pub own : IsOf seat spec
 
-known_is : (spec : PartSpec) (seat : RunningPart) → IsOf seat spec → known_of seat ≡ known_at spec seat.run.journal
+pub known_is : (spec : PartSpec) (seat : RunningPart) → IsOf seat spec → known_of seat ≡ known_at spec seat.run.journal
 known_is spec seat is = ap (λ (x : PartSpec). fold known_after (known_at_first x) seat.run.journal) is
 
 -- the part after a guarded step
@@ -101,18 +101,18 @@ good_at s [] i c a h = none_is_some h
 good_at s (x ∷ choices) zero c a h = subst (IsGood s.parts s.threads) (same_inside h) a.0
 good_at s (x ∷ choices) (suc i) c a h = good_at s choices i c a.1 h
 
-abbrev MayTake : Simulation → Option Choice → Type 0
+abbrev pub MayTake : Simulation → Option Choice → Type 0
 MayTake s None = Unit {0}
 MayTake s (Some c) = IsGood s.parts s.threads c
 
-may_take : (s : Simulation) (choices : List Choice) (i : ℕ) → AllByRecursion (IsGood s.parts s.threads) choices → MayTake s (slice_get choices i)
+pub may_take : (s : Simulation) (choices : List Choice) (i : ℕ) → AllByRecursion (IsGood s.parts s.threads) choices → MayTake s (slice_get choices i)
 may_take s choices i a = by_pick (slice_get choices i) refl
   where
     by_pick : (o : Option Choice) → slice_get choices i ≡ o → MayTake s o
     by_pick None h = tt
     by_pick (Some c) h = good_at s choices i c a h
 
-follows_next : (spec : PartSpec) (s : Simulation) (place : ℕ) (seat next : RunningPart) (o : Option Choice) → At s place seat → MayTake s o
+pub follows_next : (spec : PartSpec) (s : Simulation) (place : ℕ) (seat next : RunningPart) (o : Option Choice) → At s place seat → MayTake s o
     → IsNextSeat seat o place next → Follows spec seat → Follows spec next
 follows_next spec s place seat next None at may e f = subst (Follows spec) (sym e) f
 follows_next spec s place seat next (Some c) at may (inl e) f = subst (Follows spec) (sym e.1) f
@@ -143,11 +143,11 @@ followed spec (suc more) s place seat at f =
         again (guarded_taken s (c ∷ choices)) next.0 there
         (follows_next spec s place seat next.0 o at (may_take s (c ∷ choices) _ good) next.2 f)
 
-opening_follows : (spec : PartSpec) → Follows spec (opening_part spec)
+pub opening_follows : (spec : PartSpec) → Follows spec (opening_part spec)
 unfolding IsGuardedFrom guarded_from opening
 opening_follows spec = record { run = tt; state = refl; own = refl }
 
-spec_with : (spec : PartSpec) (journal : List Event) → IsGuardedRun spec journal
+pub spec_with : (spec : PartSpec) (journal : List Event) → IsGuardedRun spec journal
     → (guarded_at spec journal).spec ≡ with_behind (traps_of spec journal) spec
 spec_with spec journal run =
     let with : IsRunWith (opening spec) (known_at_first spec) journal = guarded_run (opening spec) (known_at_first spec) journal run in

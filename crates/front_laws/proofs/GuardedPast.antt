@@ -1,5 +1,5 @@
 -- A step under the guard, with a fault that it does not reach.
-use Rattle.std.proofs.Common.{◌≡◌, ◌≤◌, ◌<◌, ◌⊎◌, inl, inr, ℕ, zero, suc, ◌+◌, ◌==◌, Bool, true, false, nat_le, nat_lt, Option, Some, None, List, [], ◌∷◌, ◌++◌, length, take, drop, map, refl, sym, ap, subst, ◌∙◌, arith, append_assoc, append-nil, length-append, length-take-le, take-append-drop}
+use Rattle.std.proofs.Common.{◌≡◌, ◌≤◌, ◌<◌, inl, inr, ℕ, suc, ◌+◌, ◌==◌, true, nat_le, nat_lt, Option, Some, None, List, [], ◌∷◌, ◌++◌, length, take, drop, map, refl, sym, ap, subst, ◌∙◌, arith, append_assoc, append-nil, length-append, length-take-le, take-append-drop}
 use Rattle.std.proofs.lemmas.Bool.{eq-eqb, eqb-true, leb-false, leb-true, ltb-false, ltb-true, ne_eqb}
 use Rattle.std.proofs.lemmas.List.{drop-append-le, length-map, map-append, take-append-le}
 use Rattle.std.specs.List.{AllByRecursion}
@@ -13,13 +13,13 @@ use Rattle.nook_data.specs.declared.steps.Step.{Step}
 use Rattle.nook_data.specs.declared.steps.Step.TheVariants as step
 use Rattle.guard_defs.specs.Deeds.{deeds_before, deeds_in}
 use Rattle.guard_defs.specs.Guard.{guard, guard_trap, guarded, trap_for, turns_in, with_own, with_trap}
-use Rattle.guard_defs.specs.Turns.{acts_within, turns_before, turns_of}
+use Rattle.guard_defs.specs.Turns.{turns_before, turns_of}
 use Rattle.machine_defs.proofs.BurstKeeps.{split}
 use Rattle.machine_defs.specs.Burst.{Burst, burst}
 use Rattle.machine_defs.specs.BurstFaults.{faults_of_burst}
 use Rattle.part_defs.proofs.PartCases.{burst_by, burst_step}
 use Rattle.part_defs.specs.Calls.{Stepped}
-use Rattle.part_defs.specs.Domain.{DomainBurst, after_burst, context_of, domain_burst, machine_of}
+use Rattle.part_defs.specs.Domain.{after_burst, context_of, domain_burst, machine_of}
 use Rattle.part_defs.specs.Runs.{event_of}
 use Rattle.part_defs.specs.State.{PartState}
 use Rattle.part_defs.specs.Steps.{served_number}
@@ -29,6 +29,7 @@ use Rattle.front_laws.specs.Guarded.{broken_by}
 use Rattle.front_laws.specs.GuardedPast.{IsPastGuarded, StaysBefore, inserted}
 use Rattle.front_laws.proofs.Alike.{before_same, within_same}
 use Rattle.front_laws.proofs.Deeds.{IsSome, before_front, broken_some, some_broken}
+use Rattle.front_laws.proofs.GuardRun.{IsTrapOf, trap_is}
 use Rattle.front_laws.proofs.GuardStep.{crossed, deeds_across, event_is, has_deed, none_breaks, own_faults, step_deeds}
 use Rattle.front_laws.proofs.Ordered.{behind_both, burst_rises, other_burst, own_burst}
 use Rattle.front_laws.proofs.Past.{burst_acts_front, burst_past}
@@ -233,3 +234,145 @@ module _ (faults : List Fault) (p : PartState) (k : Known) (context : ℕ) where
       where
         below : (a b : ℕ) → a ≡ b → b < f.after → a ≤ f.after
         below a b e h = omega arith
+
+-- ---- a step under the guard, with a fault behind the part's own
+
+-- faults of earlier bursts
+abbrev pub AreEarlier : ℕ → List Fault → Type 0
+AreEarlier bursts faults = AllByRecursion (λ t. t.burst ≤ bursts) faults
+
+earlier_faults : (n : ℕ) (own earlier : List Fault) → AreEarlier n earlier → faults_of_burst (n + 1) (own ++ earlier) ≡ faults_of_burst (n + 1) own
+earlier_faults n own [] h = ap (faults_of_burst (n + 1)) (append-nil own)
+earlier_faults n own (t ∷ earlier) h =
+    ap (faults_of_burst (n + 1)) (sym (append_assoc own (t ∷ []) earlier))
+    ∙ earlier_faults n (own ++ t ∷ []) earlier h.1
+    ∙ other_burst (n + 1) own t (ne_eqb t.burst (n + 1) (λ same. let low : t.burst ≤ n = h.0 in omega arith))
+
+inserted_faults : (count : ℕ) (f : Fault) (n : ℕ) (faults : List Fault) → AreEarlier n (drop count faults)
+    → faults_of_burst (n + 1) (inserted count f faults) ≡ faults_of_burst (n + 1) (take count faults ++ f ∷ [])
+inserted_faults count f n faults h =
+    ap (faults_of_burst (n + 1)) (sym (append_assoc (take count faults) (f ∷ []) (drop count faults)))
+    ∙ earlier_faults n (take count faults ++ f ∷ []) (drop count faults) h
+
+own_part : (count n : ℕ) (faults : List Fault) → AreEarlier n (drop count faults)
+    → faults_of_burst (n + 1) faults ≡ faults_of_burst (n + 1) (take count faults)
+own_part count n faults h =
+    ap (faults_of_burst (n + 1)) (sym (take-append-drop count faults)) ∙ earlier_faults n (take count faults) (drop count faults) h
+
+pub inserted_more : (count : ℕ) (f : Fault) (faults more : List Fault) → count ≤ length faults
+    → inserted count f faults ++ more ≡ inserted count f (faults ++ more)
+inserted_more count f faults more h =
+    append_assoc (take count faults) (f ∷ drop count faults) more
+    ∙ ap (λ (xs : List Fault). xs ++ (f ∷ (drop count faults ++ more))) (sym (take-append-le count faults more h))
+    ∙ ap (λ (xs : List Fault). take count (faults ++ more) ++ f ∷ xs) (sym (drop-append-le count faults more h))
+
+-- the part that takes the step is the one without the fault, but for it, and makes the same burst
+pub record IsStruckStep (count : ℕ) (f : Fault) (p : PartState) (k : Known) (s : Step) : Type 0 where
+  pub part : guarded (with_own (inserted count f p.spec.faults) p) k s
+      ≡ with_own (inserted count f (guarded p k s).spec.faults) (guarded p k s)
+  pub same : IsSameBurst (inserted count f (guarded p k s).spec.faults) (guarded p k s) s
+
+module _ (count : ℕ) (f : Fault) (p : PartState) (k : Known) (s : Step) (room : count ≤ length p.spec.faults) where
+  abbrev more' : List Fault
+  more' = inserted count f p.spec.faults
+
+  abbrev SameWith : Option Fault → Type 0
+  SameWith None = IsSameBurst more' p s
+  SameWith (Some t) = IsSameBurst (more' ++ t ∷ []) (with_own (p.spec.faults ++ t ∷ []) p) s
+
+  guarded_is : (q : PartState) (o : Option Fault) → guard q k s ≡ o → guarded q k s ≡ with_trap o q
+  unfolding guarded
+  guarded_is q o e = ap (λ (t : Option Fault). with_trap t q) e
+
+  struck_by : (o : Option Fault) → guard p k s ≡ o → guard (with_own more' p) k s ≡ o → SameWith o → IsStruckStep count f p k s
+  struck_by None e e' h =
+      let g : guarded p k s ≡ p = guarded_is p None e in
+      record {
+        part = guarded_is (with_own more' p) None e' ∙ ap (λ (q : PartState). with_own (inserted count f q.spec.faults) q) (sym g);
+        same = subst (λ (q : PartState). IsSameBurst (inserted count f q.spec.faults) q s) (sym g) h;
+      }
+  struck_by (Some t) e e' h =
+      let q : PartState = with_own (p.spec.faults ++ t ∷ []) p in
+      let g : guarded p k s ≡ q = guarded_is p (Some t) e in
+      let faults : more' ++ t ∷ [] ≡ inserted count f (p.spec.faults ++ t ∷ []) = inserted_more count f p.spec.faults (t ∷ []) room in
+      record {
+        part = guarded_is (with_own more' p) (Some t) e' ∙ ap (λ (xs : List Fault). with_own xs p) faults
+            ∙ ap (λ (r : PartState). with_own (inserted count f r.spec.faults) r) (sym g);
+        same = subst (λ (r : PartState). IsSameBurst (inserted count f r.spec.faults) r s) (sym g)
+            (subst (λ (xs : List Fault). IsSameBurst xs q s) faults h);
+      }
+
+-- of a burst of another number
+other_struck : (count : ℕ) (f : Fault) (p : PartState) (k : Known) (context : ℕ) → count ≤ length p.spec.faults
+    → own_faults (with_own (inserted count f p.spec.faults) p) ≡ own_faults p → IsStruckStep count f p k (step.Burst context)
+other_struck count f p k context room e = by_trap (guard p k (step.Burst context)) refl (trap_is p k (step.Burst context))
+  where
+    same_with : (o : Option Fault) (q : PartState) → IsTrapOf p (step.Burst context) o q → SameWith count f p k (step.Burst context) room o
+    same_with None q h = ap (λ (xs : List Fault). domain_burst context xs p.domain) e
+    same_with (Some t) q h =
+        let n : ℕ = p.bursts + 1 in
+        let here : (t.burst == n) ≡ true = eq-eqb t.burst n h.0 in
+        ap (λ (xs : List Fault). domain_burst context xs p.domain)
+        (own_burst n (inserted count f p.spec.faults) t here ∙ ap (put_behind t) e ∙ sym (own_burst n p.spec.faults t here))
+
+    by_trap : (o : Option Fault) → guard p k (step.Burst context) ≡ o
+        → IsTrapOf p (step.Burst context) (guard p k (step.Burst context)) (guarded p k (step.Burst context))
+        → IsStruckStep count f p k (step.Burst context)
+    by_trap o is h = struck_by count f p k (step.Burst context) room o is
+        (other_guard (inserted count f p.spec.faults) p k context e ∙ is)
+        (same_with o (guarded p k (step.Burst context))
+        (subst (λ (x : Option Fault). IsTrapOf p (step.Burst context) x (guarded p k (step.Burst context))) is h))
+
+-- of the burst of its number
+own_struck : (count : ℕ) (f : Fault) (p : PartState) (k : Known) (context : ℕ) → count ≤ length p.spec.faults
+    → own_faults (with_own (inserted count f p.spec.faults) p) ≡ put_behind f (own_faults p)
+    → StaysBefore f p context (guard p k (step.Burst context)) → IsStruckStep count f p k (step.Burst context)
+own_struck count f p k context room e past = by_clauses (broken k (event_of p (step.Burst context))) refl
+  where
+    free : broken k (event_of p (step.Burst context)) ≡ [] → IsStruckStep count f p k (step.Burst context)
+    free none =
+        let is : guard p k (step.Burst context) ≡ None = ap (λ (cs : List Clause). trap_for cs (guard_trap context p k)) none in
+        let few : turns_made p (context_of context p.domain.contexts) ≤ f.after = subst (StaysBefore f p context) is past in
+        let same : IsSameBurst (inserted count f p.spec.faults) p (step.Burst context) =
+        ap (λ (xs : List Fault). domain_burst context xs p.domain) e ∙ behind_same f context p few in
+        struck_by count f p k (step.Burst context) room None is (free_guard (inserted count f p.spec.faults) p k context same none) same
+
+    cut : (clause : Clause) (more : List Clause) → broken k (event_of p (step.Burst context)) ≡ clause ∷ more
+        → (o : Option Context) → context_of context p.domain.contexts ≡ o → IsStruckStep count f p k (step.Burst context)
+    cut clause more some None none = let no : [] ≡ clause ∷ more = sym (none_breaks context p k none) ∙ some in absurd cc
+    cut clause more some (Some x) runs =
+        let t : Fault = guard_trap context p k in
+        let n : ℕ = p.bursts + 1 in
+        let q : PartState = with_own (p.spec.faults ++ t ∷ []) p in
+        let is : guard p k (step.Burst context) ≡ Some t = ap (λ (cs : List Clause). trap_for cs t) some in
+        let early : t.after < f.after = subst (StaysBefore f p context) is past in
+        let here : (t.burst == n) ≡ true = eq-eqb n n refl in
+        let few : turns_made q (context_of context p.domain.contexts) ≤ f.after =
+        turns_few (inserted count f p.spec.faults) p k context f x e runs clause more some early in
+        let faults : faults_of_burst n (inserted count f p.spec.faults ++ t ∷ []) ≡ put_behind f (faults_of_burst n (p.spec.faults ++ t ∷ [])) =
+        own_burst n (inserted count f p.spec.faults) t here ∙ ap (put_behind t) e
+        ∙ behind_both t f (own_faults p) early
+        ∙ ap (put_behind f) (sym (own_burst n p.spec.faults t here)) in
+        struck_by count f p k (step.Burst context) room (Some t) is
+        (struck_guard (inserted count f p.spec.faults) p k context f x e runs clause more some early)
+        (ap (λ (xs : List Fault). domain_burst context xs p.domain) faults ∙ behind_same f context q few)
+
+    by_clauses : (cs : List Clause) → broken k (event_of p (step.Burst context)) ≡ cs → IsStruckStep count f p k (step.Burst context)
+    by_clauses [] none = free none
+    by_clauses (c ∷ more) some = cut c more some (context_of context p.domain.contexts) refl
+
+pub struck_step : (count : ℕ) (f : Fault) (p : PartState) (k : Known) (s : Step) → count ≤ length p.spec.faults
+    → AreEarlier p.bursts (drop count p.spec.faults) → IsPastGuarded f p k s → IsStruckStep count f p k s
+unfolding guarded
+struck_step count f p k (step.Invoke thread o) room earlier past = record { part = refl; same = tt }
+struck_step count f p k (step.Enter thread) room earlier past = record { part = refl; same = tt }
+struck_step count f p k step.Stage room earlier past = record { part = refl; same = tt }
+struck_step count f p k (step.Arrive frame) room earlier past = record { part = refl; same = tt }
+struck_step count f p k (step.Burst context) room earlier past = split (f.burst == (p.bursts + 1))
+    (λ own. own_struck count f p k context room
+    (inserted_faults count f p.bursts p.spec.faults earlier ∙ own_burst (p.bursts + 1) (take count p.spec.faults) f own
+    ∙ ap (put_behind f) (sym (own_part count p.bursts p.spec.faults earlier)))
+    (past (sym (eqb-true f.burst (p.bursts + 1) own))))
+    (λ other. other_struck count f p k context room
+    (inserted_faults count f p.bursts p.spec.faults earlier ∙ other_burst (p.bursts + 1) (take count p.spec.faults) f other
+    ∙ sym (own_part count p.bursts p.spec.faults earlier)))

@@ -19,3 +19,4 @@ pub mod ValidGuarded
 pub mod Transparent
 pub mod Reaching
 pub mod GuardedPast
+pub mod GuardedStruck

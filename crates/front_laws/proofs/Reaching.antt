@@ -1,16 +1,15 @@
 -- The turn of a deed, and the turns of a burst that a trap cuts short.
-use Rattle.std.proofs.Common.{◌≡◌, ◌≤◌, ◌<◌, ◌⊎◌, inl, inr, ℕ, zero, suc, ◌+◌, ◌-◌, ◌==◌, Bool, true, false, nat_le, nat_lt, Option, Some, None, List, [], ◌∷◌, ◌++◌, length, take, refl, sym, ap, subst, ◌∙◌, arith, append_assoc, append-nil, length-append, take_at, take_all}
+use Rattle.std.proofs.Common.{◌≡◌, ◌≤◌, ◌<◌, ℕ, zero, suc, ◌+◌, ◌-◌, ◌==◌, true, false, nat_lt, None, List, [], ◌++◌, length, take, refl, sym, ap, subst, ◌∙◌, arith, length-append, take_at, take_all}
 use Rattle.std.proofs.lemmas.Bool.{eqb-false, eqb-true, le-leb, lt-leb, ltb-false, ltb-true}
 use Rattle.nook_data.specs.declared.entries.Entry.{Entry}
 use Rattle.nook_data.specs.declared.machine.Act.{Act}
-use Rattle.nook_data.specs.declared.machine.BurstEnd.{BurstEnd}
 use Rattle.nook_data.specs.declared.machine.BurstEnd.TheVariants as ends
 use Rattle.nook_data.specs.declared.machine.TrapCause.TheVariants as trap
 use Rattle.nook_data.specs.declared.scenario.Fault.{Fault}
 use Rattle.nook_data.specs.declared.scenario.FaultKind.TheVariants as fault
 use Rattle.guard_defs.specs.Turns.{acts_from, acts_within, turns_before, turns_from, turns_of, turns_to}
 use Rattle.machine_defs.proofs.BurstKeeps.{split}
-use Rattle.machine_defs.specs.Burst.{Burst, Going, Struck, acts_of, burst, burst_from, count_at, ended, on, one_turn, over, strikes_at}
+use Rattle.machine_defs.specs.Burst.{Burst, Struck, burst, burst_from, count_at, ended, on, one_turn, over, strikes_at}
 use Rattle.machine_defs.specs.Turn.{Machine}
 use Rattle.front_laws.specs.Fronts.{IsRising, put_behind}
 use Rattle.front_laws.proofs.Past.{acts_after, acts_begin, acts_go, acts_stay, burst_after, burst_is, by_going, turns_on, turns_over, turns_stop}

@@ -81,7 +81,7 @@ same_bursts : (p q : PartState) (s : Step) (o : Option Fault) → IsTrapOf p s o
 same_bursts p q s None h = ap (λ (r : PartState). r.bursts) h
 same_bursts p q s (Some f) h = ap (λ (r : PartState). r.bursts) h.2
 
-traps_fit : (most : ℕ) (p : PartState) (k : Known) (events : List Event) → (guarded_from p k events).bursts ≤ most
+pub traps_fit : (most : ℕ) (p : PartState) (k : Known) (events : List Event) → (guarded_from p k events).bursts ≤ most
     → AllByRecursion (IsTrapWithin most) (traps_from p k events)
 unfolding traps_from guarded_from
 traps_fit most p k [] h = tt

@@ -25,11 +25,11 @@ use Rattle.front_laws.proofs.Same.{IsSameBurst}
 
 -- the place of the struck part
 
-struck_here : (place : ℕ) (f : Fault) (own : List Fault) → struck_at place f place own ≡ own ++ f ∷ []
+pub struck_here : (place : ℕ) (f : Fault) (own : List Fault) → struck_at place f place own ≡ own ++ f ∷ []
 struck_here zero f own = refl
 struck_here (suc place) f own = struck_here place f own
 
-struck_other : (place : ℕ) (f : Fault) (n : ℕ) (own : List Fault) → (n ≡ place → ⊥) → struck_at place f n own ≡ own
+pub struck_other : (place : ℕ) (f : Fault) (n : ℕ) (own : List Fault) → (n ≡ place → ⊥) → struck_at place f n own ≡ own
 struck_other zero f zero own h = absurd (h refl)
 struck_other zero f (suc n) own h = refl
 struck_other (suc place) f zero own h = refl
@@ -116,7 +116,7 @@ grown (suc more) s place seat at = by_choices (choices_of s) (λ x next there. g
 
 -- ---- each step of the run is the same with the fault
 
-own_burst_same : (p : PartState) (s : Step) → IsSameBurst p.spec.faults p s
+pub own_burst_same : (p : PartState) (s : Step) → IsSameBurst p.spec.faults p s
 own_burst_same p (step.Invoke thread o) = tt
 own_burst_same p (step.Enter thread) = tt
 own_burst_same p step.Stage = tt
@@ -226,7 +226,7 @@ struck_seats c f (suc k) n j (spec ∷ specs) h here other =
     near : (j : ℕ) → j ≡ n + suc k → n ≡ j → ⊥
     near j e i = omega arith
 
-begins_struck : (scenario : Scenario) (place : ℕ) (f : Fault) → begins (struck scenario place f) ≡ owned (struck_at place f) (begins scenario)
+pub begins_struck : (scenario : Scenario) (place : ℕ) (f : Fault) → begins (struck scenario place f) ≡ owned (struck_at place f) (begins scenario)
 unfolding begins
 begins_struck scenario place f =
     ap (λ (parts : List RunningPart). record (begins scenario) { parts = parts })

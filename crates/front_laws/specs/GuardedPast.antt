@@ -1,4 +1,4 @@
-use Rattle.std.specs.Prelude.{◌≡◌, ◌≤◌, ◌<◌, ℕ, ◌+◌, Option, Some, None, List, [], ◌∷◌, ◌++◌, take, drop, length}
+use Rattle.std.specs.Prelude.{◌≡◌, ◌≤◌, ◌<◌, ℕ, zero, suc, ◌+◌, Option, Some, None, List, [], ◌∷◌, ◌++◌, take, drop}
 use Rattle.nook_data.specs.Types.{Event, Fault, PartSpec, Step}
 use Rattle.nook_data.specs.declared.steps.Step.TheVariants as step
 use Rattle.guard_defs.specs.Guard.{guard, guarded, known_at_first}
@@ -36,3 +36,10 @@ IsUnreachedGuarded f spec journal = IsPastGuardedFrom f (opening spec) (known_at
 -- a fault among the faults of a part, behind the first so many, which are the part's own
 abbrev pub inserted : ℕ → Fault → List Fault → List Fault
 inserted count f faults = take count faults ++ f ∷ drop count faults
+
+-- so it is of the part at a place, whose own faults are so many
+abbrev pub inserted_at : ℕ → ℕ → Fault → ℕ → List Fault → List Fault
+inserted_at zero count f zero faults = inserted count f faults
+inserted_at zero count f (suc n) faults = faults
+inserted_at (suc place) count f zero faults = faults
+inserted_at (suc place) count f (suc n) faults = inserted_at place count f n faults

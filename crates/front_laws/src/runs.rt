@@ -1,6 +1,7 @@
 //! Whole scenarios: a fault that is not reached, and the guarded run.
 
 ghost use Rattle.front_laws.specs.Fronts.{IsUnreached};
+ghost use Rattle.front_laws.specs.GuardedPast.{IsUnreachedGuarded, inserted_at};
 ghost use Rattle.front_laws.specs.GuardedParts.{IsGuardedPart, NoneBreaks};
 ghost use Rattle.front_laws.specs.Owned.{owned, struck_at};
 ghost use Rattle.guard_defs.specs.Guard.{HasRoom};
@@ -12,7 +13,7 @@ ghost use Rattle.nook_data.specs.declared.scenario.PartSpec.{PartSpec};
 ghost use Rattle.nook_data.specs.declared.scenario.Scenario.{Scenario};
 ghost use Rattle.run_defs.specs.Simulation.{IsScheduledRun, RunningPart, Simulation, answer_table, begins};
 ghost use Rattle.run_defs.specs.Simulation.{journals_of, runs};
-ghost use Rattle.std.specs.Prelude.{ℕ, All, Some, slice_get, ◌≡◌};
+ghost use Rattle.std.specs.Prelude.{ℕ, All, Some, length, slice_get, ◌≡◌};
 
 /// A fault that a part's journal does not reach leaves the whole run of the scenario as it is: after as many steps the
 /// struck scenario's run is the same but for that fault. So the struck scenario's scheduled run has the same journals
@@ -64,4 +65,24 @@ pub fn a_scheduled_run_that_breaks_nothing_is_guarded()
 pub fn the_guarded_scenario_is_valid()
     ensures { (scenario : Scenario) (steps : ℕ) → IsValidScenario scenario → All HasRoom scenario.parts
         → IsValidScenario (guarded_scenario scenario (guarded_runs steps (begins scenario))) }
+{}
+
+/// A fault that is put behind a part's own faults, and so before the guard's traps, and that no burst of the part's
+/// guarded run reaches, leaves the whole guarded run of the scenario as it is. A burst that the guard's trap ends does
+/// not reach it where the trap stands before its place; at the trap's own place it would strike first.
+pub fn a_fault_that_is_not_reached_leaves_the_guarded_run()
+    ensures steps { (scenario : Scenario) (place : ℕ) (fault : Fault) (steps : ℕ) (spec : PartSpec)
+        (seat : RunningPart) → slice_get scenario.parts place ≡ Some spec
+        → slice_get (guarded_runs steps (begins scenario)).parts place ≡ Some seat
+        → IsUnreachedGuarded fault spec seat.run.journal
+        → guarded_runs steps (begins (struck scenario place fault))
+        ≡ owned (inserted_at place (length spec.faults) fault) (guarded_runs steps (begins scenario)) }
+    ensures whole { (scenario : Scenario) (place : ℕ) (fault : Fault) (s : Simulation) (spec : PartSpec)
+        (seat : RunningPart) → IsGuardedSchedule scenario s → slice_get scenario.parts place ≡ Some spec
+        → slice_get s.parts place ≡ Some seat → IsUnreachedGuarded fault spec seat.run.journal
+        → IsGuardedSchedule (struck scenario place fault)
+        (owned (inserted_at place (length spec.faults) fault) s) }
+    ensures same { (place : ℕ) (fault : Fault) (own : ℕ) (s : Simulation)
+        → (journals_of (owned (inserted_at place own fault) s) ≡ journals_of s)
+        × (answer_table (owned (inserted_at place own fault) s) ≡ answer_table s) }
 {}

@@ -3,7 +3,7 @@
 from __future__ import annotations
 
 from .calls import AT_ENTER, BY_DRIVER, BY_SHADOW, GONE, REFUSED, Call, calls_of, calls_of_threads
-from .facts import STATUSES
+from .facts import STATUSES as NUMBERS
 from .folding import folded_lines, short_event
 from .held import held_lines
 from .report import Part, Report, Thread
@@ -13,10 +13,10 @@ from .words import CLAUSES, cause_words, counted, short
 # Of what a part was left with this many lines are shown.
 MOST_LEFT = 16
 
-MEANINGS = {
-    STATUSES["done"]: "no part was given up, and every driver kept its class's contract",
-    STATUSES["given_up"]: "a part was given up",
-    STATUSES["contract_broken"]: "a driver broke its class's contract",
+STATUSES = {
+    NUMBERS["done"]: "no part was given up, and every driver kept its class's contract",
+    NUMBERS["given_up"]: "a part was given up",
+    NUMBERS["contract_broken"]: "a driver broke its class's contract",
 }
 
 
@@ -114,7 +114,7 @@ def part_lines(part: Part, strikes: list[Strike]) -> list[str]:
 
 def report_lines(report: Report, strikes: dict[int, list[Strike]] | None = None) -> list[str]:
     """A report for people; `strikes` has what became of the faults of each part."""
-    lines = [f"status {report.status}: {MEANINGS.get(report.status, 'unknown')}"]
+    lines = [f"status {report.status}: {STATUSES.get(report.status, 'unknown')}"]
     for thread, calls in zip(report.threads, calls_of_threads(report)):
         lines += ["", *thread_lines(thread, calls)]
     for part in report.parts:

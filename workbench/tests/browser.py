@@ -54,6 +54,7 @@ class Browser:
         self.session = self.call("Target.attachToTarget", targetId=target["targetId"], flatten=True)["sessionId"]
         for domain in ("Page", "Network", "Runtime", "Log"):
             self.call(f"{domain}.enable")
+        self.call("Performance.enable", timeDomain="threadTicks")
         self.call("Emulation.setDeviceMetricsOverride", width=width, height=height, deviceScaleFactor=1, mobile=False)
 
     def close(self) -> None:
@@ -135,6 +136,10 @@ class Browser:
         for _ in range(times):
             self.call("Input.dispatchKeyEvent", type="keyDown", **about, **text)
             self.call("Input.dispatchKeyEvent", type="keyUp", **about)
+
+    def busy(self) -> float:
+        """How many seconds of a processor the page's thread has taken: not how long one waited for it."""
+        return next(each["value"] for each in self.call("Performance.getMetrics")["metrics"] if each["name"] == "TaskDuration")
 
     def picture(self, path: str, whole: bool = False) -> None:
         made = self.call("Page.captureScreenshot", format="png", captureBeyondViewport=whole)

@@ -12,8 +12,9 @@ from write_cut import TABLE
 
 from nooks_bench.calls import BY_SHADOW
 
-# The most that a step may take, from the key to what is drawn.
+# The most that a step may take, from the key to what is drawn, and over how many steps that is taken.
 MOST_SECONDS = 0.05
+MOST_STEPS = 60
 
 # What the page shows of the state, read from its tables.
 SHOWN = """(() => {
@@ -35,6 +36,15 @@ SHOWN = """(() => {
 
 # Two frames, so that what was changed is drawn.
 DRAWN = "new Promise((done) => requestAnimationFrame(() => requestAnimationFrame(() => done(performance.now()))))"
+
+
+# Some presses of a key, each drawn before the next.
+STEPS = """(async () => {
+  for (let step = 0; step < %d; step += 1) {
+    dispatchEvent(new KeyboardEvent("keydown", { key: "%s" }));
+    await new Promise((done) => requestAnimationFrame(() => setTimeout(done)));
+  }
+})()"""
 
 
 @unittest.skipUnless(CHROMIUM, MISSING)
@@ -156,7 +166,7 @@ class InABrowser(unittest.TestCase):
             self.assertRegex(notes[1], r"CONTRACT BROKEN here, clause 2: the driver stored other words .* The deed: store 5 ")
             row = self.browser.value("document.querySelector('.items .chosen').textContent")
             self.assertIn("store 5", row)
-            self.assertIn("BREAKS THE CONTRACT", row)
+            self.assertIn("BREAKS", row)
 
     def test_two_parts(self):
         made = example("block.json")
@@ -185,30 +195,17 @@ class InABrowser(unittest.TestCase):
         return self.browser.value("document.querySelector('.event-where').textContent")
 
     def test_ten_thousand_events(self):
-        """Each step, with all that is drawn of it, takes less than 50 ms, and only what is seen is there."""
+        """A step, with all that is drawn of it, takes less than 50 ms of the page's thread, and only what is seen is there."""
         with file_of(many_events()) as path:
             self.open(path, "", "--traces", "20")
         events = int(self.shown_event().split(" of ")[1])
         self.assertGreater(events, 10_000)
-        script = """(async () => {
-          const frame = () => new Promise((done) => requestAnimationFrame(done));
-          const times = [];
-          for (const where of ["Home", "n", "End"]) {
-            dispatchEvent(new KeyboardEvent("keydown", { key: where }));
-            for (let step = 0; step < 60; step += 1) {
-              const begun = performance.now();
-              dispatchEvent(new KeyboardEvent("keydown", { key: where === "End" ? "ArrowLeft" : "ArrowRight" }));
-              document.body.getBoundingClientRect();
-              times.push(performance.now() - begun);
-              if (step % 20 === 0) await frame();
-            }
-          }
-          return times;
-        })()"""
-        times = sorted(self.browser.value(script))
-        self.assertEqual(len(times), 180)
-        self.assertLess(times[len(times) // 2], 1000 * MOST_SECONDS)
-        self.assertLess(self.browser.value("document.querySelectorAll('*').length"), 4_000)
+        for start, key in (("Home", "ArrowRight"), ("n", "ArrowRight"), ("End", "ArrowLeft")):
+            self.browser.press(start)
+            before = self.browser.busy()
+            self.browser.value(STEPS % (MOST_STEPS, key))
+            self.assertLess((self.browser.busy() - before) / MOST_STEPS, MOST_SECONDS)
+            self.assertLess(self.browser.value("document.querySelectorAll('*').length"), 3_000)
 
     def test_print(self):
         self.open(example_path("write-cut.json"), "#p0e15")

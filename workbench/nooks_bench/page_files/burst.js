@@ -82,7 +82,7 @@ export class BurstView {
     this.where.textContent = this.turn === 0 ? `before turn 1 of ${turns}` : item[0] ? `turn ${item[0]} of ${turns}` : `a fault, after turn ${item[1]}`;
     const ends = this.turn === this.burst.items.length;
     const said = [];
-    if (this.turn > 0 && this.turn === this.burst.breaks) said.push(element("b", { class: "broken" }, "CONTRACT BROKEN by this turn. "));
+    if (this.turn > 0 && this.turn === this.burst.breaks) said.push(element("b", { class: "broken" }, `CONTRACT BROKEN by this turn: ${item[2]}. `));
     if (item && !item[0]) said.push(element("b", { class: "fault-text" }, `FAULT of the scenario: ${item[2]}. `));
     if (ends) said.push(`The burst ends: ${this.burst.cause || this.burst.end}.`);
     this.said.replaceChildren(...said);
@@ -104,7 +104,7 @@ export class BurstView {
     }
     const breaks = place === this.burst.breaks;
     const [line, text] = this.textOf(item);
-    const cells = [[String(item[0]), "number"], [line, "number"], [text, "instruction"], [(breaks ? "\u25c0 BREAKS THE CONTRACT: " : "") + item[2], `effect ${breaks ? "broken" : ""}`]];
+    const cells = [[String(item[0]), "number"], [line, "number"], [text, "instruction"], [(breaks ? "\u25c0 BREAKS: " : "") + item[2], `effect ${breaks ? "broken" : ""}`]];
     return element("div", { class: `row item ${chosen}`, title: `at ${item[1]}: ${item[2]}`, ...choose }, ...cells.map(([text, kind]) => element("span", { class: `cell ${kind}` }, text)));
   }
 

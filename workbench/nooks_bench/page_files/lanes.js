@@ -10,6 +10,9 @@ export const MARGIN = 86;
 const SHADOW = 16;
 
 
+// With more threads than these their calls have no labels, so that all lanes fit on a screen.
+const MOST_LABELLED = 5;
+
 // How wide an event is if all of them fit, at least and at most, and if they do not.
 const NARROW = 18;
 const WIDE = 64;
@@ -44,6 +47,7 @@ class Drawing {
     this.step = step;
     this.y = TOP;
     this.shapes = [];
+    this.isCrowded = part.lanes.threads.length > MOST_LABELLED;
   }
 
   add(...made) {
@@ -88,14 +92,10 @@ class Drawing {
     this.add(shape("path", { d: path, class: "cross-ground" }), shape("path", { d: path, class: "cross" }, title));
   }
 
-  ruler(now) {
-    const every = [1, 2, 5, 10, 20, 50, 100].find((each) => each * this.step >= 30) ?? 200;
+  ruler() {
+    const every = [1, 2, 5, 10, 20, 50, 100].find((each) => each * this.step >= 34) ?? 200;
     for (const event of this.events()) {
-      if (event === now) continue;
-      if (event % every === 0 || event === this.view.first) {
-        if (Math.abs(event - now) * this.step < 24) continue;
-        this.add(shape("text", { x: this.middle(event), y: 12, "text-anchor": "middle", class: "tick" }, "", String(event)));
-      }
+      if (event % every === 0) this.add(shape("text", { x: this.middle(event), y: 12, "text-anchor": "middle", class: "tick" }, "", String(event)));
     }
   }
 
@@ -148,7 +148,7 @@ class Drawing {
   thread(number, name, calls) {
     this.begin(name, `thread ${number}`);
     for (const call of this.seen(calls)) this.call(call);
-    this.y += LANE + 8;
+    this.y += this.isCrowded ? BAR + 3 : LANE + 8;
   }
 
   call(call) {
@@ -162,6 +162,7 @@ class Drawing {
     }
     for (const event of cuts) if (this.isSeen(event)) this.cross(event, `cut at event ${event}`);
     if (answered && this.isSeen(answered)) this.answer(call);
+    if (this.isCrowded) return;
     const x = this.left(Math.max(invoked, this.view.first));
     const room = (Math.min(last, this.view.last) - Math.max(invoked, this.view.first) + 1) * this.step;
     const words = title.split(":")[0];
@@ -230,17 +231,11 @@ class Drawing {
     this.y += LANE;
   }
 
-  /** The event that is looked at, over all lanes, and what broke the contract. */
-  now(event, high) {
-    if (this.isSeen(this.part.broken)) {
-      const x = this.middle(this.part.broken);
-      this.shapes.unshift(shape("line", { x1: x, y1: TOP - 4, x2: x, y2: high, class: "broken-line" }, "the contract is broken here"));
-    }
-    if (!this.isSeen(event)) return;
-    const x = this.left(event);
-    this.shapes.unshift(shape("rect", { x, y: TOP - 4, width: this.step, height: high - TOP + 6, class: "now" }));
-    this.add(shape("rect", { x: this.middle(event) - 17, y: 0, width: 34, height: 15, rx: 3, class: "now-flag" }),
-      shape("text", { x: this.middle(event), y: 11.5, "text-anchor": "middle", class: "now-number" }, "", String(event)));
+  /** What broke the contract, below all marks. */
+  broken() {
+    if (!this.isSeen(this.part.broken)) return;
+    const x = this.middle(this.part.broken);
+    this.shapes.unshift(shape("line", { x1: x, y1: TOP - 4, x2: x, y2: this.y, class: "broken-line" }, "the contract is broken here"));
   }
 }
 
@@ -256,10 +251,44 @@ function stripes() {
   return shape("defs", {}, "", shape("pattern", { id: "held", width: 6, height: 6, patternUnits: "userSpaceOnUse", patternTransform: "rotate(45)" }, "", ground, line));
 }
 
-/** A drawing of some events of a part, with one of them marked; `go` is called with the event that was chosen. */
-export function lanesDrawing(part, view, step, event, go) {
+/** The lanes of some events of a part. It is drawn once; a step to another of these events moves its mark alone. */
+export class LanesDrawing {
+  /** `go` is called with the event that was chosen. */
+  constructor(part, view, step, go) {
+    this.part = part;
+    this.view = view;
+    this.step = step;
+    const drawing = drawn(part, view, step);
+    const high = drawing.y;
+    const wide = drawing.left(view.last + 1) + 4;
+    this.column = shape("rect", { y: TOP - 4, width: step, height: high - TOP + 6, class: "now" });
+    this.flag = shape("rect", { y: 0, width: 36, height: 15, rx: 3, class: "now-flag" });
+    this.number = shape("text", { y: 11.5, "text-anchor": "middle", class: "now-number" });
+    this.svg = shape("svg", { width: wide, height: high + 4, viewBox: `0 0 ${wide} ${high + 4}`, role: "img" }, "",
+      stripes(), this.column, ...drawing.shapes, this.flag, this.number);
+    this.svg.addEventListener("click", (click) => {
+      const x = click.clientX - this.svg.getBoundingClientRect().left;
+      const chosen = view.first + Math.floor((x - MARGIN) / step);
+      if (x > MARGIN && chosen <= view.last) go(chosen);
+    });
+  }
+
+  /** Marks the event that is looked at; none that is not drawn. */
+  mark(event) {
+    const isSeen = event >= this.view.first && event <= this.view.last;
+    const x = MARGIN + (event - this.view.first) * this.step;
+    for (const each of [this.column, this.flag, this.number]) each.setAttribute("visibility", isSeen ? "visible" : "hidden");
+    this.column.setAttribute("x", String(x));
+    this.flag.setAttribute("x", String(x + this.step / 2 - 18));
+    this.number.setAttribute("x", String(x + this.step / 2));
+    this.number.textContent = String(event);
+    this.svg.setAttribute("aria-label", laneWords(this.part, event));
+  }
+}
+
+function drawn(part, view, step) {
   const drawing = new Drawing(part, view, step);
-  drawing.ruler(event);
+  drawing.ruler();
   drawing.modes();
   drawing.shadow();
   for (const [number, name, calls] of part.lanes.threads) drawing.thread(number, name, calls);
@@ -267,16 +296,8 @@ export function lanesDrawing(part, view, step, event, go) {
   drawing.device();
   drawing.faults();
   drawing.frames();
-  const high = drawing.y;
-  drawing.now(event, high);
-  const wide = drawing.left(view.last + 1) + 4;
-  const made = shape("svg", { width: wide, height: high + 4, viewBox: `0 0 ${wide} ${high + 4}`, role: "img", "aria-label": laneWords(part, event) }, "", stripes(), ...drawing.shapes);
-  made.addEventListener("click", (click) => {
-    const x = click.clientX - made.getBoundingClientRect().left;
-    const chosen = view.first + Math.floor((x - MARGIN) / step);
-    if (x > MARGIN && chosen <= view.last) go(chosen);
-  });
-  return made;
+  drawing.broken();
+  return drawing;
 }
 
 function laneWords(part, event) {

@@ -3,7 +3,7 @@
 import { BurstView } from "./burst.js";
 import { addressOf, element, linked } from "./elements.js";
 import { EventList } from "./events.js";
-import { MARGIN, columnsOf, lanesDrawing, legendMark, legendOf, windowOf } from "./lanes.js";
+import { LanesDrawing, MARGIN, columnsOf, legendMark, legendOf, windowOf } from "./lanes.js";
 import { stateCards } from "./state.js";
 
 const PLAY_EVERY = 900;
@@ -75,7 +75,7 @@ class Page {
   /** Goes to a part, an event and a turn, as far as they are there. */
   go({ part, event, turn }) {
     const place = Math.max(0, Math.min(part, this.data.parts.length - 1));
-    const isOther = place !== this.here.part || this.view === null;
+    const isOther = place !== this.here.part || this.burst.part === null;
     const events = this.data.parts[place].events;
     const number = Math.max(0, Math.min(event, events.length));
     this.here.part = place;
@@ -113,7 +113,8 @@ class Page {
     [...this.tabs.children].forEach((tab, place) => tab.setAttribute("aria-pressed", String(place === this.here.part)));
     this.summary.replaceChildren(element("h2", {}, `What happened to ${part.name}`),
       element("ul", {}, ...part.summary.map((line) => element("li", { class: line.startsWith("CONTRACT") ? "broken" : line.startsWith("failed") ? "failed" : "" }, ...linked(line, part.place)))));
-    const { step } = columnsOf(part, this.lanes.clientWidth, this.zoom);
+    this.width = this.lanes.clientWidth;
+    const { step } = columnsOf(part, this.width, this.zoom);
     this.legend.replaceChildren(...legendOf(part, step).map((entry) => element("span", { class: "entry" }, legendMark(entry), entry[2])));
     this.drawOverview();
   }
@@ -148,15 +149,20 @@ class Page {
 
   drawLanes() {
     const part = this.part;
-    const { step, count } = columnsOf(part, this.lanes.clientWidth, this.zoom);
-    this.view = windowOf(part, Math.max(this.here.event, 1), count, this.view);
-    this.lanes.replaceChildren(lanesDrawing(part, this.view, step, this.here.event, (event) => this.goEvent(event)));
+    const { step, count } = columnsOf(part, this.width, this.zoom);
+    const view = windowOf(part, Math.max(this.here.event, 1), count, this.view);
+    if (this.view !== view) {
+      this.view = view;
+      this.drawing = new LanesDrawing(part, view, step, (event) => this.goEvent(event));
+      this.lanes.replaceChildren(this.drawing.svg);
+    }
+    this.drawing.mark(this.here.event);
   }
 
   /** The whole run on a strip: its modes, and where something went wrong. */
   drawOverview() {
     const part = this.part;
-    const wide = Math.max(this.lanes.clientWidth - MARGIN - 8, 100);
+    const wide = Math.max(this.width - MARGIN - 8, 100);
     const style = getComputedStyle(document.documentElement);
     const colours = { starts: "--sky", serves: "--pale", recovers: "--orange", "given up": "--grey" };
     this.overview.width = wide;
@@ -255,6 +261,7 @@ class Page {
     this.events.list.draw(begins ? MOST_PRINTED : 0);
     this.burst.draw(begins ? MOST_PRINTED : 0);
     document.body.classList.toggle("printing", begins);
+    this.view = null;
     if (!begins) {
       this.drawLanes();
       return;
@@ -263,7 +270,9 @@ class Page {
     const last = Math.min(this.part.events.length, MOST_PRINTED);
     const rows = [];
     for (let first = 1; first <= last; first += count) {
-      rows.push(lanesDrawing(this.part, { first, last: Math.min(last, first + count - 1) }, step, this.here.event, () => {}));
+      const row = new LanesDrawing(this.part, { first, last: Math.min(last, first + count - 1) }, step, () => {});
+      row.mark(this.here.event);
+      rows.push(row.svg);
     }
     this.lanes.replaceChildren(...rows);
   }
@@ -273,6 +282,7 @@ class Page {
     addEventListener("keydown", (press) => this.pressed(press), true);
     addEventListener("resize", () => {
       this.view = null;
+      this.width = this.lanes.clientWidth;
       this.drawOverview();
       this.drawLanes();
     });

@@ -50,8 +50,8 @@ use Rattle.sim_run.specs.Published.{published}
 abbrev HasAnswer : (List ℕ → Status → Type 0) → Type 0
 HasAnswer Answer = (text : List ℕ) × ((status : Status) × Answer text status)
 
-answer_by : {A B : List ℕ → Status → Type 0} → ((text : List ℕ) (status : Status) → A text status → B text status) → HasAnswer A → HasAnswer B
-answer_by more a = (a.0, (a.1.0, more a.0 a.1.0 a.1.1))
+answer_by : (A B : List ℕ → Status → Type 0) → ((text : List ℕ) (status : Status) → A text status → B text status) → HasAnswer A → HasAnswer B
+answer_by A B more a = (a.0, (a.1.0, more a.0 a.1.0 a.1.1))
 
 -- ---- runs
 
@@ -111,7 +111,7 @@ refused_by asked bytes hearing T r refusal is more =
 run_exists : (bytes : List ℕ) (hearing : List Listening) (r : Result Scenario Refusal) → scenario_from bytes ≡ r → IfOk r IsValidScenario
     → HasAnswer (AnswersInput form.Run (Whole bytes) hearing)
 run_exists bytes hearing (Ok scenario) is valid =
-    answer_by (λ text status reported. inr (record { scenario = scenario; reading = is; reported = reported }))
+    answer_by (IsReported form.Run scenario hearing) (AnswersInput form.Run (Whole bytes) hearing) (λ text status reported. inr (record { scenario = scenario; reading = is; reported = reported }))
     (report_exists scenario hearing valid)
 run_exists bytes hearing (Err refusal) is valid =
     refused_by form.Run bytes hearing Scenario (scenario_from bytes) refusal is (λ text line. line)
@@ -257,5 +257,5 @@ pub words_exist : (words : List (List ℕ)) (asked : Option Form) (hearing : Lis
 words_exist words None hearing bytes asks alone =
     (usage_text, (ended.Usage, record { asked = None; asks = asks; answer = (refl, refl) }))
 words_exist words (Some asked) hearing bytes asks alone =
-    answer_by (λ text status answer. record { asked = Some asked; asks = asks; answer = answer })
+    answer_by (Answers (Some asked) (input_for (Some asked) bytes) hearing) (AnswersBytes words hearing bytes) (λ text status answer. record { asked = Some asked; asks = asks; answer = answer })
     (form_exists words asked (input_for (Some asked) bytes) hearing asks (alone asked asks))

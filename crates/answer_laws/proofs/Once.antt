@@ -122,19 +122,17 @@ texts_same scenario x y journals answers taps = rw (journals, answers, taps) ref
 reported_once : (scenario : Scenario) (hearing : List Listening) (text other : List ℕ) (status end : Status)
     → IsReported form.Run scenario hearing text status → IsReported form.Run scenario hearing other end → (text ≡ other) × (status ≡ end)
 reported_once scenario hearing text other status end a b =
-    let journals = journals_once scenario hearing a.left b.left a.run b.run in
-    (
+    let journals = journals_once scenario hearing a.left b.left a.run b.run in (
       a.text_is
-      ∙ (texts_same scenario a.left b.left journals (answers_once scenario hearing a.left b.left a.run b.run)
-      (totals_once scenario hearing a.left b.left a.run b.run) ∙ sym b.text_is),
+          ∙ (texts_same scenario a.left b.left journals (answers_once scenario hearing a.left b.left a.run b.run)
+          (totals_once scenario hearing a.left b.left a.run b.run) ∙ sym b.text_is),
       statuses_once scenario.parts a.left.journals b.left.journals status end journals a.status_is b.status_is,
     )
 
 summary_once : (number : ℕ) (text other : List ℕ) (status end : Status) → IsSummary number text status → IsSummary number other end
     → (text ≡ other) × (status ≡ end)
 summary_once number text other status end a b =
-    let journals = journals_once (generated number) [] a.left b.left a.run b.run in
-    (
+    let journals = journals_once (generated number) [] a.left b.left a.run b.run in (
       a.text_is ∙ (ap (summary_line number (generated number).parts) journals ∙ sym b.text_is),
       statuses_once (generated number).parts a.left.journals b.left.journals status end journals a.status_is b.status_is,
     )

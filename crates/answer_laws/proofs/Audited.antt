@@ -33,21 +33,23 @@ fitting_reported scenario report journals valid fit is =
     let runs : AreRuns scenario.parts journals = fitting_runs scenario.threads 0 scenario.parts journals fit in
     let answers : List (List (ℕ × Answer)) = answers_in_order 0 scenario.threads (sections_of scenario.threads 0 scenario.parts journals) in
     let threaded : IsThreaded scenario journals answers = fitting_is_threaded scenario journals valid fit in
-    let ending = run_status scenario.parts journals in
-    (ending.0, record {
-      left = record {
-        journals = journals;
-        answers = answers;
-        taps = map (λ l. tap_result l (in_parts 0 journals)) own_listeners;
-      };
-      run = record { threaded = threaded; told = refl };
-      whole = record {
-        safe = all_safe scenario journals valid runs;
-        answered = threaded_answered scenario journals answers threaded;
-      };
-      status_is = ending.1;
-      text_is = is ∙ threaded_text scenario journals answers valid runs threaded;
-    })
+    let ending = run_status scenario.parts journals in (
+      ending.0,
+      record {
+        left = record {
+          journals = journals;
+          answers = answers;
+          taps = map (λ l. tap_result l (in_parts 0 journals)) own_listeners;
+        };
+        run = record { threaded = threaded; told = refl };
+        whole = record {
+          safe = all_safe scenario journals valid runs;
+          answered = threaded_answered scenario journals answers threaded;
+        };
+        status_is = ending.1;
+        text_is = is ∙ threaded_text scenario journals answers valid runs threaded;
+      },
+    )
 
 pub audit_passed : (scenario : Scenario) (report : List ℕ) → IsValidScenario scenario → audited scenario report ≡ None
     → (status : Status) × IsReported form.RunThreads scenario own_listeners report status

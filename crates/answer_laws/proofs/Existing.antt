@@ -50,8 +50,8 @@ use Rattle.sim_run.specs.Published.{published}
 abbrev HasAnswer : (List ℕ → Status → Type 0) → Type 0
 HasAnswer Answer = (text : List ℕ) × ((status : Status) × Answer text status)
 
-answer_by : {A B : List ℕ → Status → Type 0} → ((text : List ℕ) (status : Status) → A text status → B text status) → HasAnswer A → HasAnswer B
-answer_by more a = (a.0, (a.1.0, more a.0 a.1.0 a.1.1))
+answer_by : (A B : List ℕ → Status → Type 0) → ((text : List ℕ) (status : Status) → A text status → B text status) → HasAnswer A → HasAnswer B
+answer_by A B more a = (a.0, (a.1.0, more a.0 a.1.0 a.1.1))
 
 -- ---- runs
 
@@ -78,27 +78,37 @@ report_exists : (scenario : Scenario) (hearing : List Listening) → IsValidScen
 report_exists scenario hearing valid =
     let end = scheduled_ends scenario valid in
     let left : Left = left_by scenario hearing end.0 end.1 in
-    let status = run_status scenario.parts (journals_of end.0) in
-    (report_text scenario left.journals left.answers left.taps (status_of scenario.parts left.journals), (status.0, record {
-      left = left;
-      run = scheduled_by scenario hearing end.0 end.1;
-      whole = whole_by scenario hearing end.0 end.1 valid;
-      status_is = status.1;
-      text_is = refl;
-    }))
+    let status = run_status scenario.parts (journals_of end.0) in (
+      report_text scenario left.journals left.answers left.taps (status_of scenario.parts left.journals),
+      (
+        status.0,
+        record {
+          left = left;
+          run = scheduled_by scenario hearing end.0 end.1;
+          whole = whole_by scenario hearing end.0 end.1 valid;
+          status_is = status.1;
+          text_is = refl;
+        },
+      ),
+    )
 
 summary_exists : (number : ℕ) → number ≤ 256 → HasAnswer (IsSummary number)
 summary_exists number most =
     let valid : IsValidScenario (generated number) = generated_is_valid number most in
     let end = scheduled_ends (generated number) valid in
-    let status = run_status (generated number).parts (journals_of end.0) in
-    (summary_line number (generated number).parts (journals_of end.0), (status.0, record {
-      left = left_by (generated number) [] end.0 end.1;
-      run = scheduled_by (generated number) [] end.0 end.1;
-      whole = whole_by (generated number) [] end.0 end.1 valid;
-      status_is = status.1;
-      text_is = refl;
-    }))
+    let status = run_status (generated number).parts (journals_of end.0) in (
+      summary_line number (generated number).parts (journals_of end.0),
+      (
+        status.0,
+        record {
+          left = left_by (generated number) [] end.0 end.1;
+          run = scheduled_by (generated number) [] end.0 end.1;
+          whole = whole_by (generated number) [] end.0 end.1 valid;
+          status_is = status.1;
+          text_is = refl;
+        },
+      ),
+    )
 
 -- ---- inputs
 
@@ -111,7 +121,7 @@ refused_by asked bytes hearing T r refusal is more =
 run_exists : (bytes : List ℕ) (hearing : List Listening) (r : Result Scenario Refusal) → scenario_from bytes ≡ r → IfOk r IsValidScenario
     → HasAnswer (AnswersInput form.Run (Whole bytes) hearing)
 run_exists bytes hearing (Ok scenario) is valid =
-    answer_by (λ text status reported. inr (record { scenario = scenario; reading = is; reported = reported }))
+    answer_by (IsReported form.Run scenario hearing) (AnswersInput form.Run (Whole bytes) hearing) (λ text status reported. inr (record { scenario = scenario; reading = is; reported = reported }))
     (report_exists scenario hearing valid)
 run_exists bytes hearing (Err refusal) is valid =
     refused_by form.Run bytes hearing Scenario (scenario_from bytes) refusal is (λ text line. line)
@@ -136,14 +146,22 @@ list_exists bytes hearing (Err refusal) is = refused_by form.List bytes hearing 
 campaign_exists : (bytes : List ℕ) (hearing : List Listening) (r : Result Campaign Refusal) → campaign_from bytes ≡ r → IfOk r IsValidCampaign
     → HasAnswer (AnswersInput form.Campaign (Whole bytes) hearing)
 campaign_exists bytes hearing (Ok campaign) is valid =
-    let table = has_members campaign valid in
-    (table_text table.0, (ended.Done, inr (record {
-      campaign = campaign;
-      reading = is;
-      rows = table.0;
-      members = table.1.1;
-      text_is = refl;
-    }, refl)))
+    let table = has_members campaign valid in (
+      table_text table.0,
+      (
+        ended.Done,
+        inr (
+          record {
+            campaign = campaign;
+            reading = is;
+            rows = table.0;
+            members = table.1.1;
+            text_is = refl;
+          },
+          refl,
+        ),
+      ),
+    )
 campaign_exists bytes hearing (Err refusal) is valid =
     refused_by form.Campaign bytes hearing Campaign (campaign_from bytes) refusal is (λ text line. line)
 
@@ -152,16 +170,31 @@ campaign_exists bytes hearing (Err refusal) is valid =
 traced : (bytes : List ℕ) (part burst : ℕ) (hearing : List Listening) (scenario : Scenario) (s : Simulation) (trace : Option (List ℕ))
     → scenario_from bytes ≡ Ok scenario → IsScheduledRun scenario s → trace ≡ trace_text scenario.parts (journals_of s) part burst
     → HasAnswer (AnswersInput (form.Trace part burst) (Whole bytes) hearing)
-traced bytes part burst hearing scenario s None reading run is = (no_such_burst_text, (ended.BadInput, inl (inr (record {
-  scenario = scenario;
-  reading = reading;
-  none = record { simulation = s; scheduled = run; text_is = is };
-  text_is = refl;
-}), refl)))
-traced bytes part burst hearing scenario s (Some text) reading run is = (text, (ended.Done, inr (
-  is_trace_of bytes scenario part burst text reading (record { simulation = s; scheduled = run; text_is = is }),
-  refl,
-)))
+traced bytes part burst hearing scenario s None reading run is = (
+  no_such_burst_text,
+  (
+    ended.BadInput,
+    inl (
+      inr (record {
+        scenario = scenario;
+        reading = reading;
+        none = record { simulation = s; scheduled = run; text_is = is };
+        text_is = refl;
+      }),
+      refl,
+    ),
+  ),
+)
+traced bytes part burst hearing scenario s (Some text) reading run is = (
+  text,
+  (
+    ended.Done,
+    inr (
+      is_trace_of bytes scenario part burst text reading (record { simulation = s; scheduled = run; text_is = is }),
+      refl,
+    ),
+  ),
+)
 
 trace_exists : (bytes : List ℕ) (part burst : ℕ) (hearing : List Listening) (r : Result Scenario Refusal) → scenario_from bytes ≡ r
     → IfOk r IsValidScenario → HasAnswer (AnswersInput (form.Trace part burst) (Whole bytes) hearing)
@@ -176,8 +209,11 @@ trace_exists bytes part burst hearing (Err refusal) is valid =
 verdict_exists : (bytes handed report : List ℕ) (hearing : List Listening) (r : Result Scenario Refusal) → Hands bytes handed report
     → length handed ≤ limit_of form.Run → scenario_from handed ≡ r → IfOk r IsValidScenario
     → HasAnswer (AnswersInput form.Audit (Whole bytes) hearing)
-verdict_exists bytes handed report hearing (Ok scenario) hands short is valid =
-    (verdict_text (audited scenario report), (verdict_status (audited scenario report), inr (record {
+verdict_exists bytes handed report hearing (Ok scenario) hands short is valid = (
+  verdict_text (audited scenario report),
+  (
+    verdict_status (audited scenario report),
+    inr (record {
       handed = handed;
       report = report;
       hands = hands;
@@ -185,24 +221,42 @@ verdict_exists bytes handed report hearing (Ok scenario) hands short is valid =
       scenario = scenario;
       reading = is;
       verdict = record { text_is = refl; status_is = refl; sound = sound_report scenario report valid };
-    })))
-verdict_exists bytes handed report hearing (Err refusal) hands short is valid =
-    (fault_line refusal, (ended.BadInput, inl (inr (record {
-      scenario = handed;
-      report = report;
-      hands = hands;
-      fault = inr (short, record { refusal = refusal; is = is; text_is = refl });
-    }), refl)))
+    }),
+  ),
+)
+verdict_exists bytes handed report hearing (Err refusal) hands short is valid = (
+  fault_line refusal,
+  (
+    ended.BadInput,
+    inl (
+      inr (record {
+        scenario = handed;
+        report = report;
+        hands = hands;
+        fault = inr (short, record { refusal = refusal; is = is; text_is = refl });
+      }),
+      refl,
+    ),
+  ),
+)
 
 by_length : (bytes handed report : List ℕ) (hearing : List Listening) (long : Bool) → Hands bytes handed report
     → nat_lt (limit_of form.Run) (length handed) ≡ long → HasAnswer (AnswersInput form.Audit (Whole bytes) hearing)
-by_length bytes handed report hearing true hands is =
-    (fault_line (at_root fault.TooMany), (ended.BadInput, inl (inr (record {
-      scenario = handed;
-      report = report;
-      hands = hands;
-      fault = inl (ltb-true (limit_of form.Run) (length handed) is, refl);
-    }), refl)))
+by_length bytes handed report hearing true hands is = (
+  fault_line (at_root fault.TooMany),
+  (
+    ended.BadInput,
+    inl (
+      inr (record {
+        scenario = handed;
+        report = report;
+        hands = hands;
+        fault = inl (ltb-true (limit_of form.Run) (length handed) is, refl);
+      }),
+      refl,
+    ),
+  ),
+)
 by_length bytes handed report hearing false hands is =
     verdict_exists bytes handed report hearing (scenario_from handed) hands (ltb-false (limit_of form.Run) (length handed) is) refl
     (scenario_is_valid handed)
@@ -257,5 +311,5 @@ pub words_exist : (words : List (List ℕ)) (asked : Option Form) (hearing : Lis
 words_exist words None hearing bytes asks alone =
     (usage_text, (ended.Usage, record { asked = None; asks = asks; answer = (refl, refl) }))
 words_exist words (Some asked) hearing bytes asks alone =
-    answer_by (λ text status answer. record { asked = Some asked; asks = asks; answer = answer })
+    answer_by (Answers (Some asked) (input_for (Some asked) bytes) hearing) (AnswersBytes words hearing bytes) (λ text status answer. record { asked = Some asked; asks = asks; answer = answer })
     (form_exists words asked (input_for (Some asked) bytes) hearing asks (alone asked asks))

@@ -1,10 +1,9 @@
 -- What waits for nobody has at most one answer.
-use Rattle.std.proofs.Common.{◌≡◌, ℕ, ◌==◌, ◌<◌, ◌≤◌, if◌then◌else◌, true, false, List, [], ◌∷◌, ◌⊎◌, inl, inr, length, map, Option, Some, None, Result, Ok, Err, refl, sym, ap, ap₂, ◌∙◌, subst, true≢false, arith}
+use Rattle.std.proofs.Common.{◌≡◌, ℕ, ◌==◌, ◌<◌, ◌≤◌, if◌then◌else◌, true, false, List, [], ◌∷◌, ◌⊎◌, inl, inr, length, map, Option, Some, None, Result, Ok, Err, refl, sym, ap, ◌∙◌, subst, true≢false, arith}
 use Rattle.std.specs.List.{AllZip}
 use Rattle.asm_defs.specs.Disassembler.{disassembled}
 use Rattle.asm_defs.specs.ImageText.{image_text}
 use Rattle.audit_input.proofs.Once.{hands_once}
-use Rattle.audit_input.specs.Handed.{Hands, HandsNothing}
 use Rattle.audited_runs.proofs.Texts.{results_same}
 use Rattle.burst_trace.specs.Text.{IsTraceText, trace_text}
 use Rattle.command_forms.proofs.OneForm.{one_form}
@@ -30,14 +29,14 @@ use Rattle.nooks.specs.Answers.{Answers, AnswersInput, AreMembers, HandsFault, H
 use Rattle.nooks.specs.Answers.{IsReportStatus, IsReported, IsScenarioFault, IsScheduled, IsSummary, IsTableOf, IsTraceOf, IsVerdict, Left, listing_from, verdict_status}
 use Rattle.nooks.specs.Endings.{AnswersBytes, input_for}
 use Rattle.nooks.specs.Streams.{Input, TooLong, Whole}
-use Rattle.nooks.specs.Texts.{no_such_burst_text, verdict_text}
+use Rattle.nooks.specs.Texts.{help_text, usage_text, version_text}
 use Rattle.nooks.specs.declared.program.Status.{Status}
 use Rattle.nooks.specs.declared.program.Status.TheVariants as ended
 use Rattle.report_defs.specs.Campaigns.{IsRowOf, IsTable, table_text}
 use Rattle.report_defs.specs.ReportText.{report_text, status_of, summary_line}
 use Rattle.run_defs.specs.Generated.{generated}
 use Rattle.run_defs.specs.Simulation.{IsScheduledRun, Simulation, answer_table, begins, journals_of, runs}
-use Rattle.run_laws.specs.Audit.{audited}
+use Rattle.scenario_write.specs.ScenarioText.{scenario_line}
 use Rattle.sim_run.proofs.Ending.{scheduled_once}
 use Rattle.sim_run.proofs.Publishing.{journals_are_heard}
 use Rattle.sim_run.specs.Published.{heard_in_journals, published}
@@ -123,19 +122,17 @@ texts_same scenario x y journals answers taps = rw (journals, answers, taps) ref
 reported_once : (scenario : Scenario) (hearing : List Listening) (text other : List ℕ) (status end : Status)
     → IsReported form.Run scenario hearing text status → IsReported form.Run scenario hearing other end → (text ≡ other) × (status ≡ end)
 reported_once scenario hearing text other status end a b =
-    let journals = journals_once scenario hearing a.left b.left a.run b.run in
-    (
+    let journals = journals_once scenario hearing a.left b.left a.run b.run in (
       a.text_is
-      ∙ (texts_same scenario a.left b.left journals (answers_once scenario hearing a.left b.left a.run b.run)
-      (totals_once scenario hearing a.left b.left a.run b.run) ∙ sym b.text_is),
+          ∙ (texts_same scenario a.left b.left journals (answers_once scenario hearing a.left b.left a.run b.run)
+          (totals_once scenario hearing a.left b.left a.run b.run) ∙ sym b.text_is),
       statuses_once scenario.parts a.left.journals b.left.journals status end journals a.status_is b.status_is,
     )
 
 summary_once : (number : ℕ) (text other : List ℕ) (status end : Status) → IsSummary number text status → IsSummary number other end
     → (text ≡ other) × (status ≡ end)
 summary_once number text other status end a b =
-    let journals = journals_once (generated number) [] a.left b.left a.run b.run in
-    (
+    let journals = journals_once (generated number) [] a.left b.left a.run b.run in (
       a.text_is ∙ (ap (summary_line number (generated number).parts) journals ∙ sym b.text_is),
       statuses_once (generated number).parts a.left.journals b.left.journals status end journals a.status_is b.status_is,
     )
@@ -210,8 +207,8 @@ trace_once bytes part burst text other a b =
 
 scenario_fault_once : (handed text other : List ℕ) → IsScenarioFault handed text → IsScenarioFault handed other → text ≡ other
 scenario_fault_once handed text other (inl a) (inl b) = a.1 ∙ sym b.1
-scenario_fault_once handed text other (inl a) (inr b) = let long = a.0 in let short = b.0 in absurd (omega (arith, long, short))
-scenario_fault_once handed text other (inr a) (inl b) = let short = a.0 in let long = b.0 in absurd (omega (arith, long, short))
+scenario_fault_once handed text other (inl a) (inr b) = let long : 1048576 < length handed = a.0 in let short : length handed ≤ 1048576 = b.0 in absurd (omega (arith, long, short))
+scenario_fault_once handed text other (inr a) (inl b) = let short : length handed ≤ 1048576 = a.0 in let long : 1048576 < length handed = b.0 in absurd (omega (arith, long, short))
 scenario_fault_once handed text other (inr a) (inr b) = refusal_once (scenario_from handed) text other a.1 b.1
 
 audit_fault_once : (bytes text other : List ℕ) → IsFaultOf form.Audit bytes text → IsFaultOf form.Audit bytes other → text ≡ other
@@ -224,7 +221,8 @@ audit_fault_once bytes text other (inr a) (inr b) =
 
 scenario_has_no_fault : {P : Type 0} (handed text : List ℕ) (scenario : Scenario) → length handed ≤ limit_of form.Run → scenario_from handed ≡ Ok scenario
     → IsScenarioFault handed text → P
-scenario_has_no_fault handed text scenario short reading (inl a) = let long = a.0 in absurd (omega (arith, long, short))
+scenario_has_no_fault handed text scenario short reading (inl a) =
+    let long : 1048576 < length handed = a.0 in let low : length handed ≤ 1048576 = short in absurd (omega (arith, long, low))
 scenario_has_no_fault handed text scenario short reading (inr a) = not_both (scenario_from handed) scenario a.1.refusal reading a.1.is
 
 audit_has_no_fault : {P : Type 0} (bytes text other : List ℕ) (status : Status) → IsAuditOf bytes text status → IsFaultOf form.Audit bytes other → P
@@ -317,20 +315,21 @@ answer_once form.RunThreads input hearing text other status end alone a b = absu
 answer_once form.Asm input hearing text other status end alone a b = input_once form.Asm input hearing text other status end alone a b
 answer_once form.Dis input hearing text other status end alone a b = input_once form.Dis input hearing text other status end alone a b
 answer_once (form.Gen number) input hearing text other status end alone a b = summary_once number text other status end a b
-answer_once (form.GenScenario number) input hearing text other status end alone a b = said_once _ _ text other status end a b
+answer_once (form.GenScenario number) input hearing text other status end alone a b =
+    said_once (scenario_line (generated number)) ended.Done text other status end a b
 answer_once form.Audit input hearing text other status end alone a b = input_once form.Audit input hearing text other status end alone a b
 answer_once form.Campaign input hearing text other status end alone a b = input_once form.Campaign input hearing text other status end alone a b
 answer_once form.Mirror input hearing text other status end alone a b = absurd (true≢false (sym alone))
 answer_once form.List input hearing text other status end alone a b = input_once form.List input hearing text other status end alone a b
 answer_once (form.Trace part burst) input hearing text other status end alone a b =
     input_once (form.Trace part burst) input hearing text other status end alone a b
-answer_once form.Help input hearing text other status end alone a b = said_once _ _ text other status end a b
-answer_once form.Version input hearing text other status end alone a b = said_once _ _ text other status end a b
+answer_once form.Help input hearing text other status end alone a b = said_once help_text ended.Done text other status end a b
+answer_once form.Version input hearing text other status end alone a b = said_once version_text ended.Done text other status end a b
 
 asked_once : (words : List (List ℕ)) (one two : Option Form) (hearing : List Listening) (bytes text other : List ℕ) (status end : Status)
     → AskAlone words → Asks words one → Asks words two → Answers one (input_for one bytes) hearing text status
     → Answers two (input_for two bytes) hearing other end → (text ≡ other) × (status ≡ end)
-asked_once words None None hearing bytes text other status end alone x y a b = said_once _ _ text other status end a b
+asked_once words None None hearing bytes text other status end alone x y a b = said_once usage_text ended.Usage text other status end a b
 asked_once words None (Some two) hearing bytes text other status end alone x y a b = absurd (x two y)
 asked_once words (Some one) None hearing bytes text other status end alone x y a b = absurd (y one x)
 asked_once words (Some one) (Some two) hearing bytes text other status end alone x y a b =

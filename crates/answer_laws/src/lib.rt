@@ -6,7 +6,7 @@
 ghost use Rattle.std.specs.Prelude.{◌≡◌, ℕ, true, List, None, Option, Some};
 ghost use Rattle.command_forms.specs.Forms.{AskAlone, Asks, is_alone};
 ghost use Rattle.command_forms.specs.declared.words.Form.{Form};
-ghost use Rattle.command_forms.specs.declared.words.Form.TheVariants as form;
+ghost use Rattle.command_forms.specs.declared.words.Form.TheVariants.{RunThreads};
 ghost use Rattle.nook_data.specs.Valid.{IsValidScenario};
 ghost use Rattle.nook_data.specs.declared.scenario.Scenario.{Scenario};
 ghost use Rattle.nook_io.specs.Listening.{Listening};
@@ -39,7 +39,7 @@ pub fn every_form_has_an_answer()
 pub fn an_audit_passes_threaded_reports()
     ensures passed { (scenario : Scenario) (report : List ℕ) → IsValidScenario scenario
         → audited scenario report ≡ None
-        → (status : Status) × IsReported form.RunThreads scenario own_listeners report status }
+        → (status : Status) × IsReported RunThreads scenario own_listeners report status }
     ensures reports { (scenario : Scenario) (report : List ℕ) (status : Status) → IsValidScenario scenario
-        → IsReported form.RunThreads scenario own_listeners report status → audited scenario report ≡ None }
+        → IsReported RunThreads scenario own_listeners report status → audited scenario report ≡ None }
 {}

@@ -68,8 +68,7 @@ handed_in bytes scenario report hands =
     let rest : behind_feed bytes ≡ scenario ++ report =
     ap behind_feed hands.whole ∙ behind_at (decimal (length scenario)) (scenario ++ report) none in
     let count : length_in bytes ≡ length scenario =
-    ap (digits_value 10) front ∙ (decimal_is_IsNumeral (length scenario) (omega (arith, few))).1 in
-    (
+    ap (digits_value 10) front ∙ (decimal_is_IsNumeral (length scenario) (omega (arith, few))).1 in (
       ap₂ (λ (n : ℕ) (bs : List ℕ). take n bs) count rest ∙ take-append_seam scenario report,
       ap₂ (λ (n : ℕ) (bs : List ℕ). drop n bs) count rest ∙ drop_at scenario report,
     )
@@ -98,10 +97,16 @@ decided : (bytes : List ℕ) (t : Bool) → is_handed bytes (scenario_in bytes) 
 decided bytes true e =
     let parts = and_parts (bytes_eq bytes (decimal (length (scenario_in bytes)) ++ 10 ∷ (scenario_in bytes ++ report_in bytes)))
     (nat_lt (length (scenario_in bytes)) 100000000) e in
-    inl (scenario_in bytes, (report_in bytes, record {
-      whole = (bytes_eq-Decides bytes (decimal (length (scenario_in bytes)) ++ 10 ∷ (scenario_in bytes ++ report_in bytes))).0 parts.0;
-      short = ltb-true (length (scenario_in bytes)) 100000000 parts.1;
-    }))
+    inl (
+      scenario_in bytes,
+      (
+        report_in bytes,
+        record {
+          whole = (bytes_eq-Decides bytes (decimal (length (scenario_in bytes)) ++ 10 ∷ (scenario_in bytes ++ report_in bytes))).0 parts.0;
+          short = ltb-true (length (scenario_in bytes)) 100000000 parts.1;
+        },
+      ),
+    )
 decided bytes false e = inr (λ scenario report hands.
     let same = handed_in bytes scenario report hands in
     let is : is_handed bytes (scenario_in bytes) (report_in bytes) ≡ true = rw (same.0, same.1) (is_handed_if bytes scenario report hands) in

@@ -17,8 +17,8 @@ returns-in-Some-clause-safe g c = words_safe _ _ _ _ c.read_and_wait.result
 pub returns-in-Some-clause-read_fault : goal.returns-in-Some-clause-read_fault
 returns-in-Some-clause-read_fault g c e = (
   words_read_fault _ _ _ _ c.read_and_wait.result
-  (form_ended _ (form_for c.in-Some.asked) _ _ _ c.read_and_wait.result c.in-Some.ensures.found c.read_and_wait.ensures.ends
-  c.read_and_wait.ensures.taken c.read_and_wait.ensures.source_later c.read_and_wait.ensures.sink_later) e,
+      (form_ended _ (form_for c.in-Some.asked) _ _ _ c.read_and_wait.result c.in-Some.ensures.found c.read_and_wait.ensures.ends
+      c.read_and_wait.ensures.taken c.read_and_wait.ensures.source_later c.read_and_wait.ensures.sink_later) e,
   c.read_and_wait.ensures.unwritten e,
 )
 

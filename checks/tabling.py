@@ -123,8 +123,8 @@ def ranges_of(body: str, file: str) -> dict[str, Row]:
             made = number("0", "4294967295", file)
         elif way == "number_at":
             made = number(words[0], words[1], file)
-        elif words[0].startswith("(whole_number "):
-            made = number(*words[0].strip("()").split(" ", 2)[1:], file)
+        elif bounds := re.fullmatch(rf"\(whole_number ({ATOM}) ({ATOM})\)", words[0]):
+            made = number(bounds[1], bounds[2], file)
         else:
             made = listed(read_by(words[0], file), file) or {}
         found[known[key]] = {**made, **({"optional": True} if way == "optional" else {})}

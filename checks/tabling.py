@@ -20,6 +20,7 @@ PROGRAM = "crates/nooks/src/program.rt"
 MNEMONICS = "crates/machine_defs/specs/Mnemonics.antt"
 MACHINE = "crates/nook_data/src/machine.rt"
 SERVICES = "crates/machine_defs/specs/Services.antt"
+DEVICES = "crates/machine_defs/specs/Devices.antt"
 CLASSES = "crates/nook_data/specs/Classes.antt"
 CLASS_NAMES = "crates/nook_data/specs/ClassNames.antt"
 CLAUSES = "crates/nook_data/specs/Clauses.antt"
@@ -42,6 +43,9 @@ OPERANDS = {"Bare": "", "A": "a", "Imm": "imm", "AB": "a b", "AImm": "a imm", "A
 # What stands between spaces in a definition: a word, or something in brackets.
 INNER = r"\((?:[^()]|\([^()]*\))*\)"
 ATOM = rf"(?:\w+|\((?:[^()]|{INNER})*\))"
+
+# What a device gives and takes at its ports, by class: the definitions for IN and OUT, if it has such ports.
+PORTS = {"block": ("disk_input", "disk_output"), "net": ("link_input", "link_output"), "sound": ("", "speaker_output")}
 
 # How many configuration registers a device has.
 REGISTERS = 4
@@ -123,8 +127,8 @@ def ranges_of(body: str, file: str) -> dict[str, Row]:
             made = number("0", "4294967295", file)
         elif way == "number_at":
             made = number(words[0], words[1], file)
-        elif words[0].startswith("(whole_number "):
-            made = number(*words[0].strip("()").split(" ", 2)[1:], file)
+        elif bounds := re.fullmatch(rf"\(whole_number ({ATOM}) ({ATOM})\)", words[0]):
+            made = number(bounds[1], bounds[2], file)
         else:
             made = listed(read_by(words[0], file), file) or {}
         found[known[key]] = {**made, **({"optional": True} if way == "optional" else {})}
@@ -251,6 +255,19 @@ def classes() -> list[Row]:
     return found
 
 
+def ports() -> dict[str, dict[str, list[int]]]:
+    """The ports of each class's device by direction, without those of its registers, which each device has."""
+    bounds = matched(r"^nat_le (\d+) port && nat_le port (\d+)$", body_of(DEVICES, "is_register_port"), DEVICES, "is_register_port")
+    found = {name: {"IN": ports_of(given), "OUT": ports_of(taken)} for name, (given, taken) in PORTS.items()}
+    both = list(range(int(bounds[1]), int(bounds[2]) + 1))
+    return {**found, "registers": {"IN": both, "OUT": both}}
+
+
+def ports_of(name: str) -> list[int]:
+    """The ports that a definition has a case for."""
+    return [int(port) for port in re.findall(r"port == (\d+)", body_of(DEVICES, name))] if name else []
+
+
 def instructions() -> list[Row]:
     """The instructions of the driver machine in the order of their numbers, each with its operands."""
     found = []
@@ -373,6 +390,7 @@ TABLES = (
     Table("instructions", (MNEMONICS,), instructions),
     Table("services", (MACHINE, SERVICES), services),
     Table("classes", (CLASSES, CLASS_NAMES, KEYS, PART, DEVICES_PAGE), classes),
+    Table("ports", (DEVICES,), ports),
     Table("operations", (SCENARIO, CLASSES), operations),
     Table("fault_kinds", (PART,), fault_kinds),
     Table("schedules", (SCENARIO,), schedules),

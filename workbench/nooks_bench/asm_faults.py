@@ -10,7 +10,7 @@ import re
 from dataclasses import dataclass, field
 from typing import Iterable
 
-from .facts import ASM_FAULTS, CLASSES, INPUTS, MEMORY_MAP, MOST_WORD, OPERANDS
+from .facts import ASM_FAULTS, CLASSES, INPUTS, MEMORY_MAP, MOST_WORD, OPERANDS, REGISTERS
 from .words import either
 
 # The operands of each instruction.
@@ -27,7 +27,7 @@ WANTED = {"a": "a register", "b": "a register", "imm": "a number or a label", "n
 
 NAME = re.compile(r"[A-Za-z_][A-Za-z0-9_]{0,31}")
 NUMBER = re.compile(r"[0-9]+|0x[0-9A-Fa-f]+")
-REGISTER = re.compile(r"r(?:[0-9]|1[0-5])")
+REGISTER = re.compile("|".join(f"r{number}" for number in range(REGISTERS)))
 RUN = re.compile(r"[^ \t\r,]+")
 
 

@@ -118,6 +118,10 @@ STATUSES = {name: number for number, name in numbered("statuses").items()}
 LIMITS: dict[str, int] = TABLES["limits"]
 MEMORY_MAP: dict[str, int] = TABLES["memory_map"]
 
+# The ports of each class's device by direction, and the first of the ports of registers, which each device has.
+PORTS: dict[str, dict[str, list[int]]] = TABLES["ports"]
+FIRST_REGISTER = PORTS["registers"]["IN"][0]
+
 # The words of a report's events, by what they are about.
 WORDS: dict[str, tuple[str, ...]] = {name: tuple(words) for name, words in TABLES["report"].items()}
 

@@ -2,6 +2,7 @@
 
 from __future__ import annotations
 
+from . import facts
 from .facts import CLASSES
 
 # For each class the ports that it has by direction, with what each is.
@@ -33,7 +34,7 @@ COMMANDS: dict[str, dict[int, str]] = {
 }
 
 # The registers of ports 8 to 11, with what they are after a reset.
-FIRST_REGISTER = 8
+FIRST_REGISTER = facts.FIRST_REGISTER
 REGISTERS = {name: tuple((each.name, each.default) for each in kind.registers) for name, kind in CLASSES.items()}
 
 # The port whose word lasts until the next OUT or a reset, which makes it 0.

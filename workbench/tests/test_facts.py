@@ -74,7 +74,10 @@ class EachAndNoOther(unittest.TestCase):
 
     def test_instructions_and_ports(self):
         self.assertLessEqual(set(heatmap_svg.KINDS), set(facts.OPERANDS))
-        self.assertEqual(set(ports.PORTS), set(facts.CLASSES))
+        self.assertEqual(set(facts.PORTS), {*facts.CLASSES, "registers"})
+        for kind, named in ports.PORTS.items():
+            there = {(way, port) for way, numbers in facts.PORTS[kind].items() for port in numbers}
+            self.assertEqual(set(named), there, kind)
         self.assertEqual(set(ports.COMMANDS), set(facts.CLASSES))
 
 

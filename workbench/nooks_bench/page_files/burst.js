@@ -61,7 +61,7 @@ export class BurstView {
     if (this.burst === null) {
       this.head.replaceChildren(element("h3", {}, number ? `Burst ${number}` : "Burst"));
       const command = `nooks-bench trace ${this.part.place} ${number} SCENARIO`;
-      this.without.textContent = number ? `This burst was not traced when the page was made. \`${command}\` shows it.` : "This event is no burst: the driver does not run.";
+      this.without.textContent = number ? `This burst was not traced when the page was made; ${command} shows it.` : "This event is no burst: the driver does not run.";
       return;
     }
     this.showHead(number);

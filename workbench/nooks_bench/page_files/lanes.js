@@ -262,7 +262,7 @@ export class LanesDrawing {
     const high = drawing.y;
     const wide = drawing.left(view.last + 1) + 4;
     this.column = shape("rect", { y: TOP - 4, width: step, height: high - TOP + 6, class: "now" });
-    this.flag = shape("rect", { y: 0, width: 36, height: 15, rx: 3, class: "now-flag" });
+    this.flag = shape("rect", { y: 0, height: 15, rx: 3, class: "now-flag" });
     this.number = shape("text", { y: 11.5, "text-anchor": "middle", class: "now-number" });
     this.svg = shape("svg", { width: wide, height: high + 4, viewBox: `0 0 ${wide} ${high + 4}`, role: "img" }, "",
       stripes(), this.column, ...drawing.shapes, this.flag, this.number);
@@ -279,7 +279,9 @@ export class LanesDrawing {
     const x = MARGIN + (event - this.view.first) * this.step;
     for (const each of [this.column, this.flag, this.number]) each.setAttribute("visibility", isSeen ? "visible" : "hidden");
     this.column.setAttribute("x", String(x));
-    this.flag.setAttribute("x", String(x + this.step / 2 - 18));
+    const wide = 14 + 7.4 * String(event).length;
+    this.flag.setAttribute("width", String(wide));
+    this.flag.setAttribute("x", String(x + this.step / 2 - wide / 2));
     this.number.setAttribute("x", String(x + this.step / 2));
     this.number.textContent = String(event);
     this.svg.setAttribute("aria-label", laneWords(this.part, event));
@@ -319,6 +321,7 @@ export function legendOf(part, step) {
   for (const [name, entry] of Object.entries(answers)) if (by.has(name)) entries.push(entry);
   if ([...by].some((each) => each.startsWith("at once"))) entries.push(["square", "once", "answered at once: a wrong operation"]);
   if ([...by].some((each) => each.startsWith("with gone"))) entries.push(["square", "gone", "gone: the part is given up"]);
+  if (Object.keys(part.lanes.bursts).length) entries.push(["tick", "tick-mark", "a burst that goes on"]);
   if (part.failed.size) entries.push(["cross", "cross", "the driver fails; a call is cut"]);
   for (const [letter, name] of Object.entries(part.letters.acts)) if (acts.has(letter)) entries.push(["letter", OUTWARD.includes(letter) ? "outward" : letter === "f" ? "failed-act" : "inward", name, letter]);
   const strikes = new Set(Object.values(part.lanes.faults).flat());
@@ -336,6 +339,7 @@ export function legendMark([form, kind, , letter]) {
     diamond: () => [shape("path", { d: "M10,1 L16,7 L10,13 L4,7 Z", class: kind })],
     square: () => [shape("rect", { x: 6, y: 3, width: 8, height: 8, class: kind })],
     cross: () => [shape("path", { d: "M5,2 L15,12 M5,12 L15,2", class: kind })],
+    tick: () => [shape("rect", { x: 8, y: 2, width: 3, height: 10, class: kind })],
     triangle: () => [shape("path", { d: "M5,2 L15,2 L10,12 Z", class: kind })],
     letter: () => [shape("rect", { x: 3, y: 1, width: 14, height: 12, rx: 2, class: `letter ${kind}` }),
       shape("text", { x: 10, y: 10.5, "text-anchor": "middle", class: `small ${kind}` }, "", letter)],

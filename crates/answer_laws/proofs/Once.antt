@@ -1,5 +1,5 @@
 -- What waits for nobody has at most one answer.
-use Rattle.std.proofs.Common.{◌≡◌, ℕ, ◌==◌, ◌<◌, ◌≤◌, if◌then◌else◌, true, false, List, [], ◌∷◌, ◌⊎◌, inl, inr, length, map, Option, Some, None, Result, Ok, Err, refl, sym, ap, ◌∙◌, subst, true≢false, arith}
+use Rattle.std.proofs.Common.{◌≡◌, ℕ, ◌==◌, ◌<◌, ◌≤◌, if◌then◌else◌, true, List, [], ◌∷◌, ◌⊎◌, inl, inr, length, map, Option, Some, None, Result, Ok, Err, refl, sym, ap, ◌∙◌, subst, true≢false, arith}
 use Rattle.std.specs.List.{AllZip}
 use Rattle.asm_defs.specs.Disassembler.{disassembled}
 use Rattle.asm_defs.specs.ImageText.{image_text}
@@ -7,7 +7,7 @@ use Rattle.audit_input.proofs.Once.{hands_once}
 use Rattle.audited_runs.proofs.Texts.{results_same}
 use Rattle.burst_trace.specs.Text.{IsTraceText, trace_text}
 use Rattle.command_forms.proofs.OneForm.{one_form}
-use Rattle.command_forms.specs.Forms.{AskAlone, Asks, IsForm, is_alone, is_reading, limit_of}
+use Rattle.command_forms.specs.Forms.{AskAlone, Asks, is_alone, limit_of}
 use Rattle.command_forms.specs.declared.words.Form.{Form}
 use Rattle.command_forms.specs.declared.words.Form.TheVariants as form
 use Rattle.fault_campaign.proofs.Tables.{table_once}
@@ -17,7 +17,6 @@ use Rattle.input_defs.specs.ImageReading.{image_from, image_from_asm}
 use Rattle.input_defs.specs.ScenarioReading.{scenario_from}
 use Rattle.input_defs.specs.declared.input.Refusal.{Refusal}
 use Rattle.nook_data.specs.Members.{member}
-use Rattle.nook_data.specs.declared.calls.Answer.{Answer}
 use Rattle.nook_data.specs.declared.campaign.Campaign.{Campaign}
 use Rattle.nook_data.specs.declared.campaign.MemberRow.{MemberRow}
 use Rattle.nook_data.specs.declared.scenario.Fault.{Fault}
@@ -25,17 +24,17 @@ use Rattle.nook_data.specs.declared.scenario.PartSpec.{PartSpec}
 use Rattle.nook_data.specs.declared.scenario.Scenario.{Scenario}
 use Rattle.nook_data.specs.declared.steps.Event.{Event}
 use Rattle.nook_io.specs.Listening.{Listening, heard_events, tap_result}
-use Rattle.nooks.specs.Answers.{Answers, AnswersInput, AreMembers, HandsFault, HasNoBurst, IsAsmOf, IsAuditOf, IsFaultOf, IsImageOf, IsMember, IsRefusalLine, IsReportOf}
-use Rattle.nooks.specs.Answers.{IsReportStatus, IsReported, IsScenarioFault, IsScheduled, IsSummary, IsTableOf, IsTraceOf, IsVerdict, Left, listing_from, verdict_status}
+use Rattle.nooks.specs.Answers.{Answers, AnswersInput, AreMembers, IsAsmOf, IsAuditOf, IsFaultOf, IsImageOf, IsMember, IsRefusalLine, IsReportOf}
+use Rattle.nooks.specs.Answers.{IsReportStatus, IsReported, IsScenarioFault, IsScheduled, IsSummary, IsTableOf, IsTraceOf, IsVerdict, Left, listing_from}
 use Rattle.nooks.specs.Endings.{AnswersBytes, input_for}
 use Rattle.nooks.specs.Streams.{Input, TooLong, Whole}
 use Rattle.nooks.specs.Texts.{help_text, usage_text, version_text}
 use Rattle.nooks.specs.declared.program.Status.{Status}
 use Rattle.nooks.specs.declared.program.Status.TheVariants as ended
-use Rattle.report_defs.specs.Campaigns.{IsRowOf, IsTable, table_text}
+use Rattle.report_defs.specs.Campaigns.{IsRowOf, table_text}
 use Rattle.report_defs.specs.ReportText.{report_text, status_of, summary_line}
 use Rattle.run_defs.specs.Generated.{generated}
-use Rattle.run_defs.specs.Simulation.{IsScheduledRun, Simulation, answer_table, begins, journals_of, runs}
+use Rattle.run_defs.specs.Simulation.{IsScheduledRun, Simulation, answer_table, begins, journals_of}
 use Rattle.scenario_write.specs.ScenarioText.{scenario_line}
 use Rattle.sim_run.proofs.Ending.{scheduled_once}
 use Rattle.sim_run.proofs.Publishing.{journals_are_heard}

@@ -82,9 +82,9 @@ pub fn run<R: Threads + Wait + Sync, S: Source, K: Sink, G: Gate>(
 ) -> Status
     // what the program answers to the words over what was read of the source was written; after a fault of the sink,
     // or want of memory, a front of it, or nothing
-    ensures written { let hearing = map (λ b. (⟦<dyn Listener as Listener>⟧ b.vtable).listening b.value)
+    ensures written { let read = change S.left S.count source.old source.new in
+        let hearing = map (λ b. (⟦<dyn Listener as Listener>⟧ b.vtable).listening b.value)
         listeners.items in
-        let read = change S.left S.count source.old source.new in
         let asked = AnswersWords (map string_bytes words.now) hearing read in
         let sent = change K.held K.count sink.old sink.new in
         (IsAnswerStatus result → IsWritten asked sent result)
@@ -128,10 +128,11 @@ pub fn run_alone<R: Threads + Sync, S: Source, K: Sink>(
 ) -> Status
     requires { AskAlone (map string_bytes words.now) }
     // all that is promised of `run` follows from how it ended
-    ensures ends { let hearing = map (λ b. (⟦<dyn Listener as Listener>⟧ b.vtable).listening b.value)
+    ensures ends { let sent = change K.held K.count sink.old sink.new in
+        let hearing = map (λ b. (⟦<dyn Listener as Listener>⟧ b.vtable).listening b.value)
         listeners.items in
-        EndsWords (map string_bytes words.now) hearing (change S.left S.count source.old source.new)
-        (change K.held K.count sink.old sink.new) result }
+        EndsWords (map string_bytes words.now) hearing
+        (change S.left S.count source.old source.new) sent result }
     ensures unwritten { result ≡ Status.ReadFault → sink.new ≡ sink.old }
     ensures unread { AskUnread (map string_bytes words.now) → source.new ≡ source.old }
 {

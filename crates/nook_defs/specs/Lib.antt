@@ -8,6 +8,7 @@ pub use Rattle.nook_data.specs.Layout
 pub use Rattle.nook_data.specs.Places
 pub use Rattle.nook_data.specs.Valid
 pub use Rattle.nook_data.specs.Members
+pub use Rattle.nook_io.specs.Causes
 pub use Rattle.nook_io.specs.Listening
 pub use Rattle.machine_defs.specs.Machine
 pub use Rattle.machine_defs.specs.Mnemonics

@@ -14,7 +14,7 @@ from nooks_bench.calls import BY_SHADOW
 
 # The most that a step may take, from the key to what is drawn, and over how many steps that is taken.
 MOST_SECONDS = 0.05
-MOST_STEPS = 60
+MOST_STEPS = 20
 
 # What the page shows of the state, read from its tables.
 SHOWN = """(() => {

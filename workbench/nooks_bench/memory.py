@@ -2,8 +2,14 @@
 
 from __future__ import annotations
 
-DATA, STACKS, BUFFERS, OBJECTS, END = 2_048, 4_096, 5_184, 7_360, 8_192
-PAGE = 64
+from .facts import MEMORY_MAP
+
+DATA = MEMORY_MAP["DATA_START"]
+STACKS = MEMORY_MAP["DATA_END"]
+BUFFERS = MEMORY_MAP["STACKS_END"]
+OBJECTS = MEMORY_MAP["BUFFERS_END"]
+END = MEMORY_MAP["MEMORY_WORDS"]
+PAGE = MEMORY_MAP["PAGE_WORDS"]
 
 
 def area(address: int) -> str:

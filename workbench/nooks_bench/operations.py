@@ -6,7 +6,9 @@ import re
 from dataclasses import dataclass
 from functools import lru_cache
 
-BLOCK_WORDS = 16
+from .facts import LIMITS
+
+BLOCK_WORDS = LIMITS["BLOCK_WORDS"]
 STREAM = ("open", "play", "close")
 
 # What a driver may do with the buffer of a call, for the operations that have one (docs/DRIVER_MACHINE.md).

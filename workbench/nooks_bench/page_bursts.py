@@ -8,6 +8,7 @@ import re
 from typing import Any, Iterator
 
 from .deeds import Deed
+from .facts import REGISTERS
 from .listing import Source
 from .memory import area
 from .program import Program
@@ -19,8 +20,6 @@ from .trace_text import REG_FAULT, Struck, Trace, Turn
 from .words import cause_words, short
 
 WORD_FAULT = re.compile(r"(?:poke|code) (\d+) (\d+)")
-
-REGISTERS = 16
 
 
 def important(part: Part, struck: set[int]) -> list[int]:

@@ -8,6 +8,7 @@ use Rattle.nook_data.specs.declared.clause.Clause.TheVariants.{UnaskedStore, Oth
 use Rattle.nook_data.specs.declared.clause.Clause.TheVariants.{UnaskedFrame, SecondFrame, UnsentSend, OutOfOrder}
 use Rattle.nook_data.specs.declared.clause.Clause.TheVariants.{LeftInRing, OtherSample, UnplayedPlay, UnaskedRegister}
 use Rattle.nook_data.specs.declared.clause.Clause.TheVariants.{UnmadeSet, OtherGet, UnseenFailure}
+use Rattle.guard_defs.proofs.DeedCases.{before_first, before_none, first_none, first_some}
 use Rattle.guard_defs.specs.Deeds.{clause_of_deed, deeds_before, first_clause}
 use Rattle.machine_defs.proofs.BurstKeeps.{split}
 use Rattle.promise_defs.specs.Contract.{Deed, Known, after_deed, breaks, call_of, is_broken_by}
@@ -46,14 +47,6 @@ each_clause test h UnseenFailure = h.1.1.1.1.1.1.1.1.1.1.1.1.1.1.0
 all_false : (test : Clause → Bool) → ((c : Clause) → test c ≡ false) → (clauses : List Clause) → AllByRecursion (λ c. test c ≡ false) clauses
 all_false test h [] = tt
 all_false test h (c ∷ clauses) = (h c, all_false test h clauses)
-
-before_none : (call : ℕ) (k : Known) (d : Deed) (ds : List Deed) → clause_of_deed call k d ≡ None
-    → deeds_before call k (d ∷ ds) ≡ suc (deeds_before call (after_deed call k d) ds)
-before_none call k d ds e = rw (e, deeds_before) refl
-
-before_first : (call : ℕ) (k : Known) (d : Deed) (ds : List Deed) (c : Clause) → clause_of_deed call k d ≡ Some c
-    → deeds_before call k (d ∷ ds) ≡ 0
-before_first call k d ds c e = rw (e, deeds_before) refl
 
 pub front_keeps : (c : Clause) (n call : ℕ) (k : Known) (ds : List Deed) → n ≤ deeds_before call k ds → is_broken_by c call k (take n ds) ≡ false
 front_keeps c zero call k ds h = refl
@@ -99,14 +92,6 @@ same_filter a b h [] = refl
 same_filter a b h (c ∷ clauses) = split (b c)
     (λ e. rw (h c ∙ e, e, filter) (ap (λ (xs : List Clause). c ∷ xs) (same_filter a b h clauses)))
     (λ e. rw (h c ∙ e, e, filter) (same_filter a b h clauses))
-
-first_none : (call : ℕ) (k : Known) (d : Deed) (ds : List Deed) → clause_of_deed call k d ≡ None
-    → first_clause call k (d ∷ ds) ≡ first_clause call (after_deed call k d) ds
-first_none call k d ds e = rw (e, first_clause) refl
-
-first_some : (call : ℕ) (k : Known) (d : Deed) (ds : List Deed) (c : Clause) → clause_of_deed call k d ≡ Some c
-    → first_clause call k (d ∷ ds) ≡ Some c
-first_some call k d ds c e = rw (e, first_clause) refl
 
 pub first_wrong : (call : ℕ) (k : Known) (ds : List Deed) → deeds_before call k ds < length ds → IsFirstWrong call k ds
 first_wrong call k [] h = absurd (omega arith)

@@ -25,10 +25,10 @@ kept_at place k (x ∷ front) e more h =
     kept_at (suc place) (known_after k x) front e more (first_kept place k x (front ++ (e ∷ more)) h).1
 
 -- a part keeps its spec, and its journal grows at its end
-record Grows (seat later : RunningPart) : Type 0 where
-  spec : later.run.state.spec ≡ seat.run.state.spec
-  more : List Event
-  journal : later.run.journal ≡ seat.run.journal ++ more
+pub record Grows (seat later : RunningPart) : Type 0 where
+  pub spec : later.run.state.spec ≡ seat.run.state.spec
+  pub more : List Event
+  pub journal : later.run.journal ≡ seat.run.journal ++ more
 
 same_grows : (seat : RunningPart) → Grows seat seat
 same_grows seat = record { spec = refl; more = []; journal = sym (append-nil seat.run.journal) }
@@ -46,10 +46,10 @@ grows_by seat next (Some c) place (inl e) = subst (Grows seat) (sym e.1) (same_g
 grows_by seat next (Some c) place (inr e) = subst (Grows seat) (sym e.1)
     (record { spec = spec_after seat.run.state c.step; more = event_of seat.run.state c.step ∷ []; journal = refl })
 
-abbrev HasLater : Simulation → ℕ → RunningPart → Type 0
+abbrev pub HasLater : Simulation → ℕ → RunningPart → Type 0
 HasLater t place seat = (later : RunningPart) × At t place later × Grows seat later
 
-grown : (n : ℕ) (s : Simulation) (place : ℕ) (seat : RunningPart) → At s place seat → HasLater (runs n s) place seat
+pub grown : (n : ℕ) (s : Simulation) (place : ℕ) (seat : RunningPart) → At s place seat → HasLater (runs n s) place seat
 unfolding runs
 grown zero s place seat at = (seat, at, same_grows seat)
 grown (suc more) s place seat at = by_choices (choices_of s) (λ x next there. grown more x place next there)

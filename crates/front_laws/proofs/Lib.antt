@@ -20,3 +20,4 @@ pub mod Transparent
 pub mod Reaching
 pub mod GuardedPast
 pub mod GuardedStruck
+pub mod FirstTrap

@@ -5,7 +5,7 @@ use Rattle.guard_defs.specs.GuardedRuns.{IsGuardedSchedule, guarded_runs, guarde
 use Rattle.run_defs.specs.Simulation.{Choice, Simulation, begins, choices_of}
 use Rattle.front_laws.proofs.GuardedRuns.{guarded_on}
 
-guarded_still : (n : ℕ) (s : Simulation) → choices_of s ≡ [] → guarded_runs n s ≡ s
+pub guarded_still : (n : ℕ) (s : Simulation) → choices_of s ≡ [] → guarded_runs n s ≡ s
 unfolding guarded_runs
 guarded_still zero s h = refl
 guarded_still (suc n) s h = ap (guarded_on n s) h

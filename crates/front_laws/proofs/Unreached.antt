@@ -90,7 +90,7 @@ pub bursts_after : (p : PartState) (s : Step) → (state_after p s).bursts ≡ p
 bursts_after p s =
     (step_counted p s).bursts' ∙ ap (λ (b : Bool). p.bursts + cond b 1 0) (burst_flag (event_of p s) ∙ ap is_burst_step (step_named p s))
 
-later_step : (f : Fault) (p : PartState) (s : Step) → p.bursts + cond (is_burst_step s) 1 0 < f.burst → IsPast f p s
+pub later_step : (f : Fault) (p : PartState) (s : Step) → p.bursts + cond (is_burst_step s) 1 0 < f.burst → IsPast f p s
 later_step f p (step.Invoke thread o) h = tt
 later_step f p (step.Enter thread) h = tt
 later_step f p step.Stage h = tt

@@ -87,7 +87,7 @@ unfolding taken
 next_seat s place seat choices at = next_by s place seat (pick_of s choices) choices at
 
 -- the journal at the end begins with what it was
-abbrev Grows : RunningPart → RunningPart → Type 0
+abbrev pub Grows : RunningPart → RunningPart → Type 0
 Grows seat later = (more : List Event) × (later.run.journal ≡ seat.run.journal ++ more)
 
 grows_by : (seat next : RunningPart) (o : Option Choice) (place : ℕ) → IsNextSeat seat o place next → Grows seat next
@@ -98,7 +98,7 @@ grows_by seat next (Some c) place (inr e) = (event_of seat.run.state c.step ∷ 
 grows_on : (a b c : RunningPart) → Grows a b → Grows b c → Grows a c
 grows_on a b c (x, ex) (y, ey) = (x ++ y, ey ∙ ap (λ (l : List Event). l ++ y) ex ∙ append_assoc a.run.journal x y)
 
-abbrev HasLater : Simulation → ℕ → RunningPart → Type 0
+abbrev pub HasLater : Simulation → ℕ → RunningPart → Type 0
 HasLater t place seat = (later : RunningPart) × At t place later × Grows seat later
 
 pub grown : (n : ℕ) (s : Simulation) (place : ℕ) (seat : RunningPart) → At s place seat → HasLater (runs n s) place seat
@@ -124,10 +124,10 @@ own_burst_same p (step.Arrive frame) = tt
 own_burst_same p (step.Burst context) = refl
 
 -- what is known of the part at the place: its state is the one that its journal leads to
-abbrev Follows : PartState → RunningPart → Type 0
+abbrev pub Follows : PartState → RunningPart → Type 0
 Follows p seat = seat.run.state ≡ state_from p seat.run.journal
 
-follows_next : (p : PartState) (seat next : RunningPart) (o : Option Choice) (place : ℕ) → Follows p seat → IsNextSeat seat o place next → Follows p next
+pub follows_next : (p : PartState) (seat next : RunningPart) (o : Option Choice) (place : ℕ) → Follows p seat → IsNextSeat seat o place next → Follows p next
 follows_next p seat next None place h e = subst (Follows p) (sym e) h
 follows_next p seat next (Some c) place h (inl e) = subst (Follows p) (sym e.1) h
 follows_next p seat next (Some c) place h (inr e) =
@@ -190,7 +190,7 @@ module _ (f : Fault) (place : ℕ) (p : PartState) where
 
 -- ---- the whole scenario
 
-owning_none : (c : ℕ → List Fault → List Fault) (n : ℕ) (parts : List RunningPart)
+pub owning_none : (c : ℕ → List Fault → List Fault) (n : ℕ) (parts : List RunningPart)
     → ((i : ℕ) (own : List Fault) → n ≤ i → c i own ≡ own) → owning c n parts ≡ parts
 owning_none c n [] h = refl
 owning_none c n (seat ∷ parts) h =
@@ -232,7 +232,7 @@ begins_struck scenario place f =
     ap (λ (parts : List RunningPart). record (begins scenario) { parts = parts })
     (struck_seats (struck_at place f) f place 0 place scenario.parts (omega arith) (struck_here place f) (struck_other place f))
 
-opening_follows : (spec : PartSpec) → Follows (opening spec) (opening_part spec)
+pub opening_follows : (spec : PartSpec) → Follows (opening spec) (opening_part spec)
 unfolding state_from
 opening_follows spec = refl
 

@@ -3,3 +3,4 @@ pub mod Guarded
 pub mod Owned
 pub mod GuardedParts
 pub mod GuardedPast
+pub mod FirstTrap

@@ -1,5 +1,6 @@
 //! Whole scenarios: a fault that is not reached, and the guarded run.
 
+ghost use Rattle.front_laws.specs.FirstTrap.{IsFirstTrap, IsPutFirst};
 ghost use Rattle.front_laws.specs.Fronts.{IsUnreached};
 ghost use Rattle.front_laws.specs.GuardedPast.{IsUnreachedGuarded, inserted_at};
 ghost use Rattle.front_laws.specs.GuardedParts.{IsGuardedPart, NoneBreaks};
@@ -85,4 +86,20 @@ pub fn a_fault_that_is_not_reached_leaves_the_guarded_run()
     ensures same { (place : ℕ) (fault : Fault) (own : ℕ) (s : Simulation)
         → (journals_of (owned (inserted_at place own fault) s) ≡ journals_of s)
         × (answer_table (owned (inserted_at place own fault) s) ≡ answer_table s) }
+{}
+
+/// The guarded run may be made trap by trap: it is the guarded run of the scenario in which the part has its first trap
+/// from the start, behind its own faults. Up to the first burst that would break a clause it is the scheduled run, which
+/// the trap does not change; from that burst on both are the same.
+pub fn the_first_trap_may_be_put_first()
+    ensures steps { (scenario : Scenario) (place : ℕ) (fault : Fault) (steps : ℕ)
+        → IsFirstTrap scenario place fault steps → IsPutFirst scenario place fault steps }
+    ensures there { (scenario : Scenario) (place : ℕ) (fault : Fault) (steps : ℕ) (s : Simulation)
+        → IsFirstTrap scenario place fault steps → IsGuardedSchedule (struck scenario place fault) s
+        → IsGuardedSchedule scenario s }
+    ensures back { (scenario : Scenario) (place : ℕ) (fault : Fault) (steps : ℕ) (s : Simulation)
+        → IsFirstTrap scenario place fault steps → IsGuardedSchedule scenario s
+        → IsGuardedSchedule (struck scenario place fault) s }
+    ensures same { (scenario : Scenario) (place : ℕ) (fault : Fault) (s : Simulation)
+        → guarded_scenario (struck scenario place fault) s ≡ guarded_scenario scenario s }
 {}

@@ -1,0 +1,37 @@
+use Rattle.std.specs.Prelude.{◌≡◌, ◌≤◌, ◌<◌, ℕ, Option, Some, map, slice_get}
+use Rattle.nook_data.specs.Members.{struck}
+use Rattle.nook_data.specs.Types.{Fault, PartSpec, Scenario}
+use Rattle.guard_defs.specs.Guard.{guard}
+use Rattle.guard_defs.specs.GuardedRuns.{guarded_runs, known_of}
+use Rattle.run_defs.specs.Schedules.{picked}
+use Rattle.run_defs.specs.Simulation.{Choice, RunningPart, Simulation, actor_of, begins, choices_of, runs}
+use Rattle.front_laws.specs.GuardedParts.{NoneBreaks}
+use Rattle.front_laws.specs.Owned.{owned, struck_at}
+
+-- The first trap of a scenario's guarded run.
+
+-- the choice that the schedule picks, where any actor has one
+abbrev pub picked_choice : Simulation → Option Choice
+picked_choice s = slice_get (choices_of s) (picked s.order (map actor_of (choices_of s))).place
+
+-- after so many steps of the scheduled run no part has broken a clause; at the next the part at the place would, and
+-- this is the guard's trap
+pub record IsFirstTrap (scenario : Scenario) (place : ℕ) (f : Fault) (steps : ℕ) : Type 0 where
+  pub spec : PartSpec
+  pub there : slice_get scenario.parts place ≡ Some spec
+  pub kept : NoneBreaks (runs steps (begins scenario))
+  pub choice : Choice
+  pub picks : picked_choice (runs steps (begins scenario)) ≡ Some choice
+  pub part : choice.part ≡ place
+  pub seat : RunningPart
+  pub at : slice_get (runs steps (begins scenario)).parts place ≡ Some seat
+  pub trap : guard seat.run.state (known_of seat) choice.step ≡ Some f
+
+-- up to that step the guarded run is the scheduled run, and a fault that the part has from the start changes nothing of
+-- it; after that step the guarded run is the one in which the part has the fault from the start
+pub record IsPutFirst (scenario : Scenario) (place : ℕ) (f : Fault) (steps : ℕ) : Type 0 where
+  pub alike : (n : ℕ) → n ≤ steps → guarded_runs n (begins scenario) ≡ runs n (begins scenario)
+  pub before : (n : ℕ) → n ≤ steps → guarded_runs n (begins (struck scenario place f))
+      ≡ owned (struck_at place f) (guarded_runs n (begins scenario))
+  pub after : (n : ℕ) → steps < n
+      → guarded_runs n (begins (struck scenario place f)) ≡ guarded_runs n (begins scenario)

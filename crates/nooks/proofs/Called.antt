@@ -1,5 +1,6 @@
 -- How a call for some words ended, and what follows from it: each clause of the call.
-use Rattle.std.proofs.Common.{◌≡◌, ℕ, ◌+◌, ◌≤◌, true, List, ◌⊎◌, inl, inr, Option, Some, None, Err, refl, sym, ap, ◌∙◌, subst, true≢false, arith}
+use Rattle.std.proofs.Common.{◌≡◌, ℕ, ◌+◌, ◌≤◌, true, List, ◌⊎◌, inl, inr, Option, Some, None, Err, IsErrOf, refl, sym, ap, ◌∙◌, subst, true≢false, arith}
+use Rattle.std.proofs.lemmas.Result.{IfErr-at_err}
 use Rattle.std.specs.Prelude.{[]}
 use Rattle.nook_io.specs.Listening.{Listening}
 use Rattle.nook_io.specs.Causes.{TakesAtMost}
@@ -34,6 +35,14 @@ stop_ends asked hearing source stopped.Fault limit sink status reading limited l
 stop_ends asked hearing source stopped.NoMemory limit sink status reading limited long failed ends =
     subst (λ s. Ends (Some asked) hearing source sink s) (sym ends.0) (inl ends.1)
 
+-- a fault that stopped the reading is told
+pub fault_told : {T : Type 0} (stop : ReadStop) (sink : Change) (status : Status) → IsErrOf {T = T} (Err stop) stopped.Fault
+    → ReadStopWrites stop sink status → status ≡ ended.ReadFault
+fault_told stop sink status e ends =
+    let at : ReadStopWrites stopped.Fault sink status =
+    subst (λ s. ReadStopWrites s sink status) (IfErr-at_err (λ s. stop ≡ s) e refl) ends in
+    at.0
+
 -- ---- forms that wait
 
 pub waiting_reads : (asked : WaitingForm) → is_reading (form_for asked) ≡ true
@@ -57,8 +66,10 @@ takes_nothing (Some bytes) n = record { front = []; taken = refl; few = omega ar
 
 pub form_ended : (words : List (List ℕ)) (asked : Form) (hearing : List Listening) (source sink : Change) (status : Status) → IsForm words asked
     → Ends (Some asked) hearing source sink status → TakesAtMost source.before.told source.after.told (limit_of asked + 1)
-    → source.before.faults ≤ source.after.faults → sink.before.faults ≤ sink.after.faults → EndsWords words hearing source sink status
-form_ended words asked hearing source sink status is ends taken read wrote = record {
+    → source.before.faults ≤ source.after.faults → sink.before.faults ≤ sink.after.faults
+    → ((status ≡ ended.ReadFault → ⊥) → source.after.faults ≡ source.before.faults)
+    → ((status ≡ ended.WriteFault → ⊥) → sink.after.faults ≡ sink.before.faults) → EndsWords words hearing source sink status
+form_ended words asked hearing source sink status is ends taken read wrote read_kept wrote_kept = record {
   asked = Some asked;
   asks = is;
   ends = ends;
@@ -66,18 +77,23 @@ form_ended words asked hearing source sink status is ends taken read wrote = rec
       subst (λ f. TakesAtMost source.before.told source.after.told (limit_of f + 1)) (one_form words asked other is is_other) taken;
   source_later = read;
   sink_later = wrote;
+  source_kept = read_kept;
+  sink_kept = wrote_kept;
 }
 
 pub unformed_ended : (words : List (List ℕ)) (hearing : List Listening) (source sink : Change) (status : Status) → IsNoForm words
     → Ends None hearing source sink status → source.before.faults ≤ source.after.faults → sink.before.faults ≤ sink.after.faults
-    → EndsWords words hearing source sink status
-unformed_ended words hearing source sink status none ends read wrote = record {
+    → ((status ≡ ended.ReadFault → ⊥) → source.after.faults ≡ source.before.faults)
+    → ((status ≡ ended.WriteFault → ⊥) → sink.after.faults ≡ sink.before.faults) → EndsWords words hearing source sink status
+unformed_ended words hearing source sink status none ends read wrote read_kept wrote_kept = record {
   asked = None;
   asks = none;
   ends = ends;
   taken = λ other is_other. absurd (none other is_other);
   source_later = read;
   sink_later = wrote;
+  source_kept = read_kept;
+  sink_kept = wrote_kept;
 }
 
 -- ---- what follows

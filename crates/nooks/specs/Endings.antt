@@ -152,7 +152,8 @@ abbrev pub TakesFor : List (List ℕ) → Change → Type 0
 TakesFor words source =
     (asked : Form) → IsForm words asked → TakesAtMost source.before.told source.after.told (limit_of asked + 1)
 
--- how a call for these words ended
+-- how a call for these words ended; a count of faults never falls, and it is as it was unless the status tells a fault of
+-- that side: so a fault is told exactly where there was one
 pub record EndsWords (words : List (List ℕ)) (hearing : List Listening) (source sink : Change)
     (status : Status) : Type 0 where
   pub asked : Option Form
@@ -161,3 +162,5 @@ pub record EndsWords (words : List (List ℕ)) (hearing : List Listening) (sourc
   pub taken : TakesFor words source
   pub source_later : source.before.faults ≤ source.after.faults
   pub sink_later : sink.before.faults ≤ sink.after.faults
+  pub source_kept : (status ≡ ended.ReadFault → ⊥) → source.after.faults ≡ source.before.faults
+  pub sink_kept : (status ≡ ended.WriteFault → ⊥) → sink.after.faults ≡ sink.before.faults

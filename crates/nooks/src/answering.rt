@@ -62,6 +62,8 @@ where
     ensures taken { TakesAtMost (S.left source.old) (S.left source.new) (limit_of asked + 1) }
     ensures source_later { S.count source.old ≤ S.count source.new }
     ensures sink_later { K.count sink.old ≤ K.count sink.new }
+    ensures source_kept { (result ≡ Status.ReadFault → ⊥) → S.count source.new ≡ S.count source.old }
+    ensures sink_kept { (result ≡ Status.WriteFault → ⊥) → K.count sink.new ≡ K.count sink.old }
 {
     match read_all(alloc, source, limit_of(asked)) {
         Ok(bytes) => answer(rt, alloc, asked, bytes.as_slice(), sink, listeners),
@@ -84,6 +86,7 @@ pub fn refuse_source<K: Sink>(alloc: Global, stop: ReadStop, sink: &mut K) -> St
     ensures ends { ReadStopWrites stop (change K.held K.count sink.old sink.new) result }
     ensures unwritten { result ≡ Status.ReadFault → sink.new ≡ sink.old }
     ensures later { K.count sink.old ≤ K.count sink.new }
+    ensures kept { (result ≡ Status.WriteFault → ⊥) → K.count sink.new ≡ K.count sink.old }
 {
     match stop {
         ReadStop::TooLong => refuse(alloc, sink, &at_root(alloc, InputFault::TooMany)),
@@ -109,6 +112,7 @@ where
         (map (λ v. ⟦<Heard<T> as Listener>⟧.listening (record { value = v })) listeners.items))
         (change K.held K.count sink.old sink.new) result }
     ensures later { K.count sink.old ≤ K.count sink.new }
+    ensures kept { (result ≡ Status.WriteFault → ⊥) → K.count sink.new ≡ K.count sink.old }
 {
     match asked {
         Form::Run => run_scenario(alloc, bytes, sink, listeners),
@@ -140,6 +144,7 @@ where
         (map (λ v. ⟦<Heard<T> as Listener>⟧.listening (record { value = v })) listeners.items))
         (change K.held K.count sink.old sink.new) result }
     ensures later { K.count sink.old ≤ K.count sink.new }
+    ensures kept { (result ≡ Status.WriteFault → ⊥) → K.count sink.new ≡ K.count sink.old }
 {
     match read_scenario(alloc, bytes) {
         Ok(scenario) => report_run(alloc, &scenario, sink, listeners),
@@ -161,6 +166,7 @@ where
         (map (λ v. ⟦<Heard<T> as Listener>⟧.listening (record { value = v })) listeners.items))
         (change K.held K.count sink.old sink.new) result }
     ensures later { K.count sink.old ≤ K.count sink.new }
+    ensures kept { (result ≡ Status.WriteFault → ⊥) → K.count sink.new ≡ K.count sink.old }
 {
     match bus_of(alloc, listeners) {
         Ok(mut taps) => simulate_and_report(alloc, scenario, sink, &mut taps),
@@ -184,6 +190,7 @@ fn run_asm<K: Sink>(alloc: Global, bytes: &[u8], sink: &mut K) -> Status
     ensures ends { (hearing : List Listening) → Writes (AnswersInput Form.Asm (Whole bytes.now) hearing)
         (change K.held K.count sink.old sink.new) result }
     ensures later { K.count sink.old ≤ K.count sink.new }
+    ensures kept { (result ≡ Status.WriteFault → ⊥) → K.count sink.new ≡ K.count sink.old }
 {
     match read_asm(alloc, bytes) {
         Ok(image) => give_image(alloc, sink, &image),
@@ -196,6 +203,7 @@ fn run_dis<K: Sink>(alloc: Global, bytes: &[u8], sink: &mut K) -> Status
     ensures ends { (hearing : List Listening) → Writes (AnswersInput Form.Dis (Whole bytes.now) hearing)
         (change K.held K.count sink.old sink.new) result }
     ensures later { K.count sink.old ≤ K.count sink.new }
+    ensures kept { (result ≡ Status.WriteFault → ⊥) → K.count sink.new ≡ K.count sink.old }
 {
     match read_image(alloc, bytes) {
         Ok(image) => give_assembler_text(alloc, sink, &image),
@@ -213,6 +221,7 @@ fn run_campaign<R: Threads + Sync, K: Sink>(
     ensures ends { (hearing : List Listening) → Writes (AnswersInput Form.Campaign (Whole bytes.now) hearing)
         (change K.held K.count sink.old sink.new) result }
     ensures later { K.count sink.old ≤ K.count sink.new }
+    ensures kept { (result ≡ Status.WriteFault → ⊥) → K.count sink.new ≡ K.count sink.old }
 {
     match read_campaign(alloc, bytes) {
         Ok(campaign) => give_table(rt, alloc, &campaign, sink),
@@ -231,6 +240,7 @@ fn give_table<R: Threads + Sync, K: Sink>(
     ensures ends { (rows : List MemberRow) → IsTable campaign.now rows
         → Writes (Says (table_text rows) Status.Done) (change K.held K.count sink.old sink.new) result }
     ensures later { K.count sink.old ≤ K.count sink.new }
+    ensures kept { (result ≡ Status.WriteFault → ⊥) → K.count sink.new ≡ K.count sink.old }
 {
     match write_campaign(rt, alloc, campaign, sink) {
         Ok(()) => Status::Done,
@@ -243,6 +253,7 @@ fn give_table<R: Threads + Sync, K: Sink>(
 pub fn refuse_for<K: Sink>(alloc: Global, sink: &mut K, stop: &ScenarioFault) -> Status
     ensures ends { StopWrites stop.now (change K.held K.count sink.old sink.new) result }
     ensures later { K.count sink.old ≤ K.count sink.new }
+    ensures kept { (result ≡ Status.WriteFault → ⊥) → K.count sink.new ≡ K.count sink.old }
 {
     match stop {
         ScenarioFault::Bad(refusal) => refuse(alloc, sink, refusal),
@@ -280,6 +291,7 @@ pub fn refuse<K: Sink>(alloc: Global, sink: &mut K, refusal: &Refusal) -> Status
     ensures ends { Writes (Says (line_of refusal.now) Status.BadInput)
         (change K.held K.count sink.old sink.new) result }
     ensures later { K.count sink.old ≤ K.count sink.new }
+    ensures kept { (result ≡ Status.WriteFault → ⊥) → K.count sink.new ≡ K.count sink.old }
 {
     match fault_line(alloc, refusal) {
         Ok(line) => finish(sink, line.as_bytes(), Status::BadInput),
@@ -291,6 +303,7 @@ pub fn refuse<K: Sink>(alloc: Global, sink: &mut K, refusal: &Refusal) -> Status
 fn give_image<K: Sink>(alloc: Global, sink: &mut K, image: &Image) -> Status
     ensures ends { Writes (Says (image_text image.now) Status.Done) (change K.held K.count sink.old sink.new) result }
     ensures later { K.count sink.old ≤ K.count sink.new }
+    ensures kept { (result ≡ Status.WriteFault → ⊥) → K.count sink.new ≡ K.count sink.old }
 {
     match write_image(alloc, image) {
         Ok(text) => finish(sink, text.as_slice(), Status::Done),
@@ -302,6 +315,7 @@ fn give_image<K: Sink>(alloc: Global, sink: &mut K, image: &Image) -> Status
 fn give_assembler_text<K: Sink>(alloc: Global, sink: &mut K, image: &Image) -> Status
     ensures ends { Writes (Says (disassembled image.now) Status.Done) (change K.held K.count sink.old sink.new) result }
     ensures later { K.count sink.old ≤ K.count sink.new }
+    ensures kept { (result ≡ Status.WriteFault → ⊥) → K.count sink.new ≡ K.count sink.old }
 {
     match disassemble(alloc, image) {
         Ok(text) => finish(sink, text.as_slice(), Status::Done),

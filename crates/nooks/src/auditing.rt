@@ -28,6 +28,7 @@ pub fn run_audit<K: Sink>(alloc: Global, bytes: &[u8], sink: &mut K) -> Status
     ensures ends { (hearing : List Listening) → Writes (AnswersInput Form.Audit (Whole bytes.now) hearing)
         (change K.held K.count sink.old sink.new) result }
     ensures later { K.count sink.old ≤ K.count sink.new }
+    ensures kept { (result ≡ Status.WriteFault → ⊥) → K.count sink.new ≡ K.count sink.old }
 {
     match split_input(bytes) {
         Some(handed) => audit_handed(alloc, handed.scenario, handed.report, sink),
@@ -40,6 +41,7 @@ fn audit_handed<K: Sink>(alloc: Global, handed: &[u8], report: &[u8], sink: &mut
     ensures ends { (bytes : List ℕ) (hearing : List Listening) → Hands bytes handed.now report.now
         → Writes (AnswersInput Form.Audit (Whole bytes) hearing) (change K.held K.count sink.old sink.new) result }
     ensures later { K.count sink.old ≤ K.count sink.new }
+    ensures kept { (result ≡ Status.WriteFault → ⊥) → K.count sink.new ≡ K.count sink.old }
 {
     if handed.len() > LIMIT as usize {
         return refuse(alloc, sink, &at_root(alloc, InputFault::TooMany));
@@ -55,6 +57,7 @@ fn give_verdict<K: Sink>(alloc: Global, scenario: &Scenario, report: &[u8], sink
     requires { IsValidScenario scenario.now }
     ensures ends { Writes (IsVerdict scenario.now report.now) (change K.held K.count sink.old sink.new) result }
     ensures later { K.count sink.old ≤ K.count sink.new }
+    ensures kept { (result ≡ Status.WriteFault → ⊥) → K.count sink.new ≡ K.count sink.old }
 {
     match audit(alloc, scenario, report) {
         Ok(None) => finish(sink, AUDIT_YES, Status::Done),
@@ -68,6 +71,7 @@ fn tell_line<K: Sink>(alloc: Global, number: u64, sink: &mut K) -> Status
     ensures ends { Writes (Says (verdict_text (Some number)) Status.AuditNo)
         (change K.held K.count sink.old sink.new) result }
     ensures later { K.count sink.old ≤ K.count sink.new }
+    ensures kept { (result ≡ Status.WriteFault → ⊥) → K.count sink.new ≡ K.count sink.old }
 {
     match no_line(alloc, number) {
         Ok(line) => finish(sink, line.as_bytes(), Status::AuditNo),

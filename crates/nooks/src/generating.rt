@@ -21,6 +21,7 @@ pub fn give_generated<K: Sink>(alloc: Global, number: u32, sink: &mut K) -> Stat
     ensures ends { Writes (Says (scenario_line (generated number)) Status.Done)
         (change K.held K.count sink.old sink.new) result }
     ensures later { K.count sink.old ≤ K.count sink.new }
+    ensures kept { (result ≡ Status.WriteFault → ⊥) → K.count sink.new ≡ K.count sink.old }
 {
     match generated_line(alloc, number) {
         Ok(text) => finish(sink, text.as_slice(), Status::Done),

@@ -1,6 +1,6 @@
 //! The form of a listing: which line of an assembler text made which word.
 
-ghost use Rattle.std.specs.Prelude.{◌≤◌, List};
+ghost use Rattle.std.specs.Prelude.{◌≡◌, ◌≤◌, List};
 ghost use Rattle.nook_io.specs.Listening.{Listening};
 ghost use Rattle.nooks.specs.Answers.{AnswersInput, listing_from};
 ghost use Rattle.nooks.specs.Endings.{Writes};
@@ -24,6 +24,7 @@ pub fn run_list<K: Sink>(alloc: Global, bytes: &[u8], sink: &mut K) -> Status
     ensures ends { (hearing : List Listening) → Writes (AnswersInput Form.List (Whole bytes.now) hearing)
         (change K.held K.count sink.old sink.new) result }
     ensures later { K.count sink.old ≤ K.count sink.new }
+    ensures kept { (result ≡ Status.WriteFault → ⊥) → K.count sink.new ≡ K.count sink.old }
 {
     match read_listing(alloc, bytes) {
         Ok(text) => finish(sink, text.as_slice(), Status::Done),

@@ -52,6 +52,7 @@ where
         (map (λ v. ⟦<Heard<T> as Listener>⟧.listening (record { value = v })) listeners.items))
         (change K.held K.count sink.old sink.new) result }
     ensures later { K.count sink.old ≤ K.count sink.new }
+    ensures kept { (result ≡ Status.WriteFault → ⊥) → K.count sink.new ≡ K.count sink.old }
 {
     match read_scenario(alloc, bytes) {
         Ok(scenario) => serve(rt, alloc, &scenario, sink, listeners),
@@ -75,6 +76,7 @@ where
         (map (λ v. ⟦<Heard<T> as Listener>⟧.listening (record { value = v })) listeners.items))
         (change K.held K.count sink.old sink.new) result }
     ensures later { K.count sink.old ≤ K.count sink.new }
+    ensures kept { (result ≡ Status.WriteFault → ⊥) → K.count sink.new ≡ K.count sink.old }
 {
     if !is_mirror(scenario) {
         return finish(sink, NOT_MIRROR, Status::BadInput);
@@ -98,6 +100,7 @@ fn serve_and_report<R: Wait, K: Sink, L: Listener>(
     ensures ends { (hearing : List Listening) → map (seen L.listening) taps.old ≡ map settled hearing
         → Writes (IsMirrored scenario.now hearing) (change K.held K.count sink.old sink.new) result }
     ensures later { K.count sink.old ≤ K.count sink.new }
+    ensures kept { (result ≡ Status.WriteFault → ⊥) → K.count sink.new ≡ K.count sink.old }
 {
     match judge_mirror(rt, alloc, scenario, taps) {
         Ok(made) => give_mirror_report(alloc, scenario, &made, sink),
@@ -138,6 +141,7 @@ fn give_mirror_report<K: Sink>(
         → IsMirrorMade scenario.now hearing made.now.report made.now.answers made.now.status
         → Writes (IsMirrored scenario.now hearing) (change K.held K.count sink.old sink.new) result }
     ensures later { K.count sink.old ≤ K.count sink.new }
+    ensures kept { (result ≡ Status.WriteFault → ⊥) → K.count sink.new ≡ K.count sink.old }
 {
     match write_mirror_report(
         alloc,

@@ -93,10 +93,14 @@ pub fn run<R: Threads + Wait + Sync, S: Source, K: Sink, G: Gate>(
     ensures safe { AskReport (map string_bytes words.now) → HasReport result
         → IsWritten (IsSafeReport (change S.left S.count source.old source.new))
         (change K.held K.count sink.old sink.new) result }
-    // a fault is told only where it was
-    ensures read_fault { result ≡ Status.ReadFault
-        → Rose (S.count source.old) (S.count source.new) × (sink.new ≡ sink.old) }
-    ensures write_fault { result ≡ Status.WriteFault → Rose (K.count sink.old) (K.count sink.new) }
+    // a fault ends the call and is told exactly where there was one: with every other status the count of faults is as
+    // it was
+    ensures read_fault { (result ≡ Status.ReadFault
+        → Rose (S.count source.old) (S.count source.new) × (sink.new ≡ sink.old))
+        × ((result ≡ Status.ReadFault → ⊥) → S.count source.new ≡ S.count source.old) }
+    ensures write_fault { (result ≡ Status.WriteFault
+        → Rose (K.count sink.old) (K.count sink.new))
+        × ((result ≡ Status.WriteFault → ⊥) → K.count sink.new ≡ K.count sink.old) }
     // where neither failed, there is no other end but want of memory
     ensures complete { (Rose (S.count source.old) (S.count source.new) → ⊥)
         → (Rose (K.count sink.old) (K.count sink.new) → ⊥)
@@ -203,6 +207,8 @@ where
     ensures taken { TakesAtMost (S.left source.old) (S.left source.new) (limit_of asked + 1) }
     ensures source_later { S.count source.old ≤ S.count source.new }
     ensures sink_later { K.count sink.old ≤ K.count sink.new }
+    ensures source_kept { (result ≡ Status.ReadFault → ⊥) → S.count source.new ≡ S.count source.old }
+    ensures sink_kept { (result ≡ Status.WriteFault → ⊥) → K.count sink.new ≡ K.count sink.old }
 {
     match asked {
         Form::Gen { number } => run_generated(alloc, number, sink),
@@ -225,6 +231,7 @@ pub fn finish<K: Sink>(sink: &mut K, text: &[u8], status: Status) -> Status
     requires { IsAnswerStatus status }
     ensures ends { Writes (Says text.now status) (change K.held K.count sink.old sink.new) result }
     ensures later { K.count sink.old ≤ K.count sink.new }
+    ensures kept { (result ≡ Status.WriteFault → ⊥) → K.count sink.new ≡ K.count sink.old }
 {
     match write_all(sink, text) {
         Ok(()) => status,

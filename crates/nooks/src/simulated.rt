@@ -45,6 +45,7 @@ pub fn simulate_and_report<K: Sink, L: Listener>(
     ensures ends { (hearing : List Listening) → map (seen L.listening) taps.old ≡ map settled hearing
         → Writes (IsReported Form.Run scenario.now hearing) (change K.held K.count sink.old sink.new) result }
     ensures later { K.count sink.old ≤ K.count sink.new }
+    ensures kept { (result ≡ Status.WriteFault → ⊥) → K.count sink.new ≡ K.count sink.old }
 {
     match judge_run(alloc, scenario, taps) {
         Ok(report) => give_report(alloc, scenario, &report, sink),
@@ -65,6 +66,7 @@ pub fn run_threads_and_report<R: Threads + Wait + Sync, K: Sink, L: Listener, G:
     ensures ends { (hearing : List Listening) → map (seen L.listening) taps.old ≡ map settled hearing
         → Writes (IsReported Form.RunThreads scenario.now hearing) (change K.held K.count sink.old sink.new) result }
     ensures later { K.count sink.old ≤ K.count sink.new }
+    ensures kept { (result ≡ Status.WriteFault → ⊥) → K.count sink.new ≡ K.count sink.old }
 {
     match judge_threads(rt, alloc, scenario, taps, gate) {
         Ok(report) => give_report(alloc, scenario, &report, sink),
@@ -77,6 +79,7 @@ fn give_report<K: Sink>(alloc: Global, scenario: &Scenario, report: &Report, sin
     ensures ends { (asked : Form) (hearing : List Listening) → IsMade asked scenario.now hearing report.now
         → Writes (IsReported asked scenario.now hearing) (change K.held K.count sink.old sink.new) result }
     ensures later { K.count sink.old ≤ K.count sink.new }
+    ensures kept { (result ≡ Status.WriteFault → ⊥) → K.count sink.new ≡ K.count sink.old }
 {
     match write_report(alloc, scenario, report, sink) {
         Ok(()) => status_of(report.status),
@@ -132,6 +135,7 @@ pub fn run_generated<K: Sink>(alloc: Global, number: u32, sink: &mut K) -> Statu
     requires { number ≤ 256 }
     ensures ends { Writes (IsSummary number) (change K.held K.count sink.old sink.new) result }
     ensures later { K.count sink.old ≤ K.count sink.new }
+    ensures kept { (result ≡ Status.WriteFault → ⊥) → K.count sink.new ≡ K.count sink.old }
 {
     let Ok(report) = generate_report(alloc, number) else {
         return Status::NoMemory;

@@ -30,6 +30,7 @@ pub fn trace_bytes<K: Sink>(
     ensures ends { (hearing : List Listening) → Writes (AnswersInput (Form.Trace part burst) (Whole bytes.now) hearing)
         (change K.held K.count sink.old sink.new) result }
     ensures later { K.count sink.old ≤ K.count sink.new }
+    ensures kept { (result ≡ Status.WriteFault → ⊥) → K.count sink.new ≡ K.count sink.old }
 {
     match read_scenario(alloc, bytes) {
         Ok(scenario) => trace(alloc, &scenario, part, burst, sink),
@@ -44,6 +45,7 @@ fn trace<K: Sink>(alloc: Global, scenario: &Scenario, part: u32, burst: u32, sin
         → Writes (AnswersInput (Form.Trace part burst) (Whole bytes) hearing)
         (change K.held K.count sink.old sink.new) result }
     ensures later { K.count sink.old ≤ K.count sink.new }
+    ensures kept { (result ≡ Status.WriteFault → ⊥) → K.count sink.new ≡ K.count sink.old }
 {
     match write_trace(alloc, scenario, part, burst, sink) {
         Ok(true) => Status::Done,

@@ -42,6 +42,8 @@ where
     ensures taken { TakesAtMost (S.left source.old) (S.left source.new) (limit_of (form_for asked) + 1) }
     ensures source_later { S.count source.old ≤ S.count source.new }
     ensures sink_later { K.count sink.old ≤ K.count sink.new }
+    ensures source_kept { (result ≡ Status.ReadFault → ⊥) → S.count source.new ≡ S.count source.old }
+    ensures sink_kept { (result ≡ Status.WriteFault → ⊥) → K.count sink.new ≡ K.count sink.old }
 {
     match read_all(alloc, source, LIMIT) {
         Ok(bytes) => wait(rt, alloc, asked, bytes.as_slice(), sink, listeners, gate),
@@ -65,6 +67,7 @@ where
         (map (λ v. ⟦<Heard<T> as Listener>⟧.listening (record { value = v })) listeners.items))
         (change K.held K.count sink.old sink.new) result }
     ensures later { K.count sink.old ≤ K.count sink.new }
+    ensures kept { (result ≡ Status.WriteFault → ⊥) → K.count sink.new ≡ K.count sink.old }
 {
     match asked {
         WaitingForm::RunThreads => {
@@ -89,6 +92,7 @@ where
         (map (λ v. ⟦<Heard<T> as Listener>⟧.listening (record { value = v })) listeners.items))
         (change K.held K.count sink.old sink.new) result }
     ensures later { K.count sink.old ≤ K.count sink.new }
+    ensures kept { (result ≡ Status.WriteFault → ⊥) → K.count sink.new ≡ K.count sink.old }
 {
     match read_scenario(alloc, bytes) {
         Ok(scenario) => report_threads(rt, alloc, &scenario, sink, listeners, gate),
@@ -112,6 +116,7 @@ where
         (map (λ v. ⟦<Heard<T> as Listener>⟧.listening (record { value = v })) listeners.items))
         (change K.held K.count sink.old sink.new) result }
     ensures later { K.count sink.old ≤ K.count sink.new }
+    ensures kept { (result ≡ Status.WriteFault → ⊥) → K.count sink.new ≡ K.count sink.old }
 {
     match bus_of(alloc, listeners) {
         Ok(mut taps) => run_threads_and_report(rt, alloc, scenario, sink, &mut taps, gate),

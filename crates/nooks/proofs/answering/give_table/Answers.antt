@@ -1,4 +1,4 @@
-use Rattle.std.proofs.Common.{Err, ap}
+use Rattle.std.proofs.Common.{Err, ap, refl}
 use Rattle.fault_campaign.proofs.Tables.{table_exists}
 use Rattle.report_defs.specs.Campaigns.{table_text}
 use Rattle.nooks.specs.declared.program.Status.TheVariants as ended
@@ -28,3 +28,14 @@ returns-in-Err-Fault-clause-later g c = let table = table_exists c.args.campaign
 
 pub returns-in-Err-NoMemory-clause-later : goal.returns-in-Err-NoMemory-clause-later
 returns-in-Err-NoMemory-clause-later g c = let table = table_exists c.args.campaign.now c.requires in (c.write_campaign.ensures table.0 table.1).later
+
+pub returns-in-Ok-clause-kept : goal.returns-in-Ok-clause-kept
+returns-in-Ok-clause-kept g c other = let table = table_exists c.args.campaign.now c.requires in (c.in-Ok.ensures table.0 table.1).kept
+
+pub returns-in-Err-Fault-clause-kept : goal.returns-in-Err-Fault-clause-kept
+returns-in-Err-Fault-clause-kept g c other = absurd (other refl)
+
+pub returns-in-Err-NoMemory-clause-kept : goal.returns-in-Err-NoMemory-clause-kept
+returns-in-Err-NoMemory-clause-kept g c other =
+    let table = table_exists c.args.campaign.now c.requires in
+    (c.in-Err-NoMemory.ensures table.0 table.1).wanting (ap Err c.in-Err-NoMemory.field-0-is)

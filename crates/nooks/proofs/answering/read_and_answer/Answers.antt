@@ -1,6 +1,6 @@
-use Rattle.std.proofs.Common.{Err, ap}
+use Rattle.std.proofs.Common.{Err, ap, is_err, sym, true≢false}
 use Rattle.nooks.specs.Streams.{Whole}
-use Rattle.nooks.proofs.Called.{stop_ends}
+use Rattle.nooks.proofs.Called.{fault_told, stop_ends}
 use Rattle.nooks.proofs.Written.{input_ends}
 use Rattle.nooks.proofs.answering.read_and_answer.Goals as goal
 
@@ -13,3 +13,10 @@ pub returns-in-Err-clause-ends : goal.returns-in-Err-clause-ends
 returns-in-Err-clause-ends g c =
     stop_ends c.args.asked _ _ c.in-Err.stop c.limit_of.result _ c.refuse_source.result c.requires.reading c.limit_of.ensures
     (λ e. (c.in-Err.ensures.too_long (ap Err e), c.in-Err.ensures.taken)) (λ e. c.in-Err.ensures.fault (ap Err e)) c.refuse_source.ensures.ends
+
+pub returns-in-Ok-clause-source_kept : goal.returns-in-Ok-clause-source_kept
+returns-in-Ok-clause-source_kept g c other = c.in-Ok.ensures.no_fault (λ e. true≢false (sym (ap is_err e)))
+
+pub returns-in-Err-clause-source_kept : goal.returns-in-Err-clause-source_kept
+returns-in-Err-clause-source_kept g c other =
+    c.in-Err.ensures.no_fault (λ e. other (fault_told c.in-Err.stop _ c.refuse_source.result e c.refuse_source.ensures.ends))

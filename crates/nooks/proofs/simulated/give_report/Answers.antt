@@ -1,4 +1,4 @@
-use Rattle.std.proofs.Common.{Err, ap, inr}
+use Rattle.std.proofs.Common.{Err, ap, inr, refl}
 use Rattle.nooks.proofs.Reports.{report_begun, report_written}
 use Rattle.nooks.proofs.simulated.give_report.Goals as goal
 
@@ -18,3 +18,12 @@ pub returns-in-Err-NoMemory-clause-ends : goal.returns-in-Err-NoMemory-clause-en
 returns-in-Err-NoMemory-clause-ends g c asked hearing made =
     let wrote = c.in-Err-NoMemory.ensures.text made.is_report in
     inr (report_begun asked c.args.scenario.now hearing c.args.report.now _ made wrote.err)
+
+pub returns-in-Ok-clause-kept : goal.returns-in-Ok-clause-kept
+returns-in-Ok-clause-kept g c other = c.in-Ok.ensures.rows.kept
+
+pub returns-in-Err-Fault-clause-kept : goal.returns-in-Err-Fault-clause-kept
+returns-in-Err-Fault-clause-kept g c other = absurd (other refl)
+
+pub returns-in-Err-NoMemory-clause-kept : goal.returns-in-Err-NoMemory-clause-kept
+returns-in-Err-NoMemory-clause-kept g c other = c.in-Err-NoMemory.ensures.rows.wanting (ap Err c.in-Err-NoMemory.field-0-is)

@@ -80,8 +80,8 @@ pub fn run<R: Threads + Wait + Sync, S: Source, K: Sink, G: Gate>(
     listeners: Vec<Box<dyn Listener>>,
     gate: &G,
 ) -> Status
-    // what the program answers to the words over what was read of the source was written; after a fault of the sink,
-    // or want of memory, a front of it, or nothing
+    // what the program answers to the words over what was read of the source was written; after a
+    // fault of the sink, or want of memory, a front of it, or nothing
     ensures written { let read = change S.left S.count source.old source.new in
         let hearing = map (λ b. (⟦<dyn Listener as Listener>⟧ b.vtable).listening b.value)
         listeners.items in
@@ -89,12 +89,13 @@ pub fn run<R: Threads + Wait + Sync, S: Source, K: Sink, G: Gate>(
         let sent = change K.held K.count sink.old sink.new in
         (IsAnswerStatus result → IsWritten asked sent result)
         × (IsCut result → GainsNothing sent ⊎ IsBegun asked sent) }
-    // a report that was written is one of journals of the scenario that was read, in which every part is safe
+    // a report that was written is one of journals of the scenario that was read, in which every
+    // part is safe
     ensures safe { AskReport (map string_bytes words.now) → HasReport result
         → IsWritten (IsSafeReport (change S.left S.count source.old source.new))
         (change K.held K.count sink.old sink.new) result }
-    // a fault ends the call and is told exactly where there was one: with every other status the count of faults is as
-    // it was
+    // a fault ends the call and is told exactly where there was one: with every other status the
+    // count of faults is as it was
     ensures read_fault { (result ≡ Status.ReadFault
         → Rose (S.count source.old) (S.count source.new) × (sink.new ≡ sink.old))
         × ((result ≡ Status.ReadFault → ⊥) → S.count source.new ≡ S.count source.old) }

@@ -3,7 +3,7 @@
 //! A new part takes the steps that the report's lines name, in whatever order they come. Each line is compared with the
 //! one that its step makes, and the lines after the events with those that follow from the journals.
 
-use crate::contract::judge;
+use crate::contract::{judge, Verdict};
 use crate::form::decimal;
 use crate::input;
 use crate::journal::{Answer, Words};
@@ -99,9 +99,10 @@ impl<'r> Lines<'r> {
 /// Goes through a report, and returns what each part's events did to the threads.
 fn check(scenario: &Scenario, lines: &mut Lines) -> Result<Vec<Vec<Mark>>, NoFit> {
     let mut sections = Vec::new();
+    let mut verdicts = Vec::new();
     for index in 0..scenario.parts.len() {
         let mut section = Section::new(scenario, index);
-        section.check(lines)?;
+        verdicts.push(section.check(lines)?);
         sections.push(section);
     }
     let answers = answers_of(scenario, &mut sections);
@@ -116,13 +117,15 @@ fn check(scenario: &Scenario, lines: &mut Lines) -> Result<Vec<Vec<Mark>>, NoFit
         marks.push(section.marks);
     }
     let run = Run {
+        scenario,
         parts,
+        verdicts,
         answers,
         heard,
     };
     let last = text(|out| {
         write_threads(scenario, &run.answers, out)?;
-        write_last(&run.heard, run.status(&run.verdicts()), out)
+        write_last(&run.heard, run.status(), out)
     });
     lines.expect_all(&last)?;
     if lines.rest.is_empty() {
@@ -189,8 +192,8 @@ impl<'s> Section<'s> {
         }
     }
 
-    /// Goes through the part's lines.
-    fn check(&mut self, lines: &mut Lines) -> Result<(), NoFit> {
+    /// Goes through the part's lines, and returns what its journal shows.
+    fn check(&mut self, lines: &mut Lines) -> Result<Verdict, NoFit> {
         let head = text(|out| write_head(self.index, self.part.spec(), out));
         lines.expect_all(&head)?;
         let mut made = String::new();
@@ -209,7 +212,8 @@ impl<'s> Section<'s> {
         }
         let verdict = judge(self.part.spec(), self.part.journal());
         let ends = text(|out| write_ends(&self.part, &verdict, out));
-        lines.expect_all(&ends)
+        lines.expect_all(&ends)?;
+        Ok(verdict)
     }
 
     /// Takes the step that a line names, if it is enabled. Returns the thread if it is an invocation.

@@ -1,116 +1,108 @@
-//! Campaigns: one scenario, run once for each fault of a list, and the table of what became of each run.
+//! Campaigns: one scenario, run once for each of many sets of faults.
 
-use crate::fields::{each, some_items, Object};
+use crate::fields::{each, some_items, truth, Object};
+use crate::guard;
 use crate::json::Value;
 use crate::refusal::{Cause, Read, Refusal, Within};
-use crate::scenario::{self, read_fault, Fault, Scenario};
-use crate::simulation::simulate;
-use crate::summary::Summary;
-use std::io::{self, Write};
-use std::sync::atomic::{AtomicUsize, Ordering};
-use std::sync::OnceLock;
-use std::thread;
+use crate::scenario::{
+    self, read_fault, read_fault_of_no_place, Fault, FaultKind, Scenario, MOST_FAULTS,
+};
 
-const MOST_FAULTS: usize = 4_096;
+const MOST_MEMBERS: usize = 4_096;
+const MOST_FAULTS_OF_MEMBER: usize = 16;
+const MOST_FAULTS_OF_EVERY: usize = 64;
 const MOST_OPERATIONS: usize = 64;
 
-/// The faults that the struck part may have of its own.
-const MOST_OWN_FAULTS: usize = 63;
+const KEYS: [&str; 7] = [
+    "base", "part", "faults", "members", "every", "guard", "detail",
+];
+
+/// Those of the keys of which one is there.
+const CHOICES: [&str; 3] = ["faults", "members", "every"];
 
 pub struct Campaign<'v> {
     /// The base as it was written: scenarios count the users of their words without atomics, so each worker reads one
     /// of its own.
-    base: &'v Value<'v>,
-    part: usize,
-    faults: Vec<Fault>,
+    pub base: &'v Value<'v>,
+    /// The part that is struck.
+    pub part: usize,
+    pub choice: Choice,
+    /// Whether the runs are guarded.
+    pub is_guarded: bool,
+    /// Whether the rows have more words.
+    pub has_detail: bool,
+}
+
+/// Which faults the members have. A member's faults come after those that the struck part has of its own.
+pub enum Choice {
+    /// The faults of each member.
+    Members(Vec<Vec<Fault>>),
+    /// A member for each of these faults at each place of the base's run where it strikes.
+    Every(Vec<FaultKind>),
+}
+
+impl Choice {
+    /// The faults of the member that has most.
+    fn longest(&self) -> usize {
+        match self {
+            Choice::Members(members) => members.iter().map(Vec::len).max().unwrap_or(0),
+            Choice::Every(_) => 1,
+        }
+    }
 }
 
 pub fn read<'v>(value: &'v Value<'v>) -> Read<Campaign<'v>> {
-    let fields = Object::with_keys(value, &["base", "part", "faults"])?;
+    let fields = Object::with_keys(value, &KEYS)?;
+    let mut choices = CHOICES.into_iter().filter(|key| fields.has(key));
+    let chosen = choices.next().unwrap_or("faults");
+    if let Some(second) = choices.next() {
+        return Refusal::here(Cause::UnknownKey).within(second);
+    }
     let (base, scenario) = fields.required("base", |base| Ok((base, scenario::read(base)?)))?;
     let part = fields.number("part", 0..=scenario.parts.len() as u64 - 1)? as usize;
-    let faults = fields.required("faults", |value| {
-        each(some_items(value, MOST_FAULTS)?, read_fault)
-    })?;
-    let threads = scenario.threads.iter();
-    if threads.map(|thread| thread.operations.len()).sum::<usize>() > MOST_OPERATIONS {
-        return too_many("threads").within("base");
-    }
-    if scenario.parts[part].faults.len() > MOST_OWN_FAULTS {
-        let faults = too_many("faults").within(part);
-        return faults.within("parts").within("base");
-    }
-    Ok(Campaign { base, part, faults })
+    let campaign = Campaign {
+        base,
+        part,
+        choice: fields.required(chosen, |value| read_choice(chosen, value))?,
+        is_guarded: fields.optional("guard", truth)?,
+        has_detail: fields.optional("detail", truth)?,
+    };
+    campaign.expect_limits(&scenario).within("base")?;
+    Ok(campaign)
 }
 
-fn too_many<T>(key: &str) -> Read<T> {
-    Refusal::here(Cause::TooMany).within(key)
+/// Reads the value at one of the keys that choose the members.
+fn read_choice(key: &str, value: &Value) -> Read<Choice> {
+    Ok(match key {
+        "members" => Choice::Members(each(some_items(value, MOST_MEMBERS)?, read_member)?),
+        "every" => Choice::Every(each(
+            some_items(value, MOST_FAULTS_OF_EVERY)?,
+            read_fault_of_no_place,
+        )?),
+        _ => Choice::Members(each(some_items(value, MOST_MEMBERS)?, |fault| {
+            Ok(vec![read_fault(fault)?])
+        })?),
+    })
+}
+
+fn read_member(value: &Value) -> Read<Vec<Fault>> {
+    each(some_items(value, MOST_FAULTS_OF_MEMBER)?, read_fault)
 }
 
 impl Campaign<'_> {
-    /// Runs the members side by side, on as many threads as there are processors. Their rows, in order.
-    pub fn run(&self) -> Vec<Summary> {
-        let processors = thread::available_parallelism().map_or(1, usize::from);
-        let next = AtomicUsize::new(0);
-        let rows: Vec<OnceLock<Summary>> = self.faults.iter().map(|_| OnceLock::new()).collect();
-        thread::scope(|scope| {
-            for _ in 1..processors.min(rows.len()) {
-                // Without this thread the others take its members too.
-                let _started =
-                    thread::Builder::new().spawn_scoped(scope, || self.work(&next, &rows));
-            }
-            self.work(&next, &rows);
-        });
-        rows.into_iter()
-            .map(|row| row.into_inner().expect("each member was run"))
-            .collect()
-    }
-
-    /// Takes the next member and runs it, until there is none.
-    fn work(&self, next: &AtomicUsize, rows: &[OnceLock<Summary>]) {
-        let mut scenario = scenario::read(self.base).expect("the base was read before");
-        loop {
-            let place = next.fetch_add(1, Ordering::Relaxed);
-            let Some(fault) = self.faults.get(place) else {
-                return;
-            };
-            let row = self.member(&mut scenario, *fault);
-            assert!(rows[place].set(row).is_ok(), "a member is run once");
+    /// Refuses a base with too many operations, or with too many faults to have the members' too.
+    fn expect_limits(&self, base: &Scenario) -> Read<()> {
+        let threads = base.threads.iter();
+        if threads.map(|thread| thread.operations.len()).sum::<usize>() > MOST_OPERATIONS {
+            return Refusal::here(Cause::TooMany).within("threads");
         }
+        let longest = self.choice.longest();
+        if base.parts[self.part].faults.len() + longest > MOST_FAULTS {
+            return guard::too_many_faults(self.part);
+        }
+        if !self.is_guarded {
+            return Ok(());
+        }
+        guard::expect_room(base, |part| if part == self.part { longest } else { 0 })
     }
-
-    /// Runs the base with one more fault of the struck part, after its own of the same place.
-    fn member(&self, base: &mut Scenario, fault: Fault) -> Summary {
-        let own = &base.parts[self.part].faults;
-        let place = own.partition_point(|own| (own.burst, own.after) <= (fault.burst, fault.after));
-        base.parts[self.part].faults.insert(place, fault);
-        let row = Summary::new(&simulate(base));
-        base.parts[self.part].faults.remove(place);
-        row
-    }
-}
-
-/// Writes the table: a line for each row, and how many rows have which status.
-pub fn write(rows: &[Summary], out: &mut impl Write) -> io::Result<()> {
-    for (place, row) in rows.iter().enumerate() {
-        writeln!(
-            out,
-            "{} status {} events {} failures {} gone {} lost {}",
-            place + 1,
-            row.status,
-            row.events,
-            row.failures,
-            row.gone,
-            row.lost
-        )?;
-    }
-    let count = |status| rows.iter().filter(|row| row.status == status).count();
-    writeln!(
-        out,
-        "campaign {} kept {} given_up {} broken {}",
-        rows.len(),
-        count(0),
-        count(1),
-        count(7)
-    )
 }

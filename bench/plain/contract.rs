@@ -4,6 +4,7 @@ use crate::journal::{Act, Answer, Burst, End, Event, Stage, Words};
 use crate::operation::{Operation, BLOCK_WORDS};
 use crate::scenario::PartSpec;
 use std::collections::VecDeque;
+use std::mem;
 
 const HAND_UP: u32 = 6;
 
@@ -31,15 +32,26 @@ pub struct Verdict {
 
 pub fn judge(spec: &PartSpec, journal: &[Event]) -> Verdict {
     let mut monitor = Monitor::new(spec);
-    let mut broken = None;
-    for (place, event) in journal.iter().enumerate() {
-        let clause = monitor.see(event);
-        broken = broken.or(clause.map(|clause| (place + 1, clause)));
+    for event in journal {
+        monitor.see(event);
     }
-    Verdict {
-        losses: monitor.losses(),
-        broken,
-    }
+    monitor.verdict()
+}
+
+/// What of a burst can break a clause, in the order in which it happens.
+#[derive(Clone, Copy, PartialEq, Eq, PartialOrd, Ord)]
+pub enum Deed {
+    /// The act of this index.
+    Act(usize),
+    /// The frame that is handed up, or the reply, in which the burst ends.
+    Crossing,
+}
+
+/// A deed that breaks a clause.
+#[derive(Clone, Copy, PartialEq, Eq, PartialOrd, Ord)]
+pub struct Breach {
+    pub deed: Deed,
+    pub clause: u8,
 }
 
 struct Call<'s> {
@@ -57,7 +69,8 @@ struct Call<'s> {
     failed: Vec<u32>,
 }
 
-struct Monitor<'s> {
+/// Judges the events of a part, one after the other.
+pub struct Monitor<'s> {
     spec: &'s PartSpec,
     medium: Vec<[u32; BLOCK_WORDS]>,
     registers: [u32; 4],
@@ -72,12 +85,17 @@ struct Monitor<'s> {
     calls: Vec<Call<'s>>,
     replay: Option<(u32, u32)>,
     losses: Losses,
-    /// The smallest clause that the event breaks.
-    broken: Option<u8>,
+    /// How many events it saw.
+    seen: usize,
+    /// The deed that it looks at, and what the event that it looks at breaks.
+    deed: Deed,
+    breaches: Vec<Breach>,
+    /// The first event that broke the contract, and the smallest clause that it broke.
+    broken: Option<(usize, u8)>,
 }
 
 impl<'s> Monitor<'s> {
-    fn new(spec: &'s PartSpec) -> Monitor<'s> {
+    pub fn new(spec: &'s PartSpec) -> Monitor<'s> {
         Monitor {
             spec,
             medium: vec![[0; BLOCK_WORDS]; spec.blocks as usize],
@@ -91,21 +109,40 @@ impl<'s> Monitor<'s> {
             calls: Vec::new(),
             replay: None,
             losses: Losses::default(),
+            seen: 0,
+            deed: Deed::Crossing,
+            breaches: Vec::new(),
             broken: None,
         }
     }
 
-    fn losses(self) -> Losses {
-        Losses {
+    /// What the events show that it saw.
+    pub fn verdict(self) -> Verdict {
+        let losses = Losses {
             queued: self.queued.saturating_sub(self.losses.received),
             ring: self.ring,
             driver: self.popped_count.saturating_sub(self.handed_count),
             ..self.losses
+        };
+        Verdict {
+            losses,
+            broken: self.broken,
         }
     }
 
-    /// Takes an event in, and gives the smallest clause that it breaks.
-    fn see(&mut self, event: &Event<'s>) -> Option<u8> {
+    /// Takes an event in. Returns its first deed that breaks a clause, with the smallest clause that this deed breaks.
+    pub fn see(&mut self, event: &Event<'s>) -> Option<Breach> {
+        self.seen += 1;
+        self.take_in(event);
+        let breaches = mem::take(&mut self.breaches);
+        let clauses = breaches.iter().map(|breach| breach.clause);
+        self.broken = self
+            .broken
+            .or(clauses.min().map(|clause| (self.seen, clause)));
+        breaches.into_iter().min()
+    }
+
+    fn take_in(&mut self, event: &Event<'s>) {
         match event {
             Event::Invoke {
                 call,
@@ -137,7 +174,6 @@ impl<'s> Monitor<'s> {
             Event::Stage { stage, answers, .. } => self.see_stage(*stage, answers),
             Event::Arrive { kept, .. } => self.see_arrival(*kept),
         }
-        self.broken.take()
     }
 
     fn see_arrival(&mut self, kept: bool) {
@@ -158,7 +194,8 @@ impl<'s> Monitor<'s> {
     }
 
     fn breaks(&mut self, clause: u8) {
-        self.broken = Some(self.broken.map_or(clause, |other| other.min(clause)));
+        let deed = self.deed;
+        self.breaches.push(Breach { deed, clause });
     }
 
     fn check(&mut self, clause: u8, holds: bool) {
@@ -193,9 +230,11 @@ impl<'s> Monitor<'s> {
     }
 
     fn see_burst(&mut self, burst: &Burst) {
-        for act in &burst.acts {
-            self.see_act(burst.call, act);
+        for (index, made) in burst.acts.iter().enumerate() {
+            self.deed = Deed::Act(index);
+            self.see_act(burst.call, &made.act);
         }
+        self.deed = Deed::Crossing;
         if let End::Service {
             service: HAND_UP,
             served: Some(served),

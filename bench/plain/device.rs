@@ -12,6 +12,9 @@ const FIRST_REGISTER: u32 = 8;
 const LONGEST_FRAME: usize = 64;
 const RING_FRAMES: usize = 16;
 
+/// The port cannot be written.
+pub struct NoSuchPort;
+
 type Block = [u32; BLOCK_WORDS];
 
 #[derive(Clone)]
@@ -105,21 +108,21 @@ impl Device {
         }
     }
 
-    /// Gives a word to a port, and returns whether that can be written.
-    pub fn output(&mut self, port: u32, word: u32, acts: &mut Vec<Act>) -> bool {
+    /// Gives a word to a port, and returns the act that this makes.
+    pub fn output(&mut self, port: u32, word: u32) -> Result<Option<Act>, NoSuchPort> {
         match (&mut self.kind, port) {
             (_, FIRST_REGISTER..12) => {
                 let key = port - FIRST_REGISTER;
                 self.registers[key as usize] = word;
-                acts.push(Act::Register { key, value: word });
+                return Ok(Some(Act::Register { key, value: word }));
             }
-            (Kind::Disk(disk), 0) => acts.extend(disk.command(word)),
+            (Kind::Disk(disk), 0) => return Ok(disk.command(word)),
             (Kind::Disk(disk), 1) => {
                 disk.block = word;
                 disk.position = 0;
             }
             (Kind::Disk(disk), 2) => *disk.buffer_word() = word,
-            (Kind::Net(net), 0) => acts.extend(net.command(word)),
+            (Kind::Net(net), 0) => return Ok(net.command(word)),
             (Kind::Net(net), 1) => {
                 net.length = word;
                 net.buffer = [0; LONGEST_FRAME];
@@ -128,15 +131,15 @@ impl Device {
             (Kind::Net(net), 2) => net.add(word),
             (Kind::Sound, 0) => {
                 let [rate, volume, ..] = self.registers;
-                acts.push(Act::Played {
+                return Ok(Some(Act::Played {
                     sample: word,
                     rate,
                     volume,
-                });
+                }));
             }
-            _ => return false,
+            _ => return Err(NoSuchPort),
         }
-        true
+        Ok(None)
     }
 }
 

@@ -111,6 +111,13 @@ pub fn text<'v>(value: &'v Value) -> Read<&'v str> {
     }
 }
 
+pub fn truth(value: &Value) -> Read<bool> {
+    match value {
+        Value::Bool(truth) => Ok(*truth),
+        _ => Refusal::here(Cause::WrongKind),
+    }
+}
+
 /// A list of at most this length.
 pub fn items<'v>(value: &'v Value, most: usize) -> Read<&'v [Value<'v>]> {
     match value {

@@ -1,4 +1,8 @@
 //! Which form the words are of.
+//!
+//! `guard` and `guard scenario`, and the keys `guard`, `every`, `members` and `detail` of a campaign, are ahead of the
+//! proved program: until it has them it answers the words with the usage line and refuses the keys as unknown ones. The
+//! usage line, `--help` and the pages do not name them, so nothing promises them yet.
 
 use std::ops::RangeInclusive;
 
@@ -21,6 +25,10 @@ pub enum Form {
     Audit,
     Campaign,
     Mirror,
+    /// The report of the guarded run.
+    Guard,
+    /// The scenario whose run that is.
+    GuardScenario,
     Help,
     Version,
 }
@@ -43,6 +51,8 @@ impl Form {
             ["audit"] => Some(Form::Audit),
             ["campaign"] => Some(Form::Campaign),
             ["mirror"] => Some(Form::Mirror),
+            ["guard"] => Some(Form::Guard),
+            ["guard", "scenario"] => Some(Form::GuardScenario),
             ["--help"] => Some(Form::Help),
             ["--version"] => Some(Form::Version),
             _ => None,

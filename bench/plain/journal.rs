@@ -1,5 +1,6 @@
 //! What a part writes down of each step.
 
+use crate::machine::MOST_TURNS;
 use crate::operation::Operation;
 use std::rc::Rc;
 
@@ -67,6 +68,12 @@ pub enum Act {
     Register { key: u32, value: u32 },
 }
 
+/// An act, and the turn of its burst that made it, counted from 1.
+pub struct MadeAct {
+    pub turn: u32,
+    pub act: Act,
+}
+
 /// What a burst ended in.
 pub enum End {
     Service {
@@ -98,11 +105,22 @@ pub struct Burst {
     /// 0 for the shadow's own calls.
     pub call: u32,
     pub burst: u32,
+    /// The turns that were made.
     pub turns: u32,
     pub end: End,
-    pub acts: Vec<Act>,
+    pub acts: Vec<MadeAct>,
     pub answer: Option<Answer>,
     pub failure: Option<Failure>,
+}
+
+impl Burst {
+    /// The turns that its line tells: a hang counts for all that there may be, also if it was injected before.
+    pub fn told_turns(&self) -> u32 {
+        match self.failure {
+            Some(Failure::Trap(Trap::Hang)) => MOST_TURNS,
+            _ => self.turns,
+        }
+    }
 }
 
 pub enum Event<'s> {

@@ -8,7 +8,7 @@ const DEEPEST: usize = 127;
 
 pub enum Value<'t> {
     Null,
-    Bool,
+    Bool(bool),
     /// A whole number from 0 on.
     Whole(u64),
     OtherNumber,
@@ -76,8 +76,8 @@ impl<'t> Parser<'t> {
             Some(b'[') if depth < DEEPEST => self.list(depth + 1),
             Some(b'"') => Ok(Value::Text(self.string()?)),
             Some(b'n') => self.word("null", Value::Null),
-            Some(b't') => self.word("true", Value::Bool),
-            Some(b'f') => self.word("false", Value::Bool),
+            Some(b't') => self.word("true", Value::Bool(true)),
+            Some(b'f') => self.word("false", Value::Bool(false)),
             Some(b'-' | b'0'..=b'9') => self.number(),
             _ => Err(NotJson),
         }

@@ -90,9 +90,9 @@ pub struct Outcome<'b>(pub &'b Burst);
 impl Display for Outcome<'_> {
     fn fmt(&self, f: &mut Formatter) -> fmt::Result {
         let burst = self.0;
-        write!(f, "n{} {}", burst.turns, burst.end)?;
-        for act in &burst.acts {
-            write!(f, " | {act}")?;
+        write!(f, "n{} {}", burst.told_turns(), burst.end)?;
+        for made in &burst.acts {
+            write!(f, " | {}", made.act)?;
         }
         write!(f, "{}", Arrow(&burst.answer))?;
         match &burst.failure {

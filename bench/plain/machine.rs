@@ -1,11 +1,12 @@
 //! The driver machine.
 
-use crate::device::Device;
+use crate::device::{Device, NoSuchPort};
 use crate::instructions::*;
-use crate::journal::{Act, Trap};
+use crate::journal::{MadeAct, Trap};
 use crate::memory::Memory;
 use crate::scenario::{Fault, FaultKind};
 use std::hint::black_box;
+use std::ops::Range;
 
 /// The turns and the acts of a burst.
 pub const MOST_TURNS: u32 = 4_096;
@@ -21,7 +22,7 @@ pub struct Cpu {
 pub struct Bus<'p> {
     pub memory: &'p mut Memory,
     pub device: &'p mut Device,
-    pub acts: &'p mut Vec<Act>,
+    pub acts: &'p mut Vec<MadeAct>,
 }
 
 /// What ends a burst.
@@ -38,23 +39,22 @@ impl From<Trap> for Crossing {
     }
 }
 
-/// Runs a driver to its next crossing, with the faults that strike in between, and counts its turns.
+/// Runs a driver to its next crossing, with the faults that strike in between, and counts the turns that were made.
 pub fn run_burst(cpu: &mut Cpu, bus: &mut Bus, faults: &[Fault]) -> (u32, Crossing) {
     let mut done = 0;
     for fault in faults {
-        let (turns, crossing) = cpu.run(fault.after - done, bus);
-        done += turns;
+        let (turns, crossing) = cpu.run(done..fault.after, bus);
+        done = turns;
         if let Some(crossing) = crossing {
             return (done, crossing);
         }
         match strike(fault.kind, cpu, bus.memory) {
-            Strike::Ended(Trap::Hang) => return (MOST_TURNS, Trap::Hang.into()),
             Strike::Ended(trap) => return (done, trap.into()),
             Strike::Done | Strike::Refused => {}
         }
     }
-    let (turns, crossing) = cpu.run(MOST_TURNS - done, bus);
-    (done + turns, crossing.unwrap_or(Trap::Hang.into()))
+    let (done, crossing) = cpu.run(done..MOST_TURNS, bus);
+    (done, crossing.unwrap_or(Trap::Hang.into()))
 }
 
 /// What became of a fault that struck.
@@ -91,8 +91,8 @@ impl Cpu {
         Cpu { counter, registers }
     }
 
-    /// Does turns up to a crossing, but at most this many. Their number, and the crossing.
-    pub fn run(&mut self, most: u32, bus: &mut Bus) -> (u32, Option<Crossing>) {
+    /// Does these turns of a burst, counted from 0, up to a crossing. How many the burst has then, and the crossing.
+    pub fn run(&mut self, turns: Range<u32>, bus: &mut Bus) -> (u32, Option<Crossing>) {
         let Bus {
             memory,
             device,
@@ -100,7 +100,7 @@ impl Cpu {
         } = bus;
         let r = &mut self.registers;
         let mut at = self.counter;
-        let mut left = most;
+        let mut left = turns.end - turns.start;
         let (next, crossing) = loop {
             if left == 0 {
                 break (at, None);
@@ -168,14 +168,17 @@ impl Cpu {
                     Some(word) => r[a] = word,
                     None => break (at, Some(Trap::BadPort(immediate).into())),
                 },
-                OUT if b == 0 => {
-                    if !device.output(immediate, r[a], acts) {
-                        break (at, Some(Trap::BadPort(immediate).into()));
+                OUT if b == 0 => match device.output(immediate, r[a]) {
+                    Ok(None) => {}
+                    Ok(Some(act)) => {
+                        let turn = turns.end - left;
+                        acts.push(MadeAct { turn, act });
+                        if acts.len() == MOST_ACTS {
+                            break (at + 1, Some(Crossing::Pause));
+                        }
                     }
-                    if acts.len() == MOST_ACTS {
-                        break (at + 1, Some(Crossing::Pause));
-                    }
-                }
+                    Err(NoSuchPort) => break (at, Some(Trap::BadPort(immediate).into())),
+                },
                 KCALL if a == 0 && b == 0 => break (at + 1, Some(Crossing::KernelCall(immediate))),
                 RET if b == 0 && immediate == 0 => break (at + 1, Some(Crossing::Reply(r[a]))),
                 FAULT if a == 0 && b == 0 && immediate == 0 => {
@@ -186,6 +189,6 @@ impl Cpu {
             at += 1;
         };
         self.counter = next;
-        (most - left, crossing)
+        (turns.end - left, crossing)
     }
 }

@@ -1,6 +1,7 @@
 //! Mirrors: one plain disk on two parts, which outlives a part that is given up.
 
 use crate::class::Class;
+use crate::contract::{judge, Verdict};
 use crate::journal::Answer;
 use crate::operation::Operation;
 use crate::part::Part;
@@ -66,6 +67,8 @@ pub fn simulate(scenario: &Scenario) -> Mirrored<'_> {
     }
     Mirrored {
         run: Run {
+            scenario,
+            verdicts: parts.iter().map(judged).collect(),
             parts,
             answers: Vec::new(),
             heard,
@@ -74,9 +77,13 @@ pub fn simulate(scenario: &Scenario) -> Mirrored<'_> {
     }
 }
 
+fn judged(part: &Part) -> Verdict {
+    judge(part.spec(), part.journal())
+}
+
 /// 7 if a driver broke its class's contract, else 1 if both sides were lost, else 0.
 pub fn status(mirrored: &Mirrored) -> u8 {
-    match mirrored.run.status(&mirrored.run.verdicts()) {
+    match mirrored.run.status() {
         7 => 7,
         _ => u8::from(
             mirrored

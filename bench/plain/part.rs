@@ -60,17 +60,19 @@ impl Step {
 }
 
 /// What a burst finds, and the faults that may strike it.
-pub struct Before<'s> {
+pub struct Before {
     pub burst: u32,
     pub call: u32,
     pub cpu: Cpu,
     pub memory: Box<Memory>,
     pub device: Device,
-    pub faults: &'s [Fault],
+    pub faults: Vec<Fault>,
 }
 
 pub struct Part<'s> {
     spec: &'s PartSpec,
+    /// In the order in which they strike: those of one place as they were given.
+    faults: Vec<Fault>,
     memory: Box<Memory>,
     tracker: Tracker,
     device: Device,
@@ -95,8 +97,11 @@ impl<'s> Part<'s> {
     pub fn new(spec: &'s PartSpec) -> Part<'s> {
         let mut memory = Memory::new();
         memory.object_mut(0)[..4].copy_from_slice(&spec.class.defaults());
+        let mut faults = spec.faults.clone();
+        faults.sort_by_key(|fault| (fault.burst, fault.after));
         Part {
             spec,
+            faults,
             memory: Box::new(memory),
             tracker: Tracker::new(DATA_START + spec.image.data.len() as u32),
             device: Device::new(spec),
@@ -184,7 +189,7 @@ impl<'s> Part<'s> {
     }
 
     /// What the next burst finds, if it is one of this context.
-    pub fn before_burst(&self, context: usize) -> Before<'s> {
+    pub fn before_burst(&self, context: usize) -> Before {
         let running = self.contexts[context].as_ref();
         Before {
             burst: self.next_burst(),
@@ -192,7 +197,7 @@ impl<'s> Part<'s> {
             cpu: running.expect("the context is inside").cpu.clone(),
             memory: self.memory.clone(),
             device: self.device.clone(),
-            faults: faults_of(&self.spec.faults, self.next_burst()),
+            faults: faults_of(&self.faults, self.next_burst()).to_vec(),
         }
     }
 
@@ -339,7 +344,7 @@ impl<'s> Part<'s> {
 
     fn burst(&mut self, context: usize) -> Event<'s> {
         self.bursts += 1;
-        let faults = faults_of(&self.spec.faults, self.bursts);
+        let faults = faults_of(&self.faults, self.bursts);
         let running = self.contexts[context]
             .as_mut()
             .expect("the context is inside");

@@ -16,31 +16,26 @@ use std::io::{self, Write};
 const MOST_HEARD: u64 = 1_000_000;
 
 /// Writes the report, and returns its status.
-pub fn write(scenario: &Scenario, run: &Run, out: &mut impl Write) -> io::Result<u8> {
-    let verdicts = run.verdicts();
-    let status = run.status(&verdicts);
-    write_parts(run, &verdicts, out)?;
-    write_threads(scenario, &run.answers, out)?;
+pub fn write(run: &Run, out: &mut impl Write) -> io::Result<u8> {
+    let status = run.status();
+    write_parts(run, out)?;
+    write_threads(run.scenario, &run.answers, out)?;
     write_last(&run.heard, status, out)?;
     Ok(status)
 }
 
 /// The report of a mirror: that of its parts, with the mirror's answers in the thread's lines.
-pub fn write_mirrored(
-    scenario: &Scenario,
-    mirrored: &Mirrored,
-    out: &mut impl Write,
-) -> io::Result<u8> {
-    let status = mirror::status(mirrored);
+pub fn write_mirrored(mirrored: &Mirrored, out: &mut impl Write) -> io::Result<u8> {
+    let (run, status) = (&mirrored.run, mirror::status(mirrored));
     let told = mirrored.told.iter().map(|told| (0, told)).collect();
-    write_parts(&mirrored.run, &mirrored.run.verdicts(), out)?;
-    write_threads(scenario, &[told], out)?;
-    write_last(&mirrored.run.heard, status, out)?;
+    write_parts(run, out)?;
+    write_threads(run.scenario, &[told], out)?;
+    write_last(&run.heard, status, out)?;
     Ok(status)
 }
 
-fn write_parts(run: &Run, verdicts: &[Verdict], out: &mut impl Write) -> io::Result<()> {
-    for (index, (part, verdict)) in run.parts.iter().zip(verdicts).enumerate() {
+fn write_parts(run: &Run, out: &mut impl Write) -> io::Result<()> {
+    for (index, (part, verdict)) in run.parts.iter().zip(&run.verdicts).enumerate() {
         write_part(index, part, verdict, out)?;
     }
     Ok(())
@@ -97,6 +92,16 @@ pub fn write_last(heard: &Heard, status: u8, out: &mut impl Write) -> io::Result
 
 /// The lines after a part's events.
 pub fn write_ends(part: &Part, verdict: &Verdict, out: &mut impl Write) -> io::Result<()> {
+    write_left(part, verdict, out)?;
+    writeln!(out, "failures {}", part.failures())?;
+    match verdict.broken {
+        None => writeln!(out, "contract kept"),
+        Some((event, clause)) => writeln!(out, "contract broken event {event} clause {clause}"),
+    }
+}
+
+/// The lines that say what a part leaves.
+pub fn write_left(part: &Part, verdict: &Verdict, out: &mut impl Write) -> io::Result<()> {
     for object in (1..OBJECTS).filter(|object| !part.memory().is_untouched(*object)) {
         writeln!(
             out,
@@ -112,12 +117,7 @@ pub fn write_ends(part: &Part, verdict: &Verdict, out: &mut impl Write) -> io::R
     write_outputs(part.journal(), out)?;
     let [first, second, third, fourth] = part.record();
     writeln!(out, "config {first} {second} {third} {fourth}")?;
-    write_losses(part.spec().class, verdict, out)?;
-    writeln!(out, "failures {}", part.failures())?;
-    match verdict.broken {
-        None => writeln!(out, "contract kept"),
-        Some((event, clause)) => writeln!(out, "contract broken event {event} clause {clause}"),
-    }
+    write_losses(part.spec().class, verdict, out)
 }
 
 /// The frames that were sent and the samples that were played.
@@ -126,10 +126,10 @@ fn write_outputs(journal: &[Event], out: &mut impl Write) -> io::Result<()> {
         Event::Burst(burst) => Some(burst),
         _ => None,
     });
-    for act in bursts.flat_map(|burst| &burst.acts) {
-        match act {
+    for made in bursts.flat_map(|burst| &burst.acts) {
+        match &made.act {
             Act::Sent(frame) => writeln!(out, "wire {}", List(frame))?,
-            Act::Played { .. } => writeln!(out, "{act}")?,
+            act @ Act::Played { .. } => writeln!(out, "{act}")?,
             _ => {}
         }
     }

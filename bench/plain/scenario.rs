@@ -9,6 +9,9 @@ use crate::json::Value;
 use crate::operation::Operation;
 use crate::refusal::{Cause, Read, Refusal, Within};
 
+/// The faults of a part.
+pub const MOST_FAULTS: usize = 64;
+
 pub struct Scenario {
     pub order: Order,
     pub parts: Vec<PartSpec>,
@@ -34,7 +37,7 @@ pub struct PartSpec {
     pub bad: Vec<BadBlock>,
     pub limit: u32,
     pub image: Image,
-    /// In the order in which they strike.
+    /// As they were given.
     pub faults: Vec<Fault>,
     pub arrivals: Vec<Words>,
 }
@@ -183,9 +186,9 @@ fn read_part<'n>(
     })?;
     let limit = fields.optional("limit", |value| number(value, 0..=16))?;
     let image = fields.required("driver", |value| read_driver(value, class))?;
-    let mut faults: Vec<Fault> =
-        fields.optional("faults", |value| each(items(value, 64)?, read_fault))?;
-    faults.sort_by_key(|fault| (fault.burst, fault.after));
+    let faults = fields.optional("faults", |value| {
+        each(items(value, MOST_FAULTS)?, read_fault)
+    })?;
     let arrivals = fields.optional("arrivals", |value| each(items(value, 256)?, read_frame))?;
     Ok(PartSpec {
         name,
@@ -242,25 +245,44 @@ const FAULTS: Rows = &[
 
 pub fn read_fault(value: &Value) -> Read<Fault> {
     let fields = Object::any(value)?;
-    let kind = fields.kind("kind", FAULTS)?;
+    let name = fields.kind("kind", FAULTS)?;
     Ok(Fault {
         burst: fields.number("burst", 1..=u64::from(u32::MAX))? as u32,
         after: fields.number("after", 0..=4_095)? as u32,
-        kind: match kind {
-            "trap" => FaultKind::Trap,
-            "hang" => FaultKind::Hang,
-            "poke" => FaultKind::Poke {
-                address: fields.word("address")?,
-                value: fields.word("value")?,
-            },
-            "code" => FaultKind::Code {
-                address: fields.word("address")?,
-                value: fields.word("value")?,
-            },
-            _ => FaultKind::Register {
-                register: fields.number("register", 0..=15)? as usize,
-                value: fields.word("value")?,
-            },
+        kind: read_struck(name, &fields)?,
+    })
+}
+
+const FAULTS_OF_NO_PLACE: Rows = &[
+    ("trap", &["kind"]),
+    ("hang", &["kind"]),
+    ("poke", &["kind", "address", "value"]),
+    ("code", &["kind", "address", "value"]),
+    ("reg", &["kind", "register", "value"]),
+];
+
+/// Reads a fault that says nothing of where it strikes.
+pub fn read_fault_of_no_place(value: &Value) -> Read<FaultKind> {
+    let fields = Object::any(value)?;
+    let name = fields.kind("kind", FAULTS_OF_NO_PLACE)?;
+    read_struck(name, &fields)
+}
+
+fn read_struck(name: &str, fields: &Object) -> Read<FaultKind> {
+    Ok(match name {
+        "trap" => FaultKind::Trap,
+        "hang" => FaultKind::Hang,
+        "poke" => FaultKind::Poke {
+            address: fields.word("address")?,
+            value: fields.word("value")?,
+        },
+        "code" => FaultKind::Code {
+            address: fields.word("address")?,
+            value: fields.word("value")?,
+        },
+        _ => FaultKind::Register {
+            register: fields.number("register", 0..=15)? as usize,
+            value: fields.word("value")?,
         },
     })
 }

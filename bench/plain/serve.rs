@@ -7,8 +7,8 @@ use crate::refusal::{Cause, Read, Refusal};
 use crate::scenario::Scenario;
 use crate::summary::Summary;
 use crate::{
-    audit, campaign, generated, image, input, json, listing, mirror, report, scenario,
-    scenario_text, simulation, texts, threads, trace, Stop,
+    audit, campaign, generated, guard, image, input, json, listing, mirror, report, scenario,
+    scenario_text, simulation, table, texts, threads, trace, Stop,
 };
 use std::io::Write;
 
@@ -29,6 +29,8 @@ pub fn serve(form: Form, out: &mut impl Write) -> Result<u8, Stop> {
         Form::Audit => audit(out),
         Form::Campaign => run_campaign(out),
         Form::Mirror => run_mirror(out),
+        Form::Guard => run_guarded(out),
+        Form::GuardScenario => write_guarded(out),
         Form::Help => write(texts::HELP, out),
         Form::Version => write(texts::VERSION, out),
     }
@@ -53,7 +55,7 @@ fn read_scenario() -> Result<Scenario, Stop> {
 fn run(out: &mut impl Write) -> Result<u8, Stop> {
     let scenario = read_scenario()?;
     let run = simulation::simulate(&scenario);
-    Ok(report::write(&scenario, &run, out)?)
+    Ok(report::write(&run, out)?)
 }
 
 fn run_threads(out: &mut impl Write) -> Result<u8, Stop> {
@@ -125,8 +127,33 @@ fn run_campaign(out: &mut impl Write) -> Result<u8, Stop> {
     let bytes = input::read(input::LONGEST)?;
     let value = json::read(&bytes)?;
     let campaign = campaign::read(&value)?;
-    campaign::write(&campaign.run(), out)?;
+    table::write(&campaign, out)?;
     Ok(0)
+}
+
+fn run_guarded(out: &mut impl Write) -> Result<u8, Stop> {
+    let mut scenario = read_guardable()?;
+    let status = guard::run(&mut scenario, |run, traps| {
+        for trap in traps {
+            writeln!(out, "{trap}")?;
+        }
+        report::write(run, out)
+    });
+    Ok(status?)
+}
+
+fn write_guarded(out: &mut impl Write) -> Result<u8, Stop> {
+    let mut scenario = read_guardable()?;
+    guard::run(&mut scenario, |_, _| ());
+    scenario_text::write(&scenario, out)?;
+    Ok(0)
+}
+
+/// Reads a scenario that has room for the traps of a guard.
+fn read_guardable() -> Result<Scenario, Stop> {
+    let scenario = read_scenario()?;
+    guard::expect_room(&scenario, |_| 0)?;
+    Ok(scenario)
 }
 
 fn run_mirror(out: &mut impl Write) -> Result<u8, Stop> {
@@ -135,5 +162,5 @@ fn run_mirror(out: &mut impl Write) -> Result<u8, Stop> {
         Refusal::here(Cause::NotMirror)?;
     }
     let mirrored = mirror::simulate(&scenario);
-    Ok(report::write_mirrored(&scenario, &mirrored, out)?)
+    Ok(report::write_mirrored(&mirrored, out)?)
 }

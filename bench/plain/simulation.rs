@@ -2,14 +2,17 @@
 //!
 //! Each thread is an actor. After the threads come two for each part, its recovery and its arrivals.
 
-use crate::contract::{judge, Verdict};
+use crate::contract::{Breach, Monitor, Verdict};
 use crate::journal::{Answer, Event};
 use crate::part::{Part, Step};
 use crate::scenario::{Scenario, ThreadSpec};
 use crate::schedule::Schedule;
 
 pub struct Run<'s> {
+    pub scenario: &'s Scenario,
     pub parts: Vec<Part<'s>>,
+    /// Of each part, what its journal shows.
+    pub verdicts: Vec<Verdict>,
     /// Of each thread, the part and the answer of each operation.
     pub answers: Vec<Vec<(usize, Answer)>>,
     /// How many events the listeners heard.
@@ -17,17 +20,9 @@ pub struct Run<'s> {
 }
 
 impl Run<'_> {
-    /// Of each part, what its journal shows.
-    pub fn verdicts(&self) -> Vec<Verdict> {
-        self.parts
-            .iter()
-            .map(|part| judge(part.spec(), part.journal()))
-            .collect()
-    }
-
     /// 7 if a driver broke its class's contract, else 1 if a part was given up, else 0.
-    pub fn status(&self, verdicts: &[Verdict]) -> u8 {
-        if verdicts.iter().any(|verdict| verdict.broken.is_some()) {
+    pub fn status(&self) -> u8 {
+        if self.verdicts.iter().any(|verdict| verdict.broken.is_some()) {
             7
         } else {
             u8::from(self.parts.iter().any(Part::is_given_up))
@@ -73,9 +68,10 @@ impl Thread<'_> {
     }
 }
 
-struct Simulation<'s> {
+pub struct Simulation<'s> {
     scenario: &'s Scenario,
     parts: Vec<Part<'s>>,
+    monitors: Vec<Monitor<'s>>,
     threads: Vec<Thread<'s>>,
     /// How many frames arrived at each part.
     arrived: Vec<usize>,
@@ -85,19 +81,8 @@ struct Simulation<'s> {
 pub fn simulate(scenario: &Scenario) -> Run<'_> {
     let mut simulation = Simulation::new(scenario);
     let mut schedule = Schedule::new(&scenario.order);
-    while let Some(actor) = simulation.pick(&mut schedule) {
-        let part = simulation.go(actor);
-        simulation.note(part);
-    }
-    Run {
-        parts: simulation.parts,
-        answers: simulation
-            .threads
-            .into_iter()
-            .map(|thread| thread.answers)
-            .collect(),
-        heard: simulation.heard,
-    }
+    while simulation.step(&mut schedule).is_some() {}
+    simulation.end()
 }
 
 /// Simulates up to a burst of a part. Returns the part before that burst, and the context of the burst.
@@ -120,7 +105,7 @@ pub fn run_up_to(scenario: &Scenario, part: usize, burst: u32) -> Option<(Part<'
 }
 
 impl<'s> Simulation<'s> {
-    fn new(scenario: &'s Scenario) -> Simulation<'s> {
+    pub fn new(scenario: &'s Scenario) -> Simulation<'s> {
         let new_thread = |spec| Thread {
             spec,
             waits_for: None,
@@ -129,9 +114,33 @@ impl<'s> Simulation<'s> {
         Simulation {
             scenario,
             parts: scenario.parts.iter().map(Part::new).collect(),
+            monitors: scenario.parts.iter().map(Monitor::new).collect(),
             threads: scenario.threads.iter().map(new_thread).collect(),
             arrived: vec![0; scenario.parts.len()],
             heard: Heard::default(),
+        }
+    }
+
+    /// Takes the next step, and returns its part and what of its event breaks the contract. None if the run is over.
+    pub fn step(&mut self, schedule: &mut Schedule) -> Option<(usize, Option<Breach>)> {
+        let actor = self.pick(schedule)?;
+        let part = self.go(actor);
+        Some((part, self.note(part)))
+    }
+
+    pub fn part(&self, index: usize) -> &Part<'s> {
+        &self.parts[index]
+    }
+
+    /// The run, after its last step.
+    pub fn end(self) -> Run<'s> {
+        let threads = self.threads.into_iter();
+        Run {
+            scenario: self.scenario,
+            parts: self.parts,
+            verdicts: self.monitors.into_iter().map(Monitor::verdict).collect(),
+            answers: threads.map(|thread| thread.answers).collect(),
+            heard: self.heard,
         }
     }
 
@@ -211,15 +220,19 @@ impl<'s> Simulation<'s> {
         part
     }
 
-    /// The listeners hear a part's last event, and the threads get their answers.
-    fn note(&mut self, part: usize) {
+    /// The listeners hear a part's last event, its monitor sees it, and the threads get their answers. Returns what the
+    /// monitor found.
+    fn note(&mut self, part: usize) -> Option<Breach> {
+        let mut breach = None;
         if let Some(event) = self.parts[part].journal().last() {
             self.heard.hear(event);
+            breach = self.monitors[part].see(event);
         }
         for (thread, answer) in self.parts[part].take_answers() {
             let thread = &mut self.threads[usize::from(thread)];
             thread.waits_for = None;
             thread.answers.push((part, answer));
         }
+        breach
     }
 }

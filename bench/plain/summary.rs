@@ -3,6 +3,7 @@
 use crate::contract::Losses;
 use crate::journal::Answer;
 use crate::simulation::Run;
+use std::fmt::{self, Display, Formatter};
 
 pub struct Summary {
     pub status: u8,
@@ -16,11 +17,10 @@ pub struct Summary {
 
 impl Summary {
     pub fn new(run: &Run) -> Summary {
-        let verdicts = run.verdicts();
         let answers = run.answers.iter().flatten();
         let lost = |losses: &Losses| losses.sends + losses.samples + losses.busy;
         Summary {
-            status: run.status(&verdicts),
+            status: run.status(),
             events: run.parts.iter().map(|part| part.journal().len()).sum(),
             failures: run
                 .parts
@@ -30,7 +30,27 @@ impl Summary {
             gone: answers
                 .filter(|(_, answer)| matches!(answer, Answer::Gone(_)))
                 .count(),
-            lost: verdicts.iter().map(|verdict| lost(&verdict.losses)).sum(),
+            lost: run
+                .verdicts
+                .iter()
+                .map(|verdict| lost(&verdict.losses))
+                .sum(),
         }
+    }
+}
+
+impl Display for Summary {
+    fn fmt(&self, f: &mut Formatter) -> fmt::Result {
+        let Summary {
+            status,
+            events,
+            failures,
+            gone,
+            lost,
+        } = self;
+        write!(
+            f,
+            "status {status} events {events} failures {failures} gone {gone} lost {lost}"
+        )
     }
 }

@@ -43,7 +43,7 @@ fn write_start(cpu: &Cpu, out: &mut impl Write) -> io::Result<()> {
 
 /// Does the burst's turns, and returns how many of its faults struck.
 fn write_turns(before: &mut Before, out: &mut impl Write) -> io::Result<usize> {
-    let faults = before.faults;
+    let faults = &before.faults;
     let mut acts = Vec::new();
     let mut tracer = Tracer {
         cpu: &mut before.cpu,
@@ -98,12 +98,13 @@ impl Tracer<'_> {
         };
         write!(out, "{}", Instruction(word))?;
         let acts = self.bus.acts.len();
-        let (_, crossing) = self.cpu.run(1, &mut self.bus);
+        let turn = self.turns - 1..self.turns;
+        let (_, crossing) = self.cpu.run(turn, &mut self.bus);
         // A pause comes after the turn, any other crossing is in place of it.
         if matches!(crossing, None | Some(Crossing::Pause)) {
             self.write_changes(word, counter, out)?;
-            for act in &self.bus.acts[acts..] {
-                write!(out, " | {act}")?;
+            for made in &self.bus.acts[acts..] {
+                write!(out, " | {}", made.act)?;
             }
         }
         Ok(crossing.is_some())

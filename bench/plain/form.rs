@@ -2,7 +2,7 @@
 //!
 //! `guard` and `guard scenario`, and the keys `guard`, `every`, `members` and `detail` of a campaign, are ahead of the
 //! proved program: until it has them it answers the words with the usage line and refuses the keys as unknown ones. The
-//! usage line, `--help` and the pages do not name them, so nothing promises them yet.
+//! usage line and `--help` do not name them.
 
 use std::ops::RangeInclusive;
 

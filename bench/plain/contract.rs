@@ -1,13 +1,14 @@
 //! What a journal shows: whether the driver kept its class's contract, and what was lost.
 
 use crate::journal::{Act, Answer, Burst, End, Event, Stage, Words};
-use crate::operation::{Operation, BLOCK_WORDS};
+use crate::medium::Medium;
+use crate::operation::Operation;
 use crate::scenario::PartSpec;
 use std::collections::VecDeque;
 
 const HAND_UP: u32 = 6;
 
-#[derive(Default)]
+#[derive(Clone, Default, PartialEq, Eq, Hash)]
 pub struct Losses {
     /// Sends answered as done without a frame on the wire, and samples not played of plays answered as done.
     pub sends: u64,
@@ -42,6 +43,7 @@ pub fn judge(spec: &PartSpec, journal: &[Event]) -> Verdict {
     }
 }
 
+#[derive(Clone, PartialEq, Eq, Hash)]
 struct Call<'s> {
     number: u32,
     operation: &'s Operation,
@@ -57,9 +59,12 @@ struct Call<'s> {
     failed: Vec<u32>,
 }
 
-struct Monitor<'s> {
-    spec: &'s PartSpec,
-    medium: Vec<[u32; BLOCK_WORDS]>,
+/// What was seen of a journal so far.
+#[derive(Clone, PartialEq, Eq, Hash)]
+pub struct Monitor<'s> {
+    /// The registers after a reset.
+    defaults: [u32; 4],
+    medium: Medium,
     registers: [u32; 4],
     /// How many frames are in the ring.
     ring: u64,
@@ -77,10 +82,10 @@ struct Monitor<'s> {
 }
 
 impl<'s> Monitor<'s> {
-    fn new(spec: &'s PartSpec) -> Monitor<'s> {
+    pub fn new(spec: &PartSpec) -> Monitor<'s> {
         Monitor {
-            spec,
-            medium: vec![[0; BLOCK_WORDS]; spec.blocks as usize],
+            defaults: spec.class.defaults(),
+            medium: Medium::default(),
             registers: spec.class.defaults(),
             ring: 0,
             popped: VecDeque::new(),
@@ -95,7 +100,7 @@ impl<'s> Monitor<'s> {
         }
     }
 
-    fn losses(self) -> Losses {
+    pub fn losses(self) -> Losses {
         Losses {
             queued: self.queued.saturating_sub(self.losses.received),
             ring: self.ring,
@@ -104,8 +109,15 @@ impl<'s> Monitor<'s> {
         }
     }
 
+    /// Numbers the open calls anew, from 1.
+    pub fn renumber(&mut self) {
+        for (number, call) in (1..).zip(&mut self.calls) {
+            call.number = number;
+        }
+    }
+
     /// Takes an event in, and gives the smallest clause that it breaks.
-    fn see(&mut self, event: &Event<'s>) -> Option<u8> {
+    pub fn see(&mut self, event: &Event<'s>) -> Option<u8> {
         match event {
             Event::Invoke {
                 call,
@@ -185,7 +197,7 @@ impl<'s> Monitor<'s> {
                 self.handed_count = 0;
                 self.popped.clear();
                 self.in_order = true;
-                self.registers = self.spec.class.defaults();
+                self.registers = self.defaults;
             }
             Stage::ReplaySet { key, value } => self.replay = Some((key, value)),
             _ => {}
@@ -231,7 +243,7 @@ impl<'s> Monitor<'s> {
                     None => self.breaks(1),
                     Some(is_wanted) => self.check(2, is_wanted),
                 }
-                self.medium[*block as usize].copy_from_slice(words);
+                self.medium.store(*block, words.clone());
             }
             Act::FailedLoad { block } | Act::FailedStore { block } => {
                 if let Some(call) = self.call(number) {
@@ -329,9 +341,7 @@ impl<'s> Monitor<'s> {
     /// The words of the blocks of a read or write.
     fn medium_of(&self, operation: &Operation) -> impl Iterator<Item = &u32> {
         let blocks = operation.blocks();
-        self.medium[blocks.start as usize..blocks.end as usize]
-            .iter()
-            .flatten()
+        blocks.flat_map(|block| self.medium.block(block as u32))
     }
 
     /// Counts an answer, and its call is open no more.

@@ -21,6 +21,7 @@ pub enum Form {
     Audit,
     Campaign,
     Mirror,
+    Explore,
     Help,
     Version,
 }
@@ -43,6 +44,7 @@ impl Form {
             ["audit"] => Some(Form::Audit),
             ["campaign"] => Some(Form::Campaign),
             ["mirror"] => Some(Form::Mirror),
+            ["explore"] => Some(Form::Explore),
             ["--help"] => Some(Form::Help),
             ["--version"] => Some(Form::Version),
             _ => None,

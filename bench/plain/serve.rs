@@ -7,7 +7,7 @@ use crate::refusal::{Cause, Read, Refusal};
 use crate::scenario::Scenario;
 use crate::summary::Summary;
 use crate::{
-    audit, campaign, generated, image, input, json, listing, mirror, report, scenario,
+    audit, campaign, explore, generated, image, input, json, listing, mirror, report, scenario,
     scenario_text, simulation, texts, threads, trace, Stop,
 };
 use std::io::Write;
@@ -29,6 +29,7 @@ pub fn serve(form: Form, out: &mut impl Write) -> Result<u8, Stop> {
         Form::Audit => audit(out),
         Form::Campaign => run_campaign(out),
         Form::Mirror => run_mirror(out),
+        Form::Explore => Ok(explore::write(&read_scenario()?, out)?),
         Form::Help => write(texts::HELP, out),
         Form::Version => write(texts::VERSION, out),
     }

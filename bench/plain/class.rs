@@ -1,6 +1,6 @@
 //! The three classes of drivers.
 
-#[derive(Clone, Copy, PartialEq, Eq, Debug)]
+#[derive(Clone, Copy, PartialEq, Eq, Hash, Debug)]
 pub enum Class {
     Block,
     Net,

@@ -1,14 +1,14 @@
 //! What a journal shows: whether the driver kept its class's contract, and what was lost.
 
 use crate::journal::{Act, Answer, Burst, End, Event, Stage, Words};
-use crate::operation::{Operation, BLOCK_WORDS};
+use crate::medium::Medium;
+use crate::operation::Operation;
 use crate::scenario::PartSpec;
 use std::collections::VecDeque;
-use std::mem;
 
 const HAND_UP: u32 = 6;
 
-#[derive(Default)]
+#[derive(Clone, Default, PartialEq, Eq, Hash)]
 pub struct Losses {
     /// Sends answered as done without a frame on the wire, and samples not played of plays answered as done.
     pub sends: u64,
@@ -31,11 +31,11 @@ pub struct Verdict {
 }
 
 pub fn judge(spec: &PartSpec, journal: &[Event]) -> Verdict {
-    let mut monitor = Monitor::new(spec);
+    let mut judge = Judge::new(spec);
     for event in journal {
-        monitor.see(event);
+        judge.see(event);
     }
-    monitor.verdict()
+    judge.verdict()
 }
 
 /// What of a burst can break a clause, in the order in which it happens.
@@ -54,6 +54,79 @@ pub struct Breach {
     pub clause: u8,
 }
 
+/// What of an event breaks a clause.
+pub struct Breaches {
+    /// The deed that is looked at.
+    deed: Deed,
+    found: Vec<Breach>,
+}
+
+impl Breaches {
+    fn new() -> Breaches {
+        Breaches {
+            deed: Deed::Crossing,
+            found: Vec::new(),
+        }
+    }
+
+    /// The first deed that breaks a clause, with the smallest clause that this deed breaks.
+    pub fn first(&self) -> Option<Breach> {
+        self.found.iter().min().copied()
+    }
+
+    /// The smallest clause that the event breaks.
+    pub fn clause(&self) -> Option<u8> {
+        self.found.iter().map(|breach| breach.clause).min()
+    }
+
+    fn add(&mut self, clause: u8) {
+        let deed = self.deed;
+        self.found.push(Breach { deed, clause });
+    }
+
+    fn check(&mut self, clause: u8, holds: bool) {
+        if !holds {
+            self.add(clause);
+        }
+    }
+}
+
+/// Judges the events of a part, one after the other, and keeps the place of the first that broke the contract.
+pub struct Judge<'s> {
+    monitor: Monitor<'s>,
+    /// How many events it saw.
+    seen: usize,
+    broken: Option<(usize, u8)>,
+}
+
+impl<'s> Judge<'s> {
+    pub fn new(spec: &PartSpec) -> Judge<'s> {
+        Judge {
+            monitor: Monitor::new(spec),
+            seen: 0,
+            broken: None,
+        }
+    }
+
+    /// Takes an event in, and returns what of it breaks the contract.
+    pub fn see(&mut self, event: &Event<'s>) -> Breaches {
+        self.seen += 1;
+        let breaches = self.monitor.see(event);
+        let broken = breaches.clause().map(|clause| (self.seen, clause));
+        self.broken = self.broken.or(broken);
+        breaches
+    }
+
+    /// What the events show that it saw.
+    pub fn verdict(self) -> Verdict {
+        Verdict {
+            losses: self.monitor.losses(),
+            broken: self.broken,
+        }
+    }
+}
+
+#[derive(Clone, PartialEq, Eq, Hash)]
 struct Call<'s> {
     number: u32,
     operation: &'s Operation,
@@ -69,10 +142,13 @@ struct Call<'s> {
     failed: Vec<u32>,
 }
 
-/// Judges the events of a part, one after the other.
+/// What of the events seen so far decides which clauses later ones break, and what was lost. It has neither the places
+/// of the events nor their count: after events in another order it may be the same.
+#[derive(Clone, PartialEq, Eq, Hash)]
 pub struct Monitor<'s> {
-    spec: &'s PartSpec,
-    medium: Vec<[u32; BLOCK_WORDS]>,
+    /// The registers after a reset.
+    defaults: [u32; 4],
+    medium: Medium,
     registers: [u32; 4],
     /// How many frames are in the ring.
     ring: u64,
@@ -85,20 +161,13 @@ pub struct Monitor<'s> {
     calls: Vec<Call<'s>>,
     replay: Option<(u32, u32)>,
     losses: Losses,
-    /// How many events it saw.
-    seen: usize,
-    /// The deed that it looks at, and what the event that it looks at breaks.
-    deed: Deed,
-    breaches: Vec<Breach>,
-    /// The first event that broke the contract, and the smallest clause that it broke.
-    broken: Option<(usize, u8)>,
 }
 
 impl<'s> Monitor<'s> {
-    pub fn new(spec: &'s PartSpec) -> Monitor<'s> {
+    pub fn new(spec: &PartSpec) -> Monitor<'s> {
         Monitor {
-            spec,
-            medium: vec![[0; BLOCK_WORDS]; spec.blocks as usize],
+            defaults: spec.class.defaults(),
+            medium: Medium::default(),
             registers: spec.class.defaults(),
             ring: 0,
             popped: VecDeque::new(),
@@ -109,40 +178,28 @@ impl<'s> Monitor<'s> {
             calls: Vec::new(),
             replay: None,
             losses: Losses::default(),
-            seen: 0,
-            deed: Deed::Crossing,
-            breaches: Vec::new(),
-            broken: None,
         }
     }
 
-    /// What the events show that it saw.
-    pub fn verdict(self) -> Verdict {
-        let losses = Losses {
+    pub fn losses(self) -> Losses {
+        Losses {
             queued: self.queued.saturating_sub(self.losses.received),
             ring: self.ring,
             driver: self.popped_count.saturating_sub(self.handed_count),
             ..self.losses
-        };
-        Verdict {
-            losses,
-            broken: self.broken,
         }
     }
 
-    /// Takes an event in. Returns its first deed that breaks a clause, with the smallest clause that this deed breaks.
-    pub fn see(&mut self, event: &Event<'s>) -> Option<Breach> {
-        self.seen += 1;
-        self.take_in(event);
-        let breaches = mem::take(&mut self.breaches);
-        let clauses = breaches.iter().map(|breach| breach.clause);
-        self.broken = self
-            .broken
-            .or(clauses.min().map(|clause| (self.seen, clause)));
-        breaches.into_iter().min()
+    /// Numbers the open calls anew, from 1.
+    pub fn renumber(&mut self) {
+        for (number, call) in (1..).zip(&mut self.calls) {
+            call.number = number;
+        }
     }
 
-    fn take_in(&mut self, event: &Event<'s>) {
+    /// Takes an event in, and returns what of it breaks the contract.
+    pub fn see(&mut self, event: &Event<'s>) -> Breaches {
+        let mut breaches = Breaches::new();
         match event {
             Event::Invoke {
                 call,
@@ -170,10 +227,11 @@ impl<'s> Monitor<'s> {
                 }
                 self.answered(*call, answer.as_ref());
             }
-            Event::Burst(burst) => self.see_burst(burst),
+            Event::Burst(burst) => self.see_burst(burst, &mut breaches),
             Event::Stage { stage, answers, .. } => self.see_stage(*stage, answers),
             Event::Arrive { kept, .. } => self.see_arrival(*kept),
         }
+        breaches
     }
 
     fn see_arrival(&mut self, kept: bool) {
@@ -191,17 +249,6 @@ impl<'s> Monitor<'s> {
 
     fn inside(&self) -> impl Iterator<Item = &Call<'s>> {
         self.calls.iter().filter(|call| call.inside)
-    }
-
-    fn breaks(&mut self, clause: u8) {
-        let deed = self.deed;
-        self.breaches.push(Breach { deed, clause });
-    }
-
-    fn check(&mut self, clause: u8, holds: bool) {
-        if !holds {
-            self.breaks(clause);
-        }
     }
 
     fn see_stage(&mut self, stage: Stage, answers: &[(u32, Answer)]) {
@@ -222,19 +269,19 @@ impl<'s> Monitor<'s> {
                 self.handed_count = 0;
                 self.popped.clear();
                 self.in_order = true;
-                self.registers = self.spec.class.defaults();
+                self.registers = self.defaults;
             }
             Stage::ReplaySet { key, value } => self.replay = Some((key, value)),
             _ => {}
         }
     }
 
-    fn see_burst(&mut self, burst: &Burst) {
+    fn see_burst(&mut self, burst: &Burst, breaches: &mut Breaches) {
         for (index, made) in burst.acts.iter().enumerate() {
-            self.deed = Deed::Act(index);
-            self.see_act(burst.call, &made.act);
+            breaches.deed = Deed::Act(index);
+            self.see_act(burst.call, &made.act, breaches);
         }
-        self.deed = Deed::Crossing;
+        breaches.deed = Deed::Crossing;
         if let End::Service {
             service: HAND_UP,
             served: Some(served),
@@ -245,21 +292,22 @@ impl<'s> Monitor<'s> {
                 burst.call,
                 served.moved.as_deref().unwrap_or(&[]),
                 served.result == 1,
+                breaches,
             );
         }
         let is_reply = matches!(burst.end, End::Reply(_));
         if burst.call == 0 && (is_reply || burst.failure.is_some()) {
             if let (Some((key, value)), None) = (self.replay.take(), &burst.failure) {
-                self.check(13, self.registers[key as usize] == value);
+                breaches.check(13, self.registers[key as usize] == value);
             }
         }
         if let Some(answer) = &burst.answer {
-            self.judge_reply(burst.call, answer);
+            self.judge_reply(burst.call, answer, breaches);
         }
         self.answered(burst.call, burst.answer.as_ref());
     }
 
-    fn see_act(&mut self, number: u32, act: &Act) {
+    fn see_act(&mut self, number: u32, act: &Act, breaches: &mut Breaches) {
         match act {
             Act::Load { .. } => {}
             Act::Store { block, words } => {
@@ -267,46 +315,46 @@ impl<'s> Monitor<'s> {
                     .inside()
                     .find_map(|call| call.operation.written(*block));
                 match wanted.map(|wanted| wanted == &words[..]) {
-                    None => self.breaks(1),
-                    Some(is_wanted) => self.check(2, is_wanted),
+                    None => breaches.add(1),
+                    Some(is_wanted) => breaches.check(2, is_wanted),
                 }
-                self.medium[*block as usize].copy_from_slice(words);
+                self.medium.store(*block, words.clone());
             }
             Act::FailedLoad { block } | Act::FailedStore { block } => {
                 if let Some(call) = self.call(number) {
                     call.failed.push(*block);
                 }
             }
-            Act::Sent(frame) => self.see_sent(number, frame),
+            Act::Sent(frame) => self.see_sent(number, frame, breaches),
             Act::Popped(frame) => {
                 self.popped.push_back(frame.clone());
                 self.popped_count += 1;
                 self.ring = self.ring.saturating_sub(1);
             }
-            Act::Played { sample, .. } => self.see_played(number, *sample),
+            Act::Played { sample, .. } => self.see_played(number, *sample, breaches),
             Act::Register { key, value } => {
                 if self.registers[*key as usize] != *value {
                     let is_set = |call: &Call| call.operation.sets(*key, *value);
                     let asked = self.replay == Some((*key, *value)) || self.inside().any(is_set);
-                    self.check(12, asked);
+                    breaches.check(12, asked);
                 }
                 self.registers[*key as usize] = *value;
             }
         }
     }
 
-    fn see_sent(&mut self, number: u32, frame: &Words) {
+    fn see_sent(&mut self, number: u32, frame: &Words, breaches: &mut Breaches) {
         let Some(call) = self.call(number) else {
-            return self.breaks(5);
+            return breaches.add(5);
         };
         let is_own = matches!(call.operation, Operation::Send { frame: own } if own == frame);
         call.sent += 1;
         let sent = call.sent;
-        self.check(5, is_own);
-        self.check(6, sent < 2);
+        breaches.check(5, is_own);
+        breaches.check(6, sent < 2);
     }
 
-    fn see_played(&mut self, number: u32, sample: u32) {
+    fn see_played(&mut self, number: u32, sample: u32, breaches: &mut Breaches) {
         if let Some(call) = self.call(number) {
             call.played += 1;
         }
@@ -318,16 +366,16 @@ impl<'s> Monitor<'s> {
             }
             _ => false,
         });
-        self.check(10, is_next);
+        breaches.check(10, is_next);
     }
 
-    fn see_handed_up(&mut self, number: u32, frame: &[u32], kept: bool) {
+    fn see_handed_up(&mut self, number: u32, frame: &[u32], kept: bool, breaches: &mut Breaches) {
         self.in_order = self.in_order
             && self
                 .popped
                 .pop_front()
                 .is_some_and(|next| next[..] == *frame);
-        self.check(8, self.in_order);
+        breaches.check(8, self.in_order);
         self.handed_count += 1;
         if kept {
             self.queued += 1;
@@ -340,13 +388,13 @@ impl<'s> Monitor<'s> {
     }
 
     /// Judges a reply that was accepted.
-    fn judge_reply(&mut self, number: u32, answer: &Answer) {
+    fn judge_reply(&self, number: u32, answer: &Answer, breaches: &mut Breaches) {
         let Some(call) = self.calls.iter().find(|call| call.number == number) else {
             return;
         };
         let operation = call.operation;
         if let Answer::IoError(block) = answer {
-            return self.check(15, call.failed.contains(block));
+            return breaches.check(15, call.failed.contains(block));
         }
         let (clause, holds) = match (operation, answer) {
             (Operation::Write { data, .. }, _) => (3, self.medium_of(operation).eq(data.iter())),
@@ -362,15 +410,13 @@ impl<'s> Monitor<'s> {
             }
             _ => return,
         };
-        self.check(clause, holds);
+        breaches.check(clause, holds);
     }
 
     /// The words of the blocks of a read or write.
     fn medium_of(&self, operation: &Operation) -> impl Iterator<Item = &u32> {
         let blocks = operation.blocks();
-        self.medium[blocks.start as usize..blocks.end as usize]
-            .iter()
-            .flatten()
+        blocks.flat_map(|block| self.medium.block(block as u32))
     }
 
     /// Counts an answer, and its call is open no more.

@@ -2,9 +2,10 @@
 
 use crate::class::Class;
 use crate::journal::{Act, Words};
+use crate::medium::Medium;
 use crate::operation::BLOCK_WORDS;
 use crate::scenario::PartSpec;
-use std::collections::VecDeque;
+use std::collections::{BTreeMap, VecDeque};
 
 /// The port of register 0.
 const FIRST_REGISTER: u32 = 8;
@@ -15,35 +16,33 @@ const RING_FRAMES: usize = 16;
 /// The port cannot be written.
 pub struct NoSuchPort;
 
-type Block = [u32; BLOCK_WORDS];
-
-#[derive(Clone)]
+#[derive(Clone, PartialEq, Eq, Hash)]
 pub struct Device {
     class: Class,
     registers: [u32; 4],
     kind: Kind,
 }
 
-#[derive(Clone)]
+#[derive(Clone, PartialEq, Eq, Hash)]
 enum Kind {
     Disk(Disk),
     Net(Box<Net>),
     Sound,
 }
 
-#[derive(Clone)]
+#[derive(Clone, PartialEq, Eq, Hash)]
 struct Disk {
-    medium: Vec<Block>,
-    /// The commands that each block had, and how many it takes before it fails.
-    commands: Vec<u32>,
-    good_for: Vec<Option<u32>>,
+    blocks: u32,
+    medium: Medium,
+    /// Of each bad block, how many more commands it takes before it fails.
+    good_for: BTreeMap<u32, u32>,
     block: u32,
-    buffer: Block,
+    buffer: [u32; BLOCK_WORDS],
     position: usize,
     status: u32,
 }
 
-#[derive(Clone)]
+#[derive(Clone, PartialEq, Eq, Hash)]
 struct Net {
     length: u32,
     buffer: [u32; LONGEST_FRAME],
@@ -67,10 +66,10 @@ impl Device {
     }
 
     /// What a disk keeps.
-    pub fn medium(&self) -> &[Block] {
+    pub fn medium(&self) -> Option<&Medium> {
         match &self.kind {
-            Kind::Disk(disk) => &disk.medium,
-            _ => &[],
+            Kind::Disk(disk) => Some(&disk.medium),
+            _ => None,
         }
     }
 
@@ -145,15 +144,14 @@ impl Device {
 
 impl Disk {
     fn new(spec: &PartSpec) -> Disk {
-        let blocks = spec.blocks as usize;
-        let mut good_for = vec![None; blocks];
+        let mut good_for = BTreeMap::new();
         for bad in &spec.bad {
-            let known = &mut good_for[bad.block as usize];
-            *known = Some(known.map_or(bad.after, |after: u32| after.min(bad.after)));
+            let least = good_for.entry(bad.block).or_insert(bad.after);
+            *least = bad.after.min(*least);
         }
         Disk {
-            medium: vec![[0; BLOCK_WORDS]; blocks],
-            commands: vec![0; blocks],
+            blocks: spec.blocks,
+            medium: Medium::default(),
             good_for,
             block: 0,
             buffer: [0; BLOCK_WORDS],
@@ -179,29 +177,37 @@ impl Disk {
     /// Loads (1) or stores (2) the block that the register names.
     fn command(&mut self, word: u32) -> Option<Act> {
         let block = self.block;
-        let place = block as usize;
-        if !matches!(word, 1 | 2) || place >= self.medium.len() {
+        if !matches!(word, 1 | 2) || block >= self.blocks {
             return None;
         }
-        let fails = self.good_for[place].is_some_and(|after| after <= self.commands[place]);
-        self.commands[place] = self.commands[place].saturating_add(1);
+        let fails = self.fails(block);
         self.position = 0;
         self.status = u32::from(fails);
         Some(match (fails, word) {
             (false, 1) => {
-                self.buffer = self.medium[place];
+                self.buffer.copy_from_slice(self.medium.block(block));
                 Act::Load { block }
             }
             (false, _) => {
-                self.medium[place] = self.buffer;
-                Act::Store {
-                    block,
-                    words: self.buffer.into(),
-                }
+                let words: Words = self.buffer.into();
+                self.medium.store(block, words.clone());
+                Act::Store { block, words }
             }
             (true, 1) => Act::FailedLoad { block },
             (true, _) => Act::FailedStore { block },
         })
+    }
+
+    /// Counts a command to a block, and returns whether that fails.
+    fn fails(&mut self, block: u32) -> bool {
+        match self.good_for.get_mut(&block) {
+            None => false,
+            Some(0) => true,
+            Some(left) => {
+                *left -= 1;
+                false
+            }
+        }
     }
 }
 

@@ -29,6 +29,7 @@ pub enum Form {
     Guard,
     /// The scenario whose run that is.
     GuardScenario,
+    Explore,
     Help,
     Version,
 }
@@ -53,6 +54,7 @@ impl Form {
             ["mirror"] => Some(Form::Mirror),
             ["guard"] => Some(Form::Guard),
             ["guard", "scenario"] => Some(Form::GuardScenario),
+            ["explore"] => Some(Form::Explore),
             ["--help"] => Some(Form::Help),
             ["--version"] => Some(Form::Version),
             _ => None,

@@ -6,7 +6,7 @@ use std::rc::Rc;
 
 pub type Words = Rc<[u32]>;
 
-#[derive(Clone, PartialEq, Eq)]
+#[derive(Clone, PartialEq, Eq, Hash)]
 pub enum Answer {
     Done,
     Blocks(Words),
@@ -25,7 +25,7 @@ pub enum Answer {
     Gone(u32),
 }
 
-#[derive(Clone, Copy, PartialEq, Eq)]
+#[derive(Clone, Copy, PartialEq, Eq, Hash)]
 pub enum Stage {
     Stop,
     Collect,
@@ -57,6 +57,7 @@ pub enum Failure {
 }
 
 /// What a device does that can be seen.
+#[derive(Clone, PartialEq, Eq, Hash)]
 pub enum Act {
     Load { block: u32 },
     Store { block: u32, words: Words },

@@ -12,7 +12,7 @@ use std::ops::Range;
 pub const MOST_TURNS: u32 = 4_096;
 const MOST_ACTS: usize = 64;
 
-#[derive(Clone)]
+#[derive(Clone, PartialEq, Eq, Hash)]
 pub struct Cpu {
     pub counter: u32,
     pub registers: [u32; 16],

@@ -15,6 +15,34 @@ const STACKS: u32 = 4_096;
 const BUFFERS: u32 = 5_184;
 const KERNEL: u32 = 7_360;
 
+/// How many words are compared at a time.
+const LINE: usize = 64;
+
+/// In what a memory is not as another one.
+#[derive(PartialEq, Eq, Hash)]
+pub struct Changes {
+    words: Box<[ChangedWord]>,
+    /// Whether the buffer of a context is lent for writing.
+    lent: [bool; CONTEXTS],
+}
+
+#[derive(Clone, Copy, PartialEq, Eq, Hash)]
+pub struct ChangedWord {
+    address: u32,
+    word: u32,
+}
+
+impl Changes {
+    /// The changed words of the kernel's objects, but for the one that is the kernel's own.
+    pub fn of_objects(&self) -> &[ChangedWord] {
+        let start = Memory::object_start(1);
+        let place = self
+            .words
+            .partition_point(|changed| changed.address < start);
+        &self.words[place..]
+    }
+}
+
 #[derive(Clone)]
 pub struct Memory {
     words: [u32; WORDS],
@@ -39,6 +67,29 @@ impl Memory {
         self.words[..KERNEL as usize].fill(0);
         self.words[..image.text.len()].copy_from_slice(&image.text);
         self.words[DATA_START as usize..][..image.data.len()].copy_from_slice(&image.data);
+    }
+
+    /// In what it is not as a base.
+    pub fn changes_from(&self, base: &Memory) -> Changes {
+        let lines = self.words.chunks(LINE).zip(base.words.chunks(LINE));
+        let changed = lines
+            .enumerate()
+            .filter(|(_, (own, others))| own != others)
+            .flat_map(|(line, (own, others))| changed_words(line * LINE, own, others));
+        Changes {
+            words: changed.collect(),
+            lent: self.lent,
+        }
+    }
+
+    /// The memory that is not as a base in these changes.
+    pub fn with_changes(base: &Memory, changes: &Changes) -> Memory {
+        let mut memory = base.clone();
+        memory.lent = changes.lent;
+        for ChangedWord { address, word } in &changes.words {
+            memory.words[*address as usize] = *word;
+        }
+        memory
     }
 
     pub fn fetch(&self, address: u32) -> Option<u32> {
@@ -145,4 +196,19 @@ impl Memory {
     fn object_start(object: u32) -> u32 {
         KERNEL + object * OBJECT_WORDS as u32
     }
+}
+
+/// The words of a line of memory that are not as those of another one.
+fn changed_words<'m>(
+    start: usize,
+    own: &'m [u32],
+    others: &'m [u32],
+) -> impl Iterator<Item = ChangedWord> + 'm {
+    let pairs = own.iter().zip(others).enumerate();
+    pairs
+        .filter(|(_, (own, other))| own != other)
+        .map(move |(place, (word, _))| ChangedWord {
+            address: (start + place) as u32,
+            word: *word,
+        })
 }

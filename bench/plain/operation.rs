@@ -6,7 +6,7 @@ use std::ops::Range;
 
 pub const BLOCK_WORDS: usize = 16;
 
-#[derive(Debug)]
+#[derive(Debug, PartialEq, Eq, Hash)]
 pub enum Operation {
     Read { first: u32, count: u32 },
     Write { first: u32, data: Words },

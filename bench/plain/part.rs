@@ -4,7 +4,7 @@ use crate::class::{Class, Entry};
 use crate::device::Device;
 use crate::journal::{Answer, Burst, End, Event, Failure, Released, Served, Stage, Words};
 use crate::machine::{run_burst, Bus, Cpu, Crossing};
-use crate::memory::{Memory, CONTEXTS, DATA_START, OBJECTS, OBJECT_WORDS};
+use crate::memory::{Changes, Memory, CONTEXTS, DATA_START, OBJECTS, OBJECT_WORDS};
 use crate::operation::{Operation, BLOCK_WORDS};
 use crate::scenario::{Fault, PartSpec};
 use crate::tracker::Tracker;
@@ -23,7 +23,7 @@ const FAILURES_WORD: usize = 4;
 /// A reply of this number and i means that block i of a read or write failed.
 const BLOCK_FAILED: u32 = 256;
 
-#[derive(Clone, Copy, PartialEq, Eq)]
+#[derive(Clone, Copy, PartialEq, Eq, Hash)]
 enum Mode {
     Boot(Stage),
     Running,
@@ -32,12 +32,14 @@ enum Mode {
 }
 
 /// A driver's code on its way.
+#[derive(Clone, PartialEq, Eq, Hash)]
 struct Context {
     cpu: Cpu,
     bursts: u32,
 }
 
 /// A call that is not answered yet.
+#[derive(Clone, PartialEq, Eq, Hash)]
 struct Call<'s> {
     number: u32,
     thread: u8,
@@ -46,7 +48,7 @@ struct Call<'s> {
     attempts: u32,
 }
 
-#[derive(Clone, Copy)]
+#[derive(Clone, Copy, PartialEq, Eq, Hash)]
 pub enum Step {
     Enter { thread: u8 },
     Burst { context: usize },
@@ -67,6 +69,41 @@ pub struct Before {
     pub memory: Box<Memory>,
     pub device: Device,
     pub faults: Vec<Fault>,
+}
+
+/// What of a part decides how it goes on. The number of a call is a name, and open calls are numbered anew from 1; the
+/// count of its attempts is only written down; and bursts are counted up to the last one that a fault may strike.
+#[derive(PartialEq, Eq, Hash)]
+pub struct Snapshot<'s> {
+    memory: Changes,
+    tracker: Tracker,
+    device: Device,
+    contexts: Box<[(usize, Context)]>,
+    calls: Vec<Call<'s>>,
+    record: [u32; 4],
+    holder: Option<u8>,
+    queue: VecDeque<Words>,
+    mode: Mode,
+    failures: u32,
+    bursts: u32,
+}
+
+impl Snapshot<'_> {
+    pub fn memory(&self) -> &Changes {
+        &self.memory
+    }
+
+    pub fn device(&self) -> &Device {
+        &self.device
+    }
+
+    pub fn record(&self) -> [u32; 4] {
+        self.record
+    }
+
+    pub fn failures(&self) -> u32 {
+        self.failures
+    }
 }
 
 pub struct Part<'s> {
@@ -97,11 +134,9 @@ impl<'s> Part<'s> {
     pub fn new(spec: &'s PartSpec) -> Part<'s> {
         let mut memory = Memory::new();
         memory.object_mut(0)[..4].copy_from_slice(&spec.class.defaults());
-        let mut faults = spec.faults.clone();
-        faults.sort_by_key(|fault| (fault.burst, fault.after));
         Part {
             spec,
-            faults,
+            faults: in_order(&spec.faults),
             memory: Box::new(memory),
             tracker: Tracker::new(DATA_START + spec.image.data.len() as u32),
             device: Device::new(spec),
@@ -116,6 +151,57 @@ impl<'s> Part<'s> {
             bursts: 0,
             journal: Vec::new(),
             answers: Vec::new(),
+        }
+    }
+
+    /// The part of which this snapshot was taken over the same base, with an empty journal.
+    pub fn restore(spec: &'s PartSpec, base: &Memory, snapshot: &Snapshot<'s>) -> Part<'s> {
+        let mut contexts = [const { None }; CONTEXTS];
+        for (context, running) in &snapshot.contexts {
+            contexts[*context] = Some(running.clone());
+        }
+        Part {
+            spec,
+            faults: in_order(&spec.faults),
+            memory: Box::new(Memory::with_changes(base, &snapshot.memory)),
+            tracker: snapshot.tracker.clone(),
+            device: snapshot.device.clone(),
+            contexts,
+            calls: snapshot.calls.clone(),
+            called: snapshot.calls.len() as u32,
+            record: snapshot.record,
+            holder: snapshot.holder,
+            queue: snapshot.queue.clone(),
+            mode: snapshot.mode,
+            failures: snapshot.failures,
+            bursts: snapshot.bursts,
+            journal: Vec::new(),
+            answers: Vec::new(),
+        }
+    }
+
+    /// What decides how it goes on, its memory by its changes from a base.
+    pub fn snapshot(mut self, base: &Memory) -> Snapshot<'s> {
+        for (number, call) in (1..).zip(&mut self.calls) {
+            call.number = number;
+            call.attempts = 0;
+        }
+        let contexts = self.contexts.into_iter().enumerate();
+        let last_struck = self.faults.last().map_or(0, |fault| fault.burst);
+        Snapshot {
+            memory: self.memory.changes_from(base),
+            tracker: self.tracker,
+            device: self.device,
+            contexts: contexts
+                .filter_map(|(context, running)| Some((context, running?)))
+                .collect(),
+            calls: self.calls,
+            record: self.record,
+            holder: self.holder,
+            queue: self.queue,
+            mode: self.mode,
+            failures: self.failures,
+            bursts: self.bursts.min(last_struck),
         }
     }
 
@@ -689,6 +775,13 @@ fn expect_more(is_last: bool) -> Result<(), Failure> {
     } else {
         Ok(())
     }
+}
+
+/// Faults in the order in which they strike.
+fn in_order(faults: &[Fault]) -> Vec<Fault> {
+    let mut faults = faults.to_vec();
+    faults.sort_by_key(|fault| (fault.burst, fault.after));
+    faults
 }
 
 /// The faults of one burst among faults that stand in order.

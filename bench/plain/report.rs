@@ -109,8 +109,8 @@ pub fn write_left(part: &Part, verdict: &Verdict, out: &mut impl Write) -> io::R
             List(part.memory().object(object))
         )?;
     }
-    for (block, words) in part.device().medium().iter().enumerate() {
-        if words.iter().any(|word| *word != 0) {
+    if let Some(medium) = part.device().medium() {
+        for (block, words) in medium.blocks() {
             writeln!(out, "disk {block} {}", List(words))?;
         }
     }

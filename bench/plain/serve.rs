@@ -7,8 +7,8 @@ use crate::refusal::{Cause, Read, Refusal};
 use crate::scenario::Scenario;
 use crate::summary::Summary;
 use crate::{
-    audit, campaign, generated, guard, image, input, json, listing, mirror, report, scenario,
-    scenario_text, simulation, table, texts, threads, trace, Stop,
+    audit, campaign, explore, generated, guard, image, input, json, listing, mirror, report,
+    scenario, scenario_text, simulation, table, texts, threads, trace, Stop,
 };
 use std::io::Write;
 
@@ -31,6 +31,7 @@ pub fn serve(form: Form, out: &mut impl Write) -> Result<u8, Stop> {
         Form::Mirror => run_mirror(out),
         Form::Guard => run_guarded(out),
         Form::GuardScenario => write_guarded(out),
+        Form::Explore => Ok(explore::write(&read_scenario()?, out)?),
         Form::Help => write(texts::HELP, out),
         Form::Version => write(texts::VERSION, out),
     }

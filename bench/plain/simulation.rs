@@ -2,7 +2,7 @@
 //!
 //! Each thread is an actor. After the threads come two for each part, its recovery and its arrivals.
 
-use crate::contract::{Breach, Monitor, Verdict};
+use crate::contract::{Breach, Judge, Verdict};
 use crate::journal::{Answer, Event};
 use crate::part::{Part, Step};
 use crate::scenario::{Scenario, ThreadSpec};
@@ -71,7 +71,7 @@ impl Thread<'_> {
 pub struct Simulation<'s> {
     scenario: &'s Scenario,
     parts: Vec<Part<'s>>,
-    monitors: Vec<Monitor<'s>>,
+    judges: Vec<Judge<'s>>,
     threads: Vec<Thread<'s>>,
     /// How many frames arrived at each part.
     arrived: Vec<usize>,
@@ -114,14 +114,14 @@ impl<'s> Simulation<'s> {
         Simulation {
             scenario,
             parts: scenario.parts.iter().map(Part::new).collect(),
-            monitors: scenario.parts.iter().map(Monitor::new).collect(),
+            judges: scenario.parts.iter().map(Judge::new).collect(),
             threads: scenario.threads.iter().map(new_thread).collect(),
             arrived: vec![0; scenario.parts.len()],
             heard: Heard::default(),
         }
     }
 
-    /// Takes the next step, and returns its part and what of its event breaks the contract. None if the run is over.
+    /// Takes the next step, and returns its part and the first breach of its event. None if the run is over.
     pub fn step(&mut self, schedule: &mut Schedule) -> Option<(usize, Option<Breach>)> {
         let actor = self.pick(schedule)?;
         let part = self.go(actor);
@@ -138,7 +138,7 @@ impl<'s> Simulation<'s> {
         Run {
             scenario: self.scenario,
             parts: self.parts,
-            verdicts: self.monitors.into_iter().map(Monitor::verdict).collect(),
+            verdicts: self.judges.into_iter().map(Judge::verdict).collect(),
             answers: threads.map(|thread| thread.answers).collect(),
             heard: self.heard,
         }
@@ -220,13 +220,13 @@ impl<'s> Simulation<'s> {
         part
     }
 
-    /// The listeners hear a part's last event, its monitor sees it, and the threads get their answers. Returns what the
-    /// monitor found.
+    /// The listeners hear a part's last event, its judge sees it, and the threads get their answers. Returns the first
+    /// breach that the judge found.
     fn note(&mut self, part: usize) -> Option<Breach> {
         let mut breach = None;
         if let Some(event) = self.parts[part].journal().last() {
             self.heard.hear(event);
-            breach = self.monitors[part].see(event);
+            breach = self.judges[part].see(event).first();
         }
         for (thread, answer) in self.parts[part].take_answers() {
             let thread = &mut self.threads[usize::from(thread)];

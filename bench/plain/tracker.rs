@@ -9,6 +9,7 @@ const HEAP_END: u32 = DATA_START + DATA_WORDS;
 /// How many runs of the heap may be taken at once.
 const MOST_RUNS: usize = 64;
 
+#[derive(Clone, PartialEq, Eq, Hash)]
 pub struct Tracker {
     heap_start: u32,
     /// The runs of the heap that are taken, by their starts.
@@ -20,6 +21,7 @@ pub struct Tracker {
     registered: bool,
 }
 
+#[derive(Clone, PartialEq, Eq, Hash)]
 struct Run {
     length: u32,
     /// Whether it is the copy of an object.

@@ -1,7 +1,7 @@
 //! Which form the words are of.
 //!
-//! `guard` and `guard scenario`, and the keys `guard`, `every`, `members` and `detail` of a campaign, are ahead of the
-//! proved program: until it has them it answers the words with the usage line and refuses the keys as unknown ones. The
+//! `guard`, `guard scenario` and `explore`, and the keys `guard`, `every`, `members` and `detail` of a campaign, are ahead of
+//! the proved program: until it has them it answers the words with the usage line and refuses the keys as unknown ones. The
 //! usage line and `--help` do not name them.
 
 use std::ops::RangeInclusive;

@@ -18,7 +18,7 @@ use Rattle.run_defs.specs.Schedules.{Order}
 use Rattle.run_defs.specs.Simulation.{Choice, RunningPart, Simulation, begins, choices_of, opening_part, part_after, runs, stepped_by, taken}
 use Rattle.front_laws.specs.FirstTrap.{IsFirstTrap, IsPutFirst}
 use Rattle.front_laws.specs.Fronts.{IsPastFrom, IsUnreached}
-use Rattle.front_laws.specs.GuardedParts.{NoneBreaks}
+use Rattle.guard_defs.specs.FirstBreaks.{NoneBreaks}
 use Rattle.front_laws.specs.Owned.{owned, owning, seat_with, struck_at}
 use Rattle.front_laws.proofs.Free.{free_runs}
 use Rattle.front_laws.proofs.Free as free

@@ -11,7 +11,7 @@ use Rattle.part_laws.proofs.DeviceStays.{spec_after}
 use Rattle.promise_defs.specs.Contract.{Known, break_from, broken, first_break, known_after}
 use Rattle.run_defs.proofs.RunChanges.{taken_by}
 use Rattle.run_defs.specs.Simulation.{Choice, IsScheduledRun, RunningPart, Simulation, begins, choices_of, part_after, runs, stepped_by, taken}
-use Rattle.front_laws.specs.GuardedParts.{NoneBreaks}
+use Rattle.guard_defs.specs.FirstBreaks.{NoneBreaks}
 use Rattle.front_laws.proofs.GuardRun.{first_kept, step_free}
 use Rattle.front_laws.proofs.GuardedRuns.{guarded_by, guarded_on}
 use Rattle.front_laws.proofs.Owned.{go_on, order_of, pick_of}

@@ -2,17 +2,12 @@ use Rattle.std.specs.Prelude.{◌≡◌, ◌≤◌, ◌<◌, ℕ, Option, Some, 
 use Rattle.nook_data.specs.Members.{struck}
 use Rattle.nook_data.specs.Types.{Fault, PartSpec, Scenario}
 use Rattle.guard_defs.specs.Guard.{guard}
+use Rattle.guard_defs.specs.FirstBreaks.{NoneBreaks, picked_choice}
 use Rattle.guard_defs.specs.GuardedRuns.{guarded_runs, known_of}
-use Rattle.run_defs.specs.Schedules.{picked}
-use Rattle.run_defs.specs.Simulation.{Choice, RunningPart, Simulation, actor_of, begins, choices_of, runs}
-use Rattle.front_laws.specs.GuardedParts.{NoneBreaks}
+use Rattle.run_defs.specs.Simulation.{Choice, RunningPart, begins, runs}
 use Rattle.front_laws.specs.Owned.{owned, struck_at}
 
 -- The first trap of a scenario's guarded run.
-
--- the choice that the schedule picks, where any actor has one
-abbrev pub picked_choice : Simulation → Option Choice
-picked_choice s = slice_get (choices_of s) (picked s.order (map actor_of (choices_of s))).place
 
 -- after so many steps of the scheduled run no part has broken a clause; at the next the part at the place would, and
 -- this is the guard's trap

@@ -1,9 +1,8 @@
-use Rattle.std.specs.Prelude.{◌≡◌, ℕ, Some, None, slice_get}
+use Rattle.std.specs.Prelude.{◌≡◌}
 use Rattle.nook_data.specs.Types.{PartSpec}
 use Rattle.guard_defs.specs.Guard.{IsGuardedRun, traps_of, with_behind}
 use Rattle.guard_defs.specs.GuardedRuns.{spec_of}
-use Rattle.promise_defs.specs.Contract.{first_break}
-use Rattle.run_defs.specs.Simulation.{RunningPart, Simulation}
+use Rattle.run_defs.specs.Simulation.{RunningPart}
 use Rattle.front_laws.specs.Guarded.{guarded_at}
 
 -- a part of a guarded run of a scenario: its journal is a guarded run of the part as the scenario gives it, its state is
@@ -12,8 +11,3 @@ pub record IsGuardedPart (spec : PartSpec) (seat : RunningPart) : Type 0 where
   pub run : IsGuardedRun spec seat.run.journal
   pub state : seat.run.state ≡ guarded_at spec seat.run.journal
   pub faults : spec_of seat ≡ with_behind (traps_of spec seat.run.journal) spec
-
--- no part of a simulation has broken a clause of its class's contract
-abbrev pub NoneBreaks : Simulation → Type 0
-NoneBreaks s = (place : ℕ) (seat : RunningPart) → slice_get s.parts place ≡ Some seat
-    → first_break (spec_of seat).class (spec_of seat).blocks seat.run.journal ≡ None

@@ -3,9 +3,10 @@
 ghost use Rattle.front_laws.specs.FirstTrap.{IsFirstTrap, IsPutFirst};
 ghost use Rattle.front_laws.specs.Fronts.{IsUnreached};
 ghost use Rattle.front_laws.specs.GuardedPast.{IsUnreachedGuarded, inserted_at};
-ghost use Rattle.front_laws.specs.GuardedParts.{IsGuardedPart, NoneBreaks};
+ghost use Rattle.front_laws.specs.GuardedParts.{IsGuardedPart};
 ghost use Rattle.front_laws.specs.Owned.{owned, struck_at};
 ghost use Rattle.guard_defs.specs.Guard.{HasRoom};
+ghost use Rattle.guard_defs.specs.FirstBreaks.{NoneBreaks};
 ghost use Rattle.guard_defs.specs.GuardedRuns.{IsGuardedSchedule, guarded_runs, guarded_scenario};
 ghost use Rattle.nook_data.specs.Members.{struck};
 ghost use Rattle.nook_data.specs.Valid.{IsValidScenario};

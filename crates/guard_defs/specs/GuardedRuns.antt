@@ -1,9 +1,12 @@
-use Rattle.std.specs.Prelude.{◌≡◌, ℕ, zero, suc, List, [], ◌∷◌, Some, None, map, fold, slice_get, option_map}
-use Rattle.nook_data.specs.Types.{PartSpec, Scenario, Step}
+use Rattle.std.specs.Prelude.{◌≡◌, ℕ, zero, suc, Option, Some, None, List, [], ◌∷◌, ◌++◌, map, fold, slice_get, option_map}
+use Rattle.nook_data.specs.Types.{Clause, Fault, PartSpec, Scenario, Step}
+use Rattle.nook_data.specs.declared.steps.Step.TheVariants as step
+use Rattle.part_defs.specs.State.{PartState}
 use Rattle.promise_defs.specs.Contract.{Known, known_after}
 use Rattle.run_defs.specs.Schedules.{picked}
 use Rattle.run_defs.specs.Simulation.{Choice, RunningPart, Simulation, actor_of, begins, choices_of, stepped_by}
-use Rattle.guard_defs.specs.Guard.{guarded, known_at_first}
+use Rattle.guard_defs.specs.declared.stop.Stop.{Stop}
+use Rattle.guard_defs.specs.Guard.{guard, guard_clause, guarded, known_at_first}
 
 -- The guarded run of a scenario: its scheduled run, in which each burst that would break a clause is made with the
 -- guard's trap behind the faults of its part.
@@ -44,3 +47,40 @@ pub record IsGuardedSchedule (scenario : Scenario) (s : Simulation) : Type 0 whe
   pub steps : ℕ
   pub reached : guarded_runs steps (begins scenario) ≡ s
   pub ended : choices_of s ≡ []
+
+-- The traps in the order in which they are found.
+
+-- the clause that is told of a step: only a burst can break one
+abbrev pub told_clause : PartState → Known → Step → Option Clause
+told_clause p k (step.Burst context) = guard_clause context p k
+told_clause p k s = None
+
+-- a trap and its clause, where there is one
+abbrev pub stop_of : ℕ → Option Fault → Option Clause → List Stop
+stop_of part (Some f) (Some clause) = record { part = part; trap = f; clause = clause } ∷ []
+stop_of part f clause = []
+
+-- the guard's trap of a choice, whose part is as it stands
+abbrev pub stop_at : Choice → Option RunningPart → List Stop
+stop_at c None = []
+stop_at c (Some seat) = stop_of c.part (guard seat.run.state (known_of seat) c.step)
+    (told_clause seat.run.state (known_of seat) c.step)
+
+abbrev pub stop_by : List RunningPart → Option Choice → List Stop
+stop_by parts None = []
+stop_by parts (Some c) = stop_at c (slice_get parts c.part)
+
+-- the guard's trap of the choice that the schedule picks
+unfoldable pub stop_made : Simulation → List Choice → List Stop
+stop_made s choices = stop_by s.parts (slice_get choices (picked s.order (map actor_of choices)).place)
+
+-- a simulation after one step under the guard, where an actor has one
+abbrev pub guarded_moved : Simulation → List Choice → Simulation
+guarded_moved s [] = s
+guarded_moved s (c ∷ choices) = guarded_taken s (c ∷ choices)
+
+-- the traps of at most so many steps, in the order in which they are found
+unfoldable pub stops_found : ℕ → Simulation → List Stop
+stops_found zero s = []
+stops_found (suc more) s = stop_made s (choices_of s) ++ stops_found more (guarded_moved s (choices_of s))
+

@@ -2,3 +2,5 @@ pub mod Deeds
 pub mod Turns
 pub mod Guard
 pub mod GuardedRuns
+pub mod FirstBreaks
+pub mod GuardText

@@ -2,3 +2,5 @@
 //! driver there by a trap, and the failure is recovered like any other. A guarded run is the run of the same parts with
 //! these traps behind their own faults.
 #![tactic(auto)]
+
+pub mod stop;

@@ -7,3 +7,4 @@ pub mod Opened
 pub mod Published
 pub mod Reached
 pub mod Whole
+pub mod Breaks

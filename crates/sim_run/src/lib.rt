@@ -3,6 +3,7 @@
 #![tactic(auto)]
 
 mod actors;
+mod breaking;
 mod chosen;
 pub mod laws;
 mod script;
@@ -10,4 +11,5 @@ mod seat;
 mod simulating;
 mod whole_run;
 
+pub use breaking::{WrongBurst, run_to_break};
 pub use whole_run::{FoundBurst, run_to_burst, simulate, simulate_over};

@@ -1,0 +1,6 @@
+//! Where the guard stops a burst: before the turn of its first deed that breaks a clause of its class's contract.
+#![tactic(auto)]
+
+mod stopping;
+
+pub use stopping::stop_burst;

@@ -24,7 +24,8 @@ use Rattle.part_defs.specs.Runs.{event_of}
 use Rattle.part_defs.specs.State.{PartState}
 use Rattle.part_defs.specs.Steps.{served_number}
 use Rattle.promise_defs.specs.Contract.{Deed, Known, acts, broken}
-use Rattle.front_laws.specs.Fronts.{put_behind, turns_made}
+use Rattle.guard_defs.specs.Every.{turns_made}
+use Rattle.front_laws.specs.Fronts.{put_behind}
 use Rattle.front_laws.specs.Guarded.{broken_by}
 use Rattle.front_laws.specs.GuardedPast.{IsPastGuarded, StaysBefore, inserted}
 use Rattle.front_laws.proofs.Alike.{before_same, within_same}

@@ -21,7 +21,8 @@ use Rattle.part_laws.proofs.DeviceStays.{spec_after}
 use Rattle.part_laws.proofs.RunBound.{count_more}
 use Rattle.part_laws.proofs.RunsDetermined.{step_named}
 use Rattle.part_laws.specs.Bound.{bursts_of_journal, is_burst}
-use Rattle.front_laws.specs.Fronts.{IsPast, IsPastFrom, IsSameRun, IsUnreached, put_behind, turns_made}
+use Rattle.guard_defs.specs.Every.{turns_made}
+use Rattle.front_laws.specs.Fronts.{IsPast, IsPastFrom, IsSameRun, IsUnreached, put_behind}
 use Rattle.front_laws.proofs.Ordered.{other_burst, own_burst}
 use Rattle.front_laws.proofs.Past.{burst_past}
 use Rattle.front_laws.proofs.Same.{AreSameBursts, IsSameBurst, same_run}

@@ -1,13 +1,12 @@
-use Rattle.std.specs.Prelude.{◌≡◌, ◌≤◌, ℕ, ◌+◌, nat_le, if◌then◌else◌, Option, Some, None, List, [], ◌∷◌}
-use Rattle.nook_data.specs.Types.{Act, Context, Event, Fault, PartSpec, Step}
+use Rattle.std.specs.Prelude.{◌≡◌, ◌≤◌, ℕ, ◌+◌, nat_le, if◌then◌else◌, List, [], ◌∷◌}
+use Rattle.nook_data.specs.Types.{Act, Event, Fault, PartSpec, Step}
 use Rattle.nook_data.specs.declared.machine.BurstEnd.TheVariants as ends
 use Rattle.nook_data.specs.declared.machine.TrapCause.TheVariants as trap
 use Rattle.nook_data.specs.declared.steps.Step.TheVariants as step
+use Rattle.guard_defs.specs.Every.{turns_made}
 use Rattle.guard_defs.specs.Guard.{with_own}
-use Rattle.guard_defs.specs.Turns.{turns_of}
 use Rattle.machine_defs.specs.Burst.{Burst}
-use Rattle.machine_defs.specs.BurstFaults.{faults_of_burst}
-use Rattle.part_defs.specs.Domain.{context_of, machine_of}
+use Rattle.part_defs.specs.Domain.{context_of}
 use Rattle.part_defs.specs.Runs.{IsRun, state_after, state_of, step_of}
 use Rattle.part_defs.specs.State.{PartState}
 use Rattle.part_defs.specs.Steps.{opening}
@@ -28,11 +27,6 @@ pub record IsSameRun (spec : PartSpec) (faults : List Fault) (events : List Even
 abbrev pub put_behind : Fault → List Fault → List Fault
 put_behind f [] = f ∷ []
 put_behind f (g ∷ faults) = if nat_le g.after f.after then g ∷ put_behind f faults else f ∷ g ∷ faults
-
--- the turns of the next burst of what runs in a context; none where nothing runs
-abbrev pub turns_made : PartState → Option Context → ℕ
-turns_made p None = 0
-turns_made p (Some x) = turns_of p.domain.entries (faults_of_burst (p.bursts + 1) p.spec.faults) (machine_of x p.domain)
 
 -- a step does not reach a fault: it is no burst of the fault's number, or one that makes at most so many turns
 abbrev pub IsPast : Fault → PartState → Step → Type 0

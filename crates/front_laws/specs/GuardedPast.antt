@@ -7,7 +7,7 @@ use Rattle.part_defs.specs.Runs.{state_after, step_of}
 use Rattle.part_defs.specs.State.{PartState}
 use Rattle.part_defs.specs.Steps.{opening}
 use Rattle.promise_defs.specs.Contract.{Known, known_after}
-use Rattle.front_laws.specs.Fronts.{turns_made}
+use Rattle.guard_defs.specs.Every.{turns_made}
 
 -- What a fault leaves as it is of a guarded run.
 

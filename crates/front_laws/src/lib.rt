@@ -2,6 +2,7 @@
 //! traps make of a run. Each is the contract of a function with an empty body.
 #![tactic(auto)]
 
+pub mod every;
 pub mod fronts;
 pub mod guards;
 pub mod promises;

@@ -4,3 +4,4 @@ pub mod Guard
 pub mod GuardedRuns
 pub mod FirstBreaks
 pub mod GuardText
+pub mod Every

@@ -21,4 +21,4 @@ pub mod Reaching
 pub mod GuardedPast
 pub mod GuardedStruck
 pub mod FirstTrap
-pub mod Every
+pub mod EveryFault

@@ -230,9 +230,9 @@ status_is specs journals answers = refl
 
 row_status : (scenario : Scenario) (row : MemberRow) (r : IsRowOf scenario row) → row.status ≡ 0
     → status_of scenario.parts (journals_of r.simulation) ≡ 0
-row_status scenario row r zero =
+row_status scenario row r ends =
     sym (status_is scenario.parts (journals_of r.simulation) (answer_table r.simulation))
-    ∙ sym (ap (λ (x : MemberRow). x.status) r.same) ∙ zero
+    ∙ sym (ap (λ (x : MemberRow). x.status) r.same) ∙ ends
 
 -- ---- the row of every fault
 

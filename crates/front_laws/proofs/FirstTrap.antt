@@ -32,7 +32,7 @@ use Rattle.front_laws.proofs.WholeRuns.{struck_here, struck_other, whole_same}
 
 -- ---- so many steps, and some more
 
-guarded_more : (a b n : ℕ) (s : Simulation) → n ≡ a + b → guarded_runs n s ≡ guarded_runs b (guarded_runs a s)
+pub guarded_more : (a b n : ℕ) (s : Simulation) → n ≡ a + b → guarded_runs n s ≡ guarded_runs b (guarded_runs a s)
 unfolding guarded_runs
 guarded_more zero b n s e = let same : n ≡ b = omega arith in ap (λ (k : ℕ). guarded_runs k s) same
 guarded_more (suc a) b zero s e = absurd (omega arith)
@@ -43,12 +43,12 @@ guarded_more (suc a) b (suc n) s e = by_choices (choices_of s) refl (λ x. guard
     by_choices [] none again = sym (guarded_still b s none)
     by_choices (c ∷ choices) some again = again (guarded_taken s (c ∷ choices))
 
-runs_still : (n : ℕ) (s : Simulation) → choices_of s ≡ [] → runs n s ≡ s
+pub runs_still : (n : ℕ) (s : Simulation) → choices_of s ≡ [] → runs n s ≡ s
 unfolding runs
 runs_still zero s h = refl
 runs_still (suc n) s h = ap (go_on n s) h
 
-runs_more : (a b n : ℕ) (s : Simulation) → n ≡ a + b → runs n s ≡ runs b (runs a s)
+pub runs_more : (a b n : ℕ) (s : Simulation) → n ≡ a + b → runs n s ≡ runs b (runs a s)
 unfolding runs
 runs_more zero b n s e = let same : n ≡ b = omega arith in ap (λ (k : ℕ). runs k s) same
 runs_more (suc a) b zero s e = absurd (omega arith)
@@ -77,7 +77,7 @@ seat_kept seat later g kept =
     (ap (λ (x : PartSpec). break_from 1 (known_at_first x) (seat.run.journal ++ g.more)) (sym g.spec)
     ∙ ap (break_from 1 (known_at_first later.run.state.spec)) (sym g.journal) ∙ kept)
 
-kept_before : (n d steps : ℕ) (s : Simulation) → steps ≡ n + d → NoneBreaks (runs steps s) → NoneBreaks (runs n s)
+pub kept_before : (n d steps : ℕ) (s : Simulation) → steps ≡ n + d → NoneBreaks (runs steps s) → NoneBreaks (runs n s)
 kept_before n d steps s e kept = λ place seat at.
     let later = free.grown d (runs n s) place seat at in
     let there : At (runs steps s) place later.0 = ap (λ (x : Simulation). slice_get x.parts place) (runs_more n d steps s e) ∙ later.1 in
@@ -130,7 +130,7 @@ guarded_again : (p : PartState) (k : Known) (s : Step) → guarded (guarded p k 
 guarded_again p k s =
     (step_free (guarded p k s) k s (step_kept p k s (event_of (guarded p k s) s) (sym (step_named (guarded p k s) s)) refl)).1
 
-guarded_with : (p : PartState) (k : Known) (s : Step) (f : Fault) → guard p k s ≡ Some f → guarded p k s ≡ with_own (p.spec.faults ++ f ∷ []) p
+pub guarded_with : (p : PartState) (k : Known) (s : Step) (f : Fault) → guard p k s ≡ Some f → guarded p k s ≡ with_own (p.spec.faults ++ f ∷ []) p
 unfolding guarded
 guarded_with p k s f e = ap (λ (o : Option Fault). with_trap o p) e
 
@@ -237,7 +237,7 @@ module _ (scenario : Scenario) (f : Fault) (steps : ℕ) (spec : PartSpec) (c : 
     pub alike_then : guarded_runs n (begins scenario) ≡ runs n (begins scenario)
     alike_then = free_runs n (begins scenario) kept_then
 
-    struck_then : runs n (begins with_it) ≡ owned change (runs n (begins scenario))
+    pub struck_then : runs n (begins with_it) ≡ owned change (runs n (begins scenario))
     struck_then =
         let now = followed (opening spec) n (begins scenario) c.part (opening_part spec) (begins_at scenario c.part spec there) (opening_follows spec) in
         let later = grown d (runs n (begins scenario)) c.part now.0 now.1 in

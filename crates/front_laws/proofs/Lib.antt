@@ -21,3 +21,6 @@ pub mod Reaching
 pub mod GuardedPast
 pub mod GuardedStruck
 pub mod FirstTrap
+pub mod FirstStops
+pub mod StopChain
+pub mod StopCount

@@ -4,3 +4,4 @@ pub mod Owned
 pub mod GuardedParts
 pub mod GuardedPast
 pub mod FirstTrap
+pub mod Stops

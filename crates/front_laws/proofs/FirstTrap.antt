@@ -1,5 +1,5 @@
 -- The first trap of a guarded run may be put into the scenario.
-use Rattle.std.proofs.Common.{◌≡◌, ◌≤◌, ◌<◌, ℕ, zero, suc, ◌+◌, ◌-◌, cond, true, Option, Some, None, List, [], ◌∷◌, ◌++◌, option_map, slice_get, slice_set, refl, sym, ap, subst, ◌∙◌, arith}
+use Rattle.std.proofs.Common.{◌≡◌, ◌≤◌, ◌<◌, ℕ, zero, suc, ◌+◌, ◌-◌, cond, Option, Some, None, List, [], ◌∷◌, ◌++◌, option_map, slice_get, slice_set, refl, sym, ap, subst, ◌∙◌, arith}
 use Rattle.nook_data.proofs.Options.{none_is_some, same_inside}
 use Rattle.nook_data.specs.Members.{struck}
 use Rattle.nook_data.specs.declared.scenario.Fault.{Fault}
@@ -8,12 +8,12 @@ use Rattle.nook_data.specs.declared.scenario.Scenario.{Scenario}
 use Rattle.nook_data.specs.declared.steps.Event.{Event}
 use Rattle.nook_data.specs.declared.steps.Step.{Step}
 use Rattle.guard_defs.specs.Guard.{guard, guarded, known_at_first, with_own, with_trap}
-use Rattle.guard_defs.specs.GuardedRuns.{IsGuardedSchedule, guarded_runs, guarded_scenario, guarded_seat, guarded_taken, known_of}
+use Rattle.guard_defs.specs.GuardedRuns.{IsGuardedSchedule, guarded_runs, guarded_seat, guarded_taken, known_of}
 use Rattle.part_defs.specs.Runs.{event_of, state_after, state_from, step_of}
 use Rattle.part_defs.specs.State.{PartState}
 use Rattle.part_defs.specs.Steps.{opening}
 use Rattle.part_laws.proofs.RunsDetermined.{step_named}
-use Rattle.promise_defs.specs.Contract.{Known, break_from, broken, first_break, known_after}
+use Rattle.promise_defs.specs.Contract.{Known, break_from, first_break, known_after}
 use Rattle.run_defs.specs.Schedules.{Order}
 use Rattle.run_defs.specs.Simulation.{Choice, RunningPart, Simulation, begins, choices_of, opening_part, part_after, runs, stepped_by, taken}
 use Rattle.front_laws.specs.FirstTrap.{IsFirstTrap, IsPutFirst}
@@ -27,7 +27,7 @@ use Rattle.front_laws.proofs.GuardedRuns.{guarded_by, guarded_on, guarded_runs_i
 use Rattle.front_laws.proofs.Owned.{choices_same, get_owning, go_on, order_of, pick_of, seat_at, seat_same}
 use Rattle.front_laws.proofs.Unique.{guarded_still}
 use Rattle.front_laws.proofs.Unreached.{bursts_after, is_burst_step, later_step}
-use Rattle.front_laws.proofs.WholeRuns.{At, Follows, Grows, begins_at, follows_next, grown, next_seat, opening_follows, owning_none}
+use Rattle.front_laws.proofs.WholeRuns.{At, Follows, begins_at, follows_next, grown, next_seat, opening_follows, owning_none}
 use Rattle.front_laws.proofs.WholeRuns.{struck_here, struck_other, whole_same}
 
 -- ---- so many steps, and some more

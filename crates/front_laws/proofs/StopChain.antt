@@ -1,5 +1,5 @@
 -- Traps that are found one after another: the scenario with them is valid, and its run is the guarded run in the end.
-use Rattle.std.proofs.Common.{◌≡◌, ◌⊎◌, ◌≤◌, ◌<◌, inl, inr, ℕ, zero, suc, ◌+◌, ◌-◌, List, [], ◌∷◌, ◌++◌, All, map, length, refl, sym, ap, subst, ◌∙◌, arith, append_assoc, append-nil}
+use Rattle.std.proofs.Common.{◌≡◌, ◌⊎◌, ◌≤◌, ◌<◌, inl, inr, ℕ, zero, suc, ◌+◌, ◌-◌, List, [], ◌∷◌, ◌++◌, All, map, refl, sym, ap, subst, ◌∙◌, arith, append_assoc, append-nil}
 use Rattle.std.proofs.lemmas.Bool.{cases_lt}
 use Rattle.nook_data.specs.Members.{struck, struck_parts}
 use Rattle.nook_data.specs.Valid.{IsValidScenario}
@@ -9,7 +9,7 @@ use Rattle.guard_defs.specs.declared.stop.Stop.{Stop}
 use Rattle.guard_defs.specs.FirstBreaks.{AreNeeded, IsFirstStop, NoneBreaks, stopped}
 use Rattle.guard_defs.specs.Guard.{HasRoom}
 use Rattle.guard_defs.specs.GuardedRuns.{guarded_runs, guarded_scenario, spec_of, stops_found}
-use Rattle.run_defs.specs.Simulation.{IsScheduledRun, Simulation, begins, choices_of, runs}
+use Rattle.run_defs.specs.Simulation.{IsScheduledRun, Simulation, begins, runs}
 use Rattle.front_laws.specs.FirstTrap.{IsFirstTrap}
 use Rattle.front_laws.specs.Stops.{IsGuardedBy}
 use Rattle.front_laws.proofs.FirstStops.{first_trap, guarded_keeps, never_found, none_found, specs_of_run, stop_found, stops_more, struck_keeps}

@@ -1,5 +1,5 @@
 -- A guarded run has at most as many traps as its parts have failures.
-use Rattle.std.proofs.Common.{◌≡◌, ◌≤◌, ℕ, zero, suc, ◌+◌, Option, Some, None, List, [], ◌∷◌, ◌++◌, map, option_map, length, slice_get, slice_set, refl, sym, ap, ◌∙◌, arith, length-append}
+use Rattle.std.proofs.Common.{◌≡◌, ◌≤◌, ℕ, zero, suc, ◌+◌, Option, Some, None, List, [], ◌∷◌, ◌++◌, map, option_map, length, slice_get, slice_set, refl, ap, ◌∙◌, arith, length-append}
 use Rattle.std.proofs.lemmas.List.Elements.{recursion_from_All}
 use Rattle.nook_data.proofs.Options.{none_is_some, same_inside}
 use Rattle.nook_data.specs.Valid.{IsValidPart, IsValidScenario}
@@ -13,7 +13,6 @@ use Rattle.guard_defs.specs.FirstBreaks.{AreNeeded}
 use Rattle.guard_defs.specs.Guard.{guard, guarded, traps_of}
 use Rattle.guard_defs.specs.GuardedRuns.{guarded_moved, guarded_runs, guarded_seat, guarded_taken, known_of, stop_at, stop_by, stop_made, stop_of, stops_found, told_clause}
 use Rattle.part_defs.specs.State.{PartState}
-use Rattle.part_defs.specs.Steps.{opening}
 use Rattle.part_laws.proofs.DeviceStays.{opening_spec, spec_after}
 use Rattle.part_laws.proofs.ValidFits.{valid_fits}
 use Rattle.run_defs.specs.Schedules.{Order}
@@ -24,7 +23,7 @@ use Rattle.front_laws.specs.Stops.{most_traps}
 use Rattle.front_laws.proofs.FirstStops.{stops_still}
 use Rattle.front_laws.proofs.GuardRun.{IsTrapOf, guarded_well, trap_is}
 use Rattle.front_laws.proofs.GuardedParts.{guarded_part}
-use Rattle.front_laws.proofs.GuardedRuns.{AreOf, begins_of, guarded_by, guarded_on, guarded_taken_is}
+use Rattle.front_laws.proofs.GuardedRuns.{AreOf, begins_of, guarded_by, guarded_on}
 use Rattle.front_laws.proofs.Owned.{order_of, pick_of}
 use Rattle.front_laws.proofs.StopChain.{chained}
 use Rattle.front_laws.proofs.ValidGuarded.{all_at}

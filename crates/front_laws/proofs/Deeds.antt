@@ -9,7 +9,7 @@ use Rattle.nook_data.specs.declared.clause.Clause.TheVariants.{UnaskedFrame, Sec
 use Rattle.nook_data.specs.declared.clause.Clause.TheVariants.{LeftInRing, OtherSample, UnplayedPlay, UnaskedRegister}
 use Rattle.nook_data.specs.declared.clause.Clause.TheVariants.{UnmadeSet, OtherGet, UnseenFailure}
 use Rattle.guard_defs.proofs.DeedCases.{before_first, before_none, first_none, first_some}
-use Rattle.guard_defs.specs.Deeds.{clause_of_deed, deeds_before, first_clause}
+use Rattle.guard_defs.specs.Deeds.{clause_of_deed, deeds_before}
 use Rattle.machine_defs.proofs.BurstKeeps.{split}
 use Rattle.promise_defs.specs.Contract.{Deed, Known, after_deed, breaks, call_of, is_broken_by}
 use Rattle.front_laws.specs.Guarded.{IsFirstWrong, broken_by}

@@ -1,5 +1,5 @@
 -- The first trap of a guarded run may be put into the scenario.
-use Rattle.std.proofs.Common.{◌≡◌, ◌≤◌, ◌<◌, ℕ, zero, suc, ◌+◌, ◌-◌, cond, true, Option, Some, None, List, [], ◌∷◌, ◌++◌, option_map, slice_get, slice_set, refl, sym, ap, subst, ◌∙◌, arith}
+use Rattle.std.proofs.Common.{◌≡◌, ◌≤◌, ◌<◌, ℕ, zero, suc, ◌+◌, ◌-◌, cond, Option, Some, None, List, [], ◌∷◌, ◌++◌, option_map, slice_get, slice_set, refl, sym, ap, subst, ◌∙◌, arith}
 use Rattle.nook_data.proofs.Options.{none_is_some, same_inside}
 use Rattle.nook_data.specs.Members.{struck}
 use Rattle.nook_data.specs.declared.scenario.Fault.{Fault}
@@ -8,12 +8,12 @@ use Rattle.nook_data.specs.declared.scenario.Scenario.{Scenario}
 use Rattle.nook_data.specs.declared.steps.Event.{Event}
 use Rattle.nook_data.specs.declared.steps.Step.{Step}
 use Rattle.guard_defs.specs.Guard.{guard, guarded, known_at_first, with_own, with_trap}
-use Rattle.guard_defs.specs.GuardedRuns.{IsGuardedSchedule, guarded_runs, guarded_scenario, guarded_seat, guarded_taken, known_of}
+use Rattle.guard_defs.specs.GuardedRuns.{IsGuardedSchedule, guarded_runs, guarded_seat, guarded_taken, known_of}
 use Rattle.part_defs.specs.Runs.{event_of, state_after, state_from, step_of}
 use Rattle.part_defs.specs.State.{PartState}
 use Rattle.part_defs.specs.Steps.{opening}
 use Rattle.part_laws.proofs.RunsDetermined.{step_named}
-use Rattle.promise_defs.specs.Contract.{Known, break_from, broken, first_break, known_after}
+use Rattle.promise_defs.specs.Contract.{Known, break_from, first_break, known_after}
 use Rattle.run_defs.specs.Schedules.{Order}
 use Rattle.run_defs.specs.Simulation.{Choice, RunningPart, Simulation, begins, choices_of, opening_part, part_after, runs, stepped_by, taken}
 use Rattle.front_laws.specs.FirstTrap.{IsFirstTrap, IsPutFirst}
@@ -27,12 +27,12 @@ use Rattle.front_laws.proofs.GuardedRuns.{guarded_by, guarded_on, guarded_runs_i
 use Rattle.front_laws.proofs.Owned.{choices_same, get_owning, go_on, order_of, pick_of, seat_at, seat_same}
 use Rattle.front_laws.proofs.Unique.{guarded_still}
 use Rattle.front_laws.proofs.Unreached.{bursts_after, is_burst_step, later_step}
-use Rattle.front_laws.proofs.WholeRuns.{At, Follows, Grows, begins_at, follows_next, grown, next_seat, opening_follows, owning_none}
+use Rattle.front_laws.proofs.WholeRuns.{At, Follows, begins_at, follows_next, grown, next_seat, opening_follows, owning_none}
 use Rattle.front_laws.proofs.WholeRuns.{struck_here, struck_other, whole_same}
 
 -- ---- so many steps, and some more
 
-guarded_more : (a b n : ℕ) (s : Simulation) → n ≡ a + b → guarded_runs n s ≡ guarded_runs b (guarded_runs a s)
+pub guarded_more : (a b n : ℕ) (s : Simulation) → n ≡ a + b → guarded_runs n s ≡ guarded_runs b (guarded_runs a s)
 unfolding guarded_runs
 guarded_more zero b n s e = let same : n ≡ b = omega arith in ap (λ (k : ℕ). guarded_runs k s) same
 guarded_more (suc a) b zero s e = absurd (omega arith)
@@ -43,12 +43,12 @@ guarded_more (suc a) b (suc n) s e = by_choices (choices_of s) refl (λ x. guard
     by_choices [] none again = sym (guarded_still b s none)
     by_choices (c ∷ choices) some again = again (guarded_taken s (c ∷ choices))
 
-runs_still : (n : ℕ) (s : Simulation) → choices_of s ≡ [] → runs n s ≡ s
+pub runs_still : (n : ℕ) (s : Simulation) → choices_of s ≡ [] → runs n s ≡ s
 unfolding runs
 runs_still zero s h = refl
 runs_still (suc n) s h = ap (go_on n s) h
 
-runs_more : (a b n : ℕ) (s : Simulation) → n ≡ a + b → runs n s ≡ runs b (runs a s)
+pub runs_more : (a b n : ℕ) (s : Simulation) → n ≡ a + b → runs n s ≡ runs b (runs a s)
 unfolding runs
 runs_more zero b n s e = let same : n ≡ b = omega arith in ap (λ (k : ℕ). runs k s) same
 runs_more (suc a) b zero s e = absurd (omega arith)
@@ -77,7 +77,7 @@ seat_kept seat later g kept =
     (ap (λ (x : PartSpec). break_from 1 (known_at_first x) (seat.run.journal ++ g.more)) (sym g.spec)
     ∙ ap (break_from 1 (known_at_first later.run.state.spec)) (sym g.journal) ∙ kept)
 
-kept_before : (n d steps : ℕ) (s : Simulation) → steps ≡ n + d → NoneBreaks (runs steps s) → NoneBreaks (runs n s)
+pub kept_before : (n d steps : ℕ) (s : Simulation) → steps ≡ n + d → NoneBreaks (runs steps s) → NoneBreaks (runs n s)
 kept_before n d steps s e kept = λ place seat at.
     let later = free.grown d (runs n s) place seat at in
     let there : At (runs steps s) place later.0 = ap (λ (x : Simulation). slice_get x.parts place) (runs_more n d steps s e) ∙ later.1 in
@@ -130,7 +130,7 @@ guarded_again : (p : PartState) (k : Known) (s : Step) → guarded (guarded p k 
 guarded_again p k s =
     (step_free (guarded p k s) k s (step_kept p k s (event_of (guarded p k s) s) (sym (step_named (guarded p k s) s)) refl)).1
 
-guarded_with : (p : PartState) (k : Known) (s : Step) (f : Fault) → guard p k s ≡ Some f → guarded p k s ≡ with_own (p.spec.faults ++ f ∷ []) p
+pub guarded_with : (p : PartState) (k : Known) (s : Step) (f : Fault) → guard p k s ≡ Some f → guarded p k s ≡ with_own (p.spec.faults ++ f ∷ []) p
 unfolding guarded
 guarded_with p k s f e = ap (λ (o : Option Fault). with_trap o p) e
 
@@ -237,7 +237,7 @@ module _ (scenario : Scenario) (f : Fault) (steps : ℕ) (spec : PartSpec) (c : 
     pub alike_then : guarded_runs n (begins scenario) ≡ runs n (begins scenario)
     alike_then = free_runs n (begins scenario) kept_then
 
-    struck_then : runs n (begins with_it) ≡ owned change (runs n (begins scenario))
+    pub struck_then : runs n (begins with_it) ≡ owned change (runs n (begins scenario))
     struck_then =
         let now = followed (opening spec) n (begins scenario) c.part (opening_part spec) (begins_at scenario c.part spec there) (opening_follows spec) in
         let later = grown d (runs n (begins scenario)) c.part now.0 now.1 in

@@ -3,7 +3,7 @@ use Rattle.std.proofs.Common.{◌≡◌, inl, inr, ℕ, zero, suc, Option, Some,
 use Rattle.nook_data.specs.declared.scenario.PartSpec.{PartSpec}
 use Rattle.nook_data.specs.declared.scenario.Scenario.{Scenario}
 use Rattle.nook_data.specs.declared.steps.Event.{Event}
-use Rattle.guard_defs.specs.Guard.{known_at_first}
+use Rattle.guard_defs.specs.Guard.{guard, guarded, known_at_first}
 use Rattle.guard_defs.specs.GuardedRuns.{IsGuardedSchedule, guarded_runs, guarded_seat, guarded_taken, known_of}
 use Rattle.part_defs.specs.Runs.{event_of}
 use Rattle.part_defs.specs.State.{PartState}
@@ -63,29 +63,34 @@ grown (suc more) s place seat at = by_choices (choices_of s) (λ x next there. g
         (later.0, later.1, grows_on seat next.0 later.0 (grows_by seat next.0 (pick_of s (c ∷ choices)) place next.2) later.2)
 
 -- a part that makes an event which breaks nothing is not stopped
-free_seat : (c : Choice) (seat later : RunningPart) → Grows (part_after c.step seat) later
-    → first_break later.run.state.spec.class later.run.state.spec.blocks later.run.journal ≡ None → guarded_seat c.step seat ≡ seat
+pub free_step : (c : Choice) (seat later : RunningPart) → Grows (part_after c.step seat) later
+    → first_break later.run.state.spec.class later.run.state.spec.blocks later.run.journal ≡ None
+    → (guard seat.run.state (known_of seat) c.step ≡ None) × (guarded seat.run.state (known_of seat) c.step ≡ seat.run.state)
 unfolding first_break
-free_seat c seat later g kept =
+free_step c seat later g kept =
     let e : Event = event_of seat.run.state c.step in
     let spec : later.run.state.spec ≡ seat.run.state.spec = g.spec ∙ spec_after seat.run.state c.step in
     let journal : later.run.journal ≡ seat.run.journal ++ (e ∷ g.more) = g.journal ∙ append_assoc seat.run.journal (e ∷ []) g.more in
     let none : break_from 1 (known_at_first seat.run.state.spec) (seat.run.journal ++ (e ∷ g.more)) ≡ None =
     ap (λ (x : PartSpec). break_from 1 (known_at_first x) (seat.run.journal ++ (e ∷ g.more))) (sym spec)
     ∙ ap (break_from 1 (known_at_first later.run.state.spec)) (sym journal) ∙ kept in
-    ap (λ (p : PartState). record seat { run = record seat.run { state = p } })
-    (step_free seat.run.state (known_of seat) c.step (kept_at 1 (known_at_first seat.run.state.spec) seat.run.journal e g.more none)).1
+    step_free seat.run.state (known_of seat) c.step (kept_at 1 (known_at_first seat.run.state.spec) seat.run.journal e g.more none)
+
+free_seat : (c : Choice) (seat later : RunningPart) → Grows (part_after c.step seat) later
+    → first_break later.run.state.spec.class later.run.state.spec.blocks later.run.journal ≡ None → guarded_seat c.step seat ≡ seat
+free_seat c seat later g kept =
+    ap (λ (p : PartState). record seat { run = record seat.run { state = p } }) (free_step c seat later g kept).1
 
 own_grows : (c : Choice) (seat next later : RunningPart) → IsNextSeat seat (Some c) c.part next → Grows next later → Grows (part_after c.step seat) later
 own_grows c seat next later (inl apart) g = absurd (apart.0 refl)
 own_grows c seat next later (inr e) g = subst (λ (x : RunningPart). Grows x later) e.1 g
 
-own_step : (c : Choice) (seat next later : RunningPart) (o : Option Choice) → o ≡ Some c → IsNextSeat seat o c.part next → Grows next later
+pub own_step : (c : Choice) (seat next later : RunningPart) (o : Option Choice) → o ≡ Some c → IsNextSeat seat o c.part next → Grows next later
     → Grows (part_after c.step seat) later
 own_step c seat next later o same is g =
     own_grows c seat next later (subst (λ (x : Option Choice). IsNextSeat seat x c.part next) same is) g
 
-free_by : (more : ℕ) (s : Simulation) (choices : List Choice) (o : Option Choice) → pick_of s choices ≡ o
+pub free_by : (more : ℕ) (s : Simulation) (choices : List Choice) (o : Option Choice) → pick_of s choices ≡ o
     → NoneBreaks (runs more (taken s choices)) → guarded_by s (order_of s choices) o ≡ taken_by s (order_of s choices) o
 free_by more s choices None picked kept = refl
 free_by more s choices (Some c) picked kept = by_part (slice_get s.parts c.part) refl

@@ -22,3 +22,6 @@ pub mod GuardedPast
 pub mod GuardedStruck
 pub mod FirstTrap
 pub mod EveryFault
+pub mod FirstStops
+pub mod StopChain
+pub mod StopCount

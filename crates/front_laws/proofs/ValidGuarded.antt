@@ -150,7 +150,7 @@ each_part P (seat ∷ parts) [] a h = absurd a
 each_part P (seat ∷ parts) (spec ∷ specs) a h =
     (h zero spec seat refl refl, each_part P parts specs a.1 (λ i x y hx hy. h (suc i) x y hx hy))
 
-all_at : (P : PartSpec → Type 0) (specs : List PartSpec) (i : ℕ) (spec : PartSpec) → AllByRecursion P specs → slice_get specs i ≡ Some spec → P spec
+pub all_at : (P : PartSpec → Type 0) (specs : List PartSpec) (i : ℕ) (spec : PartSpec) → AllByRecursion P specs → slice_get specs i ≡ Some spec → P spec
 all_at P [] i spec a h = none_is_some h
 all_at P (x ∷ specs) zero spec a h = subst P (same_inside h) a.0
 all_at P (x ∷ specs) (suc i) spec a h = all_at P specs i spec a.1 h

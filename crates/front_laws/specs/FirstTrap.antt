@@ -1,4 +1,4 @@
-use Rattle.std.specs.Prelude.{◌≡◌, ◌≤◌, ◌<◌, ℕ, Option, Some, map, slice_get}
+use Rattle.std.specs.Prelude.{◌≡◌, ◌≤◌, ◌<◌, ℕ, Some, slice_get}
 use Rattle.nook_data.specs.Members.{struck}
 use Rattle.nook_data.specs.Types.{Fault, PartSpec, Scenario}
 use Rattle.guard_defs.specs.Guard.{guard}

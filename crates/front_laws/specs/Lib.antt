@@ -5,3 +5,4 @@ pub mod GuardedParts
 pub mod GuardedPast
 pub mod FirstTrap
 pub mod Every
+pub mod Stops

@@ -7,3 +7,4 @@ pub mod fronts;
 pub mod guards;
 pub mod promises;
 pub mod runs;
+pub mod stops;

@@ -2,5 +2,6 @@
 #![tactic(auto)]
 
 mod guarded;
+pub mod laws;
 
 pub use guarded::{Guarded, guard_scenario};

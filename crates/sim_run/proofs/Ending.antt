@@ -151,7 +151,7 @@ ended_or_counted (suc n) s z = elim (ended_or_counted n s z) [
       (add-one n) (one_more_counted (runs n s) (choices_of (runs n s)) n refl h))
 ]
 
-ends_by : (scenario : Scenario) (n : ℕ) → IsValidScenario scenario → 2 ^ 26 ≤ n → IsScheduledRun scenario (runs n (begins scenario))
+pub ends_by : (scenario : Scenario) (n : ℕ) → IsValidScenario scenario → 2 ^ 26 ≤ n → IsScheduledRun scenario (runs n (begins scenario))
 ends_by scenario n v l = elim (ended_or_counted n (begins scenario) (none_at_first scenario)) [
   | inl e ↦ record { steps = n; reached = refl; ended = e }
   | inr h ↦ absurd (few h)

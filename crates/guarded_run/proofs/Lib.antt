@@ -1,0 +1,4 @@
+pub mod Striking
+pub mod Stopping
+pub mod Rounds
+pub mod Ending

@@ -58,7 +58,8 @@ CHAPTERS = (
     Chapter(
         "The guard",
         "Where a driver is stopped before a deed that would break its contract.",
-        ("guard_defs/Deeds", "guard_defs/Turns", "guard_defs/Guard", "guard_defs/GuardedRuns"),
+        ("guard_defs/Deeds", "guard_defs/Turns", "guard_defs/Guard", "guard_defs/GuardedRuns", "guard_defs/FirstBreaks", "guard_defs/GuardText",
+         "guard_defs/Every", "guarded_run/Guarded"),
     ),
     Chapter(
         "Texts that are read",

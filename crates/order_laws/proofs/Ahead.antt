@@ -156,11 +156,11 @@ module _ (journals : List (List Event)) (stamps : List (List ℕ)) (stamped : Ar
       pub to_come : AreToCome n more others
       pub all : (part place : ℕ) → IsInvokedIn part place rest receipts → ((part ≡ k) × (place ≡ suc (n k))) ⊎ IsInvokedIn part place more others
 
-    first_of : (i last : ℕ) (rest : List (ℕ × Op)) (receipts : List Receipt) → Follow journals stamps i last rest receipts → AreToCome n rest receipts
+    first_invoked : (i last : ℕ) (rest : List (ℕ × Op)) (receipts : List Receipt) → Follow journals stamps i last rest receipts → AreToCome n rest receipts
         → IsInvokedIn k (suc (n k)) rest receipts → IsFirst i rest receipts
-    first_of i last [] receipts f c h = absurd h
-    first_of i last (o ∷ rest) [] f c h = absurd h
-    first_of i last ((p, op) ∷ rest) (r ∷ receipts) f c (inl same) = record {
+    first_invoked i last [] receipts f c h = absurd h
+    first_invoked i last (o ∷ rest) [] f c h = absurd h
+    first_invoked i last ((p, op) ∷ rest) (r ∷ receipts) f c (inl same) = record {
       op = op;
       more = rest;
       receipt = r;
@@ -177,7 +177,7 @@ module _ (journals : List (List Event)) (stamps : List (List ℕ)) (stamped : Ar
             → ((part ≡ k) × (place ≡ suc (n k))) ⊎ IsInvokedIn part place rest receipts
         by_place part place (inl x) = inl (sym x.0 ∙ same.0, sym x.1 ∙ same.1)
         by_place part place (inr x) = inr x
-    first_of i last ((p, op) ∷ rest) (r ∷ receipts) f c (inr h) =
+    first_invoked i last ((p, op) ∷ rest) (r ∷ receipts) f c (inr h) =
         let late : stamp_at stamps k (suc (n k)) ≤ stamp_at stamps p r.at_invoke = next.least p r.at_invoke f.0.invoked.event c.0 f.0.invoked.there in
         let mid : stamp_at stamps p r.at_invoke ≤ stamp_at stamps p r.at_reply = answered_later journals stamps stamped p i op r f.0 in
         let before : stamp_at stamps p r.at_reply < stamp_at stamps k (suc (n k)) =
@@ -193,7 +193,7 @@ module _ (journals : List (List Event)) (stamps : List (List ℕ)) (stamped : Ar
         less m = omega arith
 
     pub invokes_first : (i : ℕ) (rest : List (ℕ × Op)) (w : Option Waiting) (h : IsAhead i n rest w) → IsInvocationBy i e → IsFirst i rest h.receipts
-    invokes_first i rest w h is = first_of i h.last rest h.receipts h.follow h.to_come (mine i rest w h is)
+    invokes_first i rest w h is = first_invoked i h.last rest h.receipts h.follow h.to_come (mine i rest w h is)
 
     -- an answer that is to come is no earlier than the event
     reply_late : (last : ℕ) (w : Waiting) → HasReply n last w → stamp_at stamps k (suc (n k)) ≤ last
@@ -266,20 +266,20 @@ module _ (journals : List (List Event)) (stamps : List (List ℕ)) (stamped : Ar
           follow = f.behind;
           to_come = still_to_come n k f.more f.others f.to_come (λ x. past _ _ late
               (follows_later i (stamp_at stamps k f.receipt.at_reply) f.more f.others k (suc (n k)) f.behind x));
-          all = λ part place l at. further part place l (f.all part place (h.all part place (no_fewer n k part place l) at));
+          all = λ part place l at. further f.more f.others part place l (f.all part place (h.all part place (no_fewer n k part place l) at));
           reply = first_reply i call rest h.receipts f same;
         })
       where
         past : (a b : ℕ) → a ≤ b → b < a → ⊥
         past a b l m = omega arith
 
-        further : {more : List (ℕ × Op)} {others : List Receipt} (part place : ℕ) → one_more n k part < place
+        further : (more : List (ℕ × Op)) (others : List Receipt) (part place : ℕ) → one_more n k part < place
             → ((part ≡ k) × (place ≡ suc (n k))) ⊎ IsInvokedIn part place more others → IsInvokedIn part place more others
-        further part place l (inl x) =
+        further more others part place l (inl x) =
             let far : suc (n k) < place = subst (λ (m : ℕ). m < place) (ap (one_more n k) x.0 ∙ one_more_here n k) l in
             let at : place ≡ suc (n k) = x.1 in
             absurd (omega arith)
-        further part place l (inr x) = x
+        further more others part place l (inr x) = x
 
     -- the event answers the open call, or the answer is still to come
     still_reply : (last : ℕ) (w : Waiting) → HasReply n last w → ((w.part ≡ k) → answer_at w.call e ≡ None) → HasReply (one_more n k) last w
@@ -319,7 +319,7 @@ module _ (journals : List (List Event)) (stamps : List (List ℕ)) (stamped : Ar
 
   -- ---- each thread
 
-  by_own : {i : ℕ} (P : List (ℕ × Op) → Option Waiting → Type 0) (b : Bool) (rest : List (ℕ × Op)) (w new : Option Waiting) → (b ≡ true → P (drop 1 rest) new)
+  by_own : (P : List (ℕ × Op) → Option Waiting → Type 0) (b : Bool) (rest : List (ℕ × Op)) (w new : Option Waiting) → (b ≡ true → P (drop 1 rest) new)
       → (b ≡ false → P rest w) → P (if b then drop 1 rest else rest) (if b then new else w)
   by_own P true rest w new yes no = yes refl
   by_own P false rest w new yes no = no refl
@@ -327,7 +327,7 @@ module _ (journals : List (List Event)) (stamps : List (List ℕ)) (stamped : Ar
   begun : (n : ℕ → ℕ) (k : ℕ) (e : Event) (next : IsNextEvent n k e) (i : ℕ) (t : ThreadState) → IsAhead i n t.rest t.waiting
       → IsBegun n k e next i (started i k e t).rest (started i k e t).waiting
   begun n k (event.Invoke call thread o a) next i t h =
-      by_own {i = i} (IsBegun n k (event.Invoke call thread o a) next i) (thread == i) t.rest t.waiting (Some (record { part = k; call = call }))
+      by_own (IsBegun n k (event.Invoke call thread o a) next i) (thread == i) t.rest t.waiting (Some (record { part = k; call = call }))
       (λ yes. begun_first n k (event.Invoke call thread o a) next i call t.rest t.waiting h yes (called yes))
       (λ no. not_begun n k (event.Invoke call thread o a) next i t.rest t.waiting h no)
     where

@@ -166,13 +166,6 @@ module _ (journals : List (List Event)) (specs : List ThreadSpec) where
     can : IsAble s k (step_of may.event)
     can = able specs s h.threads k there.0 there.1 (λ i none. h.outside k i there.0 there.1 none) may.event timely made.may made.coming
 
-    -- the simulation behind the event
-    stepped_on : Order → Simulation
-    stepped_on order = stepped_by s order (record { actor = can.actor; part = k; step = step_of may.event }) (Some there.0)
-
-    new : RunningPart
-    new = part_after (step_of may.event) there.0
-
     keeps_after : (order : Order) → Keeps (stepped_by s order (record { actor = can.actor; part = k; step = step_of may.event }) (Some there.0)) (after_taking u k may.event may.rest)
     keeps_after order =
         let seat : RunningPart = there.0 in

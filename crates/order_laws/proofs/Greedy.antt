@@ -194,10 +194,13 @@ still s k j a b apart = record {
   timely = timely_after s.threads k j a.event b.event apart a.timely b.timely;
 }
 
+abbrev taking_of : List (List Event) → List ThreadState → Taking
+taking_of left threads = record { left = left; threads = threads }
+
 both : (s : Taking) (k j : ℕ) (a : MayTake s k) (b : MayTake s j) → (k == j) ≡ false
     → after_taking (after_taking s k a.event a.rest) j b.event b.rest ≡ after_taking (after_taking s j b.event b.rest) k a.event a.rest
 both s k j a b apart =
-    ap₂ {C = Taking} (λ (l : List (List Event)) (ts : List ThreadState). record { left = l; threads = ts }) (set_apart s.left k j a.rest b.rest (eqb-false k j apart))
+    ap₂ taking_of (set_apart s.left k j a.rest b.rest (eqb-false k j apart))
     (all_commute 0 k j a.event b.event s.threads apart (all_timely s.threads k a.event a.timely) (all_timely s.threads j b.event b.timely))
 
 -- one part has one next event

@@ -434,9 +434,6 @@ module _ (journals : List (List Event)) (stamps : List (List ℕ)) (stamped : Ar
       | inr empty ↦ absurd (no_event part place (IsInvocationBy i) empty inv)
     ]
       where
-        journal : List Event
-        journal = journal_on journals part
-
         by_place : length (filter (is_invocation_by i) (journal_on journals part)) ≡ length (filter (is_on part) t.ops) → (p : ℕ)
             → at_number p (journal_on journals part) ≡ Some inv.event → IsInvokedIn part p t.ops receipts
         by_place size zero there = none_is_some there

@@ -2,6 +2,7 @@
 use Rattle.std.proofs.Common.{◌≡◌, ◌⊎◌, inl, inr, ℕ, zero, suc, ◌+◌, ◌<◌, Option, Some, None, List, [], ◌∷◌, ◌++◌, length, map, slice_get, slice_index_or, slice_set, refl, sym, ap, ap₂, ◌∙◌, subst, arith, append_assoc, append-nil}
 use Rattle.std.specs.List.{AllByRecursion}
 use Rattle.nook_data.specs.Valid.{IsValidScenario}
+use Rattle.nook_data.specs.declared.scenario.PartSpec.{PartSpec}
 use Rattle.nook_data.specs.declared.scenario.Scenario.{Scenario}
 use Rattle.nook_data.specs.declared.scenario.ThreadSpec.{ThreadSpec}
 use Rattle.nook_data.specs.declared.steps.Event.{Event}
@@ -189,6 +190,6 @@ scheduled_ordered scenario s v r =
       record { none_left = h.none; through = subst (AllByRecursion IsThrough) (sym h.threads) (all_through scenario.threads s.threads reached.counted (all_answered scenario s v r)) },
     )))
   where
-    empty : (parts : List _) → AllByRecursion (λ seat. seat.run.journal ≡ []) (map opening_part parts)
+    empty : (parts : List PartSpec) → AllByRecursion (λ seat. seat.run.journal ≡ []) (map opening_part parts)
     empty [] = tt
     empty (spec ∷ parts) = (refl, empty parts)

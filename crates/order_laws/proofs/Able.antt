@@ -39,20 +39,19 @@ record IsNextOfCall (p : PartState) (thread : ℕ) (x : Step) : Type 0 where
   next : next_for p thread ≡ Some x
 
 enter_next : (p : PartState) (thread : ℕ) → enabled p (step.Enter thread) ≡ true → IsNextOfCall p thread (step.Enter thread)
-unfolding enabled
+unfolding enabled next_for
 enter_next p thread may =
     let ready : is_ready p (call_of_thread thread p.log.pending) ≡ true = (and_parts (is_running p.mode) (is_ready p (call_of_thread thread p.log.pending)) may).1 in
     some_call (λ c. not c.inside && not (is_blocked p.spec.class c p.log.pending)) (call_of_thread thread p.log.pending) ready
     (λ c found free. record { call = c.call; open_call = number_found thread p.log.pending c found; next = next_is c found })
   where
     next_is : (c : CallEntry) → call_of_thread thread p.log.pending ≡ Some c → next_for p thread ≡ Some (step.Enter thread)
-    unfolding next_for
     next_is c found =
         if_true (is_some (call_of_thread thread p.log.pending)) (if_enabled p (step.Enter thread) (if_enabled p (step.Burst thread) None)) None (ap is_some found)
         ∙ if_true (enabled p (step.Enter thread)) (Some (step.Enter thread)) (if_enabled p (step.Burst thread) None) may
 
 burst_next : (p : PartState) (thread : ℕ) → (thread == SHADOW) ≡ false → enabled p (step.Burst thread) ≡ true → IsNextOfCall p thread (step.Burst thread)
-unfolding enabled
+unfolding enabled next_for
 burst_next p thread other may =
     let both : (is_running p.mode && is_inside (call_of_thread thread p.log.pending)) ≡ true =
     sym (if_false (thread == SHADOW) (is_driven p) (is_running p.mode && is_inside (call_of_thread thread p.log.pending)) other) ∙ may in
@@ -67,7 +66,6 @@ burst_next p thread other may =
     and_false false b h = refl
 
     next_is : (c : CallEntry) → call_of_thread thread p.log.pending ≡ Some c → c.inside ≡ true → next_for p thread ≡ Some (step.Burst thread)
-    unfolding next_for enabled
     next_is c found inside =
         let not_entered : enabled p (step.Enter thread) ≡ false =
         and_false (is_running p.mode) (is_ready p (call_of_thread thread p.log.pending)) (ap (is_ready p) found ∙ not_ready c inside) in

@@ -321,19 +321,19 @@ module _ (journals : List (List Event)) (stamps : List (List ℕ)) (stamped : Ar
 
   by_own : (P : List (ℕ × Op) → Option Waiting → Type 0) (b : Bool) (rest : List (ℕ × Op)) (w new : Option Waiting) → (b ≡ true → P (drop 1 rest) new)
       → (b ≡ false → P rest w) → P (if b then drop 1 rest else rest) (if b then new else w)
-  by_own P true rest w new yes no = yes refl
-  by_own P false rest w new yes no = no refl
+  by_own P true rest w new holds fails = holds refl
+  by_own P false rest w new holds fails = fails refl
 
   begun : (n : ℕ → ℕ) (k : ℕ) (e : Event) (next : IsNextEvent n k e) (i : ℕ) (t : ThreadState) → IsAhead i n t.rest t.waiting
       → IsBegun n k e next i (started i k e t).rest (started i k e t).waiting
   begun n k (event.Invoke call thread o a) next i t h =
       by_own (IsBegun n k (event.Invoke call thread o a) next i) (thread == i) t.rest t.waiting (Some (record { part = k; call = call }))
-      (λ yes. begun_first n k (event.Invoke call thread o a) next i call t.rest t.waiting h yes (called yes))
-      (λ no. not_begun n k (event.Invoke call thread o a) next i t.rest t.waiting h no)
+      (λ holds. begun_first n k (event.Invoke call thread o a) next i call t.rest t.waiting h holds (called holds))
+      (λ fails. not_begun n k (event.Invoke call thread o a) next i t.rest t.waiting h fails)
     where
-      called : (yes : (thread == i) ≡ true) → (invokes_first n k (event.Invoke call thread o a) next i t.rest t.waiting h yes).receipt.call ≡ call
-      called yes =
-          let f : IsFirst n k (event.Invoke call thread o a) next i t.rest h.receipts = invokes_first n k (event.Invoke call thread o a) next i t.rest t.waiting h yes in
+      called : (holds : (thread == i) ≡ true) → (invokes_first n k (event.Invoke call thread o a) next i t.rest t.waiting h holds).receipt.call ≡ call
+      called holds =
+          let f : IsFirst n k (event.Invoke call thread o a) next i t.rest h.receipts = invokes_first n k (event.Invoke call thread o a) next i t.rest t.waiting h holds in
           let at : IsAt (journal_on journals k) (suc (n k)) (IsInvoke f.receipt.call i f.op) =
           subst (λ (m : ℕ). IsAt (journal_on journals k) m (IsInvoke f.receipt.call i f.op)) f.at f.is.invoked in
           sym (same_event n k (event.Invoke call thread o a) next (IsInvoke f.receipt.call i f.op) at).0

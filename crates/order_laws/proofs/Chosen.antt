@@ -8,7 +8,7 @@ use Rattle.nook_data.specs.declared.steps.Step.{Step}
 use Rattle.nook_data.proofs.Options.{none_is_some, same_inside}
 use Rattle.part_defs.specs.Runs.{next_recovery}
 use Rattle.part_laws.proofs.Places.{split}
-use Rattle.run_defs.specs.Schedules.{Order, Picked, listed, picked}
+use Rattle.run_defs.specs.Schedules.{Order, Picked, listed, listed_pick, picked}
 use Rattle.run_defs.specs.Simulation.{Choice, RunningPart, Simulation, ThreadState, Waiting, actor_of, arrival, choices_of, runs, stepped_by, taken}
 use Rattle.run_defs.proofs.ChoicesInOrder.{choices_in_order, part_choices, thread_choices, with_choice, with_invocation, with_thread}
 use Rattle.run_defs.proofs.RunChanges.{taken_by}
@@ -164,10 +164,13 @@ arrival_found s k seat x at next =
 
 -- ---- one step of a listed schedule
 
+abbrev by_position : List ℕ → List ℕ → Option ℕ → Picked
+by_position picks actors o = elim o as (λ x. Picked) [ Some place ↦ record { place = place; order = listed picks } | None ↦ listed_pick picks actors ]
+
 picked_is : (pick : ℕ) (picks actors : List ℕ) (place : ℕ) → position (λ a. a == pick) actors ≡ Some place
     → picked (listed (pick ∷ picks)) actors ≡ record { place = place; order = listed picks }
 unfolding picked
-picked_is pick picks actors place h = rw h refl
+picked_is pick picks actors place h = ap (by_position picks actors) h
 
 taken_is : (s : Simulation) (pick : ℕ) (picks : List ℕ) (choices : List Choice) (c : Choice) → s.order ≡ listed (pick ∷ picks) → Finds pick c choices
     → taken s choices ≡ stepped_by s (listed picks) c (slice_get s.parts c.part)

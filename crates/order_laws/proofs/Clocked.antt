@@ -161,8 +161,8 @@ module _ (journals : List (List Event)) (stamps : List (List ℕ)) where
 
   by_own : (P : List (ℕ × Op) → Option Waiting → Type 0) (b : Bool) (rest : List (ℕ × Op)) (w new : Option Waiting) → (b ≡ true → P (drop 1 rest) new)
       → (b ≡ false → P rest w) → P (if b then drop 1 rest else rest) (if b then new else w)
-  by_own P true rest w new yes no = yes refl
-  by_own P false rest w new yes no = no refl
+  by_own P true rest w new holds fails = holds refl
+  by_own P false rest w new holds fails = fails refl
 
   module _ (m : ℕ) (n : ℕ → ℕ) (k : ℕ) (e : Event) (here : at_number (suc (n k)) (journal_on journals k) ≡ Some e)
       (stamp : stamp_at stamps k (suc (n k)) ≡ suc m) where
@@ -224,11 +224,11 @@ module _ (journals : List (List Event)) (stamps : List (List ℕ)) where
     begun i whole t may h (event.Invoke call thread o a) is =
         let may' : MayStart i k (event.Invoke call thread o a) t = subst (λ (y : Event). MayStart i k y t) is may in
         by_own (λ rest w. IsPast i m (one_more n k) whole rest w t.answers) (thread == i) t.rest t.waiting (Some (record { part = k; call = call }))
-        (λ yes.
-        let mine : thread ≡ i = eqb-true thread i yes in
+        (λ holds.
+        let mine : thread ≡ i = eqb-true thread i holds in
         let own = may' mine in
         begun_own i call o whole t.rest own.1.0 t.waiting t.answers (subst (IsInvoke call i o) (sym is) (refl, mine, refl)) own.0 own.1.1 h)
-        (λ no. not_begun i whole t.rest t.waiting t.answers h)
+        (λ fails. not_begun i whole t.rest t.waiting t.answers h)
     begun i whole t may h (event.Enter call thread attempt a) is = not_begun i whole t.rest t.waiting t.answers h
     begun i whole t may h (event.Burst context call burst count end acts a failure) is = not_begun i whole t.rest t.waiting t.answers h
     begun i whole t may h (event.Stage stage answers released) is = not_begun i whole t.rest t.waiting t.answers h

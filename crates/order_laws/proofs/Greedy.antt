@@ -87,11 +87,11 @@ first_on i k (event.Arrive frame kept) t may is = absurd (true≢false (sym is))
 not_both : (i k j : ℕ) (e f : Event) (t : ThreadState) → (k == j) ≡ false → MayStart i k e t → MayStart i j f t → is_invocation_by i e ≡ true
     → is_invocation_by i f ≡ false
 not_both i k j e f t apart may may' is = split (is_invocation_by i f)
-    (λ yes.
+    (λ holds.
     let a = first_on i k e t may is in
-    let b = first_on i j f t may' yes in
+    let b = first_on i j f t may' holds in
     absurd (eqb-false k j apart (same_part (sym a.1.1.1 ∙ b.1.1.1))))
-    (λ no. no)
+    (λ fails. fails)
   where
     same_part : {o p : Op} {xs ys : List (ℕ × Op)} → (k, o) ∷ xs ≡ (j, p) ∷ ys → k ≡ j
     same_part h = ap (part_of k) h
@@ -110,17 +110,17 @@ free_elsewhere j w h = subst (IsElsewhere j) (sym h) tt
 commutes : (i k j : ℕ) (e f : Event) (t : ThreadState) → (k == j) ≡ false → MayStart i k e t → MayStart i j f t
     → touched i j f (touched i k e t) ≡ touched i k e (touched i j f t)
 commutes i k j e f t apart may may' = split (is_invocation_by i e)
-    (λ yes. passes i k j e f t apart (not_both i k j e f t apart may may' yes) (free_elsewhere j t.waiting (first_on i k e t may yes).0))
-    (λ no. split (is_invocation_by i f)
-    (λ yes. sym (passes i j k f e t (flipped k j apart) no (free_elsewhere k t.waiting (first_on i j f t may' yes).0)))
-    (λ no'. by_wait t.waiting refl no no'))
+    (λ holds. passes i k j e f t apart (not_both i k j e f t apart may may' holds) (free_elsewhere j t.waiting (first_on i k e t may holds).0))
+    (λ fails. split (is_invocation_by i f)
+    (λ holds. sym (passes i j k f e t (flipped k j apart) fails (free_elsewhere k t.waiting (first_on i j f t may' holds).0)))
+    (λ fails'. by_wait t.waiting refl fails fails'))
   where
     by_wait : (w : Option Waiting) → t.waiting ≡ w → is_invocation_by i e ≡ false → is_invocation_by i f ≡ false
         → touched i j f (touched i k e t) ≡ touched i k e (touched i j f t)
-    by_wait None is no no' = passes i k j e f t apart no' (free_elsewhere j t.waiting is)
-    by_wait (Some w) is no no' = split (w.part == j)
-        (λ here. sym (passes i j k f e t (flipped k j apart) no (subst (IsElsewhere k) (sym is) (moved (eqb-true w.part j here)))))
-        (λ there. passes i k j e f t apart no' (subst (IsElsewhere j) (sym is) there))
+    by_wait None is fails fails' = passes i k j e f t apart fails' (free_elsewhere j t.waiting is)
+    by_wait (Some w) is fails fails' = split (w.part == j)
+        (λ here. sym (passes i j k f e t (flipped k j apart) fails (subst (IsElsewhere k) (sym is) (moved (eqb-true w.part j here)))))
+        (λ there. passes i k j e f t apart fails' (subst (IsElsewhere j) (sym is) there))
       where
         moved : w.part ≡ j → (w.part == k) ≡ false
         moved same = ap (λ (p : ℕ). p == k) same ∙ flipped k j apart
@@ -146,8 +146,8 @@ timely_after : (threads : List ThreadState) (k j : ℕ) (e f : Event) → (k == 
 timely_after threads k j e (event.Invoke call i o a) apart h h' =
     let may : MayStart i k e h'.t = may_at 0 threads i h'.t (all_timely threads k e h) h'.at in
     let not : is_invocation_by i e ≡ false = split (is_invocation_by i e)
-    (λ yes. absurd (eqb-false k j apart (same_part (sym (first_on i k e h'.t may yes).1.1.1 ∙ h'.next))))
-    (λ no. no) in
+    (λ holds. absurd (eqb-false k j apart (same_part (sym (first_on i k e h'.t may holds).1.1.1 ∙ h'.next))))
+    (λ fails. fails) in
     let same : touched i k e h'.t ≡ h'.t = untouched i k e h'.t not (free_elsewhere k h'.t.waiting h'.free) in
     record {
       t = h'.t;

@@ -9,4 +9,4 @@ pub mod Able
 pub mod Following
 pub mod Scheduled
 pub mod OneRun
-pub mod Cases
+pub mod Worked

@@ -348,15 +348,15 @@ module _ (journals : List (List Event)) (stamps : List (List ℕ)) (stamped : Ar
   invoked_in part place [] receipts h = absurd h
   invoked_in part place (o ∷ ops) [] h = absurd h
   invoked_in part place ((p, op) ∷ ops) (r ∷ receipts) h = split (p == part)
-      (λ here. by_place (eqb-true p part here)
+      (λ here. by_place (eqb-true p part here) (λ x. invoked_in part place ops receipts x)
       (subst (Has place) (if_true (p == part) (r.at_invoke ∷ invoked_on part ops receipts) (invoked_on part ops receipts) here) h))
       (λ there. inr (invoked_in part place ops receipts
       (subst (Has place) (if_false (p == part) (r.at_invoke ∷ invoked_on part ops receipts) (invoked_on part ops receipts) there) h)))
     where
-      by_place : p ≡ part → (place ≡ r.at_invoke) ⊎ Has place (invoked_on part ops receipts)
-          → ((p ≡ part) × (r.at_invoke ≡ place)) ⊎ IsInvokedIn part place ops receipts
-      by_place same (inl x) = inl (same, sym x)
-      by_place same (inr x) = inr (invoked_in part place ops receipts x)
+      by_place : p ≡ part → (Has place (invoked_on part ops receipts) → IsInvokedIn part place ops receipts)
+          → (place ≡ r.at_invoke) ⊎ Has place (invoked_on part ops receipts) → ((p ≡ part) × (r.at_invoke ≡ place)) ⊎ IsInvokedIn part place ops receipts
+      by_place same more (inl x) = inl (same, sym x)
+      by_place same more (inr x) = inr (more x)
 
   -- places that are those of all events of a kind hold each
   all_held : (test : Event → Bool) (journal : List Event) (n : ℕ) (events : List Event) (places : List ℕ) → AreBehind journal n events
@@ -373,9 +373,9 @@ module _ (journals : List (List Event)) (stamps : List (List ℕ)) (stamped : Ar
       plus : (n : ℕ) → suc n ≡ suc (n + 0)
       plus n = omega arith
   all_held test journal n (x ∷ events) places are all (suc j) e at passes = split (test x)
-      (λ yes. by_places places yes all)
-      (λ no. subst (λ (m : ℕ). Has m places) (next n j)
-      (all_held test journal (suc n) events places (rest_behind journal n x events are) (passes_not test journal n x events places are no all) j e at passes))
+      (λ holds. by_places places holds all (λ more here. all_held test journal (suc n) events more (rest_behind journal n x events are) here j e at passes))
+      (λ fails. subst (λ (m : ℕ). Has m places) (next n j)
+      (all_held test journal (suc n) events places (rest_behind journal n x events are) (passes_not test journal n x events places are fails all) j e at passes))
     where
       next : (n j : ℕ) → suc (suc n + j) ≡ suc (n + suc j)
       next n j = omega arith
@@ -383,10 +383,11 @@ module _ (journals : List (List Event)) (stamps : List (List ℕ)) (stamped : Ar
       wrong : (n : ℕ) → 0 ≡ suc n → ⊥
       wrong n e = omega arith
 
-      by_places : (places : List ℕ) → test x ≡ true → AreAll test journal n (x ∷ events) places → Has (suc (n + suc j)) places
-      by_places [] yes all = absurd (wrong (length (filter test events)) (all.count ∙ ap length (filter_same test x events yes)))
-      by_places (place ∷ more) yes all = inr (subst (λ (m : ℕ). Has m more) (next n j)
-          (all_held test journal (suc n) events more (rest_behind journal n x events are) (passes_first test journal n x events place more are yes all).1 j e at passes))
+      by_places : (places : List ℕ) → test x ≡ true → AreAll test journal n (x ∷ events) places
+          → ((more : List ℕ) → AreAll test journal (suc n) events more → Has (suc (suc n + j)) more) → Has (suc (n + suc j)) places
+      by_places [] holds all held = absurd (wrong (length (filter test events)) (all.count ∙ ap length (filter_same test x events holds)))
+      by_places (place ∷ more) holds all held =
+          inr (subst (λ (m : ℕ). Has m more) (next n j) (held more (passes_first test journal n x events place more are holds all).1))
 
   -- a part's journal has the thread's operations on the part; there is no journal where there is no part
   counted_at : (threads : List ThreadSpec) (i first : ℕ) (parts : List PartSpec) (js : List (List Event)) → HaveNoOthers threads first parts js → (k : ℕ)

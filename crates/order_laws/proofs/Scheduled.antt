@@ -29,11 +29,16 @@ Joined [] [] [] = Unit {0}
 Joined (seat ∷ seats) (left ∷ lefts) (journal ∷ journals) = (seat.run.journal ++ left ≡ journal) × Joined seats lefts journals
 Joined seats lefts journals = ⊥
 
-joined_none : (seats : List RunningPart) → Joined seats (map (λ seat. []) seats) (map journal_of seats)
+-- nothing is left of each part
+abbrev nothing_of : List RunningPart → List (List Event)
+nothing_of [] = []
+nothing_of (seat ∷ seats) = [] ∷ nothing_of seats
+
+joined_none : (seats : List RunningPart) → Joined seats (nothing_of seats) (map journal_of seats)
 joined_none [] = tt
 joined_none (seat ∷ seats) = (append-nil seat.run.journal, joined_none seats)
 
-nothing_left : (seats : List RunningPart) (k : ℕ) → slice_index_or (map (λ seat. []) seats) k [] ≡ []
+nothing_left : (seats : List RunningPart) (k : ℕ) → slice_index_or (nothing_of seats) k [] ≡ []
 nothing_left [] k = refl
 nothing_left (seat ∷ seats) zero = refl
 nothing_left (seat ∷ seats) (suc k) = nothing_left seats k
@@ -81,9 +86,9 @@ record IsTakenFrom (s end : Simulation) : Type 0 where
 
 taken_none : (s : Simulation) → IsTakenFrom s s
 taken_none s = record {
-  left = map (λ seat. []) s.parts;
+  left = nothing_of s.parts;
   order = [];
-  last = record { left = map (λ seat. []) s.parts; threads = s.threads };
+  last = record { left = nothing_of s.parts; threads = s.threads };
   joined = joined_none s.parts;
   leads = refl;
   none = nothing_left s.parts;

@@ -77,7 +77,7 @@ CHAPTERS = (
         "Threads",
         "The lock, the desk of a part, and the workers.",
         ("shares/Shares", "turn_lock/Views", "turn_lock/Seats", "turn_lock/Turns", "desk_like/Desks", "app_threads/Works",
-         "app_threads/Ends"),
+         "app_threads/Ends", "order_defs/OneClock", "order_defs/Taking"),
     ),
     Chapter(
         "Other runs and texts",

@@ -1,0 +1,2 @@
+pub mod OneClock
+pub mod Taking

@@ -1,0 +1,12 @@
+pub mod Stamps
+pub mod Ahead
+pub mod Own
+pub mod Ordered
+pub mod Clocked
+pub mod Greedy
+pub mod Chosen
+pub mod Able
+pub mod Following
+pub mod Scheduled
+pub mod OneRun
+pub mod Worked

@@ -1,0 +1,9 @@
+//! The laws of one run of several parts: theorems over the definitions alone.
+//!
+//! Each law is the contract of a public function with an empty body: what it promises holds of all its arguments,
+//! whoever made them.
+#![tactic(auto)]
+
+pub mod cases;
+pub mod orders;
+pub mod schedules;

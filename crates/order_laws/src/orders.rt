@@ -1,0 +1,40 @@
+//! In which order the events of several journals can be taken.
+
+ghost use Rattle.nook_data.specs.declared.scenario.PartSpec.{PartSpec};
+ghost use Rattle.nook_data.specs.declared.scenario.ThreadSpec.{ThreadSpec};
+ghost use Rattle.nook_data.specs.declared.steps.Event.{Event};
+ghost use Rattle.order_defs.specs.OneClock.{AreOneRun};
+ghost use Rattle.order_defs.specs.Taking.{IsAllTaken, IsStuck, Leads, Taking, opening_taking};
+ghost use Rattle.std.specs.Prelude.{◌≡◌, List, ℕ};
+ghost use Rattle.threaded_run.specs.Others.{HaveNoOthers};
+
+/// Journals that have one clock, and no other invocations than the scripts', can be taken event by event until nothing
+/// is left: the event with the least stamp may always be taken.
+pub fn one_clock_gives_an_order()
+    ensures { (threads : List ThreadSpec) (parts : List PartSpec) (journals : List (List Event))
+        → HaveNoOthers threads 0 parts journals → AreOneRun threads journals
+        → (order : List ℕ) × ((end : Taking)
+        × (Leads (opening_taking threads journals) order end × IsAllTaken end)) }
+{}
+
+/// Journals that can be taken event by event until nothing is left have one clock: the stamp of an event tells how many
+/// were taken up to it.
+pub fn an_order_gives_one_clock()
+    ensures { (threads : List ThreadSpec) (journals : List (List Event)) (order : List ℕ) (end : Taking)
+        → Leads (opening_taking threads journals) order end → IsAllTaken end → AreOneRun threads journals }
+{}
+
+/// Events are taken one by one, an invocation where it is its thread's next and every other event at once. Where no
+/// event may be taken any more the same was taken, whatever was taken first.
+pub fn what_is_taken_in_the_end_is_the_same()
+    ensures { (order other : List ℕ) (s a b : Taking) → Leads s order a → IsStuck a → Leads s other b → IsStuck b
+        → a ≡ b }
+{}
+
+/// Of journals that have one clock, and no other invocations than the scripts', everything is taken in the end, whatever
+/// is taken first. So an auditor finds out by taking what it can whether journals have one clock.
+pub fn of_one_run_everything_is_taken()
+    ensures { (threads : List ThreadSpec) (parts : List PartSpec) (journals : List (List Event)) (order : List ℕ)
+        (end : Taking) → HaveNoOthers threads 0 parts journals → AreOneRun threads journals
+        → Leads (opening_taking threads journals) order end → IsStuck end → IsAllTaken end }
+{}

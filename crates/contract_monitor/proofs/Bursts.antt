@@ -34,7 +34,7 @@ pub acts_kept : (call : ℕ) (k : Known) (done : List Act) → fold (kept_deed c
 acts_kept call k [] = refl
 acts_kept call k (a ∷ done) = acts_kept call (after_deed call k (acts a)) done
 
-known_acts : (call : ℕ) (k : Kept) (done : List Act) → (fold (kept_act call) k done).known ≡ after_deeds call k.known (map acts done)
+pub known_acts : (call : ℕ) (k : Kept) (done : List Act) → (fold (kept_act call) k done).known ≡ after_deeds call k.known (map acts done)
 known_acts call k done = ap (λ kept. kept.known) (kept_parts call k done)
 
 -- one act more

@@ -5,3 +5,4 @@ pub mod Numbers
 pub mod OneBlock
 pub mod Stands
 pub mod Tracking
+pub mod FirstWrong

@@ -65,7 +65,7 @@ drop_next xs ys x = drop-drop 1 (length xs) ys ∙ ap (λ n. drop n ys) (sym (le
 
 -- ---- acts
 
-act_front : (call : ℕ) (a : Act) (w : Known) → is_front w.handed w.popped ≡ true
+pub act_front : (call : ℕ) (a : Act) (w : Known) → is_front w.handed w.popped ≡ true
     → is_front (after_deed call w (acts a)).handed (after_deed call w (acts a)).popped ≡ true
 act_front call (act.Popped frame) w h = front_more w.handed w.popped (frame ∷ []) h
 act_front call (act.Load block) w h = h
@@ -75,7 +75,7 @@ act_front call (act.Sent frame) w h = h
 act_front call (act.Played word rate volume) w h = h
 act_front call (act.Register key value) w h = h
 
-act_same : (call : ℕ) (a : Act) (w : Known) → is_front w.handed w.popped ≡ true
+pub act_same : (call : ℕ) (a : Act) (w : Known) → is_front w.handed w.popped ≡ true
     → after_deed call (shorter w) (acts a) ≡ shorter (after_deed call w (acts a))
 act_same call (act.Popped frame) w h =
     ap (λ frames. record (shorter w) { ring = drop 1 w.ring; popped = frames })
@@ -87,7 +87,7 @@ act_same call (act.Sent frame) w h = refl
 act_same call (act.Played word rate volume) w h = refl
 act_same call (act.Register key value) w h = refl
 
-act_judged : (w : Known) (c : Option OpenCall) (a : Act) → act_broken (shorter w) c a ≡ act_broken w c a
+pub act_judged : (w : Known) (c : Option OpenCall) (a : Act) → act_broken (shorter w) c a ≡ act_broken w c a
 act_judged w c (act.Load block) = refl
 act_judged w c (act.Failed block store) = refl
 act_judged w c (act.Store block words) = refl
@@ -142,10 +142,10 @@ found_judged w (Some c) a = reply_judged w c c.op a
 
 -- deeds break of what is kept what they break of what is known, and leave the same; if they break nothing, each frame
 -- was handed up as it was popped
-record Crossed (call : ℕ) (ds : List Deed) (w : Known) : Type 0 where
-  broken : first_broken call (shorter w) ds ≡ first_broken call w ds
-  same : fold (kept_deed call) (shorter w) ds ≡ shorter (after_deeds call w ds)
-  front : first_broken call w ds ≡ None → is_front (after_deeds call w ds).handed (after_deeds call w ds).popped ≡ true
+pub record Crossed (call : ℕ) (ds : List Deed) (w : Known) : Type 0 where
+  pub broken : first_broken call (shorter w) ds ≡ first_broken call w ds
+  pub same : fold (kept_deed call) (shorter w) ds ≡ shorter (after_deeds call w ds)
+  pub front : first_broken call w ds ≡ None → is_front (after_deeds call w ds).handed (after_deeds call w ds).popped ≡ true
 
 kept_if : (b : Bool) (clause : Clause) → unless b clause ≡ None → b ≡ true
 kept_if true clause h = refl
@@ -181,7 +181,7 @@ served : (up : Bool) (call : ℕ) (moved : List ℕ) (w : Known) → is_front w.
 served true call moved w h = handed call moved w h
 served false call moved w h = nothing call w h
 
-crossed : (call : ℕ) (e : End) (a : Option Answer) (failure : Option FailCause) (w : Known) → is_front w.handed w.popped ≡ true
+pub crossed : (call : ℕ) (e : End) (a : Option Answer) (failure : Option FailCause) (w : Known) → is_front w.handed w.popped ≡ true
     → Crossed call (crossing_deeds e a failure) w
 crossed call (end.Service number first second result moved) a failure w h = served (number == 6 && is_some result) call moved w h
 crossed call (end.Reply status) (Some a) None w h = replied call a w h
@@ -191,11 +191,11 @@ crossed call (end.Reply status) None (Some cause) w h = nothing call w h
 crossed call end.Pause a failure w h = nothing call w h
 crossed call end.Trap a failure w h = nothing call w h
 
-some_chosen : (t : Bool) (a b : Clause) → (if t then Some b else Some a) ≡ None → ⊥
+pub some_chosen : (t : Bool) (a b : Clause) → (if t then Some b else Some a) ≡ None → ⊥
 some_chosen true a b h = cc
 some_chosen false a b h = cc
 
-second_none : (a b : Option Clause) → smaller a b ≡ None → b ≡ None
+pub second_none : (a b : Option Clause) → smaller a b ≡ None → b ≡ None
 second_none None b h = h
 second_none (Some a) None h = refl
 second_none (Some a) (Some b) h = absurd (some_chosen (nat_lt (clause_number b) (clause_number a)) a b h)

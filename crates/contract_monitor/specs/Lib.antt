@@ -3,3 +3,4 @@ pub mod Judging
 pub mod Keeping
 pub mod Monitors
 pub mod Questions
+pub mod Wrong

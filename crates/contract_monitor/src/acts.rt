@@ -27,11 +27,21 @@ impl Known {
     {
         let mut broken = None;
         for act in acts {
-            let clause = self.judge_act(call, act);
-            self.see_act(call, act)?;
+            let clause = self.see_next(call, act)?;
             broken = smaller(broken, clause);
         }
         Ok(broken)
+    }
+
+    /// One act of a burst of a call, and the smallest clause that it breaks.
+    pub fn see_next(&mut self, call: u32, act: &Act) -> Result<Option<Clause>, NoMemory>
+        ensures kept { OnOk result (self.new ≡ kept_act call self.old act.now) }
+        ensures broken { IfOk result (λ clause. clause
+            ≡ act_broken self.old.known (call_of call self.old.known.calls) act.now) }
+    {
+        let clause = self.judge_act(call, act);
+        self.see_act(call, act)?;
+        Ok(clause)
     }
 
     /// The smallest clause that an act breaks, in a burst of a call.

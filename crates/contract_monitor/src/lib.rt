@@ -11,5 +11,7 @@ mod crossings;
 mod known;
 mod monitor;
 mod watching;
+mod wrong;
 
 pub use monitor::Monitor;
+pub use wrong::WrongDeed;

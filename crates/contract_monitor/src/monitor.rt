@@ -1,16 +1,18 @@
 //! The monitor: events in, the first break and the losses out.
 
-ghost use Rattle.std.specs.Prelude.{◌≡◌, ◌∷◌, ◌++◌, [], ℕ, List, IfOk, IfSome, OnErr, OnOk};
+ghost use Rattle.std.specs.Prelude.{◌≡◌, ◌∷◌, ◌++◌, [], ℕ, List, IfOk, IfSome, None, OnErr, OnOk, fold};
 ghost use Rattle.std.specs.Option.{ForSome};
 ghost use Rattle.nook_data.specs.declared.classes.Class.{Class};
 ghost use Rattle.nook_data.specs.declared.steps.Event.{Event};
-ghost use Rattle.promise_defs.specs.Contract.{first_break};
+ghost use Rattle.promise_defs.specs.Contract.{first_break, known_after, known_first};
 ghost use Rattle.promise_defs.specs.Losses.{losses};
 ghost use Rattle.contract_monitor.specs.Keeping.{kept_after, told};
 ghost use Rattle.contract_monitor.specs.Monitors.{StandsFor, after_event, break_of, or_break};
+ghost use Rattle.contract_monitor.specs.Wrong.{first_wrong};
 
 use crate::calls::more;
 use crate::known::Known;
+use crate::wrong::WrongDeed;
 use nook_data::classes::Class;
 use nook_data::clause::Clause;
 use nook_data::lists::TryCopy;
@@ -112,6 +114,16 @@ impl Monitor {
             → result ≡ first_break class size events }
     {
         self.broken
+    }
+
+    /// Of an event that the monitor has not seen, the first deed that breaks a clause of the class's contract; `None`
+    /// where the event breaks none. It is told where no event before broke a clause.
+    pub fn first_wrong(&self, event: &Event) -> Result<Option<WrongDeed>, NoMemory>
+        ensures { IfOk result (λ wrong. (class : Class) (size : ℕ) (events : List Event)
+            → StandsFor class size events self.now → first_break class size events ≡ None
+            → wrong ≡ first_wrong (fold known_after (known_first class size) events) event.now) }
+    {
+        self.known.first_wrong(event)
     }
 
     /// What was lost, and where frames went.

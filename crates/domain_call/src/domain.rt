@@ -139,6 +139,13 @@ impl Domain {
         self.contexts[context as usize]
     }
 
+    /// The context with this number, where there is one and it is Inside.
+    pub fn find_inside(&self, context: u8) -> Option<Context>
+        ensures { result ≡ context_of context self.now.state.contexts }
+    {
+        self.contexts.get(context as usize).copied().unwrap_or(None)
+    }
+
     /// Whether a context's buffer is lent.
     pub fn has_buffer(&self, context: u8) -> bool
         ensures { result ≡ list_any (is_buffer_of context) self.now.state.entries }

@@ -41,9 +41,9 @@ struct Whole {
 
 /// What the faults of one place left: the faults behind them, and the trap that one of them is.
 #[derive(Drop)]
-struct Struck<'a> {
-    rest: &'a [Fault],
-    stopped: Option<TrapCause>,
+pub struct Struck<'a> {
+    pub rest: &'a [Fault],
+    pub stopped: Option<TrapCause>,
 }
 
 /// Runs one burst to its crossing. `faults` are those of this burst in rising order of `after`: one with
@@ -239,10 +239,11 @@ fn stopped(count: u32, counter: Word, cause: TrapCause) -> Whole
     }
 }
 
-/// Strikes the faults at the front that stand at this place, in their order, up to one that is a trap.
+/// Strikes the faults at the front that stand at this place, in their order, up to one that is a trap. `counter` is the
+/// processor's, which no fault changes.
 // Most bursts have no faults left, and each turn asks.
 #[inline(always)]
-fn strike_due<'a, B: Bus>(
+pub fn strike_due<'a, B: Bus>(
     faults: &'a [Fault],
     place: u32,
     counter: Word,

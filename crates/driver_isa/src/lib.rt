@@ -9,7 +9,7 @@ mod code;
 pub mod laws;
 mod turn;
 
-pub use burst::{BurstDone, run_burst};
+pub use burst::{BurstDone, Struck, run_burst, strike_due};
 pub use bus::Bus;
 pub use code::{decode, encode};
 pub use turn::turn as run_turn;

@@ -98,8 +98,7 @@ mid_ended : (journal : List Event) (place : ℕ) (seat : RunningPart) → IsMid 
 unfolding FitsFrom is_complete next_any
 mid_ended journal place seat h =
     let both = and_parts (are_through h.threads) (has_nothing seat.coming && is_none (next_any seat.run.state)) h.fits in
-    let parts = and_parts (has_nothing seat.coming) (is_none (next_any seat.run.state)) both.1 in
-    (
+    let parts = and_parts (has_nothing seat.coming) (is_none (next_any seat.run.state)) both.1 in (
       first_none (next_recovery seat.run.state) (next_of_calls seat.run.state seat.run.state.log.pending) (none_so (next_any seat.run.state) parts.1),
       ap (arrival seat.run) (nothing_so seat.coming parts.0),
     )

@@ -189,11 +189,16 @@ unfolding begins
 scheduled_ordered scenario s v r =
     let h : IsTakenFrom (begins scenario) s = subst (IsTakenFrom (begins scenario)) r.reached (runs_taken r.steps (begins scenario)) in
     let left : h.left ≡ journals_of s = joined_first (map opening_part scenario.parts) h.left (journals_of s) (empty scenario.parts) h.joined in
-    let reached : IsReached scenario s = scheduled_reached scenario s r in
-    (h.order, (h.last, (
-      subst (λ l. Leads (opening_taking scenario.threads l) h.order h.last) left h.leads,
-      record { none_left = h.none; through = subst (AllByRecursion IsThrough) (sym h.threads) (all_through scenario.threads s.threads reached.counted (all_answered scenario s v r)) },
-    )))
+    let reached : IsReached scenario s = scheduled_reached scenario s r in (
+      h.order,
+      (
+        h.last,
+        (
+          subst (λ l. Leads (opening_taking scenario.threads l) h.order h.last) left h.leads,
+          record { none_left = h.none; through = subst (AllByRecursion IsThrough) (sym h.threads) (all_through scenario.threads s.threads reached.counted (all_answered scenario s v r)) },
+        ),
+      ),
+    )
   where
     empty : (parts : List PartSpec) → AllByRecursion (λ seat. seat.run.journal ≡ []) (map opening_part parts)
     empty [] = tt

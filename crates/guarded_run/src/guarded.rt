@@ -103,12 +103,7 @@ fn stop_before(alloc: Global, scenario: &Scenario, wrong: WrongBurst) -> Result<
 
 /// Puts a fault behind those that the part at a place has.
 #[tactic(auto, using(crate::proofs::Striking::struck_by))]
-fn strike(
-    alloc: Global,
-    scenario: &mut Scenario,
-    place: u32,
-    fault: Fault,
-) -> Result<(), NoMemory>
+fn strike(alloc: Global, scenario: &mut Scenario, place: u32, fault: Fault) -> Result<(), NoMemory>
     requires { place < length scenario.old.parts }
     ensures { OnOk result (scenario.new ≡ struck scenario.old place fault) }
 {

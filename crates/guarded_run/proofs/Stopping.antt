@@ -28,7 +28,7 @@ wrong_spec : (scenario : Scenario) (wrong : WrongBurst) (w : IsWrongBurst scenar
 wrong_spec scenario wrong w = ap (slice_get scenario.parts) w.part ∙ spec_there scenario w.steps w.choice.part w.seat w.first.at
 
 pub wrong_place : (scenario : Scenario) (wrong : WrongBurst) → IsWrongBurst scenario wrong → wrong.part < length scenario.parts
-wrong_place scenario wrong w = slice_get_within scenario.parts wrong.part (wrong_spec scenario wrong w)
+wrong_place scenario wrong w = slice_get_within scenario.parts wrong.part (spec_of w.seat) (wrong_spec scenario wrong w)
 
 -- the burst may be made
 wrong_may : (scenario : Scenario) (wrong : WrongBurst) (w : IsWrongBurst scenario wrong)
@@ -84,4 +84,4 @@ first_stop scenario wrong part faults trap clause w at same stops =
     }
 
 pub stop_place : (scenario : Scenario) (stop : Stop) → IsFirstStop scenario stop → stop.part < length scenario.parts
-stop_place scenario stop h = slice_get_within scenario.parts stop.part (first_trap scenario stop h).there
+stop_place scenario stop h = slice_get_within scenario.parts stop.part (first_trap scenario stop h).spec (first_trap scenario stop h).there

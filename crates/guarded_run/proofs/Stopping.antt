@@ -28,7 +28,7 @@ wrong_spec : (scenario : Scenario) (wrong : WrongBurst) (w : IsWrongBurst scenar
 wrong_spec scenario wrong w = ap (slice_get scenario.parts) w.part ∙ spec_there scenario w.steps w.choice.part w.seat w.first.at
 
 pub wrong_place : (scenario : Scenario) (wrong : WrongBurst) → IsWrongBurst scenario wrong → wrong.part < length scenario.parts
-wrong_place scenario wrong w = slice_get_within scenario.parts wrong.part (wrong_spec scenario wrong w)
+wrong_place scenario wrong w = slice_get_within scenario.parts wrong.part (spec_of w.seat) (wrong_spec scenario wrong w)
 
 -- the burst may be made
 wrong_may : (scenario : Scenario) (wrong : WrongBurst) (w : IsWrongBurst scenario wrong)
@@ -42,13 +42,13 @@ wrong_may scenario wrong w =
     ∙ ap (λ (x : RunningPart). enabled x.run.state w.choice.step) (sym one) ∙ good.may
 
 -- so what is found of the burst is its trap
-wrong_stop : (scenario : Scenario) (wrong : WrongBurst) (w : IsWrongBurst scenario wrong) (part : PartSpec) (stop : Option (Fault × Clause))
-    → slice_get scenario.parts wrong.part ≡ Some part → StopsBurst wrong.domain.state wrong.event part.faults wrong.monitor stop
-    → IsStop w.context w.seat.run.state (known_of w.seat) stop
-wrong_stop scenario wrong w part stop at stops =
+wrong_stop : (scenario : Scenario) (wrong : WrongBurst) (w : IsWrongBurst scenario wrong) (part : PartSpec) (faults : List Fault)
+    (stop : Option (Fault × Clause)) → slice_get scenario.parts wrong.part ≡ Some part → faults ≡ part.faults
+    → StopsBurst wrong.domain.state wrong.event faults wrong.monitor stop → IsStop w.context w.seat.run.state (known_of w.seat) stop
+wrong_stop scenario wrong w part faults stop at same stops =
     let own : spec_of w.seat ≡ part = same_inside (sym (wrong_spec scenario wrong w) ∙ at) in
     stops w.seat.run.state w.context (spec_of w.seat).class (spec_of w.seat).blocks w.seat.run.journal (sym w.domain)
-    (ap (λ (spec : PartSpec). spec.faults) own) (wrong_may scenario wrong w) w.event w.monitor
+    (ap (λ (spec : PartSpec). spec.faults) own ∙ sym same) (wrong_may scenario wrong w) w.event w.monitor
     (w.first.kept w.choice.part w.seat w.first.at)
 
 wrong_trap : (scenario : Scenario) (wrong : WrongBurst) (w : IsWrongBurst scenario wrong)
@@ -56,19 +56,22 @@ wrong_trap : (scenario : Scenario) (wrong : WrongBurst) (w : IsWrongBurst scenar
 wrong_trap scenario wrong w =
     guard_is w.seat.run.state (known_of w.seat) (step.Burst w.context) w.context w.first.clause w.first.more refl w.first.breaks
 
-pub some_stop : (scenario : Scenario) (wrong : WrongBurst) → IsWrongBurst scenario wrong → (part : PartSpec)
-    → slice_get scenario.parts wrong.part ≡ Some part
-    → StopsBurst wrong.domain.state wrong.event part.faults wrong.monitor None → ⊥
-some_stop scenario wrong w part at stops =
-    none_is_some (sym (wrong_stop scenario wrong w part None at stops) ∙ wrong_trap scenario wrong w)
+-- there is one
+pub some_stop : (scenario : Scenario) (wrong : WrongBurst) (part : PartSpec) (faults : List Fault) (stop : Option (Fault × Clause))
+    → IsWrongBurst scenario wrong → slice_get scenario.parts wrong.part ≡ Some part → faults ≡ part.faults
+    → StopsBurst wrong.domain.state wrong.event faults wrong.monitor stop → ((x : Fault × Clause) → stop ≡ Some x → ⊥) → ⊥
+some_stop scenario wrong part faults (Some x) w at same stops none = none x refl
+some_stop scenario wrong part faults None w at same stops none =
+    none_is_some (sym (wrong_stop scenario wrong w part faults None at same stops) ∙ wrong_trap scenario wrong w)
 
-pub first_stop : (scenario : Scenario) (wrong : WrongBurst) → IsWrongBurst scenario wrong → (part : PartSpec) (trap : Fault) (clause : Clause)
-    → slice_get scenario.parts wrong.part ≡ Some part
-    → StopsBurst wrong.domain.state wrong.event part.faults wrong.monitor (Some (trap, clause))
+-- and it is the first of the scenario
+pub first_stop : (scenario : Scenario) (wrong : WrongBurst) (part : PartSpec) (faults : List Fault) (trap : Fault) (clause : Clause)
+    → IsWrongBurst scenario wrong → slice_get scenario.parts wrong.part ≡ Some part → faults ≡ part.faults
+    → StopsBurst wrong.domain.state wrong.event faults wrong.monitor (Some (trap, clause))
     → IsFirstStop scenario (record { part = wrong.part; trap = trap; clause = clause })
-first_stop scenario wrong w part trap clause at stops =
+first_stop scenario wrong part faults trap clause w at same stops =
     let h : IsStop w.context w.seat.run.state (known_of w.seat) (Some (trap, clause)) =
-    wrong_stop scenario wrong w part (Some (trap, clause)) at stops in
+    wrong_stop scenario wrong w part faults (Some (trap, clause)) at same stops in
     record {
       steps = w.steps;
       choice = w.choice;
@@ -81,4 +84,4 @@ first_stop scenario wrong w part trap clause at stops =
     }
 
 pub stop_place : (scenario : Scenario) (stop : Stop) → IsFirstStop scenario stop → stop.part < length scenario.parts
-stop_place scenario stop h = slice_get_within scenario.parts stop.part (first_trap scenario stop h).there
+stop_place scenario stop h = slice_get_within scenario.parts stop.part (first_trap scenario stop h).spec (first_trap scenario stop h).there

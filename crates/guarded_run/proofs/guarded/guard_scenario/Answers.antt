@@ -15,18 +15,18 @@ next_stop-requires c =
 pub add-requires : goal.add-requires
 add-requires c =
     stop_place c.loop-round.guarded.scenario c.in-Some.stop
-    (subst (IsNextStop c.loop-round.guarded.scenario) c.in-Some.is c.in_ok-next_stop.ensures)
+    (subst (IsNextStop c.loop-round.guarded.scenario) c.in-Some.is c.in_ok-stop.ensures)
 
 pub loop-round-preserved : goal.loop-round-preserved
 loop-round-preserved c =
     round_more c.args.scenario.now c.loop-round._round c.loop-round.guarded c.add.new.self c.in-Some.stop c.loop-round.invariant
-    (subst (IsNextStop c.loop-round.guarded.scenario) c.in-Some.is c.in_ok-next_stop.ensures)
+    (subst (IsNextStop c.loop-round.guarded.scenario) c.in-Some.is c.in_ok-stop.ensures)
     c.in_ok-add.ensures.scenario c.in_ok-add.ensures.stops
 
 pub returns-in_default : goal.returns-in_default
 returns-in_default c =
-    rounds_end c.args.scenario.now c.loop-round._round c.loop-round.guarded c.in_ok-next_stop.field-0 c.requires.valid c.requires.room
-    c.loop-round.invariant c.in_ok-next_stop.ensures c.in_default.not-Some
+    rounds_end c.args.scenario.now c.loop-round._round c.loop-round.guarded c.in_ok-stop.field-0 c.requires.valid c.requires.room
+    c.loop-round.invariant c.in_ok-stop.ensures c.in_default.not-Some
 
 pub unreachable-requires : goal.unreachable-requires
 unreachable-requires c =

@@ -89,7 +89,8 @@ CHAPTERS = (
     Chapter(
         "The program",
         "What a source and a sink are, which words ask for what, and what the program answers.",
-        ("nook_io/Causes", "command_forms/Forms", "nooks/Texts", "nooks/Streams", "nooks/Answers", "nooks/Endings"),
+        ("nook_io/Causes", "command_forms/Forms", "nooks/Texts", "nooks/Streams", "nooks/Guardable", "nooks/Answers",
+         "nooks/Endings"),
     ),
 )
 

@@ -92,8 +92,9 @@ def check_inputs(tally: Tally, whose: str, program: str) -> None:
 
 
 # The forms that read JSON, and the one line of each over an input that is cut off.
-CUT_OFF = [([form], "1 not_json /") for form in ("run", "dis", "campaign", "mirror")] + [
+CUT_OFF = [([form], "1 not_json /") for form in ("run", "dis", "campaign", "mirror", "guard")] + [
     (["run", "threads"], "1 not_json /"),
+    (["guard", "scenario"], "1 not_json /"),
     (["trace", "0", "1"], "1 not_json /"),
     (["audit"], "12 bad_header /"),
 ]
@@ -110,7 +111,7 @@ def check_fronts(tally: Tally, whose: str, program: str) -> None:
 
 
 # Words that are of no form, beside those of checks/statuses.
-NO_FORMS = [["list", "me"], ["gen", "257", "scenario"], ["gen", "1", "report"], ["--help", "me"], ["run", "run"]]
+NO_FORMS = [["list", "me"], ["gen", "257", "scenario"], ["gen", "1", "report"], ["--help", "me"], ["run", "run"], ["guard", "run"]]
 
 
 def check_usage(tally: Tally, whose: str, program: str) -> None:

@@ -1,8 +1,8 @@
 //! Which form the words are of.
 //!
-//! `guard`, `guard scenario` and `explore`, and the keys `guard`, `every`, `members` and `detail` of a campaign, are ahead of
-//! the proved program: until it has them it answers the words with the usage line and refuses the keys as unknown ones. The
-//! usage line and `--help` do not name them.
+//! `explore`, and the keys `guard`, `every`, `members` and `detail` of a campaign, are ahead of the proved program: until it has
+//! them it answers the word with the usage line and refuses the keys as unknown ones. The usage line and `--help` do not name
+//! them.
 
 use std::ops::RangeInclusive;
 

@@ -17,6 +17,8 @@ nooks audit           read a scenario and a printed report, check the report lin
 nooks campaign        read a scenario and a list of faults, simulate it once for each, write the table
 nooks mirror          read a scenario of two disks, keep one disk on both, write the report
 nooks trace P B       read a scenario, write what burst B of part P did, turn by turn (P from 0)
+nooks guard           read a scenario, stop each driver before it breaks its contract, write traps and report
+nooks guard scenario  read a scenario, write it as JSON with the traps of its guard
 nooks --help          write this
 nooks --version       write the program's version, and the kit that it is proved with
 status 0              done; no part was given up

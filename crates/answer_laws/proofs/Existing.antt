@@ -1,5 +1,5 @@
 -- What waits for nobody has an answer.
-use Rattle.std.proofs.Common.{◌≡◌, ℕ, ◌≤◌, nat_lt, Bool, true, false, List, [], ◌⊎◌, inl, inr, length, map, IfOk, Option, Some, None, Result, Ok, Err, refl, sym, true≢false}
+use Rattle.std.proofs.Common.{◌≡◌, ℕ, ◌≤◌, nat_lt, Bool, true, false, List, [], ◌++◌, ◌⊎◌, inl, inr, All, length, map, IfOk, Option, Some, None, Result, Ok, Err, refl, sym, subst, true≢false}
 use Rattle.std.proofs.lemmas.Bool.{ltb-false, ltb-true}
 use Rattle.asm_defs.specs.Disassembler.{disassembled}
 use Rattle.asm_defs.specs.ImageText.{image_text}
@@ -9,6 +9,10 @@ use Rattle.burst_trace.specs.Text.{trace_text}
 use Rattle.command_forms.specs.Forms.{AskAlone, Asks, IsForm, is_alone, is_reading, limit_of}
 use Rattle.command_forms.specs.declared.words.Form.{Form}
 use Rattle.command_forms.specs.declared.words.Form.TheVariants as form
+use Rattle.guard_defs.specs.Guard.{HasRoom}
+use Rattle.guard_defs.specs.GuardText.{guard_lines}
+use Rattle.guarded_run.specs.Guarded.{IsGuarded}
+use Rattle.guarded_run.specs.declared.guarded.Guarded.{Guarded}
 use Rattle.input_defs.specs.CampaignReading.{campaign_from}
 use Rattle.input_defs.specs.Faults.{fault_line}
 use Rattle.input_defs.specs.ImageReading.{image_from, image_from_asm}
@@ -23,12 +27,14 @@ use Rattle.nook_data.specs.declared.scenario.Scenario.{Scenario}
 use Rattle.nook_io.specs.Listening.{Listening, tap_result}
 use Rattle.nooks.proofs.Audits.{sound_report}
 use Rattle.nooks.proofs.Campaigns.{has_members}
+use Rattle.nooks.proofs.Guards.{guard_reported, guardable_parts}
 use Rattle.nooks.proofs.Reports.{run_status}
 use Rattle.nooks.proofs.Safety.{all_safe}
 use Rattle.nooks.proofs.Traces.{is_trace_of}
-use Rattle.nooks.specs.Answers.{Answers, AnswersInput, IsFaultOf, IsRefusalLine, IsReported, IsScheduled, IsSummary, IsWhole, Left, listing_from}
-use Rattle.nooks.specs.Answers.{verdict_status}
+use Rattle.nooks.specs.Answers.{Answers, AnswersInput, IsFaultOf, IsGuardReport, IsRefusalLine, IsReported, IsScheduled, IsSummary, IsWhole, Left}
+use Rattle.nooks.specs.Answers.{listing_from, verdict_status}
 use Rattle.nooks.specs.Endings.{AnswersBytes, input_for}
+use Rattle.nooks.specs.Guardable.{guardable_from}
 use Rattle.nooks.specs.Streams.{Input, TooLong, Whole}
 use Rattle.nooks.specs.Texts.{at_root, bad_header_text, help_text, no_such_burst_text, usage_text, verdict_text, version_text}
 use Rattle.nooks.specs.declared.program.Status.{Status}
@@ -204,6 +210,67 @@ trace_exists bytes part burst hearing (Ok scenario) is valid =
 trace_exists bytes part burst hearing (Err refusal) is valid =
     refused_by (form.Trace part burst) bytes hearing Scenario (scenario_from bytes) refusal is (λ text line. inl line)
 
+-- ---- guards
+
+-- every scenario that has room for its traps can be guarded
+abbrev pub AllGuarded : Type 0
+AllGuarded = (scenario : Scenario) → IsValidScenario scenario → All HasRoom scenario.parts → (made : Guarded) × IsGuarded scenario made
+
+guard_report_exists : (scenario : Scenario) (hearing : List Listening) (made : Guarded) → IsGuarded scenario made
+    → HasAnswer (IsGuardReport scenario hearing)
+guard_report_exists scenario hearing made is =
+    let left : Left = left_by made.scenario hearing is.simulation is.scheduled in
+    let status = run_status made.scenario.parts (journals_of is.simulation) in
+    let text : List ℕ = guard_lines made.stops
+    ++ report_text made.scenario left.journals left.answers left.taps (status_of made.scenario.parts left.journals) in (
+      text,
+      (
+        status.0,
+        guard_reported scenario hearing made left text status.0 is (scheduled_by made.scenario hearing is.simulation is.scheduled)
+            (whole_by made.scenario hearing is.simulation is.scheduled is.valid) status.1 refl,
+      ),
+    )
+
+read_valid : (r : Result Scenario Refusal) (scenario : Scenario) → IfOk r IsValidScenario → r ≡ Ok scenario → IsValidScenario scenario
+read_valid r scenario valid e = subst (λ x. IfOk x IsValidScenario) e valid
+
+guard_exists : AllGuarded → (bytes : List ℕ) (hearing : List Listening) (r : Result Scenario Refusal) → guardable_from bytes ≡ r
+    → HasAnswer (AnswersInput form.Guard (Whole bytes) hearing)
+guard_exists guarded bytes hearing (Ok scenario) is =
+    let read = guardable_parts (scenario_from bytes) scenario is in
+    let made = guarded scenario (read_valid (scenario_from bytes) scenario (scenario_is_valid bytes) read.0) read.1 in
+    answer_by (IsGuardReport scenario hearing) (AnswersInput form.Guard (Whole bytes) hearing)
+    (λ text status reported. inr (record { scenario = scenario; reading = is; room = read.1; reported = reported }))
+    (guard_report_exists scenario hearing made.0 made.1)
+guard_exists guarded bytes hearing (Err refusal) is =
+    refused_by form.Guard bytes hearing Scenario (guardable_from bytes) refusal is (λ text line. line)
+
+guarded_exists : AllGuarded → (bytes : List ℕ) (hearing : List Listening) (r : Result Scenario Refusal) → guardable_from bytes ≡ r
+    → HasAnswer (AnswersInput form.GuardScenario (Whole bytes) hearing)
+guarded_exists guarded bytes hearing (Ok scenario) is =
+    let read = guardable_parts (scenario_from bytes) scenario is in
+    let made = guarded scenario (read_valid (scenario_from bytes) scenario (scenario_is_valid bytes) read.0) read.1 in (
+      scenario_line made.0.scenario,
+      (
+        ended.Done,
+        inr (
+          record {
+            scenario = scenario;
+            reading = is;
+            room = read.1;
+            line = record {
+              guarded = made.0.scenario;
+              is_guarded = record { simulation = made.1.simulation; run = made.1.guarded; same = made.1.same };
+              text_is = refl;
+            };
+          },
+          refl,
+        ),
+      ),
+    )
+guarded_exists guarded bytes hearing (Err refusal) is =
+    refused_by form.GuardScenario bytes hearing Scenario (guardable_from bytes) refusal is (λ text line. line)
+
 -- ---- audits
 
 verdict_exists : (bytes handed report : List ℕ) (hearing : List Listening) (r : Result Scenario Refusal) → Hands bytes handed report
@@ -271,45 +338,49 @@ audit_exists bytes hearing = by_handed (hands_or_not bytes)
 
 -- ---- forms
 
-input_exists : (asked : Form) (input : Input) (hearing : List Listening) → is_alone asked ≡ true → is_reading asked ≡ true
+input_exists : AllGuarded → (asked : Form) (input : Input) (hearing : List Listening) → is_alone asked ≡ true → is_reading asked ≡ true
     → HasAnswer (AnswersInput asked input hearing)
-input_exists asked TooLong hearing alone reading = (fault_line (at_root fault.TooMany), (ended.BadInput, (refl, refl)))
-input_exists form.Run (Whole bytes) hearing alone reading = run_exists bytes hearing (scenario_from bytes) refl (scenario_is_valid bytes)
-input_exists form.RunThreads (Whole bytes) hearing alone reading = absurd (true≢false (sym alone))
-input_exists form.Asm (Whole bytes) hearing alone reading = asm_exists bytes hearing (image_from_asm bytes) refl
-input_exists form.Dis (Whole bytes) hearing alone reading = dis_exists bytes hearing (image_from bytes) refl
-input_exists (form.Gen number) (Whole bytes) hearing alone reading = absurd (true≢false (sym reading))
-input_exists (form.GenScenario number) (Whole bytes) hearing alone reading = absurd (true≢false (sym reading))
-input_exists form.Audit (Whole bytes) hearing alone reading = audit_exists bytes hearing
-input_exists form.Campaign (Whole bytes) hearing alone reading =
+input_exists guarded asked TooLong hearing alone reading = (fault_line (at_root fault.TooMany), (ended.BadInput, (refl, refl)))
+input_exists guarded form.Run (Whole bytes) hearing alone reading = run_exists bytes hearing (scenario_from bytes) refl (scenario_is_valid bytes)
+input_exists guarded form.RunThreads (Whole bytes) hearing alone reading = absurd (true≢false (sym alone))
+input_exists guarded form.Asm (Whole bytes) hearing alone reading = asm_exists bytes hearing (image_from_asm bytes) refl
+input_exists guarded form.Dis (Whole bytes) hearing alone reading = dis_exists bytes hearing (image_from bytes) refl
+input_exists guarded (form.Gen number) (Whole bytes) hearing alone reading = absurd (true≢false (sym reading))
+input_exists guarded (form.GenScenario number) (Whole bytes) hearing alone reading = absurd (true≢false (sym reading))
+input_exists guarded form.Audit (Whole bytes) hearing alone reading = audit_exists bytes hearing
+input_exists guarded form.Campaign (Whole bytes) hearing alone reading =
     campaign_exists bytes hearing (campaign_from bytes) refl (campaign_is_valid bytes)
-input_exists form.Mirror (Whole bytes) hearing alone reading = absurd (true≢false (sym alone))
-input_exists form.List (Whole bytes) hearing alone reading = list_exists bytes hearing (listing_from bytes) refl
-input_exists (form.Trace part burst) (Whole bytes) hearing alone reading =
+input_exists guarded form.Mirror (Whole bytes) hearing alone reading = absurd (true≢false (sym alone))
+input_exists guarded form.List (Whole bytes) hearing alone reading = list_exists bytes hearing (listing_from bytes) refl
+input_exists guarded (form.Trace part burst) (Whole bytes) hearing alone reading =
     trace_exists bytes part burst hearing (scenario_from bytes) refl (scenario_is_valid bytes)
-input_exists form.Help (Whole bytes) hearing alone reading = absurd (true≢false (sym reading))
-input_exists form.Version (Whole bytes) hearing alone reading = absurd (true≢false (sym reading))
+input_exists guarded form.Guard (Whole bytes) hearing alone reading = guard_exists guarded bytes hearing (guardable_from bytes) refl
+input_exists guarded form.GuardScenario (Whole bytes) hearing alone reading = guarded_exists guarded bytes hearing (guardable_from bytes) refl
+input_exists guarded form.Help (Whole bytes) hearing alone reading = absurd (true≢false (sym reading))
+input_exists guarded form.Version (Whole bytes) hearing alone reading = absurd (true≢false (sym reading))
 
-form_exists : (words : List (List ℕ)) (asked : Form) (input : Input) (hearing : List Listening) → IsForm words asked → is_alone asked ≡ true
+form_exists : AllGuarded → (words : List (List ℕ)) (asked : Form) (input : Input) (hearing : List Listening) → IsForm words asked → is_alone asked ≡ true
     → HasAnswer (Answers (Some asked) input hearing)
-form_exists words form.Run input hearing is alone = input_exists form.Run input hearing alone refl
-form_exists words form.RunThreads input hearing is alone = absurd (true≢false (sym alone))
-form_exists words form.Asm input hearing is alone = input_exists form.Asm input hearing alone refl
-form_exists words form.Dis input hearing is alone = input_exists form.Dis input hearing alone refl
-form_exists words (form.Gen number) input hearing is alone = summary_exists number is.2
-form_exists words (form.GenScenario number) input hearing is alone = (scenario_line (generated number), (ended.Done, (refl, refl)))
-form_exists words form.Audit input hearing is alone = input_exists form.Audit input hearing alone refl
-form_exists words form.Campaign input hearing is alone = input_exists form.Campaign input hearing alone refl
-form_exists words form.Mirror input hearing is alone = absurd (true≢false (sym alone))
-form_exists words form.List input hearing is alone = input_exists form.List input hearing alone refl
-form_exists words (form.Trace part burst) input hearing is alone = input_exists (form.Trace part burst) input hearing alone refl
-form_exists words form.Help input hearing is alone = (help_text, (ended.Done, (refl, refl)))
-form_exists words form.Version input hearing is alone = (version_text, (ended.Done, (refl, refl)))
+form_exists guarded words form.Run input hearing is alone = input_exists guarded form.Run input hearing alone refl
+form_exists guarded words form.RunThreads input hearing is alone = absurd (true≢false (sym alone))
+form_exists guarded words form.Asm input hearing is alone = input_exists guarded form.Asm input hearing alone refl
+form_exists guarded words form.Dis input hearing is alone = input_exists guarded form.Dis input hearing alone refl
+form_exists guarded words (form.Gen number) input hearing is alone = summary_exists number is.2
+form_exists guarded words (form.GenScenario number) input hearing is alone = (scenario_line (generated number), (ended.Done, (refl, refl)))
+form_exists guarded words form.Audit input hearing is alone = input_exists guarded form.Audit input hearing alone refl
+form_exists guarded words form.Campaign input hearing is alone = input_exists guarded form.Campaign input hearing alone refl
+form_exists guarded words form.Mirror input hearing is alone = absurd (true≢false (sym alone))
+form_exists guarded words form.List input hearing is alone = input_exists guarded form.List input hearing alone refl
+form_exists guarded words (form.Trace part burst) input hearing is alone = input_exists guarded (form.Trace part burst) input hearing alone refl
+form_exists guarded words form.Guard input hearing is alone = input_exists guarded form.Guard input hearing alone refl
+form_exists guarded words form.GuardScenario input hearing is alone = input_exists guarded form.GuardScenario input hearing alone refl
+form_exists guarded words form.Help input hearing is alone = (help_text, (ended.Done, (refl, refl)))
+form_exists guarded words form.Version input hearing is alone = (version_text, (ended.Done, (refl, refl)))
 
-pub words_exist : (words : List (List ℕ)) (asked : Option Form) (hearing : List Listening) (bytes : List ℕ) → Asks words asked → AskAlone words
+pub words_exist : AllGuarded → (words : List (List ℕ)) (asked : Option Form) (hearing : List Listening) (bytes : List ℕ) → Asks words asked → AskAlone words
     → (text : List ℕ) × ((status : Status) × AnswersBytes words hearing bytes text status)
-words_exist words None hearing bytes asks alone =
+words_exist guarded words None hearing bytes asks alone =
     (usage_text, (ended.Usage, record { asked = None; asks = asks; answer = (refl, refl) }))
-words_exist words (Some asked) hearing bytes asks alone =
+words_exist guarded words (Some asked) hearing bytes asks alone =
     answer_by (Answers (Some asked) (input_for (Some asked) bytes) hearing) (AnswersBytes words hearing bytes) (λ text status answer. record { asked = Some asked; asks = asks; answer = answer })
-    (form_exists words asked (input_for (Some asked) bytes) hearing asks (alone asked asks))
+    (form_exists guarded words asked (input_for (Some asked) bytes) hearing asks (alone asked asks))

@@ -1,3 +1,4 @@
 pub mod Audited
 pub mod Existing
 pub mod Once
+pub mod Stops

@@ -1,5 +1,5 @@
 -- What waits for nobody has at most one answer.
-use Rattle.std.proofs.Common.{◌≡◌, ℕ, ◌==◌, ◌<◌, ◌≤◌, if◌then◌else◌, true, List, [], ◌∷◌, ◌⊎◌, inl, inr, length, map, Option, Some, None, Result, Ok, Err, refl, sym, ap, ◌∙◌, subst, true≢false, arith}
+use Rattle.std.proofs.Common.{◌≡◌, ℕ, ◌==◌, ◌<◌, ◌≤◌, if◌then◌else◌, true, List, [], ◌∷◌, ◌++◌, ◌⊎◌, inl, inr, length, map, Option, Some, None, Result, Ok, Err, refl, sym, ap, ◌∙◌, subst, true≢false, arith}
 use Rattle.std.specs.List.{AllZip}
 use Rattle.asm_defs.specs.Disassembler.{disassembled}
 use Rattle.asm_defs.specs.ImageText.{image_text}
@@ -11,6 +11,7 @@ use Rattle.command_forms.specs.Forms.{AskAlone, Asks, is_alone, limit_of}
 use Rattle.command_forms.specs.declared.words.Form.{Form}
 use Rattle.command_forms.specs.declared.words.Form.TheVariants as form
 use Rattle.fault_campaign.proofs.Tables.{table_once}
+use Rattle.guard_defs.specs.GuardText.{guard_lines}
 use Rattle.input_defs.specs.CampaignReading.{campaign_from}
 use Rattle.input_defs.specs.Faults.{fault_line}
 use Rattle.input_defs.specs.ImageReading.{image_from, image_from_asm}
@@ -24,9 +25,12 @@ use Rattle.nook_data.specs.declared.scenario.PartSpec.{PartSpec}
 use Rattle.nook_data.specs.declared.scenario.Scenario.{Scenario}
 use Rattle.nook_data.specs.declared.steps.Event.{Event}
 use Rattle.nook_io.specs.Listening.{Listening, heard_events, tap_result}
-use Rattle.nooks.specs.Answers.{Answers, AnswersInput, AreMembers, IsAsmOf, IsAuditOf, IsFaultOf, IsImageOf, IsMember, IsRefusalLine, IsReportOf}
+use Rattle.answer_laws.proofs.Stops.{guarded_once, stops_once}
+use Rattle.nooks.specs.Answers.{Answers, AnswersInput, AreMembers, IsAsmOf, IsAuditOf, IsFaultOf, IsGuardOf, IsGuardReport, IsGuardedLine, IsGuardedOf}
+use Rattle.nooks.specs.Answers.{IsImageOf, IsMember, IsRefusalLine, IsReportOf}
 use Rattle.nooks.specs.Answers.{IsReportStatus, IsReported, IsScenarioFault, IsScheduled, IsSummary, IsTableOf, IsTraceOf, IsVerdict, Left, listing_from}
 use Rattle.nooks.specs.Endings.{AnswersBytes, input_for}
+use Rattle.nooks.specs.Guardable.{guardable_from}
 use Rattle.nooks.specs.Streams.{Input, TooLong, Whole}
 use Rattle.nooks.specs.Texts.{help_text, usage_text, version_text}
 use Rattle.nooks.specs.declared.program.Status.{Status}
@@ -136,6 +140,39 @@ summary_once number text other status end a b =
       statuses_once (generated number).parts a.left.journals b.left.journals status end journals a.status_is b.status_is,
     )
 
+-- the reports of one scenario's runs
+reports_once : (one other : Scenario) (hearing : List Listening) (x y : Left) → one ≡ other → IsScheduled one hearing x → IsScheduled other hearing y
+    → (report_text one x.journals x.answers x.taps (status_of one.parts x.journals)
+    ≡ report_text other y.journals y.answers y.taps (status_of other.parts y.journals))
+    × (status_of one.parts x.journals ≡ status_of other.parts y.journals)
+reports_once one other hearing x y e a b =
+    let at : IsScheduled other hearing x = subst (λ s. IsScheduled s hearing x) e a in
+    let journals = journals_once other hearing x y at b in (
+      ap (λ (s : Scenario). report_text s x.journals x.answers x.taps (status_of s.parts x.journals)) e
+          ∙ texts_same other x y journals (answers_once other hearing x y at b) (totals_once other hearing x y at b),
+      ap (λ (s : Scenario). status_of s.parts x.journals) e ∙ ap (λ js. status_of other.parts js) journals,
+    )
+
+guard_report_once : (scenario : Scenario) (hearing : List Listening) (text other : List ℕ) (status end : Status)
+    → IsGuardReport scenario hearing text status → IsGuardReport scenario hearing other end → (text ≡ other) × (status ≡ end)
+guard_report_once scenario hearing text other status end a b =
+    let guarded : a.guarded ≡ b.guarded = guarded_once scenario a.guarded b.guarded a.is_guarded b.is_guarded in
+    let same = reports_once a.guarded b.guarded hearing a.left b.left guarded a.run b.run in
+    let stops : a.stops ≡ b.stops =
+    a.found
+    ∙ (stops_once scenario a.is_guarded.simulation b.is_guarded.simulation a.is_guarded.run b.is_guarded.run ∙ sym b.found) in (
+      a.text_is
+          ∙ (ap (λ ls. guard_lines ls
+          ++ report_text a.guarded a.left.journals a.left.answers a.left.taps (status_of a.guarded.parts a.left.journals)) stops
+          ∙ (ap (λ t. guard_lines b.stops ++ t) same.0 ∙ sym b.text_is)),
+      told_status (status_of a.guarded.parts a.left.journals) status a.status_is
+          ∙ (ap status_by same.1 ∙ sym (told_status (status_of b.guarded.parts b.left.journals) end b.status_is)),
+    )
+
+guarded_line_once : (scenario : Scenario) (text other : List ℕ) → IsGuardedLine scenario text → IsGuardedLine scenario other → text ≡ other
+guarded_line_once scenario text other a b =
+    a.text_is ∙ (ap scenario_line (guarded_once scenario a.guarded b.guarded a.is_guarded b.is_guarded) ∙ sym b.text_is)
+
 -- ---- each form
 
 report_once : (bytes : List ℕ) (hearing : List Listening) (text other : List ℕ) (status end : Status)
@@ -201,6 +238,17 @@ trace_once : (bytes : List ℕ) (part burst : ℕ) (text other : List ℕ) → I
     → text ≡ other
 trace_once bytes part burst text other a b =
     some_once text other (traces_once bytes part burst a.scenario b.scenario (Some text) (Some other) a.reading b.reading a.trace b.trace)
+
+guard_once : (bytes : List ℕ) (hearing : List Listening) (text other : List ℕ) (status end : Status) → IsGuardOf bytes hearing text status
+    → IsGuardOf bytes hearing other end → (text ≡ other) × (status ≡ end)
+guard_once bytes hearing text other status end a b =
+    let same = ok_once (guardable_from bytes) a.scenario b.scenario a.reading b.reading in
+    guard_report_once b.scenario hearing text other status end (subst (λ s. IsGuardReport s hearing text status) same a.reported) b.reported
+
+guarded_scenario_once : (bytes text other : List ℕ) → IsGuardedOf bytes text → IsGuardedOf bytes other → text ≡ other
+guarded_scenario_once bytes text other a b =
+    let same = ok_once (guardable_from bytes) a.scenario b.scenario a.reading b.reading in
+    guarded_line_once b.scenario text other (subst (λ s. IsGuardedLine s text) same a.line) b.line
 
 -- ---- faults
 
@@ -298,6 +346,13 @@ input_once (form.Trace part burst) (Whole bytes) hearing text other status end a
     either_once (IsFaultOf (form.Trace part burst) bytes) (λ t s. IsTraceOf bytes part burst t × (s ≡ ended.Done))
     (trace_fault_once bytes part burst) (done_once (IsTraceOf bytes part burst) (trace_once bytes part burst))
     (λ t u s r f. trace_has_no_fault bytes part burst t u r.0 f) text other status end a b
+input_once form.Guard (Whole bytes) hearing text other status end alone a b =
+    either_once (IsFaultOf form.Guard bytes) (IsGuardOf bytes hearing) (refusal_once (guardable_from bytes)) (guard_once bytes hearing)
+    (λ t u s r f. not_both (guardable_from bytes) r.scenario f.refusal r.reading f.is) text other status end a b
+input_once form.GuardScenario (Whole bytes) hearing text other status end alone a b =
+    either_once (IsFaultOf form.GuardScenario bytes) (λ t s. IsGuardedOf bytes t × (s ≡ ended.Done)) (refusal_once (guardable_from bytes))
+    (done_once (IsGuardedOf bytes) (guarded_scenario_once bytes))
+    (λ t u s r f. not_both (guardable_from bytes) r.0.scenario f.refusal r.0.reading f.is) text other status end a b
 input_once form.Help (Whole bytes) hearing text other status end alone (inl a) b = absurd a.0
 input_once form.Help (Whole bytes) hearing text other status end alone (inr a) b = absurd a
 input_once form.Version (Whole bytes) hearing text other status end alone (inl a) b = absurd a.0
@@ -322,6 +377,9 @@ answer_once form.Mirror input hearing text other status end alone a b = absurd (
 answer_once form.List input hearing text other status end alone a b = input_once form.List input hearing text other status end alone a b
 answer_once (form.Trace part burst) input hearing text other status end alone a b =
     input_once (form.Trace part burst) input hearing text other status end alone a b
+answer_once form.Guard input hearing text other status end alone a b = input_once form.Guard input hearing text other status end alone a b
+answer_once form.GuardScenario input hearing text other status end alone a b =
+    input_once form.GuardScenario input hearing text other status end alone a b
 answer_once form.Help input hearing text other status end alone a b = said_once help_text ended.Done text other status end a b
 answer_once form.Version input hearing text other status end alone a b = said_once version_text ended.Done text other status end a b
 

@@ -17,11 +17,14 @@ one_word word =
     if bytes_eq word (codes "campaign") then Some form.Campaign else
     if bytes_eq word (codes "mirror") then Some form.Mirror else
     if bytes_eq word (codes "list") then Some form.List else
+    if bytes_eq word (codes "guard") then Some form.Guard else
     if bytes_eq word (codes "--help") then Some form.Help else
     if bytes_eq word (codes "--version") then Some form.Version else None
 
 abbrev two_words : List ℕ → List ℕ → Option Form
-two_words word second = if bytes_eq word (codes "run") then Some form.RunThreads else Some (form.Gen (digits_value 10 second))
+two_words word second =
+    if bytes_eq word (codes "run") then Some form.RunThreads else
+    if bytes_eq word (codes "guard") then Some form.GuardScenario else Some (form.Gen (digits_value 10 second))
 
 abbrev three_words : List ℕ → List ℕ → List ℕ → Option Form
 three_words word second third =
@@ -53,6 +56,8 @@ is_named words (form.Trace part burst) is =
     ap named is.0
     ∙ (ap (λ m. Some (form.Trace m (digits_value 10 (decimal burst)))) (decimal_is_IsNumeral part (omega (arith, is.1))).1
     ∙ ap (λ m. Some (form.Trace part m)) (decimal_is_IsNumeral burst (omega (arith, is.3))).1)
+is_named words form.Guard is = ap named is
+is_named words form.GuardScenario is = ap named is
 is_named words form.Help is = ap named is
 is_named words form.Version is = ap named is
 

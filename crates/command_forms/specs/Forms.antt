@@ -20,6 +20,8 @@ IsForm words form.Mirror = words ≡ codes "mirror" ∷ []
 IsForm words form.List = words ≡ codes "list" ∷ []
 IsForm words (form.Trace part burst) =
     (words ≡ codes "trace" ∷ decimal part ∷ decimal burst ∷ []) × (part ≤ 7) × (1 ≤ burst) × (burst ≤ 4294967295)
+IsForm words form.Guard = words ≡ codes "guard" ∷ []
+IsForm words form.GuardScenario = words ≡ codes "guard" ∷ codes "scenario" ∷ []
 IsForm words form.Help = words ≡ codes "--help" ∷ []
 IsForm words form.Version = words ≡ codes "--version" ∷ []
 
@@ -45,6 +47,8 @@ is_reading form.Campaign = true
 is_reading form.Mirror = true
 is_reading form.List = true
 is_reading (form.Trace part burst) = true
+is_reading form.Guard = true
+is_reading form.GuardScenario = true
 is_reading form.Help = false
 is_reading form.Version = false
 

@@ -28,6 +28,11 @@ pub enum Form {
     List,
     /// `trace` P B: read a scenario, simulate it up to burst B of part P, write what that burst did, turn by turn.
     Trace { part: u32, burst: u32 },
+    /// `guard`: read a scenario, simulate it with each driver stopped before it breaks its contract, write the traps and
+    /// the report.
+    Guard,
+    /// `guard scenario`: write the scenario with these traps among its faults.
+    GuardScenario,
     /// `--help`: write a line for each form and for each status.
     Help,
     /// `--version`: write the program's version.
@@ -93,6 +98,8 @@ fn form_of_word(word: &str) -> Option<Form>
         Some(Form::Mirror)
     } else if word == "list" {
         Some(Form::List)
+    } else if word == "guard" {
+        Some(Form::Guard)
     } else if word == "--help" {
         Some(Form::Help)
     } else if word == "--version" {
@@ -109,6 +116,8 @@ fn form_of_two(word: &str, second: &str) -> Option<Form>
 {
     if word == "run" {
         threads_form(second)
+    } else if word == "guard" {
+        guarded_form(second)
     } else if word == "gen" {
         generated_form(second)
     } else {
@@ -123,6 +132,18 @@ fn threads_form(second: &str) -> Option<Form>
 {
     if second == "threads" {
         Some(Form::RunThreads)
+    } else {
+        None
+    }
+}
+
+/// The form of `guard` and another word.
+fn guarded_form(second: &str) -> Option<Form>
+    ensures found { IfSome result (IsForm (codes "guard" ∷ second.now ∷ [])) }
+    ensures none { IfNone result (IsNoForm (codes "guard" ∷ second.now ∷ [])) }
+{
+    if second == "scenario" {
+        Some(Form::GuardScenario)
     } else {
         None
     }

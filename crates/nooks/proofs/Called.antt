@@ -14,9 +14,9 @@ use Rattle.command_forms.specs.declared.words.Form.TheVariants as form
 use Rattle.command_forms.specs.declared.words.WaitingForm.{WaitingForm}
 use Rattle.command_forms.specs.declared.words.WaitingForm.TheVariants as waiting
 use Rattle.nooks.proofs.Written.{ends_answered, ends_complete, ends_cut, ends_read_fault, ends_write_fault, input_ends, too_long_refused}
-use Rattle.nooks.specs.Answers.{AnswersInput, IsReportOf}
-use Rattle.nooks.specs.Endings.{AnswersWords, AskReport, Ends, EndsWords, HasReport, IsAnswerStatus, IsAnswerTo, IsBegun, IsCut, IsSafeReport}
-use Rattle.nooks.specs.Endings.{IsWritten, ReadStopWrites, TakesFor}
+use Rattle.nooks.specs.Answers.{AnswersInput, IsGuardOf, IsReportOf}
+use Rattle.nooks.specs.Endings.{AnswersWords, AskGuard, AskReport, Ends, EndsWords, HasReport, IsAnswerStatus, IsAnswerTo, IsBegun, IsCut}
+use Rattle.nooks.specs.Endings.{IsKeptReport, IsSafeReport, IsWritten, ReadStopWrites, TakesFor}
 use Rattle.nooks.specs.Streams.{Change, GainsNothing, HasFailed, Input, Reads, TooLong, Whole}
 use Rattle.nooks.specs.Texts.{at_root}
 use Rattle.nooks.specs.declared.program.Status.{Status}
@@ -182,5 +182,51 @@ words_safe words hearing source sink status e asks has =
       text = w.text;
       answer =
           safe_answer w.answer.asked hearing source w.text status (report_asked words w.answer.asked asks w.answer.asks) w.answer.answer has;
+      gained = w.gained;
+    }
+
+-- ---- what a guard's report promises
+
+kept_report : (hearing : List Listening) (source : Change) (bytes text : List ℕ) (status : Status) → Reads source (limit_of form.Guard) (Whole bytes)
+    → IsGuardOf bytes hearing text status → IsKeptReport source text status
+kept_report hearing source bytes text status reads r = record {
+  bytes = bytes;
+  read = reads;
+  scenario = r.scenario;
+  reading = r.reading;
+  guarded = r.reported.guarded;
+  is_guarded = r.reported.is_guarded;
+  stops = r.reported.stops;
+  left = r.reported.left;
+  safe = r.reported.whole.safe;
+  kept = r.reported.kept;
+  never_broken = r.reported.never_broken;
+  text_is = r.reported.text_is;
+}
+
+kept_run : (hearing : List Listening) (source : Change) (input : Input) (text : List ℕ) (status : Status)
+    → Reads source (limit_of form.Guard) input → AnswersInput form.Guard input hearing text status → HasReport status → IsKeptReport source text status
+kept_run hearing source TooLong text status reads said has = absurd (refused_has_none status said.1 has)
+kept_run hearing source (Whole bytes) text status reads (inl refused) has = absurd (refused_has_none status refused.1 has)
+kept_run hearing source (Whole bytes) text status reads (inr r) has = kept_report hearing source bytes text status reads r
+
+guard_asked : (words : List (List ℕ)) (asked : Option Form) → AskGuard words → Asks words asked → asked ≡ Some form.Guard
+guard_asked words None guard none = absurd (none form.Guard guard)
+guard_asked words (Some asked) guard is = ap Some (one_form words asked form.Guard is guard)
+
+kept_answer : (asked : Option Form) (hearing : List Listening) (source : Change) (text : List ℕ) (status : Status)
+    → asked ≡ Some form.Guard → IsAnswerTo asked hearing source text status → HasReport status → IsKeptReport source text status
+kept_answer asked hearing source text status e answer has =
+    let at : IsAnswerTo (Some form.Guard) hearing source text status = subst (λ a. IsAnswerTo a hearing source text status) e answer in
+    kept_run hearing source at.input text status (at.read refl) at.answer has
+
+-- no driver broke its contract in a guard's report that was written
+pub words_kept : (words : List (List ℕ)) (hearing : List Listening) (source sink : Change) (status : Status)
+    → EndsWords words hearing source sink status → AskGuard words → HasReport status → IsWritten (IsKeptReport source) sink status
+words_kept words hearing source sink status e asks has =
+    let w = (words_written words hearing source sink status e).0 (has_answer status has) in record {
+      text = w.text;
+      answer =
+          kept_answer w.answer.asked hearing source w.text status (guard_asked words w.answer.asked asks w.answer.asks) w.answer.answer has;
       gained = w.gained;
     }

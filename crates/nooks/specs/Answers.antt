@@ -1,13 +1,18 @@
 -- What the program answers: for the form of the words, what was read and who listens, the text that is written and the
 -- status that it ends with. It is a relation, since the threads of `run threads` may take their turns in many orders.
-use Rattle.std.specs.Prelude.{◌≡◌, ℕ, ◌<◌, ◌≤◌, List, [], ◌∷◌, ◌⊎◌, length, map, Bool, true, false, Option, Some, None}
-use Rattle.std.specs.Prelude.{Result, Ok, Err}
+use Rattle.std.specs.Prelude.{◌≡◌, ℕ, ◌<◌, ◌≤◌, List, [], ◌∷◌, ◌++◌, ◌⊎◌, All, length, map, Bool, true, false, Option, Some}
+use Rattle.std.specs.Prelude.{None, Result, Ok, Err}
 use Rattle.std.specs.List.{AllZip}
 use Rattle.input_defs.specs.CampaignReading.{campaign_from}
 use Rattle.nook_data.specs.Members.{member}
 use Rattle.report_defs.specs.Campaigns.{row_of, table_text}
 use Rattle.asm_defs.specs.Disassembler.{disassembled}
 use Rattle.input_defs.specs.Faults.{fault_line}
+use Rattle.guard_defs.specs.FirstBreaks.{AreNeeded}
+use Rattle.guard_defs.specs.Guard.{HasRoom}
+use Rattle.guard_defs.specs.GuardText.{guard_lines}
+use Rattle.guard_defs.specs.GuardedRuns.{IsGuardedSchedule, guarded_scenario, stops_found}
+use Rattle.guard_defs.specs.declared.stop.Stop.{Stop}
 use Rattle.run_defs.specs.Generated.{generated}
 use Rattle.input_defs.specs.ImageReading.{image_from, image_from_asm}
 use Rattle.asm_defs.specs.ImageText.{image_text}
@@ -23,6 +28,7 @@ use Rattle.nook_data.specs.declared.steps.Event.{Event}
 use Rattle.nook_data.specs.declared.scenario.Image.{Image}
 use Rattle.nook_data.specs.declared.campaign.MemberRow.{MemberRow}
 use Rattle.nook_data.specs.declared.mirror.MirrorAnswer.{MirrorAnswer}
+use Rattle.nook_data.specs.declared.scenario.PartSpec.{PartSpec}
 use Rattle.nook_data.specs.declared.scenario.Scenario.{Scenario}
 use Rattle.input_defs.specs.declared.input.InputFault.TheVariants as fault
 use Rattle.input_defs.specs.declared.input.Refusal.{Refusal}
@@ -30,7 +36,10 @@ use Rattle.mirrored_run.specs.Mirrors.{IsMirrorRun, is_mirror, mirror_status}
 use Rattle.report_text.specs.Mirrored.{mirror_report_text}
 use Rattle.sim_run.specs.Published.{published}
 use Rattle.threaded_run.specs.Threaded.{AreAnswered, IsThreaded, in_parts}
-use Rattle.headline_laws.specs.Headline.{AreSafe}
+use Rattle.headline_laws.specs.Headline.{AreSafe, IsTransparent}
+use Rattle.part_defs.specs.Runs.{state_of}
+use Rattle.part_laws.specs.Facts.{is_dead}
+use Rattle.promise_defs.specs.Contract.{first_break}
 use Rattle.image_list.specs.ListText.{list_text}
 use Rattle.burst_trace.specs.Retold.{TellsBurst}
 use Rattle.burst_trace.specs.Text.{IsTraceText}
@@ -38,6 +47,7 @@ use Rattle.scenario_write.specs.ScenarioText.{scenario_line}
 use Rattle.audit_input.specs.Handed.{Hands, HandsNothing}
 use Rattle.run_laws.specs.Audit.{audited}
 use Rattle.run_laws.specs.Fitting.{AllFit, fitting_text}
+use Rattle.nooks.specs.Guardable.{guardable_from}
 use Rattle.nooks.specs.Streams.{Input, TooLong, Whole}
 use Rattle.command_forms.specs.Forms.{limit_of}
 use Rattle.nooks.specs.Texts.{at_root, bad_header_text, help_text, no_such_burst_text, not_mirror_text, usage_text}
@@ -224,6 +234,62 @@ pub record IsTraceOf (bytes : List ℕ) (part burst : ℕ) (text : List ℕ) : T
   pub trace : IsTraceText scenario part burst (Some text)
   pub tells : TellsBurst scenario.parts (journals_of trace.simulation) part burst text
 
+-- ---- guards
+
+-- a driver broke no clause of its class's contract; so to its applications its part is a device that never fails, unless
+-- it was given up
+pub record IsKept (spec : PartSpec) (journal : List Event) : Type 0 where
+  pub unbroken : first_break spec.class spec.blocks journal ≡ None
+  pub transparent : is_dead (state_of spec journal).mode ≡ false → IsTransparent spec journal
+
+-- so it is of each part, in order
+abbrev pub AreKept : List PartSpec → List (List Event) → Type 0
+AreKept specs journals = AllZip IsKept specs journals
+
+-- the guarded scenario of a scenario: the one of which its guarded run is the scheduled run
+pub record IsGuardedScenario (scenario guarded : Scenario) : Type 0 where
+  pub simulation : Simulation
+  pub run : IsGuardedSchedule scenario simulation
+  pub same : guarded ≡ guarded_scenario scenario simulation
+
+-- the report of a scenario's guarded run, behind a line for each of its traps in the order in which they were found, and
+-- the run's status; each trap is needed, and whatever the drivers execute none of them breaks a clause, so that the
+-- status is never 7
+pub record IsGuardReport (scenario : Scenario) (hearing : List Listening) (text : List ℕ) (status : Status) : Type 0 where
+  pub guarded : Scenario
+  pub is_guarded : IsGuardedScenario scenario guarded
+  pub stops : List Stop
+  pub found : stops ≡ stops_found is_guarded.run.steps (begins scenario)
+  pub needed : AreNeeded scenario stops
+  pub left : Left
+  pub run : IsScheduled guarded hearing left
+  pub whole : IsWhole guarded left
+  pub kept : AreKept guarded.parts left.journals
+  pub status_is : IsReportStatus (status_of guarded.parts left.journals) status
+  pub never_broken : (status ≡ ended.Done) ⊎ (status ≡ ended.GivenUp)
+  pub text_is : text ≡ guard_lines stops
+      ++ report_text guarded left.journals left.answers left.taps (status_of guarded.parts left.journals)
+
+-- the line of a scenario's guarded scenario
+pub record IsGuardedLine (scenario : Scenario) (text : List ℕ) : Type 0 where
+  pub guarded : Scenario
+  pub is_guarded : IsGuardedScenario scenario guarded
+  pub text_is : text ≡ scenario_line guarded
+
+-- the report of the guarded run of the scenario that some bytes are, each part of which has room for its traps
+pub record IsGuardOf (bytes : List ℕ) (hearing : List Listening) (text : List ℕ) (status : Status) : Type 0 where
+  pub scenario : Scenario
+  pub reading : guardable_from bytes ≡ Ok scenario
+  pub room : All HasRoom scenario.parts
+  pub reported : IsGuardReport scenario hearing text status
+
+-- the guarded scenario of the one that some bytes are, each part of which has room for its traps
+pub record IsGuardedOf (bytes text : List ℕ) : Type 0 where
+  pub scenario : Scenario
+  pub reading : guardable_from bytes ≡ Ok scenario
+  pub room : All HasRoom scenario.parts
+  pub line : IsGuardedLine scenario text
+
 -- a text and a status are these two
 abbrev pub Says : List ℕ → Status → List ℕ → Status → Type 0
 Says line end text status = (text ≡ line) × (status ≡ end)
@@ -239,6 +305,8 @@ Does form.Campaign bytes hearing text status = IsTableOf bytes text × (status �
 Does form.Mirror bytes hearing text status = IsMirrorOf bytes hearing text status
 Does form.List bytes hearing text status = (listing_from bytes ≡ Ok text) × (status ≡ ended.Done)
 Does (form.Trace part burst) bytes hearing text status = IsTraceOf bytes part burst text × (status ≡ ended.Done)
+Does form.Guard bytes hearing text status = IsGuardOf bytes hearing text status
+Does form.GuardScenario bytes hearing text status = IsGuardedOf bytes text × (status ≡ ended.Done)
 Does asked bytes hearing text status = ⊥
 
 -- ---- faults of an input
@@ -288,6 +356,8 @@ IsFaultOf form.Mirror bytes text = IsRefusalLine (scenario_from bytes) text ⊎ 
 IsFaultOf form.List bytes text = IsRefusalLine (listing_from bytes) text
 IsFaultOf (form.Trace part burst) bytes text =
     IsRefusalLine (scenario_from bytes) text ⊎ HasNoBurst bytes part burst text
+IsFaultOf form.Guard bytes text = IsRefusalLine (guardable_from bytes) text
+IsFaultOf form.GuardScenario bytes text = IsRefusalLine (guardable_from bytes) text
 IsFaultOf asked bytes text = ⊥
 
 -- ---- the answer

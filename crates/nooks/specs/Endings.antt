@@ -1,10 +1,12 @@
 -- How a call of the program ends: what each status says of its source and its sink.
-use Rattle.std.specs.Prelude.{◌≡◌, ℕ, ◌+◌, ◌≤◌, ⊤, ◌⊎◌, true, List, Option, Some, None, Ok}
+use Rattle.std.specs.Prelude.{◌≡◌, ℕ, ◌+◌, ◌≤◌, ⊤, ◌⊎◌, true, List, ◌++◌, Option, Some, None, Ok}
 use Rattle.nook_io.specs.Listening.{Listening}
 use Rattle.nook_io.specs.Causes.{TakesAtMost}
 use Rattle.nook_io.specs.declared.whole.ReadStop.{ReadStop}
 use Rattle.nook_io.specs.declared.whole.ReadStop.TheVariants as stopped
 use Rattle.nook_data.specs.declared.scenario.Scenario.{Scenario}
+use Rattle.guard_defs.specs.GuardText.{guard_lines}
+use Rattle.guard_defs.specs.declared.stop.Stop.{Stop}
 use Rattle.headline_laws.specs.Headline.{AreSafe}
 use Rattle.report_defs.specs.ReportText.{report_text, status_of}
 use Rattle.input_defs.specs.ScenarioReading.{scenario_from}
@@ -12,7 +14,8 @@ use Rattle.input_defs.specs.declared.input.InputFault.TheVariants as fault
 use Rattle.input_defs.specs.Faults.{fault_line}
 use Rattle.scenario_read.specs.declared.stop.ScenarioFault.{ScenarioFault}
 use Rattle.scenario_read.specs.declared.stop.ScenarioFault.TheVariants as stop
-use Rattle.nooks.specs.Answers.{Answers, Left, Says}
+use Rattle.nooks.specs.Answers.{Answers, AreKept, IsGuardedScenario, Left, Says}
+use Rattle.nooks.specs.Guardable.{guardable_from}
 use Rattle.nooks.specs.Texts.{at_root}
 use Rattle.command_forms.specs.Forms.{Asks, IsForm, is_reading, limit_of}
 use Rattle.nooks.specs.Streams.{Change, Gains, GainsFront, GainsNothing, HasFailed, Input, Reads, TooLong, Whole}
@@ -105,6 +108,27 @@ pub record IsSafeReport (source : Change) (text : List ℕ) (status : Status) : 
   pub safe : AreSafe scenario.parts left.journals
   pub text_is : text
       ≡ report_text scenario left.journals left.answers left.taps (status_of scenario.parts left.journals)
+
+-- the words ask for the report of a scenario's guarded run
+abbrev pub AskGuard : List (List ℕ) → Type 0
+AskGuard words = IsForm words form.Guard
+
+-- a text is the report of the guarded run of the scenario that was read, behind the lines of its traps; every part is
+-- safe and its driver broke no clause, so that every part that was not given up is a device that never fails
+pub record IsKeptReport (source : Change) (text : List ℕ) (status : Status) : Type 0 where
+  pub bytes : List ℕ
+  pub read : Reads source (limit_of form.Guard) (Whole bytes)
+  pub scenario : Scenario
+  pub reading : guardable_from bytes ≡ Ok scenario
+  pub guarded : Scenario
+  pub is_guarded : IsGuardedScenario scenario guarded
+  pub stops : List Stop
+  pub left : Left
+  pub safe : AreSafe guarded.parts left.journals
+  pub kept : AreKept guarded.parts left.journals
+  pub never_broken : (status ≡ ended.Done) ⊎ (status ≡ ended.GivenUp)
+  pub text_is : text ≡ guard_lines stops
+      ++ report_text guarded left.journals left.answers left.taps (status_of guarded.parts left.journals)
 
 -- ---- what a sink gains of an answer, of which `Answer` says which texts it may be, and with which status
 

@@ -1,5 +1,7 @@
 -- A report in the making: what the program's own functions hand on to one another.
 use Rattle.std.specs.Prelude.{◌≡◌, ℕ, List, [], ◌∷◌, map}
+use Rattle.guarded_run.specs.Guarded.{IsGuarded}
+use Rattle.guarded_run.specs.declared.guarded.Guarded.{Guarded}
 use Rattle.nook_io.specs.Listening.{Listening}
 use Rattle.nook_data.specs.declared.steps.Event.{Event}
 use Rattle.nook_data.specs.declared.mirror.MirrorAnswer.{MirrorAnswer}
@@ -16,6 +18,7 @@ use Rattle.nooks.specs.Answers.{IsRunOf, IsWhole, Left}
 use Rattle.nooks.specs.declared.program.Status.{Status}
 use Rattle.nooks.specs.declared.program.Status.TheVariants as ended
 use Rattle.command_forms.specs.declared.words.Form.{Form}
+use Rattle.command_forms.specs.declared.words.Form.TheVariants as form
 
 -- what a run in memory left
 abbrev pub left_of : Run → Left
@@ -26,6 +29,11 @@ pub record IsMade (asked : Form) (scenario : Scenario) (hearing : List Listening
   pub run : IsRunOf asked scenario hearing (left_of report.run)
   pub whole : IsWhole scenario (left_of report.run)
   pub is_report : IsReport scenario report
+
+-- a scenario was guarded, and this is a report of the guarded scenario's run
+pub record IsGuardMade (scenario : Scenario) (hearing : List Listening) (made : Guarded) (report : Report) : Type 0 where
+  pub guarded : IsGuarded scenario made
+  pub run : IsMade form.Run made.scenario hearing report
 
 -- a report of a run of the scenario's mirror, whose parts end as their journals lead, with these answers and this
 -- status

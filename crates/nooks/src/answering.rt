@@ -21,6 +21,7 @@ ghost use Rattle.request_taps.specs.Bus.{seen, settled};
 ghost use Rattle.scenario_read.specs.Gives.{Gives};
 
 use crate::auditing::run_audit;
+use crate::guarding::{run_guard, run_guard_scenario};
 use crate::heard::{Heard, all_heard};
 use crate::listing::run_list;
 use crate::program::{AUDIT_LIMIT, LIMIT, Status, finish};
@@ -122,6 +123,8 @@ where
         Form::Campaign => run_campaign(rt, alloc, bytes, sink),
         Form::List => run_list(alloc, bytes, sink),
         Form::Trace { part, burst } => trace_bytes(alloc, bytes, part, burst, sink),
+        Form::Guard => run_guard(alloc, bytes, sink, listeners),
+        Form::GuardScenario => run_guard_scenario(alloc, bytes, sink),
         Form::RunThreads
         | Form::Mirror
         | Form::Gen { .. }

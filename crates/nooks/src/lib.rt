@@ -7,6 +7,7 @@
 mod answering;
 mod auditing;
 mod generating;
+mod guarding;
 mod heard;
 mod listing;
 mod mirroring;

@@ -3,8 +3,9 @@
 ghost use Rattle.std.specs.Prelude.{◌≡◌, ℕ, ◌+◌, ◌≤◌, ◌⊎◌, List, None, Some, IsTrue, map, string_bytes};
 ghost use Rattle.nook_io.specs.Causes.{Rose, TakesAtMost};
 ghost use Rattle.nooks.specs.Answers.{Says};
-ghost use Rattle.nooks.specs.Endings.{AnswersBytes, AnswersWords, AskReport, Ends, EndsWords, HasReport, IsBegun, IsCut};
-ghost use Rattle.nooks.specs.Endings.{IsAnswerStatus, IsSafeReport, IsWritten, TakesFor, Writes, code_of};
+ghost use Rattle.nooks.specs.Endings.{AnswersBytes, AnswersWords, AskGuard, AskReport, Ends, EndsWords, HasReport};
+ghost use Rattle.nooks.specs.Endings.{IsAnswerStatus, IsBegun, IsCut, IsKeptReport, IsSafeReport, IsWritten, TakesFor};
+ghost use Rattle.nooks.specs.Endings.{Writes, code_of};
 ghost use Rattle.command_forms.specs.Forms.{AskAlone, AskUnread, is_alone, is_reading, limit_of};
 ghost use Rattle.nooks.specs.Streams.{GainsNothing, change};
 
@@ -32,7 +33,7 @@ pub const AUDIT_LIMIT: u32 = 16_777_216;
 /// How the program ended. The exit codes are 0 to 8, in this order.
 #[derive(Clone, Copy, Debug, PartialEq, Eq)]
 pub enum Status {
-    /// What the words ask for was written, and no part was given up, or one of a mirror's two.
+    /// What the words ask for was written; if it is a report, no part was given up, or one of a mirror's two.
     Done,
     /// A report was written, and a part was given up; of a mirror: neither of its disks was left.
     GivenUp,
@@ -70,6 +71,9 @@ impl Status {
 /// whose drivers kept the class's contract and that was not given up, the applications saw one run of a device that
 /// never fails.
 ///
+/// Where it wrote the report of `guard`, that is the report of the guarded run: no driver broke its class's contract in
+/// it, so that each part that was not given up is a device that never fails, with no condition on its drivers.
+///
 /// It waits where the words ask for threads or for a mirror; all else is [`run_alone`], which returns.
 pub fn run<R: Threads + Wait + Sync, S: Source, K: Sink, G: Gate>(
     rt: &R,
@@ -93,6 +97,11 @@ pub fn run<R: Threads + Wait + Sync, S: Source, K: Sink, G: Gate>(
     // part is safe
     ensures safe { AskReport (map string_bytes words.now) → HasReport result
         → IsWritten (IsSafeReport (change S.left S.count source.old source.new))
+        (change K.held K.count sink.old sink.new) result }
+    // a guard's report that was written is one of journals of the guarded scenario, in which every part is safe and no
+    // driver broke its contract
+    ensures guarded { AskGuard (map string_bytes words.now) → HasReport result
+        → IsWritten (IsKeptReport (change S.left S.count source.old source.new))
         (change K.held K.count sink.old sink.new) result }
     // a fault ends the call and is told exactly where there was one: with every other status the
     // count of faults is as it was
@@ -222,7 +231,9 @@ where
         | Form::Audit
         | Form::Campaign
         | Form::List
-        | Form::Trace { .. } => read_and_answer(rt, alloc, asked, source, sink, listeners),
+        | Form::Trace { .. }
+        | Form::Guard
+        | Form::GuardScenario => read_and_answer(rt, alloc, asked, source, sink, listeners),
         Form::RunThreads | Form::Mirror => unreachable!(),
     }
 }

@@ -89,7 +89,7 @@ fn give_report<K: Sink>(alloc: Global, scenario: &Scenario, report: &Report, sin
 }
 
 /// Simulates a scenario over a bus of listeners, and sums the run up.
-fn judge_run<L: Listener>(
+pub fn judge_run<L: Listener>(
     alloc: Global,
     scenario: &Scenario,
     taps: &mut Bus<L>,

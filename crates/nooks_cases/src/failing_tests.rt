@@ -16,13 +16,15 @@ use std::thread::Threads;
 const MOST: u32 = 100;
 
 /// The forms that read, each with an input that it serves.
-const FORMS: [(&str, &str); 9] = [
+const FORMS: [(&str, &str); 11] = [
     ("run", SCENARIO),
     ("run threads", SCENARIO),
     ("trace 0 1", SCENARIO),
     ("campaign", CAMPAIGN),
     ("audit", REPORT),
     ("mirror", MIRROR),
+    ("guard", SCENARIO),
+    ("guard scenario", SCENARIO),
     ("asm", TEXT),
     ("list", TEXT),
     ("dis", IMAGE),

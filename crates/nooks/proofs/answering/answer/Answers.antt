@@ -4,6 +4,9 @@ use Rattle.nooks.proofs.answering.answer.Goals as goal
 pub returns-in-Run-clause-ends : goal.returns-in-Run-clause-ends
 returns-in-Run-clause-ends g c = rw (c.in-Run.is) c.run_scenario.ensures.ends
 
+pub returns-in-Guard-clause-ends : goal.returns-in-Guard-clause-ends
+returns-in-Guard-clause-ends g c = rw (c.in-Guard.is) c.run_guard.ensures.ends
+
 -- whoever listens, these hear nothing
 
 pub returns-in-Asm-clause-ends : goal.returns-in-Asm-clause-ends
@@ -23,3 +26,6 @@ returns-in-List-clause-ends g c = rw (c.in-List.is) (c.run_list.ensures.ends [])
 
 pub returns-in-Trace-clause-ends : goal.returns-in-Trace-clause-ends
 returns-in-Trace-clause-ends g c = rw (c.in-Trace.is) (c.trace_bytes.ensures.ends [])
+
+pub returns-in-GuardScenario-clause-ends : goal.returns-in-GuardScenario-clause-ends
+returns-in-GuardScenario-clause-ends g c = rw (c.in-GuardScenario.is) (c.run_guard_scenario.ensures.ends [])

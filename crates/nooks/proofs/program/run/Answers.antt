@@ -1,4 +1,4 @@
-use Rattle.nooks.proofs.Called.{form_ended, waiting_asks, words_complete, words_read_fault, words_safe, words_write_fault, words_written}
+use Rattle.nooks.proofs.Called.{form_ended, waiting_asks, words_complete, words_kept, words_read_fault, words_safe, words_write_fault, words_written}
 use Rattle.command_forms.specs.Forms.{form_for}
 use Rattle.nooks.proofs.program.run.Goals as goal
 
@@ -12,6 +12,12 @@ returns-in-Some-clause-written g c = words_written _ _ _ _ c.read_and_wait.resul
 
 pub returns-in-Some-clause-safe : goal.returns-in-Some-clause-safe
 returns-in-Some-clause-safe g c = words_safe _ _ _ _ c.read_and_wait.result
+    (form_ended _ (form_for c.in-Some.asked) _ _ _ c.read_and_wait.result c.in-Some.ensures.found c.read_and_wait.ensures.ends
+    c.read_and_wait.ensures.taken c.read_and_wait.ensures.source_later c.read_and_wait.ensures.sink_later
+    c.read_and_wait.ensures.source_kept c.read_and_wait.ensures.sink_kept)
+
+pub returns-in-Some-clause-guarded : goal.returns-in-Some-clause-guarded
+returns-in-Some-clause-guarded g c = words_kept _ _ _ _ c.read_and_wait.result
     (form_ended _ (form_for c.in-Some.asked) _ _ _ c.read_and_wait.result c.in-Some.ensures.found c.read_and_wait.ensures.ends
     c.read_and_wait.ensures.taken c.read_and_wait.ensures.source_later c.read_and_wait.ensures.sink_later
     c.read_and_wait.ensures.source_kept c.read_and_wait.ensures.sink_kept)
@@ -59,6 +65,9 @@ returns-in-None-clause-written g c = words_written _ _ _ _ c.run_alone.result c.
 
 pub returns-in-None-clause-safe : goal.returns-in-None-clause-safe
 returns-in-None-clause-safe g c = words_safe _ _ _ _ c.run_alone.result c.run_alone.ensures.ends
+
+pub returns-in-None-clause-guarded : goal.returns-in-None-clause-guarded
+returns-in-None-clause-guarded g c = words_kept _ _ _ _ c.run_alone.result c.run_alone.ensures.ends
 
 pub returns-in-None-clause-read_fault : goal.returns-in-None-clause-read_fault
 returns-in-None-clause-read_fault g c = (

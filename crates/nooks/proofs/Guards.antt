@@ -1,0 +1,243 @@
+-- What a guard makes of a scenario, and what the writing of its report leaves.
+use Rattle.std.proofs.Common.{◌≡◌, ℕ, suc, ◌+◌, ◌-◌, ◌<◌, ◌≤◌, nat_le, nat_lt, Bool, true, false, if◌then◌else◌, is_some, ◌||◌, List, [], ◌∷◌, ◌++◌, All, length, map, slice_get, ◌⊎◌, inl, inr, Option, Some, None, Result, Ok, Err, IfOk, refl, sym, ap, ◌∙◌, subst, append-nil, arith, true≢false}
+use Rattle.std.proofs.lemmas.Bool.{le-leb, leb-true, lt-leb, ltb-false, ltb-true}
+use Rattle.std.proofs.lemmas.List.Elements.{All-from_recursion}
+use Rattle.std.specs.List.{AllByRecursion}
+use Rattle.guard_defs.specs.Guard.{HasRoom}
+use Rattle.guard_defs.specs.GuardText.{guard_lines}
+use Rattle.guard_defs.specs.GuardedRuns.{spec_of}
+use Rattle.guarded_run.specs.Guarded.{IsGuarded}
+use Rattle.guarded_run.specs.declared.guarded.Guarded.{Guarded}
+use Rattle.headline_laws.specs.Headline.{AreSafe, IsSafe}
+use Rattle.input_defs.specs.ScenarioReading.{scenario_from}
+use Rattle.input_defs.specs.declared.input.Refusal.{Refusal}
+use Rattle.nook_data.proofs.Options.{none_is_some}
+use Rattle.nook_data.specs.declared.memory.NoMemory.{NoMemory}
+use Rattle.nook_data.specs.declared.scenario.PartSpec.{PartSpec}
+use Rattle.nook_data.specs.declared.scenario.Scenario.{Scenario}
+use Rattle.nook_data.specs.declared.steps.Event.{Event}
+use Rattle.nook_io.specs.Listening.{Listening}
+use Rattle.promise_defs.specs.Contract.{first_break}
+use Rattle.report_defs.specs.ReportText.{has_break, has_given_up, report_text, status_of}
+use Rattle.report_text.specs.declared.whole_report.Report.{Report}
+use Rattle.run_defs.specs.Simulation.{RunningPart, journal_of, journals_of}
+use Rattle.run_ends.specs.Journals.{events_in}
+use Rattle.scenario_read.specs.Gives.{Fails}
+use Rattle.scenario_read.specs.declared.stop.ScenarioFault.{ScenarioFault}
+use Rattle.scenario_read.specs.declared.stop.ScenarioFault.TheVariants as stops
+use Rattle.scenario_write.specs.ScenarioText.{scenario_line}
+use Rattle.sim_run.proofs.Ending.{scheduled_once}
+use Rattle.nooks.proofs.Reports.{run_status, told_status, told_writes}
+use Rattle.nooks.proofs.Written.{writes_more}
+use Rattle.nooks.specs.Answers.{AnswersInput, AreKept, IsGuardReport, IsGuardedLine, IsKept, IsReportStatus, IsScheduled, IsWhole, Left, Says}
+use Rattle.nooks.specs.Endings.{IsBegun, Writes}
+use Rattle.nooks.specs.Guardable.{first_without_room, guardable, guardable_from, has_room, no_room, with_room}
+use Rattle.nooks.specs.Making.{IsGuardMade, TellsStatus, left_of}
+use Rattle.nooks.specs.Streams.{Change, Gains, GainsFront, Whole}
+use Rattle.nooks.specs.declared.program.Status.{Status}
+use Rattle.nooks.specs.declared.program.Status.TheVariants as ended
+use Rattle.command_forms.specs.declared.words.Form.TheVariants as form
+
+-- ---- room
+
+-- what is free of a list of faults has room for a trap more than the limit
+pub room_left : (faults limit : ℕ) → nat_lt limit (64 - faults) ≡ nat_le (faults + (limit + 1)) 64
+room_left faults limit = by_test (nat_lt limit (64 - faults)) refl
+  where
+    by_test : (b : Bool) → nat_lt limit (64 - faults) ≡ b → b ≡ nat_le (faults + (limit + 1)) 64
+    by_test true e =
+        let low : limit < 64 - faults = ltb-true limit (64 - faults) e in
+        sym (le-leb (faults + (limit + 1)) 64 (omega (arith, low)))
+    by_test false e =
+        let high : 64 - faults ≤ limit = ltb-false limit (64 - faults) e in
+        sym (lt-leb (faults + (limit + 1)) 64 (omega (arith, high)))
+
+rooms : (place : ℕ) (specs : List PartSpec) → first_without_room place specs ≡ None → AllByRecursion HasRoom specs
+rooms place [] none = tt
+rooms place (spec ∷ specs) none = by_room (has_room spec) refl none (rooms (suc place) specs)
+  where
+    by_room : (room : Bool) → has_room spec ≡ room → (if room then first_without_room (suc place) specs else Some place) ≡ None
+        → (first_without_room (suc place) specs ≡ None → AllByRecursion HasRoom specs) → HasRoom spec × AllByRecursion HasRoom specs
+    by_room true is rest more = (leb-true (length spec.faults + (spec.limit + 1)) 64 is, more rest)
+    by_room false is rest more = none_is_some (sym rest)
+
+-- where no part is without room, each has room
+pub all_room : (scenario : Scenario) → first_without_room 0 scenario.parts ≡ None → All HasRoom scenario.parts
+all_room scenario none = All-from_recursion HasRoom scenario.parts (rooms 0 scenario.parts none)
+
+-- ---- what was read
+
+pub read_with_room : (bytes : List ℕ) (scenario : Scenario) → scenario_from bytes ≡ Ok scenario → first_without_room 0 scenario.parts ≡ None
+    → guardable_from bytes ≡ Ok scenario
+read_with_room bytes scenario reading none = ap guardable reading ∙ ap (with_room scenario) none
+
+pub read_without_room : (bytes : List ℕ) (scenario : Scenario) (place : ℕ) → scenario_from bytes ≡ Ok scenario
+    → first_without_room 0 scenario.parts ≡ Some place → guardable_from bytes ≡ Err (no_room place)
+read_without_room bytes scenario place reading there = ap guardable reading ∙ ap (with_room scenario) there
+
+-- the fault of the reading comes first
+pub fault_first : (bytes : List ℕ) (stop : ScenarioFault) → Fails stop (scenario_from bytes) → Fails stop (guardable_from bytes)
+fault_first bytes (stops.Bad refusal) fails = ap guardable fails
+fault_first bytes stops.NoMemory fails = tt
+
+ok_inside : {T E : Type 0} (a b : T) → Ok {T = T} {E = E} a ≡ Ok b → a ≡ b
+ok_inside a b e = cc
+
+-- what is guardable was read, and has room
+pub guardable_parts : (r : Result Scenario Refusal) (scenario : Scenario) → guardable r ≡ Ok scenario
+    → (r ≡ Ok scenario) × All HasRoom scenario.parts
+guardable_parts (Err refusal) scenario e = absurd (cc)
+guardable_parts (Ok read) scenario e = by_first (first_without_room 0 read.parts) refl e
+  where
+    by_first : (first : Option ℕ) → first_without_room 0 read.parts ≡ first → with_room read first ≡ Ok scenario
+        → (Ok read ≡ Ok scenario) × All HasRoom scenario.parts
+    by_first None none same =
+        (same, subst (λ (s : Scenario). All HasRoom s.parts) (ok_inside read scenario same) (all_room read none))
+    by_first (Some place) there same = absurd (cc)
+
+-- ---- no driver breaks a clause
+
+part_kept : (spec : PartSpec) (journal : List Event) → IsSafe spec journal → first_break spec.class spec.blocks journal ≡ None
+    → IsKept spec journal
+part_kept spec journal safe none = record {
+  unbroken = none;
+  transparent = λ alive. safe.fronts journal [] (sym (append-nil journal)) none alive;
+}
+
+each_kept : (seats : List RunningPart)
+    → ((place : ℕ) (seat : RunningPart) → slice_get seats place ≡ Some seat
+    → first_break (spec_of seat).class (spec_of seat).blocks seat.run.journal ≡ None)
+    → AreSafe (map spec_of seats) (map journal_of seats) → AreKept (map spec_of seats) (map journal_of seats)
+unfolding AreSafe
+each_kept [] none safe = tt
+each_kept (seat ∷ seats) none safe = (
+  part_kept (spec_of seat) (journal_of seat) safe.0 (none 0 seat refl),
+  each_kept seats (λ place s at. none (suc place) s at) safe.1,
+)
+
+-- each part of the guarded scenario's run is kept
+guarded_kept : (scenario : Scenario) (hearing : List Listening) (made : Guarded) (left : Left) → IsGuarded scenario made
+    → IsScheduled made.scenario hearing left → IsWhole made.scenario left → AreKept made.scenario.parts left.journals
+guarded_kept scenario hearing made left is run whole =
+    let parts : made.scenario.parts ≡ map spec_of is.simulation.parts = ap (λ (s : Scenario). s.parts) is.same in
+    let journals : left.journals ≡ journals_of is.simulation =
+    run.same_journals ∙ ap journals_of (scheduled_once made.scenario run.simulation is.simulation run.scheduled is.scheduled) in
+    let safe : AreSafe (map spec_of is.simulation.parts) (journals_of is.simulation) =
+    subst (λ ps. AreSafe ps (journals_of is.simulation)) parts (subst (λ js. AreSafe made.scenario.parts js) journals whole.safe) in
+    subst (λ ps. AreKept ps left.journals) (sym parts)
+    (subst (λ js. AreKept (map spec_of is.simulation.parts) js) (sym journals) (each_kept is.simulation.parts is.none_breaks safe))
+
+none_broken : (specs : List PartSpec) (journals : List (List Event)) → AreKept specs journals → has_break specs journals ≡ false
+unfolding has_break
+none_broken [] journals kept = refl
+none_broken (s ∷ specs) [] kept = refl
+none_broken (s ∷ specs) (journal ∷ journals) kept =
+    ap (λ o. is_some o || has_break specs journals) kept.0.unbroken ∙ none_broken specs journals kept.1
+
+kept_by : (broken gone : Bool) (status : Status) → broken ≡ false → IsReportStatus (if broken then 7 else if gone then 1 else 0) status
+    → (status ≡ ended.Done) ⊎ (status ≡ ended.GivenUp)
+kept_by true gone status unbroken is = absurd (true≢false unbroken)
+kept_by false gone ended.Done unbroken is = inl refl
+kept_by false gone ended.GivenUp unbroken is = inr refl
+kept_by false gone ended.Usage unbroken is = absurd is
+kept_by false gone ended.BadInput unbroken is = absurd is
+kept_by false gone ended.ReadFault unbroken is = absurd is
+kept_by false gone ended.WriteFault unbroken is = absurd is
+kept_by false gone ended.NoMemory unbroken is = absurd is
+kept_by false true ended.ContractBroken unbroken is = absurd (omega (arith, is))
+kept_by false false ended.ContractBroken unbroken is = absurd (omega (arith, is))
+kept_by false gone ended.AuditNo unbroken is = absurd is
+
+-- the status of a run whose drivers broke no clause
+kept_status : (specs : List PartSpec) (journals : List (List Event)) (status : Status) → AreKept specs journals
+    → IsReportStatus (status_of specs journals) status → (status ≡ ended.Done) ⊎ (status ≡ ended.GivenUp)
+kept_status specs journals status kept is =
+    kept_by (has_break specs journals) (has_given_up specs journals) status (none_broken specs journals kept) is
+
+-- ---- reports
+
+-- the report of the guarded scenario's run
+pub guard_reported : (scenario : Scenario) (hearing : List Listening) (made : Guarded) (left : Left) (text : List ℕ) (status : Status)
+    → IsGuarded scenario made → IsScheduled made.scenario hearing left → IsWhole made.scenario left
+    → IsReportStatus (status_of made.scenario.parts left.journals) status
+    → text ≡ guard_lines made.stops
+    ++ report_text made.scenario left.journals left.answers left.taps (status_of made.scenario.parts left.journals)
+    → IsGuardReport scenario hearing text status
+guard_reported scenario hearing made left text status is run whole told same =
+    let kept : AreKept made.scenario.parts left.journals = guarded_kept scenario hearing made left is run whole in record {
+      guarded = made.scenario;
+      is_guarded = record { simulation = is.simulation; run = is.guarded; same = is.same };
+      stops = made.stops;
+      found = is.stops;
+      needed = is.needed;
+      left = left;
+      run = run;
+      whole = whole;
+      kept = kept;
+      status_is = told;
+      never_broken = kept_status made.scenario.parts left.journals status kept told;
+      text_is = same;
+    }
+
+module _ (scenario : Scenario) (hearing : List Listening) (made : Guarded) (report : Report)
+    (is : IsGuardMade scenario hearing made report) where
+  abbrev pub guard_text : List ℕ
+  guard_text = guard_lines made.stops
+      ++ report_text made.scenario (map events_in report.run.journals) report.run.answers report.run.taps report.status
+
+  reported : (status : Status) → IsReportStatus (status_of made.scenario.parts (map events_in report.run.journals)) status
+      → IsGuardReport scenario hearing guard_text status
+  reported status told =
+      guard_reported scenario hearing made (left_of report.run) guard_text status is.guarded is.run.run is.run.whole told
+      (ap (λ s. guard_lines made.stops ++ report_text made.scenario (map events_in report.run.journals) report.run.answers report.run.taps s)
+      is.run.is_report.status)
+
+  -- a report that was written ends as its status tells
+  pub guard_written : (sink : Change) (status : Status) → Gains sink guard_text → TellsStatus report.status status
+      → Writes (IsGuardReport scenario hearing) sink status
+  guard_written sink status gained tells =
+      let told = told_status made.scenario.parts (map events_in report.run.journals) report.status status is.run.is_report.status tells in
+      told_writes (IsGuardReport scenario hearing) sink report.status status tells
+      (record { text = guard_text; answer = reported status told; gained = gained })
+
+  -- a report of which a front was written
+  pub guard_begun : (sink : Change) → GainsFront sink guard_text → IsBegun (IsGuardReport scenario hearing) sink
+  guard_begun sink front =
+      let told = run_status made.scenario.parts (map events_in report.run.journals) in
+      record { text = guard_text; status = told.0; answer = reported told.0 told.1; gained = front }
+
+-- ---- the guarded scenario
+
+-- its line, where memory allows it
+pub line_of : (scenario : Scenario) (made : Guarded) (r : Result (List ℕ) NoMemory) → IsGuarded scenario made
+    → IfOk r (λ text. text ≡ scenario_line made.scenario) → IfOk r (IsGuardedLine scenario)
+line_of scenario made (Err e) is same = same
+line_of scenario made (Ok text) is same = record {
+  guarded = made.scenario;
+  is_guarded = record { simulation = is.simulation; run = is.guarded; same = is.same };
+  text_is = same;
+}
+
+pub line_written : (scenario : Scenario) (text said : List ℕ) (sink : Change) (status : Status) → IsGuardedLine scenario text
+    → said ≡ text → Writes (Says said ended.Done) sink status
+    → Writes (λ t s. IsGuardedLine scenario t × (s ≡ ended.Done)) sink status
+line_written scenario text said sink status line same ends =
+    writes_more (Says said ended.Done) (λ t s. IsGuardedLine scenario t × (s ≡ ended.Done)) sink status
+    (λ t s says. (subst (IsGuardedLine scenario) (sym (says.0 ∙ same)) line, says.1)) ends
+
+-- ---- the answer to the bytes
+
+pub guard_answers : (bytes : List ℕ) (scenario : Scenario) (hearing : List Listening) (sink : Change) (status : Status)
+    → guardable_from bytes ≡ Ok scenario → All HasRoom scenario.parts → Writes (IsGuardReport scenario hearing) sink status
+    → Writes (AnswersInput form.Guard (Whole bytes) hearing) sink status
+guard_answers bytes scenario hearing sink status reading room ends =
+    writes_more (IsGuardReport scenario hearing) (AnswersInput form.Guard (Whole bytes) hearing) sink status
+    (λ text s reported. inr (record { scenario = scenario; reading = reading; room = room; reported = reported })) ends
+
+pub guarded_answers : (bytes : List ℕ) (scenario : Scenario) (hearing : List Listening) (sink : Change) (status : Status)
+    → guardable_from bytes ≡ Ok scenario → All HasRoom scenario.parts
+    → Writes (λ text s. IsGuardedLine scenario text × (s ≡ ended.Done)) sink status
+    → Writes (AnswersInput form.GuardScenario (Whole bytes) hearing) sink status
+guarded_answers bytes scenario hearing sink status reading room ends =
+    writes_more (λ text s. IsGuardedLine scenario text × (s ≡ ended.Done)) (AnswersInput form.GuardScenario (Whole bytes) hearing) sink status
+    (λ text s line. inr (record { scenario = scenario; reading = reading; room = room; line = line.0 }, line.1)) ends

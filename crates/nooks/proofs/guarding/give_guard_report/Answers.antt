@@ -1,0 +1,29 @@
+use Rattle.std.proofs.Common.{Err, ap, inr, refl}
+use Rattle.nooks.proofs.Guards.{guard_begun, guard_written}
+use Rattle.nooks.proofs.guarding.give_guard_report.Goals as goal
+
+pub returns-in-Ok-clause-ends : goal.returns-in-Ok-clause-ends
+returns-in-Ok-clause-ends g c scenario hearing made =
+    guard_written scenario hearing c.args.made.now.guarded c.args.made.now.report made _ c.status_of.result
+    (c.in-Ok.ensures.text made.run.is_report).ok c.status_of.ensures
+
+pub returns-in-Err-Fault-clause-ends : goal.returns-in-Err-Fault-clause-ends
+returns-in-Err-Fault-clause-ends g c scenario hearing made =
+    let wrote = c.in-Err-Fault.ensures.text made.run.is_report in (
+      wrote.fault (ap Err c.in-Err-Fault.field-0-is),
+      guard_begun scenario hearing c.args.made.now.guarded c.args.made.now.report made _ wrote.err,
+    )
+
+pub returns-in-Err-NoMemory-clause-ends : goal.returns-in-Err-NoMemory-clause-ends
+returns-in-Err-NoMemory-clause-ends g c scenario hearing made =
+    let wrote = c.in-Err-NoMemory.ensures.text made.run.is_report in
+    inr (guard_begun scenario hearing c.args.made.now.guarded c.args.made.now.report made _ wrote.err)
+
+pub returns-in-Ok-clause-kept : goal.returns-in-Ok-clause-kept
+returns-in-Ok-clause-kept g c other = c.in-Ok.ensures.rows.kept
+
+pub returns-in-Err-Fault-clause-kept : goal.returns-in-Err-Fault-clause-kept
+returns-in-Err-Fault-clause-kept g c other = absurd (other refl)
+
+pub returns-in-Err-NoMemory-clause-kept : goal.returns-in-Err-NoMemory-clause-kept
+returns-in-Err-NoMemory-clause-kept g c other = c.in-Err-NoMemory.ensures.rows.wanting (ap Err c.in-Err-NoMemory.field-0-is)

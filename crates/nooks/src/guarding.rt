@@ -1,0 +1,277 @@
+//! The forms of a guard: each driver is stopped before it breaks its class's contract.
+
+ghost use Rattle.std.specs.Prelude.{◌≡◌, ◌≤◌, ◌++◌, List, All, IfOk, OnOk, length, map};
+ghost use Rattle.guard_defs.specs.Guard.{HasRoom};
+ghost use Rattle.guard_defs.specs.GuardText.{guard_line, guard_lines};
+ghost use Rattle.nook_data.specs.Valid.{IsValidScenario};
+ghost use Rattle.nook_io.specs.Listening.{Listening};
+ghost use Rattle.nooks.specs.Answers.{AnswersInput, IsGuardReport, IsGuardedLine};
+ghost use Rattle.nooks.specs.Endings.{Writes};
+ghost use Rattle.nooks.specs.Guardable.{first_without_room, guardable_from, has_room, no_room};
+ghost use Rattle.nooks.specs.Making.{IsGuardMade};
+ghost use Rattle.nooks.specs.Streams.{Whole, change};
+ghost use Rattle.report_defs.specs.ReportText.{report_text};
+ghost use Rattle.report_text.specs.Whole.{IsReport, lists_of, report_rows};
+ghost use Rattle.report_text.specs.Writing.{Wrote};
+ghost use Rattle.request_taps.specs.Bus.{seen, settled};
+ghost use Rattle.scenario_read.specs.Gives.{Gives};
+
+use crate::answering::{bus_of, refuse_for};
+use crate::heard::Heard;
+use crate::program::{Status, finish};
+use crate::simulated::{judge_run, status_of};
+use asm_defs::keys::Key;
+use command_forms::Form;
+use guard_defs::stop::Stop;
+use guarded_run::{Guarded, guard_scenario};
+use input_defs::input::{InputFault, Path, PathStep, Refusal};
+use nook_data::limits::{MOST_FAULTS, MOST_PARTS};
+use nook_data::lists::Words8;
+use nook_data::memory::NoMemory;
+use nook_data::scenario::{PartSpec, Scenario};
+use nook_io::outside::{Listener, Sink};
+use report_text::{Line, Report, WriteStop, push_number, write_report, write_text};
+use request_taps::Bus;
+use scenario_read::{ScenarioFault, read_scenario};
+use scenario_write::write_scenario_line;
+use std::alloc::Global;
+
+/// A guarded scenario with its traps, and the report of its run.
+#[derive(Drop)]
+struct GuardReport {
+    guarded: Guarded,
+    report: Report,
+}
+
+/// Guards the scenario of some bytes, simulates the guarded one, and writes the traps and the report.
+pub fn run_guard<K: Sink, T: Drop>(
+    alloc: Global,
+    bytes: &[u8],
+    sink: &mut K,
+    listeners: Vec<T>,
+) -> Status
+where
+    Heard<T>: Listener,
+    ensures ends { Writes (AnswersInput Form.Guard (Whole bytes.now)
+        (map (λ v. ⟦<Heard<T> as Listener>⟧.listening (record { value = v })) listeners.items))
+        (change K.held K.count sink.old sink.new) result }
+    ensures later { K.count sink.old ≤ K.count sink.new }
+    ensures kept { (result ≡ Status.WriteFault → ⊥) → K.count sink.new ≡ K.count sink.old }
+{
+    match read_guardable(alloc, bytes) {
+        Ok(scenario) => report_guarded(alloc, &scenario, sink, listeners),
+        Err(stop) => refuse_for(alloc, sink, &stop),
+    }
+}
+
+/// Guards the scenario of some bytes, and writes the guarded one.
+pub fn run_guard_scenario<K: Sink>(alloc: Global, bytes: &[u8], sink: &mut K) -> Status
+    ensures ends { (hearing : List Listening) → Writes (AnswersInput Form.GuardScenario (Whole bytes.now) hearing)
+        (change K.held K.count sink.old sink.new) result }
+    ensures later { K.count sink.old ≤ K.count sink.new }
+    ensures kept { (result ≡ Status.WriteFault → ⊥) → K.count sink.new ≡ K.count sink.old }
+{
+    match read_guardable(alloc, bytes) {
+        Ok(scenario) => give_guarded(alloc, &scenario, sink),
+        Err(stop) => refuse_for(alloc, sink, &stop),
+    }
+}
+
+/// The scenario of some bytes, each part of which has room for the traps that its guard may need.
+fn read_guardable(alloc: Global, bytes: &[u8]) -> Result<Scenario, ScenarioFault>
+    ensures gives { Gives result (guardable_from bytes.now) }
+    ensures valid { IfOk result IsValidScenario }
+    ensures room { IfOk result (λ scenario. All HasRoom scenario.parts) }
+{
+    let scenario = read_scenario(alloc, bytes)?;
+    match first_without_room(scenario.parts.as_slice()) {
+        Some(place) => Err(ScenarioFault::Bad(no_room(alloc, place)?)),
+        None => Ok(scenario),
+    }
+}
+
+/// The place of the first part that has no room.
+fn first_without_room(parts: &[PartSpec]) -> Option<u32>
+    requires { length parts.now ≤ MOST_PARTS }
+    ensures { result ≡ first_without_room 0 parts.now }
+{
+    let mut place = 0;
+    for part in parts {
+        if !has_room(part) {
+            return Some(place);
+        }
+        place += 1;
+    }
+    None
+}
+
+/// Whether a part has room for a trap at each failure, of which there are at most one more than its limit.
+fn has_room(part: &PartSpec) -> bool
+    ensures { result ≡ has_room part.now }
+{
+    let free = MOST_FAULTS.saturating_sub(part.faults.len());
+    (part.limit as usize) < free
+}
+
+/// Why a scenario is refused in which the part at a place is the first without room.
+fn no_room(alloc: Global, place: u32) -> Result<Refusal, NoMemory>
+    ensures { IfOk result (λ refusal. refusal ≡ no_room place) }
+{
+    let mut path = Path::new(alloc);
+    path.push(PathStep::At(Key::Parts))?;
+    path.push(PathStep::Place(place))?;
+    path.push(PathStep::At(Key::Faults))?;
+    Ok(Refusal {
+        fault: InputFault::TooMany,
+        path,
+    })
+}
+
+/// Guards a scenario, simulates the guarded one, which listeners hear, and writes the traps and the report.
+fn report_guarded<K: Sink, T: Drop>(
+    alloc: Global,
+    scenario: &Scenario,
+    sink: &mut K,
+    listeners: Vec<T>,
+) -> Status
+where
+    Heard<T>: Listener,
+    requires valid { IsValidScenario scenario.now }
+    requires room { All HasRoom scenario.now.parts }
+    ensures ends { Writes (IsGuardReport scenario.now
+        (map (λ v. ⟦<Heard<T> as Listener>⟧.listening (record { value = v })) listeners.items))
+        (change K.held K.count sink.old sink.new) result }
+    ensures later { K.count sink.old ≤ K.count sink.new }
+    ensures kept { (result ≡ Status.WriteFault → ⊥) → K.count sink.new ≡ K.count sink.old }
+{
+    match bus_of(alloc, listeners) {
+        Ok(mut taps) => guard_and_report(alloc, scenario, sink, &mut taps),
+        Err(NoMemory) => Status::NoMemory,
+    }
+}
+
+/// Guards a scenario, simulates the guarded one, which a bus of listeners hears, and writes the traps and the report.
+fn guard_and_report<K: Sink, L: Listener>(
+    alloc: Global,
+    scenario: &Scenario,
+    sink: &mut K,
+    taps: &mut Bus<L>,
+) -> Status
+    requires valid { IsValidScenario scenario.now }
+    requires room { All HasRoom scenario.now.parts }
+    ensures ends { (hearing : List Listening) → map (seen L.listening) taps.old ≡ map settled hearing
+        → Writes (IsGuardReport scenario.now hearing) (change K.held K.count sink.old sink.new) result }
+    ensures later { K.count sink.old ≤ K.count sink.new }
+    ensures kept { (result ≡ Status.WriteFault → ⊥) → K.count sink.new ≡ K.count sink.old }
+{
+    match judge_guarded(alloc, scenario, taps) {
+        Ok(made) => give_guard_report(alloc, &made, sink),
+        Err(NoMemory) => Status::NoMemory,
+    }
+}
+
+/// Guards a scenario, simulates the guarded one over a bus of listeners, and sums that run up. The runs in which the
+/// traps are found are heard by nobody.
+fn judge_guarded<L: Listener>(
+    alloc: Global,
+    scenario: &Scenario,
+    taps: &mut Bus<L>,
+) -> Result<GuardReport, NoMemory>
+    requires valid { IsValidScenario scenario.now }
+    requires room { All HasRoom scenario.now.parts }
+    ensures { (hearing : List Listening) → map (seen L.listening) taps.old ≡ map settled hearing
+        → IfOk result (λ made. IsGuardMade scenario.now hearing made.guarded made.report) }
+{
+    let guarded = guard_scenario(alloc, scenario)?;
+    let report = judge_run(alloc, &guarded.scenario, taps)?;
+    Ok(GuardReport { guarded, report })
+}
+
+/// Writes the traps of a guard and the report of the guarded scenario's run.
+fn give_guard_report<K: Sink>(alloc: Global, made: &GuardReport, sink: &mut K) -> Status
+    ensures ends { (scenario : Scenario) (hearing : List Listening)
+        → IsGuardMade scenario hearing made.now.guarded made.now.report
+        → Writes (IsGuardReport scenario hearing) (change K.held K.count sink.old sink.new) result }
+    ensures later { K.count sink.old ≤ K.count sink.new }
+    ensures kept { (result ≡ Status.WriteFault → ⊥) → K.count sink.new ≡ K.count sink.old }
+{
+    match write_guard_report(alloc, &made.guarded, &made.report, sink) {
+        Ok(()) => status_of(made.report.status),
+        Err(WriteStop::Fault) => Status::WriteFault,
+        Err(WriteStop::NoMemory) => Status::NoMemory,
+    }
+}
+
+/// Writes a line for each trap, and behind them the report.
+fn write_guard_report<K: Sink>(
+    alloc: Global,
+    guarded: &Guarded,
+    report: &Report,
+    sink: &mut K,
+) -> Result<(), WriteStop>
+    ensures rows { Wrote (K.held sink.old) (K.held sink.new) (K.count sink.old) (K.count sink.new) result
+        (guard_lines guarded.now.stops ++ report_rows guarded.now.scenario report.now) }
+    ensures text { IsReport guarded.now.scenario report.now
+        → Wrote (K.held sink.old) (K.held sink.new) (K.count sink.old) (K.count sink.new) result
+        (guard_lines guarded.now.stops ++ report_text guarded.now.scenario (lists_of report.now.run.journals)
+        report.now.run.answers report.now.run.taps report.now.status) }
+{
+    write_guard_lines(alloc, guarded.stops.as_slice(), sink)?;
+    write_report(alloc, &guarded.scenario, report, sink)
+}
+
+/// Writes a line for each trap.
+fn write_guard_lines<K: Sink>(alloc: Global, stops: &[Stop], sink: &mut K) -> Result<(), WriteStop>
+    ensures { Wrote (K.held sink.old) (K.held sink.new) (K.count sink.old) (K.count sink.new) result
+        (guard_lines stops.now) }
+{
+    let mut lines = Line::new(alloc);
+    push_guard_lines(&mut lines, stops)?;
+    write_text(sink, &lines)
+}
+
+/// Adds a line for each trap.
+fn push_guard_lines(lines: &mut Line, stops: &[Stop]) -> Result<(), NoMemory>
+    ensures { OnOk result (lines.new ≡ lines.old ++ guard_lines stops.now) }
+{
+    for stop in stops {
+        push_guard_line(lines, stop)?;
+    }
+    Ok(())
+}
+
+/// Adds the line of a trap: its part, its burst, the turns before it, and the clause that would have been broken.
+fn push_guard_line(line: &mut Line, stop: &Stop) -> Result<(), NoMemory>
+    ensures { OnOk result (line.new ≡ line.old ++ guard_line stop.now) }
+{
+    push_number(line, "guard ", u64::from(stop.part))?;
+    push_number(line, " burst ", u64::from(stop.trap.burst))?;
+    push_number(line, " after ", u64::from(stop.trap.after))?;
+    push_number(line, " clause ", u64::from(stop.clause.number()))?;
+    line.push("\n")
+}
+
+/// Guards a scenario, and writes the guarded one.
+fn give_guarded<K: Sink>(alloc: Global, scenario: &Scenario, sink: &mut K) -> Status
+    requires valid { IsValidScenario scenario.now }
+    requires room { All HasRoom scenario.now.parts }
+    ensures ends { Writes (λ text status. IsGuardedLine scenario.now text × (status ≡ Status.Done))
+        (change K.held K.count sink.old sink.new) result }
+    ensures later { K.count sink.old ≤ K.count sink.new }
+    ensures kept { (result ≡ Status.WriteFault → ⊥) → K.count sink.new ≡ K.count sink.old }
+{
+    match guarded_line(alloc, scenario) {
+        Ok(text) => finish(sink, text.as_slice(), Status::Done),
+        Err(NoMemory) => Status::NoMemory,
+    }
+}
+
+/// The line of a scenario's guarded scenario.
+fn guarded_line(alloc: Global, scenario: &Scenario) -> Result<Words8, NoMemory>
+    requires valid { IsValidScenario scenario.now }
+    requires room { All HasRoom scenario.now.parts }
+    ensures { IfOk result (IsGuardedLine scenario.now) }
+{
+    let guarded = guard_scenario(alloc, scenario)?;
+    write_scenario_line(alloc, &guarded.scenario)
+}

@@ -208,7 +208,7 @@ unfolding told_all
 told_none [] = refl
 told_none (e ∷ events) = told_none events
 
-hears_none : (s : Simulation) (some : Bool) → HearsStep s (Ok some) [] []
+pub hears_none : (s : Simulation) (some : Bool) → HearsStep s (Ok some) [] []
 hears_none s true = sym (told_none (made s (choices_of s)))
 hears_none s false = refl
 
@@ -225,7 +225,7 @@ pub seeks_to_end : (scenario : Scenario) (n : ℕ) (s : Simulation) (place numbe
 seeks_to_end scenario n s place number v h l = has_to_end scenario n s [] [] v h.run l
 
 -- the choice's part is there
-has_seat : (c : Choice) (parts : List RunningPart) (o : Option RunningPart) → slice_get parts c.part ≡ o
+pub has_seat : (c : Choice) (parts : List RunningPart) (o : Option RunningPart) → slice_get parts c.part ≡ o
     → IsOpenChoice parts c → (seat : RunningPart) × (slice_get parts c.part ≡ Some seat)
 has_seat c parts None e h = absurd (none e)
   where

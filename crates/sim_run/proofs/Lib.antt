@@ -1,6 +1,6 @@
 pub mod AbleThreads
 pub mod Advancing
-pub mod Breaking
+pub mod FirstBreak
 pub mod Choosing
 pub mod Ending
 pub mod EndStates

@@ -99,7 +99,7 @@ first_position p xs rest e h is =
     ap (λ k. cond (nat_lt k (length (xs ++ e ∷ rest))) (Some k) None) n
     ∙ ap (λ b. cond b (Some (length xs)) None) (lt-ltb (length xs) (length (xs ++ e ∷ rest)) (omega (arith, long)))
 
-front_taken : {X : Type 0} (xs ys : List X) → take (length xs) (xs ++ ys) ≡ xs
+pub front_taken : {X : Type 0} (xs ys : List X) → take (length xs) (xs ++ ys) ≡ xs
 front_taken [] ys = refl
 front_taken (x ∷ xs) ys = ap (λ l. x ∷ l) (front_taken xs ys)
 

@@ -77,7 +77,7 @@ fn take_judged(
     unheard: &mut Bus<CountListener>,
     chosen: Chosen,
 ) -> Result<bool, NoMemory>
-    requires open { IsOpenChoice simulation.old.parts chosen }
+    requires choice { IsOpenChoice simulation.old.parts chosen }
     requires seen { HaveSeen simulation.old.parts monitors.old }
     ensures taken { OnOk result (simulation.new
         ≡ stepped_by simulation.old simulation.old.order chosen (slice_get simulation.old.parts chosen.part)) }

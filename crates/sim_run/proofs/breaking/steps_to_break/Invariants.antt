@@ -1,4 +1,4 @@
-use Rattle.sim_run.proofs.Breaking.{HasKept}
+use Rattle.sim_run.proofs.FirstBreak.{HasKept}
 use Rattle.sim_run.proofs.breaking.steps_to_break.Given as goal
 
 abbrev pub invariant-loop-step : goal.invariant-loop-step

@@ -1,5 +1,5 @@
-use Rattle.std.proofs.Common.{ap, is_some}
-use Rattle.sim_run.proofs.Breaking.{caught_up, has_newest}
+use Rattle.std.proofs.Common.{ap, is_some, ◌∙◌}
+use Rattle.sim_run.proofs.FirstBreak.{caught_up, has_newest}
 use Rattle.sim_run.proofs.seat.Seat.judge_newest.Goals as goal
 
 pub newest-requires : goal.newest-requires
@@ -11,4 +11,5 @@ returns-clause-seen c =
     c.in_ok-see_or_give_up.ensures
 
 pub returns-clause-broken : goal.returns-clause-broken
-returns-clause-broken c = ap is_some (c.first_break.ensures.stands _ _ _ (returns-clause-seen c))
+returns-clause-broken c =
+    c.is_some.ensures ∙ ap is_some (c.first_break.ensures.stands _ _ _ (returns-clause-seen c))

@@ -1,9 +1,9 @@
 -- The run up to the first burst that breaks a clause.
 use Rattle.std.proofs.Common.{◌≡◌, ◌⊎◌, inl, inr, ℕ, zero, suc, ◌+◌, ◌-◌, ◌<◌, ◌≤◌, ◌^◌, Bool, true, false, is_some}
 use Rattle.std.proofs.Common.{Option, Some, None, Result, Ok, Err, OnOk, List, [], ◌∷◌, ◌++◌, map, fold, get_or, length}
-use Rattle.std.proofs.Common.{slice_get, slice_set, refl, sym, ap, ◌∙◌, subst, arith, add-one, length-append}
+use Rattle.std.proofs.Common.{drop, slice_get, slice_set, take, refl, sym, ap, ◌∙◌, subst, arith, add-one, length-append}
 use Rattle.std.proofs.lemmas.Bool.{false≢true}
-use Rattle.std.proofs.lemmas.Option.{slice_get_read, slice_get_within}
+use Rattle.std.proofs.lemmas.Option.{slice_get-get_or, slice_get_within}
 use Rattle.contract_monitor.specs.Monitors.{Monitored, StandsFor}
 use Rattle.guard_defs.specs.FirstBreaks.{IsFirstBreak, NoneBreaks, picked_choice}
 use Rattle.guard_defs.specs.GuardedRuns.{known_of, spec_of}
@@ -23,7 +23,7 @@ use Rattle.run_defs.specs.Simulation.{Choice, RunningPart, Simulation, actor_of,
 use Rattle.run_defs.specs.Simulation.{part_after, runs, stepped_by}
 use Rattle.sim_run.proofs.Ending.{HasRun, has_begun, has_run_on, has_to_end, moved_some}
 use Rattle.sim_run.proofs.Reaching.{runs_back}
-use Rattle.sim_run.proofs.Seeking.{has_seat, hears_none, pick_taken}
+use Rattle.sim_run.proofs.Seeking.{front_taken, has_seat, hears_none, pick_taken}
 use Rattle.sim_run.proofs.Taking.{last_of}
 use Rattle.sim_run.specs.Advanced.{IsAdvanced, IsPick}
 use Rattle.sim_run.specs.Breaks.{BreaksBehind, HasBreakBehind, IsWrongBurst, LeadsToBreak}
@@ -190,17 +190,17 @@ stepped_at s u c place seat at e p =
     let here : slice_get s.parts place ≡ Some seat = ap (slice_get s.parts) p ∙ at in
     (left, ap (λ (xs : List RunningPart). slice_get xs place) left ∙ get_set_same s.parts place seat new here)
 
-pub is_one_behind : (s u : Simulation) (c : Choice) (place : ℕ) (monitors : List Monitored) (m : Monitored)
+pub is_one_behind : (s u : Simulation) (c : Choice) (place : ℕ) (monitors : List Monitored) (other : Monitored)
     → IsOpenChoice s.parts c → HaveSeen s.parts monitors → u ≡ stepped_by s s.order c (slice_get s.parts c.part)
-    → place ≡ c.part → m ≡ get_or monitors place m → IsOneBehindAt (slice_get u.parts place) m
-is_one_behind s u c place monitors m open all e p r =
-    let here = has_seat c s.parts (slice_get s.parts c.part) refl open in
+    → place ≡ c.part → IsOneBehindAt (slice_get u.parts place) (get_or monitors place other)
+is_one_behind s u c place monitors other may all e p =
+    let here = has_seat c s.parts (slice_get s.parts c.part) refl may in
     let seat : RunningPart = here.0 in
     let at : slice_get s.parts place ≡ Some seat = ap (slice_get s.parts) p ∙ here.1 in
     let within : place < length s.parts = slice_get_within s.parts place seat at in
     let count : length monitors ≡ length s.parts = seen_length s.parts monitors all in
-    let in_list : place < length monitors = omega arith in
-    let there : slice_get monitors place ≡ Some m = slice_get_read monitors (length monitors) place m refl in_list r in
+    let m : Monitored = get_or monitors place other in
+    let there : slice_get monitors place ≡ Some m = slice_get-get_or monitors place other (omega arith) in
     let seen : HasSeen seat m = seen_at s.parts monitors place seat m all at there in
     subst (λ (o : Option RunningPart). IsOneBehindAt o m) (sym (stepped_at s u c place seat here.1 e p).1) (record {
       front = seat.run.journal;
@@ -212,8 +212,8 @@ is_one_behind s u c place monitors m open all e p r =
 -- the choice's part has a monitor
 pub monitor_within : (s : Simulation) (c : Choice) (place : ℕ) (monitors : List Monitored) → IsOpenChoice s.parts c
     → HaveSeen s.parts monitors → place ≡ c.part → place < length monitors
-monitor_within s c place monitors open all p =
-    let here = has_seat c s.parts (slice_get s.parts c.part) refl open in
+monitor_within s c place monitors may all p =
+    let here = has_seat c s.parts (slice_get s.parts c.part) refl may in
     let within : c.part < length s.parts = slice_get_within s.parts c.part here.0 here.1 in
     let count : length monitors ≡ length s.parts = seen_length s.parts monitors all in
     omega arith
@@ -222,8 +222,8 @@ all_seen : (s u : Simulation) (c : Choice) (place : ℕ) (monitors : List Monito
     → IsOpenChoice s.parts c → HaveSeen s.parts monitors → u ≡ stepped_by s s.order c (slice_get s.parts c.part)
     → place ≡ c.part
     → HasSeenAt (slice_get u.parts place) m → HaveSeen u.parts (slice_set monitors place m)
-all_seen s u c place monitors m open all e p one =
-    let here = has_seat c s.parts (slice_get s.parts c.part) refl open in
+all_seen s u c place monitors m may all e p one =
+    let here = has_seat c s.parts (slice_get s.parts c.part) refl may in
     let new : RunningPart = part_after c.step here.0 in
     let left = stepped_at s u c place here.0 here.1 e p in
     subst (λ (xs : List RunningPart). HaveSeen xs (slice_set monitors place m)) (sym left.0)
@@ -233,8 +233,13 @@ pub all_seen_on : {T : Type 0} (r : Result T NoMemory) (s u : Simulation) (c : C
     (monitors : List Monitored) (m : Monitored) → IsOpenChoice s.parts c → HaveSeen s.parts monitors
     → u ≡ stepped_by s s.order c (slice_get s.parts c.part) → place ≡ c.part
     → OnOk r (HasSeenAt (slice_get u.parts place) m) → OnOk r (HaveSeen u.parts (slice_set monitors place m))
-all_seen_on (Err x) s u c place monitors m open all e p one = one
-all_seen_on (Ok x) s u c place monitors m open all e p one = all_seen s u c place monitors m open all e p one
+all_seen_on (Err x) s u c place monitors m may all e p one = one
+all_seen_on (Ok x) s u c place monitors m may all e p one = all_seen s u c place monitors m may all e p one
+
+-- a list that was written through a slice of all of it
+pub written : (n : ℕ) (new old : List Monitored) → n ≡ length new → take n (new ++ drop (length new) old) ≡ new
+written n new old e =
+    ap (λ (k : ℕ). take k (new ++ drop (length new) old)) e ∙ front_taken new (drop (length new) old)
 
 -- What is known while the break is sought.
 
@@ -265,14 +270,14 @@ pub keeps_on : (scenario : Scenario) (n : ℕ) (s t u : Simulation) (c : Choice)
     (found : Bool) → HasKept scenario n s monitors → IsPick s (Some c) t → t.parts ≡ s.parts
     → u ≡ stepped_by t t.order c (slice_get t.parts c.part) → HaveSeen u.parts new
     → found ≡ has_broken_at (slice_get u.parts c.part) → found ≡ false → HasKept scenario (n + 1) u new
-keeps_on scenario n s t u c monitors new found h pick same e all is no =
+keeps_on scenario n s t u c monitors new found h pick same e all is test =
     let here = has_seat c t.parts (slice_get t.parts c.part) refl pick.1 in
     let left = stepped_at t u c c.part here.0 here.1 e refl in record {
       run = has_run_on scenario n s u true [] [] [] h.run (pick_taken s t u c pick e) (hears_none s true) refl;
       seen = all;
       kept = subst AreUnbroken (sym left.0)
           (kept_set t.parts c.part (part_after c.step here.0) (subst AreUnbroken (sym same) h.kept)
-          (unbroken (first_break_of (part_after c.step here.0)) (sym (ap has_broken_at left.1) ∙ sym is ∙ no)));
+          (unbroken (first_break_of (part_after c.step here.0)) (sym (ap has_broken_at left.1) ∙ sym is ∙ test)));
     }
   where
     unbroken : (o : Option Break) → is_some o ≡ false → o ≡ None
@@ -293,14 +298,14 @@ pub breaks_here : (scenario : Scenario) (n : ℕ) (s t u : Simulation) (c : Choi
     (found : Bool) → HasKept scenario n s monitors → IsPick s (Some c) t → t.parts ≡ s.parts
     → u ≡ stepped_by t t.order c (slice_get t.parts c.part)
     → found ≡ has_broken_at (slice_get u.parts c.part) → found ≡ true → BreaksBehind scenario n
-breaks_here scenario n s t u c monitors found h pick same took is yes =
+breaks_here scenario n s t u c monitors found h pick same took is test =
     let here = has_seat c t.parts (slice_get t.parts c.part) refl pick.1 in
     let seat : RunningPart = here.0 in
     let at : slice_get s.parts c.part ≡ Some seat =
     ap (λ (xs : List RunningPart). slice_get xs c.part) (sym same) ∙ here.1 in
     let left = stepped_at t u c c.part seat here.1 took refl in
     let e : Event = event_of seat.run.state c.step in
-    let breaking = step_breaks seat c.step (h.kept c.part seat at) (sym (ap has_broken_at left.1) ∙ sym is ∙ yes) in
+    let breaking = step_breaks seat c.step (h.kept c.part seat at) (sym (ap has_broken_at left.1) ∙ sym is ∙ test) in
     let burst = burst_breaks (known_of seat) e c.step (step_named seat.run.state c.step) breaking in
     record {
       choice = c;
@@ -349,8 +354,8 @@ breaks_picked scenario n s t None e b pick others =
 -- its part is there
 pub part_within : (c : Choice) (parts : List RunningPart) (place : ℕ) → IsOpenChoice parts c → place ≡ c.part
     → place < length parts
-part_within c parts place open p =
-    let here = has_seat c parts (slice_get parts c.part) refl open in
+part_within c parts place may p =
+    let here = has_seat c parts (slice_get parts c.part) refl may in
     let within : c.part < length parts = slice_get_within parts c.part here.0 here.1 in omega arith
 
 -- what is found is the first break

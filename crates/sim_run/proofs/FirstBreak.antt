@@ -1,18 +1,19 @@
 -- The run up to the first burst that breaks a clause.
 use Rattle.std.proofs.Common.{◌≡◌, ◌⊎◌, inl, inr, ℕ, zero, suc, ◌+◌, ◌-◌, ◌<◌, ◌≤◌, ◌^◌, Bool, true, false, is_some}
 use Rattle.std.proofs.Common.{Option, Some, None, Result, Ok, Err, OnOk, List, [], ◌∷◌, ◌++◌, map, fold, get_or, length}
-use Rattle.std.proofs.Common.{drop, slice_get, slice_set, take, refl, sym, ap, ◌∙◌, subst, arith, add-one, length-append}
+use Rattle.std.proofs.Common.{drop, slice_get, slice_set, take, refl, sym, ap, ◌∙◌, subst, arith, add-one}
+use Rattle.std.proofs.Common.{length-append}
 use Rattle.std.proofs.lemmas.Bool.{false≢true}
 use Rattle.std.proofs.lemmas.Option.{slice_get-get_or, slice_get_within}
 use Rattle.contract_monitor.specs.Monitors.{Monitored, StandsFor}
-use Rattle.guard_defs.specs.FirstBreaks.{IsFirstBreak, NoneBreaks, picked_choice}
+use Rattle.guard_defs.specs.FirstBreaks.{NoneBreaks, picked_choice}
 use Rattle.guard_defs.specs.GuardedRuns.{known_of, spec_of}
 use Rattle.nook_data.specs.Types.{Break, Class, Clause, Event, PartSpec, Scenario, Step}
 use Rattle.nook_data.specs.Valid.{IsValidScenario}
 use Rattle.nook_data.specs.declared.memory.NoMemory.{NoMemory}
 use Rattle.nook_data.specs.declared.steps.Event.TheVariants as event
 use Rattle.nook_data.specs.declared.steps.Step.TheVariants as step
-use Rattle.part_defs.specs.Runs.{event_of, state_after, step_of}
+use Rattle.part_defs.specs.Runs.{event_of, step_of}
 use Rattle.part_laws.proofs.DeviceStays.{spec_after}
 use Rattle.part_laws.proofs.Places.{from_map, get_set, get_set_same, some_same}
 use Rattle.part_laws.proofs.RunsDetermined.{step_named}
@@ -26,7 +27,7 @@ use Rattle.sim_run.proofs.Reaching.{runs_back}
 use Rattle.sim_run.proofs.Seeking.{front_taken, has_seat, hears_none, pick_taken}
 use Rattle.sim_run.proofs.Taking.{last_of}
 use Rattle.sim_run.specs.Advanced.{IsAdvanced, IsPick}
-use Rattle.sim_run.specs.Breaks.{BreaksBehind, HasBreakBehind, IsWrongBurst, LeadsToBreak}
+use Rattle.sim_run.specs.Breaks.{BreaksBehind, HasBreakBehind, IsWrongBurst}
 use Rattle.sim_run.specs.Bursts.{IsFoundIn, shown_burst, shown_step}
 use Rattle.sim_run.specs.Published.{moved}
 use Rattle.sim_run.specs.Reached.{IsOpenChoice}

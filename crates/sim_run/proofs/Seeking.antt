@@ -1,5 +1,5 @@
 -- The run up to a burst of a part.
-use Rattle.std.proofs.Common.{◌≡◌, ◌⊎◌, ℕ, zero, suc, ◌+◌, ◌-◌, ◌<◌, ◌≤◌, ◌^◌, ◌==◌, ◌&&◌, ◌||◌, not, Bool, true, false, cond, nat_lt, Option, Some, None, List, [], ◌∷◌, ◌++◌, map, length, option_map, Result, Ok, Err, IfOk, OnOk, position, slice_get, slice_set, take, refl, sym, ap, ◌∙◌, subst, inl, inr, arith, append-nil, append_assoc, length-append, eqb-true}
+use Rattle.std.proofs.Common.{◌≡◌, ◌⊎◌, ℕ, zero, suc, ◌+◌, ◌-◌, ◌<◌, ◌≤◌, ◌^◌, ◌==◌, ◌&&◌, ◌||◌, not, Bool, true, false, cond, nat_lt, Option, Some, None, List, [], ◌∷◌, ◌++◌, map, length, option_map, Ok, position, slice_get, slice_set, take, refl, sym, ap, ◌∙◌, subst, inl, inr, arith, append-nil, append_assoc, length-append, eqb-true}
 use Rattle.std.proofs.lemmas.Bool.{eq-eqb, le-ltb, lt-ltb}
 use Rattle.std.specs.List.{list_any, prefix_len}
 use Rattle.nook_data.specs.declared.steps.Event.{Event}
@@ -14,7 +14,7 @@ use Rattle.run_defs.specs.Simulation.{journals_of, opening_part, runs, part_afte
 use Rattle.part_defs.specs.State.{DomainState, PartState}
 use Rattle.part_defs.specs.Steps.{burst_stepped, stepped}
 use Rattle.nook_data.specs.Valid.{IsValidScenario}
-use Rattle.part_laws.proofs.Places.{get_map, get_mid, get_set_same, split}
+use Rattle.part_laws.proofs.Places.{get_map, get_mid, get_set_same}
 use Rattle.part_laws.proofs.RunsDetermined.{step_named}
 use Rattle.request_taps.specs.Bus.{told_all}
 use Rattle.sim_run.proofs.Choosing.{choices_open}

@@ -77,7 +77,7 @@ impl Monitor {
     }
 
     /// One event more; after NoMemory the monitor is of no use.
-    fn see_or_give_up(&mut self, event: &Event) -> Result<(), NoMemory>
+    pub fn see_or_give_up(&mut self, event: &Event) -> Result<(), NoMemory>
         ensures { OnOk result ((class : Class) (size : ℕ) (events : List Event) → StandsFor class size events self.old
             → StandsFor class size (events ++ event.now ∷ []) self.new) }
     {

@@ -56,6 +56,7 @@ pick_by s actors place order o c seat a l p r h one =
       ap (stepped_by (record s { order = order }) order c) one.at_part
           ∙ ap (λ (r : Order). stepped_by s r c (Some seat)) (sym order') ∙ sym one.step,
       sym (ap (made_by s.parts) one.found),
+      one.found,
     )
 
 pub pick_is : (order order' : Order) (parts : List RunningPart) (threads : List ThreadState) (actors : List ℕ) (place : ℕ) (o : Option Choice)

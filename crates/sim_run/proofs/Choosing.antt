@@ -6,7 +6,7 @@ use Rattle.std.proofs.lemmas.Bool.{false≢true, le-ltb, lt-ltb}
 use Rattle.nook_data.specs.declared.calls.Op.{Op}
 use Rattle.nook_data.specs.declared.steps.Step.{Step}
 use Rattle.nook_data.specs.declared.steps.Step.TheVariants as step
-use Rattle.part_defs.specs.Runs.{if_enabled, next_for, next_recovery}
+use Rattle.part_defs.specs.Runs.{if_enabled, next_recovery}
 use Rattle.run_defs.specs.Simulation.{actor_of, Choice, RunningPart, Simulation, ThreadState, Waiting, arrival}
 use Rattle.run_defs.specs.Simulation.{going_on, invocation, choices_of}
 use Rattle.run_defs.proofs.ChoicesInOrder.{with_choice, with_invocation, with_thread, thread_choices, part_choices}

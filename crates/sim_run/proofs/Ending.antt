@@ -20,7 +20,7 @@ use Rattle.sim_run.specs.Whole.{HeardSteps, IsSimulated, IsWhole}
 
 -- The run of a scenario, step by step, and its end.
 
-moved_some : (s : Simulation) (choices : List Choice) → 0 < length choices → moved s choices ≡ taken s choices
+pub moved_some : (s : Simulation) (choices : List Choice) → 0 < length choices → moved s choices ≡ taken s choices
 moved_some s [] l = absurd (omega arith)
 moved_some s (c ∷ choices) l = refl
 

@@ -1,5 +1,5 @@
 -- The run up to a burst of a part.
-use Rattle.std.proofs.Common.{◌≡◌, ◌⊎◌, ℕ, zero, suc, ◌+◌, ◌-◌, ◌<◌, ◌≤◌, ◌^◌, ◌==◌, ◌&&◌, ◌||◌, not, Bool, true, false, cond, nat_lt, Option, Some, None, List, [], ◌∷◌, ◌++◌, map, length, option_map, Result, Ok, Err, IfOk, OnOk, position, slice_get, slice_set, take, refl, sym, ap, ◌∙◌, subst, inl, inr, arith, append-nil, append_assoc, length-append, eqb-true}
+use Rattle.std.proofs.Common.{◌≡◌, ◌⊎◌, ℕ, zero, suc, ◌+◌, ◌-◌, ◌<◌, ◌≤◌, ◌^◌, ◌==◌, ◌&&◌, ◌||◌, not, Bool, true, false, cond, nat_lt, Option, Some, None, List, [], ◌∷◌, ◌++◌, map, length, option_map, Ok, position, slice_get, slice_set, take, refl, sym, ap, ◌∙◌, subst, inl, inr, arith, append-nil, append_assoc, length-append, eqb-true}
 use Rattle.std.proofs.lemmas.Bool.{eq-eqb, le-ltb, lt-ltb}
 use Rattle.std.specs.List.{list_any, prefix_len}
 use Rattle.nook_data.specs.declared.steps.Event.{Event}
@@ -14,7 +14,7 @@ use Rattle.run_defs.specs.Simulation.{journals_of, opening_part, runs, part_afte
 use Rattle.part_defs.specs.State.{DomainState, PartState}
 use Rattle.part_defs.specs.Steps.{burst_stepped, stepped}
 use Rattle.nook_data.specs.Valid.{IsValidScenario}
-use Rattle.part_laws.proofs.Places.{get_map, get_mid, get_set_same, split}
+use Rattle.part_laws.proofs.Places.{get_map, get_mid, get_set_same}
 use Rattle.part_laws.proofs.RunsDetermined.{step_named}
 use Rattle.request_taps.specs.Bus.{told_all}
 use Rattle.sim_run.proofs.Choosing.{choices_open}
@@ -99,7 +99,7 @@ first_position p xs rest e h is =
     ap (λ k. cond (nat_lt k (length (xs ++ e ∷ rest))) (Some k) None) n
     ∙ ap (λ b. cond b (Some (length xs)) None) (lt-ltb (length xs) (length (xs ++ e ∷ rest)) (omega (arith, long)))
 
-front_taken : {X : Type 0} (xs ys : List X) → take (length xs) (xs ++ ys) ≡ xs
+pub front_taken : {X : Type 0} (xs ys : List X) → take (length xs) (xs ++ ys) ≡ xs
 front_taken [] ys = refl
 front_taken (x ∷ xs) ys = ap (λ l. x ∷ l) (front_taken xs ys)
 
@@ -208,7 +208,7 @@ unfolding told_all
 told_none [] = refl
 told_none (e ∷ events) = told_none events
 
-hears_none : (s : Simulation) (some : Bool) → HearsStep s (Ok some) [] []
+pub hears_none : (s : Simulation) (some : Bool) → HearsStep s (Ok some) [] []
 hears_none s true = sym (told_none (made s (choices_of s)))
 hears_none s false = refl
 
@@ -225,7 +225,7 @@ pub seeks_to_end : (scenario : Scenario) (n : ℕ) (s : Simulation) (place numbe
 seeks_to_end scenario n s place number v h l = has_to_end scenario n s [] [] v h.run l
 
 -- the choice's part is there
-has_seat : (c : Choice) (parts : List RunningPart) (o : Option RunningPart) → slice_get parts c.part ≡ o
+pub has_seat : (c : Choice) (parts : List RunningPart) (o : Option RunningPart) → slice_get parts c.part ≡ o
     → IsOpenChoice parts c → (seat : RunningPart) × (slice_get parts c.part ≡ Some seat)
 has_seat c parts None e h = absurd (none e)
   where

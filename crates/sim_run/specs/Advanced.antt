@@ -1,4 +1,5 @@
 use Rattle.std.specs.Prelude.{◌≡◌, ℕ, ◌<◌, slice_set, Bool, true, false, Option, Some, None, List, [], length, slice_get}
+use Rattle.guard_defs.specs.FirstBreaks.{picked_choice}
 use Rattle.part_defs.specs.Runs.{event_of}
 use Rattle.run_defs.specs.Schedules.{Order}
 use Rattle.run_defs.specs.Simulation.{Choice, RunningPart, Simulation, ThreadState, choices_of, part_after, stepped_by}
@@ -19,6 +20,7 @@ IsPick s (Some c) t =
     (0 < length (choices_of s)) × IsOpenChoice t.parts c
     × (stepped_by t t.order c (slice_get t.parts c.part) ≡ taken s (choices_of s))
     × (made_of c (slice_get t.parts c.part) ≡ made s (choices_of s))
+    × (picked_choice s ≡ Some c)
 
 -- a step was taken, or no actor has one
 abbrev pub IsAdvanced : Simulation → Bool → Simulation → Type 0

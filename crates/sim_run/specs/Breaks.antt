@@ -27,3 +27,17 @@ pub record IsWrongBurst (scenario : Scenario) (found : WrongBurst) : Type 0 wher
 abbrev pub LeadsToBreak : Scenario → Option WrongBurst → Type 0
 LeadsToBreak scenario None = (s : Simulation) × IsScheduledRun scenario s × NoneBreaks s
 LeadsToBreak scenario (Some found) = IsWrongBurst scenario found
+
+-- While it is sought.
+
+-- the first break comes behind so many steps of the scheduled run
+pub record BreaksBehind (scenario : Scenario) (steps : ℕ) : Type 0 where
+  pub choice : Choice
+  pub seat : RunningPart
+  pub context : ℕ
+  pub first : IsFirstBreak scenario steps choice seat context
+
+-- how many steps it comes behind; none where no part's journal breaks a clause
+abbrev pub HasBreakBehind : Scenario → Option ℕ → Type 0
+HasBreakBehind scenario None = LeadsToBreak scenario None
+HasBreakBehind scenario (Some steps) = BreaksBehind scenario steps

@@ -6,5 +6,6 @@ pub mod Ends
 pub mod Opened
 pub mod Published
 pub mod Reached
+pub mod Watched
 pub mod Whole
 pub mod Breaks

@@ -5,10 +5,12 @@ ghost use Rattle.part_defs.specs.Runs.{event_of, next_for, next_recovery};
 ghost use Rattle.run_defs.specs.Simulation.{arrival, coming_after, invocation, opening_part, part_after};
 ghost use Rattle.sim_run.specs.Bursts.{is_burst, shown_burst, shown_step};
 ghost use Rattle.sim_run.specs.Ends.{end_of_seat};
+ghost use Rattle.sim_run.specs.Watched.{HasSeen, IsOneBehind, first_break_of};
 ghost use Rattle.part_defs.specs.Steps.{enabled};
 ghost use Rattle.nook_data.specs.Valid.{IsValidPart};
 
 use crate::whole_run::FoundBurst;
+use contract_monitor::Monitor;
 use nook_data::calls::Op;
 use nook_data::journal::Journal;
 use nook_data::lists::{TryCopy, Words};
@@ -168,6 +170,26 @@ impl<'a> Seat<'a> {
         self.take(step)?;
         let event = self.newest().copy(alloc)?;
         Ok(FoundBurst { domain, event })
+    }
+
+    /// A monitor of the part that has seen its journal.
+    pub fn monitor(&self, alloc: Global) -> Result<Monitor, NoMemory>
+        ensures { IfOk result (HasSeen self.now) }
+    {
+        let spec = self.part.spec();
+        let events = self.part.journal().as_slice();
+        Monitor::of_events(alloc, spec.class, spec.blocks, events)
+    }
+
+    /// The part's monitor, which lacks the newest event, sees it. Tells whether the part has broken a clause. After
+    /// `NoMemory` the monitor is of no use.
+    pub fn judge_newest(&self, monitor: &mut Monitor) -> Result<bool, NoMemory>
+        requires { IsOneBehind self.now monitor.old }
+        ensures seen { OnOk result (HasSeen self.now monitor.new) }
+        ensures broken { IfOk result (λ broken. broken ≡ is_some (first_break_of self.now)) }
+    {
+        monitor.see_or_give_up(self.newest())?;
+        Ok(monitor.first_break().is_some())
     }
 
     /// The journal. What else the part leaves is kept.

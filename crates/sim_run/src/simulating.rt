@@ -14,6 +14,7 @@ ghost use Rattle.sim_run.specs.Ends.{ends_of};
 ghost use Rattle.sim_run.specs.Published.{HearsChoice, HearsStep, made_of};
 ghost use Rattle.request_taps.specs.Bus.{seen};
 ghost use Rattle.sim_run.specs.Reached.{IsOpenChoice, MayTake};
+ghost use Rattle.sim_run.specs.Watched.{HasSeenAt, HaveSeen, IsOneBehindAt, has_broken_at};
 ghost use Rattle.run_ends.specs.Journals.{events_in};
 
 use crate::actors::{able_threads, choice_of, list_ready, next_ready};
@@ -21,6 +22,7 @@ use crate::chosen::Chosen;
 use crate::script::Script;
 use crate::seat::Seat;
 use crate::whole_run::FoundBurst;
+use contract_monitor::Monitor;
 use nook_data::calls::AnswerTable;
 use nook_data::limits::{MOST_PARTS, MOST_THREADS};
 use nook_data::lists::{Items, TryCopy};
@@ -153,6 +155,31 @@ impl<'a> Simulating<'a> {
         }
     }
 
+    /// A monitor for each part, which has seen its journal.
+    pub fn monitors(&self) -> Result<Vec<Monitor>, NoMemory>
+        ensures { IfOk result (λ monitors. HaveSeen self.now.parts monitors.items) }
+    {
+        make_monitors(self.alloc, &self.seats)
+    }
+
+    /// A monitor of the part at a place that has seen its journal.
+    pub fn monitor(&self, place: u32) -> Result<Monitor, NoMemory>
+        requires { place < length self.now.parts }
+        ensures { IfOk result (HasSeenAt (slice_get self.now.parts place)) }
+    {
+        self.seats[place as usize].monitor(self.alloc)
+    }
+
+    /// The monitor of the part at a place, which lacks the part's newest event, sees it. Tells whether the part has
+    /// broken a clause. After `NoMemory` the monitor is of no use.
+    pub fn judge_newest(&self, place: u32, monitor: &mut Monitor) -> Result<bool, NoMemory>
+        requires { IsOneBehindAt (slice_get self.now.parts place) monitor.old }
+        ensures seen { OnOk result (HasSeenAt (slice_get self.now.parts place) monitor.new) }
+        ensures broken { IfOk result (λ broken. broken ≡ has_broken_at (slice_get self.now.parts place)) }
+    {
+        self.seats[place as usize].judge_newest(monitor)
+    }
+
     /// Takes a choice that may be taken, as the last of the run: the domain of its part as it stood before, and its
     /// event. The rest of the run is dropped.
     pub fn into_last(self, chosen: Chosen) -> Result<FoundBurst, NoMemory>
@@ -216,6 +243,17 @@ fn take_ends(alloc: Global, seats: &[Seat]) -> Result<PartEnds, NoMemory>
     let mut made = Items::new(alloc);
     for seat in seats {
         made.push(seat.end(alloc)?)?;
+    }
+    Ok(made)
+}
+
+/// A monitor for each part, which has seen its journal.
+fn make_monitors(alloc: Global, seats: &[Seat]) -> Result<Vec<Monitor>, NoMemory>
+    ensures { IfOk result (λ made. HaveSeen seats.now made.items) }
+{
+    let mut made = Vec::with_capacity(alloc, seats.len())?;
+    for seat in seats {
+        made.push(seat.monitor(alloc)?)?;
     }
     Ok(made)
 }

@@ -21,7 +21,7 @@ use run_ends::WholeRun;
 use std::alloc::Global;
 
 /// More steps than the run of any scenario has: each of at most 8 parts makes fewer than 2^23 events.
-const MOST_STEPS: u32 = 67_108_864;
+pub const MOST_STEPS: u32 = 67_108_864;
 
 /// Runs a valid scenario: its actors take their steps under its schedule until none has one. The journals, one a part,
 /// and the answers are those of the scheduled run, and each journal is a run of its part, which ends in what is told.

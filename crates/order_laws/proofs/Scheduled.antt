@@ -1,5 +1,5 @@
 -- The journals of a simulation's run can be taken in the order of its steps.
-use Rattle.std.proofs.Common.{◌≡◌, ◌⊎◌, inl, inr, ℕ, zero, suc, ◌+◌, ◌<◌, Option, Some, None, List, [], ◌∷◌, ◌++◌, length, map, slice_get, slice_index_or, slice_set, refl, sym, ap, ap₂, ◌∙◌, subst, arith, append_assoc, append-nil}
+use Rattle.std.proofs.Common.{◌≡◌, ℕ, zero, suc, ◌+◌, Option, Some, None, List, [], ◌∷◌, ◌++◌, length, map, slice_get, slice_index_or, slice_set, refl, sym, ap, ap₂, ◌∙◌, subst, arith, append_assoc, append-nil}
 use Rattle.std.specs.List.{AllByRecursion}
 use Rattle.nook_data.specs.Valid.{IsValidScenario}
 use Rattle.nook_data.specs.declared.scenario.PartSpec.{PartSpec}
@@ -18,7 +18,7 @@ use Rattle.run_laws.proofs.Reached.{all_answered}
 use Rattle.audited_runs.proofs.Ended.{scheduled_reached}
 use Rattle.audited_runs.proofs.Reached.{IsReached}
 use Rattle.audited_runs.proofs.Shares.{AreCounted, waits_for}
-use Rattle.order_defs.specs.Taking.{IsAllTaken, IsThrough, Leads, MayTake, Taking, after_taking, opening_taking}
+use Rattle.order_defs.specs.Taking.{IsAllTaken, IsThrough, Leads, Taking, opening_taking}
 use Rattle.order_laws.proofs.Own.{timely_step}
 
 -- ---- what a part's journal has more
@@ -189,11 +189,16 @@ unfolding begins
 scheduled_ordered scenario s v r =
     let h : IsTakenFrom (begins scenario) s = subst (IsTakenFrom (begins scenario)) r.reached (runs_taken r.steps (begins scenario)) in
     let left : h.left ≡ journals_of s = joined_first (map opening_part scenario.parts) h.left (journals_of s) (empty scenario.parts) h.joined in
-    let reached : IsReached scenario s = scheduled_reached scenario s r in
-    (h.order, (h.last, (
-      subst (λ l. Leads (opening_taking scenario.threads l) h.order h.last) left h.leads,
-      record { none_left = h.none; through = subst (AllByRecursion IsThrough) (sym h.threads) (all_through scenario.threads s.threads reached.counted (all_answered scenario s v r)) },
-    )))
+    let reached : IsReached scenario s = scheduled_reached scenario s r in (
+      h.order,
+      (
+        h.last,
+        (
+          subst (λ l. Leads (opening_taking scenario.threads l) h.order h.last) left h.leads,
+          record { none_left = h.none; through = subst (AllByRecursion IsThrough) (sym h.threads) (all_through scenario.threads s.threads reached.counted (all_answered scenario s v r)) },
+        ),
+      ),
+    )
   where
     empty : (parts : List PartSpec) → AllByRecursion (λ seat. seat.run.journal ≡ []) (map opening_part parts)
     empty [] = tt

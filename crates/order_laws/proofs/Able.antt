@@ -1,5 +1,5 @@
 -- A step that a part may take is the choice of an actor, where the part knows what its threads wait for.
-use Rattle.std.proofs.Common.{◌≡◌, ◌⊎◌, inl, inr, ℕ, zero, suc, ◌+◌, ◌*◌, ◌==◌, ◌&&◌, not, is_some, if◌then◌else◌, Bool, true, false, Option, Some, None, List, [], ◌∷◌, length, slice_get, refl, sym, ap, ◌∙◌, subst, arith, eqb-true, eq-eqb, true≢false}
+use Rattle.std.proofs.Common.{◌≡◌, ℕ, zero, suc, ◌+◌, ◌*◌, ◌==◌, ◌&&◌, not, is_some, if◌then◌else◌, Bool, true, false, Option, Some, None, List, [], ◌∷◌, length, slice_get, refl, sym, ap, ◌∙◌, subst, arith, eqb-true, true≢false}
 use Rattle.std.proofs.lemmas.Bool.{and_parts}
 use Rattle.nook_data.specs.declared.calls.CallEntry.{CallEntry}
 use Rattle.nook_data.specs.declared.calls.Op.{Op}
@@ -16,7 +16,7 @@ use Rattle.part_defs.specs.Stages.{stage_due}
 use Rattle.part_defs.specs.State.{PartState}
 use Rattle.part_defs.specs.Steps.{can_burst, enabled, is_driven, is_inside, is_ready, is_running}
 use Rattle.part_laws.proofs.Places.{split}
-use Rattle.run_defs.specs.Simulation.{Choice, RunningPart, Simulation, ThreadState, Waiting, arrival, choices_of, going_on, invocation}
+use Rattle.run_defs.specs.Simulation.{RunningPart, Simulation, ThreadState, Waiting, arrival, choices_of, going_on, invocation}
 use Rattle.run_defs.proofs.ChoicesInOrder.{with_choice, with_invocation, with_thread}
 use Rattle.run_laws.proofs.Numbers.{number, number_found}
 use Rattle.run_laws.proofs.Threads.{AreThreadsOf, IsThreadOf, waits_in}

@@ -1,7 +1,6 @@
 -- What is to come of a thread: its operations that are left follow one another behind the answer of its open call; and
 -- so it stays when the event with the least stamp is taken.
-use Rattle.std.proofs.Common.{drop, ◌≡◌, ◌⊎◌, inl, inr, ℕ, zero, suc, ◌<◌, ◌≤◌, ◌==◌, if◌then◌else◌, Bool, true, false, Option, Some, None, List, [], ◌∷◌, length, slice_get, slice_index_or, refl, sym, ap, ◌∙◌, subst, arith, eqb-true, eq-eqb, true≢false}
-use Rattle.std.proofs.lemmas.Bool.{eqb-false}
+use Rattle.std.proofs.Common.{drop, ◌≡◌, ◌⊎◌, inl, inr, ℕ, suc, ◌<◌, ◌≤◌, ◌==◌, if◌then◌else◌, Bool, true, false, Option, Some, None, List, [], ◌∷◌, refl, sym, ap, ◌∙◌, subst, arith, eqb-true, eq-eqb, true≢false}
 use Rattle.desk_like.specs.Desks.{IsAt, IsInvoke, IsReceipt, IsReply}
 use Rattle.nook_data.specs.Answers.{answer_at}
 use Rattle.nook_data.specs.Places.{at_number}
@@ -16,7 +15,7 @@ use Rattle.run_defs.specs.Simulation.{ThreadState, Waiting, started, thread_afte
 use Rattle.run_defs.proofs.RunChanges.{settled, settled_by}
 use Rattle.threaded_run.specs.Others.{is_invocation_by}
 use Rattle.order_defs.specs.OneClock.{AreStamped, Follow, journal_on, stamp_at}
-use Rattle.order_laws.proofs.Stamps.{answered_later, place_within}
+use Rattle.order_laws.proofs.Stamps.{answered_later}
 
 -- how many events of each part were taken, with one more of a part
 abbrev pub one_more : (ℕ → ℕ) → ℕ → ℕ → ℕ

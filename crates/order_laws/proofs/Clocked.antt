@@ -1,9 +1,9 @@
 -- Journals that can be taken event by event have one clock: the stamp of an event tells how many were taken up to it.
-use Rattle.std.proofs.Common.{drop, ◌≡◌, ◌⊎◌, inl, inr, ℕ, zero, suc, ◌+◌, ◌<◌, ◌≤◌, ◌==◌, if◌then◌else◌, Bool, true, false, Option, Some, None, List, [], ◌∷◌, ◌++◌, length, map, slice_get, slice_index_or, slice_set, refl, sym, ap, ◌∙◌, subst, arith, append_assoc, append-nil, eqb-true, eq-eqb, ne_eqb}
+use Rattle.std.proofs.Common.{drop, ◌≡◌, ℕ, zero, suc, ◌+◌, ◌<◌, ◌≤◌, ◌==◌, if◌then◌else◌, Bool, true, false, Option, Some, None, List, [], ◌∷◌, ◌++◌, length, map, slice_get, slice_index_or, slice_set, refl, sym, ap, ◌∙◌, subst, arith, append_assoc, append-nil, eqb-true, eq-eqb, ne_eqb}
 use Rattle.std.proofs.lemmas.Bool.{eqb-false}
 use Rattle.std.proofs.lemmas.List.{get_or-set_other, get_or-set_same}
 use Rattle.std.specs.List.{AllByRecursion}
-use Rattle.desk_like.specs.Desks.{IsAt, IsInvoke, IsReceipt, IsReply, IsRisingFrom}
+use Rattle.desk_like.specs.Desks.{IsAt, IsInvoke, IsReceipt, IsRisingFrom}
 use Rattle.nook_data.specs.Answers.{answer_at}
 use Rattle.nook_data.specs.Places.{at_number}
 use Rattle.nook_data.specs.declared.calls.Answer.{Answer}
@@ -20,7 +20,7 @@ use Rattle.threaded_run.specs.Threaded.{answers_by}
 use Rattle.threaded_run.proofs.Counted.{if_false, if_true}
 use Rattle.threaded_run.proofs.Placed.{AreBehind, all_behind, first_behind, rest_behind}
 use Rattle.audited_runs.proofs.Shares.{AllMay, MayStart}
-use Rattle.order_defs.specs.OneClock.{AreInOrder, AreOneRun, AreStamped, Follow, IsStamped, journal_on, stamp_at, stamps_on}
+use Rattle.order_defs.specs.OneClock.{AreInOrder, AreOneRun, AreStamped, Follow, journal_on, stamp_at, stamps_on}
 use Rattle.order_defs.specs.Taking.{IsAllTaken, IsThrough, Leads, MayTake, Taking, after_taking, opening_taking}
 use Rattle.order_laws.proofs.Ahead.{one_more, one_more_here, one_more_there}
 use Rattle.order_laws.proofs.Own.{all_timely}

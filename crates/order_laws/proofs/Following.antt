@@ -1,13 +1,12 @@
 -- A simulation takes the events of journals that fit in an order in which they can be taken.
-use Rattle.std.proofs.Common.{◌≡◌, ◌⊎◌, inl, inr, ℕ, zero, suc, ◌+◌, ◌<◌, ◌==◌, ◌&&◌, is_none, Bool, true, false, Option, Some, None, List, [], ◌∷◌, ◌++◌, length, map, slice_get, slice_index_or, slice_set, refl, sym, ap, ap₂, ◌∙◌, subst, arith, append_assoc, append-nil, eqb-true, eq-eqb, ne_eqb, true≢false}
-use Rattle.std.proofs.lemmas.Bool.{and_parts, eqb-false}
-use Rattle.std.proofs.lemmas.List.{get_or-set_other, get_or-set_same}
+use Rattle.std.proofs.Common.{◌≡◌, ◌⊎◌, inl, inr, ℕ, zero, suc, ◌+◌, ◌<◌, ◌==◌, ◌&&◌, is_none, true, false, Option, Some, None, List, [], ◌∷◌, ◌++◌, length, map, slice_get, slice_index_or, slice_set, refl, sym, ap, ap₂, ◌∙◌, subst, arith, append_assoc, append-nil, ne_eqb, true≢false}
+use Rattle.std.proofs.lemmas.Bool.{and_parts}
+use Rattle.std.proofs.lemmas.List.{get_or-set_same}
 use Rattle.std.proofs.lemmas.List.Elements.{recursion_from_All}
 use Rattle.std.specs.List.{AllByRecursion}
 use Rattle.std.specs.Option.{option_or}
 use Rattle.nook_data.specs.Answers.{answer_at}
 use Rattle.nook_data.specs.Valid.{IsValidPart, IsValidScenario}
-use Rattle.nook_data.specs.declared.calls.Op.{Op}
 use Rattle.nook_data.specs.declared.scenario.PartSpec.{PartSpec}
 use Rattle.nook_data.specs.declared.scenario.Scenario.{Scenario}
 use Rattle.nook_data.specs.declared.scenario.ThreadSpec.{ThreadSpec}
@@ -18,9 +17,8 @@ use Rattle.nook_data.specs.declared.steps.Step.TheVariants as step
 use Rattle.nook_data.proofs.Options.{none_is_some, same_inside}
 use Rattle.part_defs.specs.Log.{opening_log}
 use Rattle.part_defs.specs.Runs.{event_of, next_any, next_of_calls, next_recovery, step_of}
-use Rattle.part_defs.specs.State.{PartState}
 use Rattle.part_defs.specs.Steps.{enabled, opening}
-use Rattle.part_laws.proofs.Places.{from_map, get_set, length_map, split}
+use Rattle.part_laws.proofs.Places.{from_map, get_set, length_map}
 use Rattle.part_laws.proofs.RunBound.{opening_tied}
 use Rattle.part_laws.proofs.StepsFit.{fit_after, opening_fit}
 use Rattle.part_laws.proofs.TiedBursts.{tied_after}
@@ -36,7 +34,7 @@ use Rattle.run_laws.proofs.Threads.{AreThreadsOf, threads_step}
 use Rattle.run_laws.specs.Audit.{Section, are_through, arrival_of, has_nothing, is_complete, opening_section, section_after}
 use Rattle.run_laws.specs.Fitting.{AllFit, FitsFrom, IsNext}
 use Rattle.order_defs.specs.OneClock.{journal_on}
-use Rattle.order_defs.specs.Taking.{IsAllTaken, IsNextOf, IsThrough, IsTimely, Leads, MayTake, Taking, after_taking, opening_taking}
+use Rattle.order_defs.specs.Taking.{IsAllTaken, IsThrough, IsTimely, Leads, MayTake, Taking, after_taking, opening_taking}
 use Rattle.order_laws.proofs.Able.{IsAble, able}
 use Rattle.order_laws.proofs.Chosen.{Finds, runs_listed}
 use Rattle.order_laws.proofs.Ordered.{left_is, none_before}

@@ -1,5 +1,5 @@
 -- Whatever is taken first, the same is taken in the end.
-use Rattle.std.proofs.Common.{◌≡◌, ℕ, zero, suc, ◌+◌, ◌==◌, if◌then◌else◌, Bool, true, false, Option, Some, None, List, [], ◌∷◌, slice_get, slice_index_or, slice_set, refl, sym, ap, ap₂, ◌∙◌, subst, arith, eqb-true, eq-eqb, ne_eqb, true≢false}
+use Rattle.std.proofs.Common.{◌≡◌, ℕ, zero, suc, ◌+◌, ◌==◌, if◌then◌else◌, Bool, true, false, Option, Some, None, List, [], ◌∷◌, slice_get, slice_set, refl, sym, ap, ap₂, ◌∙◌, subst, arith, eqb-true, ne_eqb, true≢false}
 use Rattle.std.proofs.lemmas.Bool.{eqb-false}
 use Rattle.nook_data.specs.Answers.{answer_at}
 use Rattle.nook_data.specs.declared.calls.Answer.{Answer}
@@ -16,7 +16,7 @@ use Rattle.threaded_run.specs.Others.{HaveNoOthers, is_invocation_by}
 use Rattle.audited_runs.proofs.Sections.{after_at}
 use Rattle.audited_runs.proofs.Shares.{AllMay, MayStart}
 use Rattle.order_defs.specs.OneClock.{AreOneRun}
-use Rattle.order_defs.specs.Taking.{IsAllTaken, IsNextOf, IsStuck, IsTimely, Leads, MayTake, Taking, after_taking, opening_taking}
+use Rattle.order_defs.specs.Taking.{IsAllTaken, IsStuck, IsTimely, Leads, MayTake, Taking, after_taking, opening_taking}
 use Rattle.order_laws.proofs.Ordered.{left_is, one_run_ordered}
 use Rattle.order_laws.proofs.Own.{all_timely}
 

@@ -10,3 +10,4 @@ pub mod Following
 pub mod Scheduled
 pub mod OneRun
 pub mod Worked
+pub mod PartAlone

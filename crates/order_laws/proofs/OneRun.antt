@@ -1,28 +1,26 @@
 -- Journals of a run by threads that have one clock are those of a scheduled run, with its answers; and the journals of
 -- every scheduled run have one.
-use Rattle.std.proofs.Common.{◌≡◌, ℕ, zero, suc, List, [], ◌∷◌, length, map, refl, sym, ap, ◌∙◌, subst, arith}
+use Rattle.std.proofs.Common.{◌≡◌, ℕ, suc, List, [], ◌∷◌, map, ap, ◌∙◌, arith}
 use Rattle.std.proofs.lemmas.List.Elements.{recursion_from_All}
 use Rattle.std.specs.List.{AllByRecursion}
-use Rattle.desk_like.specs.Desks.{IsRisingFrom}
 use Rattle.nook_data.specs.Valid.{IsValidPart, IsValidScenario}
 use Rattle.nook_data.specs.declared.calls.Answer.{Answer}
 use Rattle.nook_data.specs.declared.scenario.Scenario.{Scenario}
-use Rattle.nook_data.specs.declared.scenario.ScheduleSpec.TheVariants as schedule
 use Rattle.nook_data.specs.declared.scenario.ThreadSpec.{ThreadSpec}
 use Rattle.nook_data.specs.declared.steps.Event.{Event}
 use Rattle.run_defs.specs.Schedules.{listed, opening_order}
-use Rattle.run_defs.specs.Simulation.{IsScheduledRun, Simulation, answer_table, answers_of_thread, begins, journals_of}
+use Rattle.run_defs.specs.Simulation.{IsScheduledRun, Simulation, answers_of_thread, begins, journals_of}
 use Rattle.run_ends.specs.Journals.{AreRuns}
 use Rattle.run_laws.specs.Fitting.{AllFit}
-use Rattle.threaded_run.specs.Threaded.{AreServed, IsThreaded, invoked_on}
+use Rattle.threaded_run.specs.Threaded.{AreServed, IsThreaded}
 use Rattle.audited_runs.proofs.Asked.{threaded_fits}
 use Rattle.audited_runs.proofs.NoOthers.{have_no_others}
 use Rattle.audited_runs.proofs.Unique.{answers_unique}
-use Rattle.order_defs.specs.OneClock.{AreOneRun, AreStamped, journal_on, stamp_at}
+use Rattle.order_defs.specs.OneClock.{AreOneRun, AreStamped}
 use Rattle.order_defs.specs.Taking.{IsAllTaken, Leads, Taking, opening_taking}
 use Rattle.order_laws.specs.Listed.{IsListedRun, with_picks}
 use Rattle.order_laws.proofs.Clocked.{AreWorked, IsClocked, order_clocked, ordered_one_run}
-use Rattle.order_laws.proofs.Following.{IsListed, order_listed}
+use Rattle.order_laws.proofs.Following.{order_listed}
 use Rattle.order_laws.proofs.Ordered.{have_receipts, one_run_ordered, rising_on}
 use Rattle.order_laws.proofs.Scheduled.{scheduled_ordered}
 

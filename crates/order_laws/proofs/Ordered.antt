@@ -1,11 +1,10 @@
 -- Journals with one clock can be taken event by event: the event with the least stamp may always be taken.
-use Rattle.std.proofs.Common.{◌≡◌, ◌⊎◌, inl, inr, ℕ, zero, suc, ◌+◌, ◌-◌, ◌<◌, ◌≤◌, ◌==◌, nat_le, if◌then◌else◌, Bool, true, false, Option, Some, None, List, [], ◌∷◌, length, map, filter, slice_get, slice_index_or, slice_set, refl, sym, ap, ◌∙◌, subst, arith, eqb-true, eq-eqb, true≢false}
+use Rattle.std.proofs.Common.{◌≡◌, ◌⊎◌, inl, inr, ℕ, zero, suc, ◌+◌, ◌-◌, ◌<◌, ◌≤◌, ◌==◌, nat_le, Bool, true, Option, Some, None, List, [], ◌∷◌, length, map, filter, slice_get, slice_index_or, slice_set, refl, sym, ap, ◌∙◌, subst, arith, eqb-true, eq-eqb}
 use Rattle.std.proofs.lemmas.Bool.{eqb-false, leb-true, leb-false}
 use Rattle.std.proofs.lemmas.List.{get_or-set_other, get_or-set_same}
 use Rattle.std.specs.List.{AllByRecursion}
-use Rattle.desk_like.specs.Desks.{IsAt, IsInvoke, IsReceipt, IsRisingFrom}
+use Rattle.desk_like.specs.Desks.{IsAt, IsInvoke, IsRisingFrom}
 use Rattle.nook_data.specs.Places.{at_number}
-use Rattle.nook_data.specs.declared.calls.Answer.{Answer}
 use Rattle.nook_data.specs.declared.calls.Op.{Op}
 use Rattle.nook_data.specs.declared.desks.Receipt.{Receipt}
 use Rattle.nook_data.specs.declared.scenario.PartSpec.{PartSpec}
@@ -26,7 +25,7 @@ use Rattle.audited_runs.proofs.Shares.{filter_none, filter_same}
 use Rattle.order_defs.specs.OneClock.{AreInOrder, AreOneRun, AreStamped, Follow, IsInOrder, journal_on, stamp_at}
 use Rattle.order_defs.specs.Taking.{IsAllTaken, IsNextOf, IsThrough, IsTimely, Leads, MayTake, Taking, after_taking, opening_taking}
 use Rattle.order_laws.proofs.Ahead.{AreToCome, HasReplyIfOpen, IsAhead, IsInvocationBy, IsInvokedIn, IsNextEvent, ahead_after, invokes_first, invokes_free, one_more, one_more_here, one_more_there}
-use Rattle.order_laws.proofs.Stamps.{answered_later, later_place, place_within, stamps_keep, stamps_rise}
+use Rattle.order_laws.proofs.Stamps.{answered_later, later_place, place_within, stamps_keep}
 
 -- ---- the least of the first events that are left
 

@@ -1,5 +1,5 @@
 -- The journals of a simulation's run can be taken in the order of its steps.
-use Rattle.std.proofs.Common.{◌≡◌, ◌⊎◌, inl, inr, ℕ, zero, suc, ◌+◌, ◌<◌, Option, Some, None, List, [], ◌∷◌, ◌++◌, length, map, slice_get, slice_index_or, slice_set, refl, sym, ap, ap₂, ◌∙◌, subst, arith, append_assoc, append-nil}
+use Rattle.std.proofs.Common.{◌≡◌, ℕ, zero, suc, ◌+◌, Option, Some, None, List, [], ◌∷◌, ◌++◌, length, map, slice_get, slice_index_or, slice_set, refl, sym, ap, ap₂, ◌∙◌, subst, arith, append_assoc, append-nil}
 use Rattle.std.specs.List.{AllByRecursion}
 use Rattle.nook_data.specs.Valid.{IsValidScenario}
 use Rattle.nook_data.specs.declared.scenario.PartSpec.{PartSpec}
@@ -18,7 +18,7 @@ use Rattle.run_laws.proofs.Reached.{all_answered}
 use Rattle.audited_runs.proofs.Ended.{scheduled_reached}
 use Rattle.audited_runs.proofs.Reached.{IsReached}
 use Rattle.audited_runs.proofs.Shares.{AreCounted, waits_for}
-use Rattle.order_defs.specs.Taking.{IsAllTaken, IsThrough, Leads, MayTake, Taking, after_taking, opening_taking}
+use Rattle.order_defs.specs.Taking.{IsAllTaken, IsThrough, Leads, Taking, opening_taking}
 use Rattle.order_laws.proofs.Own.{timely_step}
 
 -- ---- what a part's journal has more

@@ -1,7 +1,7 @@
 -- Stamps that rise tell the places of a journal apart.
-use Rattle.std.proofs.Common.{◌≡◌, ℕ, zero, suc, ◌<◌, ◌≤◌, nat_lt, Option, Some, None, List, [], ◌∷◌, length, slice_get, slice_index_or, refl, sym, ap, ◌∙◌, subst, arith}
+use Rattle.std.proofs.Common.{◌≡◌, ℕ, zero, suc, ◌<◌, ◌≤◌, nat_lt, Some, List, [], ◌∷◌, length, slice_index_or, refl, sym, subst, arith}
 use Rattle.std.proofs.lemmas.Bool.{ltb-true, ltb-false}
-use Rattle.desk_like.specs.Desks.{IsAt, IsReceipt, IsRisingFrom}
+use Rattle.desk_like.specs.Desks.{IsReceipt, IsRisingFrom}
 use Rattle.nook_data.specs.Places.{at_number}
 use Rattle.nook_data.specs.declared.calls.Op.{Op}
 use Rattle.nook_data.specs.declared.desks.Receipt.{Receipt}

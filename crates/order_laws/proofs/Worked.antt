@@ -9,7 +9,7 @@ use Rattle.nook_data.specs.declared.steps.Event.TheVariants as event
 use Rattle.nook_data.proofs.Options.{none_is_some, same_inside}
 use Rattle.order_defs.specs.OneClock.{AreOneRun, AreStamped, Follow, journal_on, stamp_at}
 use Rattle.order_laws.specs.Cases.{calls_of, crossed_journals, crossed_threads, ring_journals, ring_threads, to_and_fro, woven_journals}
-use Rattle.order_laws.proofs.Stamps.{answered_later, stamps_rise}
+use Rattle.order_laws.proofs.Stamps.{answered_later, later_place, place_within, stamps_rise}
 
 -- ---- where a thread's call stands
 
@@ -110,3 +110,53 @@ woven_one_run o a name = record {
       answered = record { event = event.Invoke 2 0 o (Some a); there = refl; is = refl };
       ordered = omega arith;
     }
+
+-- the places of two calls of a part, by their order
+two_places : (p q : ℕ) → 0 < p → p < q → q ≤ 2 → (p ≡ 1) × (q ≡ 2)
+two_places p q low less high = (omega arith, omega arith)
+
+module _ (o : Op) (a : Answer) (name : List ℕ) (h : AreOneRun (to_and_fro o name) (woven_journals o a)) where
+  invoked_within : (p call place : ℕ) → journal_on (woven_journals o a) p ≡ calls_of o a 0 0 → IsAt (journal_on (woven_journals o a) p) place (IsInvoke call 0 o)
+      → (0 < place) × (place ≤ 2)
+  invoked_within p call place is at =
+      let within = place_within (journal_on (woven_journals o a) p) place at.event at.there in
+      (within.0, subst (λ (j : List Event). place ≤ length j) is within.1)
+
+  woven : (receipts : List Receipt) → Follow (woven_journals o a) h.stamps 0 0 ((0, o) ∷ (1, o) ∷ (0, o) ∷ (1, o) ∷ []) receipts
+      → (stamp_at h.stamps 0 1 < stamp_at h.stamps 1 1) × (stamp_at h.stamps 1 1 < stamp_at h.stamps 0 2) × (stamp_at h.stamps 0 2 < stamp_at h.stamps 1 2)
+  woven [] f = absurd f
+  woven (r ∷ []) f = absurd f.2
+  woven (r ∷ s ∷ []) f = absurd f.2.2
+  woven (r ∷ s ∷ t ∷ []) f = absurd f.2.2.2
+  woven (r ∷ s ∷ t ∷ u ∷ v ∷ more) f = absurd f.2.2.2.2
+  woven (r ∷ s ∷ t ∷ u ∷ []) f =
+      let one : stamp_at h.stamps 0 r.at_invoke ≤ stamp_at h.stamps 0 r.at_reply = answered_later (woven_journals o a) h.stamps h.stamped 0 0 o r f.0 in
+      let two : stamp_at h.stamps 1 s.at_invoke ≤ stamp_at h.stamps 1 s.at_reply = answered_later (woven_journals o a) h.stamps h.stamped 1 0 o s f.2.0 in
+      let three : stamp_at h.stamps 0 t.at_invoke ≤ stamp_at h.stamps 0 t.at_reply = answered_later (woven_journals o a) h.stamps h.stamped 0 0 o t f.2.2.0 in
+      let first : stamp_at h.stamps 0 r.at_reply < stamp_at h.stamps 1 s.at_invoke = f.2.1 in
+      let second : stamp_at h.stamps 1 s.at_reply < stamp_at h.stamps 0 t.at_invoke = f.2.2.1 in
+      let third : stamp_at h.stamps 0 t.at_reply < stamp_at h.stamps 1 u.at_invoke = f.2.2.2.1 in
+      let r_in = invoked_within 0 r.call r.at_invoke refl f.0.invoked in
+      let s_in = invoked_within 1 s.call s.at_invoke refl f.2.0.invoked in
+      let t_in = invoked_within 0 t.call t.at_invoke refl f.2.2.0.invoked in
+      let u_in = invoked_within 1 u.call u.at_invoke refl f.2.2.2.0.invoked in
+      let here = two_places r.at_invoke t.at_invoke r_in.0 (later_place (woven_journals o a) h.stamps h.stamped 0 r.at_invoke t.at_invoke r_in.1 (omega arith)) t_in.1 in
+      let there = two_places s.at_invoke u.at_invoke s_in.0 (later_place (woven_journals o a) h.stamps h.stamped 1 s.at_invoke u.at_invoke s_in.1 (omega arith)) u_in.1 in
+      by_place r.at_invoke s.at_invoke t.at_invoke u.at_invoke here.0 there.0 here.1 there.1 (omega arith) (omega arith) (omega arith)
+    where
+      by_place : (p q x y : ℕ) → p ≡ 1 → q ≡ 1 → x ≡ 2 → y ≡ 2 → stamp_at h.stamps 0 p < stamp_at h.stamps 1 q → stamp_at h.stamps 1 q < stamp_at h.stamps 0 x
+          → stamp_at h.stamps 0 x < stamp_at h.stamps 1 y
+          → (stamp_at h.stamps 0 1 < stamp_at h.stamps 1 1) × (stamp_at h.stamps 1 1 < stamp_at h.stamps 0 2) × (stamp_at h.stamps 0 2 < stamp_at h.stamps 1 2)
+      by_place p q x y p_is q_is x_is y_is k l m = (
+        subst (λ (c : ℕ). stamp_at h.stamps 0 c < stamp_at h.stamps 1 1) p_is (subst (λ (c : ℕ). stamp_at h.stamps 0 p < stamp_at h.stamps 1 c) q_is k),
+        subst (λ (c : ℕ). stamp_at h.stamps 1 c < stamp_at h.stamps 0 2) q_is (subst (λ (c : ℕ). stamp_at h.stamps 1 q < stamp_at h.stamps 0 c) x_is l),
+        subst (λ (c : ℕ). stamp_at h.stamps 0 c < stamp_at h.stamps 1 2) x_is (subst (λ (c : ℕ). stamp_at h.stamps 0 x < stamp_at h.stamps 1 c) y_is m),
+      )
+
+  woven_alone : (stamp_at h.stamps 0 1 < stamp_at h.stamps 1 1) × (stamp_at h.stamps 1 1 < stamp_at h.stamps 0 2) × (stamp_at h.stamps 0 2 < stamp_at h.stamps 1 2)
+  woven_alone = woven h.in_order.0.receipts h.in_order.0.follow
+
+pub woven_so : (o : Op) (a : Answer) (name : List ℕ) (h : AreOneRun (to_and_fro o name) (woven_journals o a))
+    → (stamp_at h.stamps 0 1 < stamp_at h.stamps 1 1) × (stamp_at h.stamps 1 1 < stamp_at h.stamps 0 2)
+    × (stamp_at h.stamps 0 2 < stamp_at h.stamps 1 2)
+woven_so o a name h = woven_alone o a name h

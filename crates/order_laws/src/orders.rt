@@ -1,11 +1,16 @@
 //! In which order the events of several journals can be taken.
 
+ghost use Rattle.nook_data.specs.declared.calls.Answer.{Answer};
+ghost use Rattle.nook_data.specs.declared.calls.Op.{Op};
 ghost use Rattle.nook_data.specs.declared.scenario.PartSpec.{PartSpec};
 ghost use Rattle.nook_data.specs.declared.scenario.ThreadSpec.{ThreadSpec};
 ghost use Rattle.nook_data.specs.declared.steps.Event.{Event};
+ghost use Rattle.nook_data.specs.declared.steps.Event.TheVariants as event;
 ghost use Rattle.order_defs.specs.OneClock.{AreOneRun};
-ghost use Rattle.order_defs.specs.Taking.{IsAllTaken, IsStuck, Leads, Taking, opening_taking};
-ghost use Rattle.std.specs.Prelude.{◌≡◌, List, ℕ};
+ghost use Rattle.order_defs.specs.Taking.{IsAllTaken, IsStuck, IsTimely, Leads, Taking, opening_taking};
+ghost use Rattle.run_defs.specs.Simulation.{ThreadState};
+ghost use Rattle.run_laws.specs.Fitting.{AllFit};
+ghost use Rattle.std.specs.Prelude.{◌<◌, ◌≡◌, ◌∷◌, length, slice_get, List, None, Option, Some, ℕ};
 ghost use Rattle.threaded_run.specs.Others.{HaveNoOthers};
 
 /// Journals that have one clock, and no other invocations than the scripts', can be taken event by event until nothing
@@ -31,10 +36,21 @@ pub fn what_is_taken_in_the_end_is_the_same()
         → a ≡ b }
 {}
 
-/// Of journals that have one clock, and no other invocations than the scripts', everything is taken in the end, whatever
-/// is taken first. So an auditor finds out by taking what it can whether journals have one clock.
+/// Of journals that have one clock, and no other invocations than the scripts', everything is taken in the end,
+/// whatever is taken first. So an auditor finds out by taking what it can whether journals have one clock.
 pub fn of_one_run_everything_is_taken()
     ensures { (threads : List ThreadSpec) (parts : List PartSpec) (journals : List (List Event)) (order : List ℕ)
         (end : Taking) → HaveNoOthers threads 0 parts journals → AreOneRun threads journals
         → Leads (opening_taking threads journals) order end → IsStuck end → IsAllTaken end }
+{}
+
+/// Of journals that fit a scenario an invocation may be taken where its thread has no open operation and its part is
+/// that of the thread's next operation: it is then that operation. So an auditor need not compare operations.
+pub fn where_journals_fit_the_part_decides()
+    ensures { (threads : List ThreadSpec) (parts : List PartSpec) (journals : List (List Event)) (order : List ℕ)
+        (s : Taking) (part call thread : ℕ) (o op : Op) (a : Option Answer) (rest : List Event) (t : ThreadState)
+        (more : List (ℕ × Op)) → AllFit threads 0 parts journals → Leads (opening_taking threads journals) order s
+        → part < length journals → slice_get s.left part ≡ Some (event.Invoke call thread o a ∷ rest)
+        → slice_get s.threads thread ≡ Some t → t.waiting ≡ None → t.rest ≡ (part, op) ∷ more
+        → IsTimely s.threads part (event.Invoke call thread o a) }
 {}

@@ -1,9 +1,7 @@
-//! What no clause says of runs and their texts: the tests of `part_core`, `request_taps`, `scenario_write`, `sim_run` and
-//! `turn_trace`, in a crate of their own.
+//! What no clause says of runs and their texts: the tests of `part_core`, `request_taps`, `scenario_write` and `turn_trace`,
+//! in a crate of their own.
 #![tactic(auto)]
 
-#[cfg(test)]
-mod breaking_tests;
 #[cfg(test)]
 mod calling_tests;
 #[cfg(test)]

@@ -1,4 +1,4 @@
-use Rattle.std.specs.Prelude.{◌≡◌, ℕ, true, Option, Some, None, List, fold, option_map}
+use Rattle.std.specs.Prelude.{◌≡◌, ℕ, true, Option, Some, None, List, fold}
 use Rattle.nook_data.specs.Types.{Class, Clause, Event, Fault}
 use Rattle.nook_data.specs.declared.steps.Step.TheVariants as step
 use Rattle.contract_monitor.specs.Monitors.{Monitored, StandsFor}

@@ -2,5 +2,6 @@
 #![tactic(auto)]
 
 mod stopping;
+mod walking;
 
 pub use stopping::stop_burst;

@@ -1,13 +1,21 @@
 //! The guard's trap of a burst.
 
-ghost use Rattle.std.specs.Prelude.{IfOk};
+ghost use Rattle.std.specs.Prelude.{◌≡◌, ℕ, IfOk};
+ghost use Rattle.guard_defs.specs.Turns.{turns_before};
+ghost use Rattle.guard_point.specs.Placing.{stop_before, turns_by};
 ghost use Rattle.guard_point.specs.Stopping.{StopsBurst};
+ghost use Rattle.machine_defs.specs.BurstFaults.{faults_of_burst};
+ghost use Rattle.part_defs.specs.Domain.{context_of, machine_of};
 
-use contract_monitor::Monitor;
+use crate::walking::turns_before;
+use contract_monitor::{Monitor, WrongDeed};
 use domain_call::Domain;
+use fault_script::FaultScript;
 use nook_data::clause::Clause;
+use nook_data::lists::Items;
+use nook_data::machine::Context;
 use nook_data::memory::NoMemory;
-use nook_data::scenario::Fault;
+use nook_data::scenario::{Fault, FaultKind};
 use nook_data::steps::Event;
 use std::alloc::Global;
 
@@ -19,7 +27,7 @@ use std::alloc::Global;
 ///
 /// Out of memory.
 pub fn stop_burst(
-    _alloc: Global,
+    alloc: Global,
     domain: Domain,
     event: &Event,
     faults: &[Fault],
@@ -27,5 +35,79 @@ pub fn stop_burst(
 ) -> Result<Option<(Fault, Clause)>, NoMemory>
     ensures { IfOk result (StopsBurst domain.state event.now faults.now monitor.now) }
 {
-    Err(NoMemory)
+    match monitor.first_wrong(event)? {
+        Some(wrong) => stop_before(alloc, domain, event, faults, wrong),
+        None => Ok(None),
+    }
+}
+
+/// The trap before the turn of a burst's deed, and the clause that the deed breaks.
+fn stop_before(
+    alloc: Global,
+    domain: Domain,
+    event: &Event,
+    faults: &[Fault],
+    wrong: WrongDeed,
+) -> Result<Option<(Fault, Clause)>, NoMemory>
+    ensures { IfOk result (λ stop. stop ≡ stop_before wrong event.now faults.now domain.state) }
+{
+    match event {
+        Event::Burst { context, burst, .. } => {
+            let after = turns_in(alloc, domain, *context, *burst, faults, wrong.place)?;
+            let trap = Fault {
+                burst: *burst,
+                after,
+                kind: FaultKind::Trap,
+            };
+            Ok(Some((trap, wrong.clause)))
+        }
+        _ => Ok(None),
+    }
+}
+
+/// The turns of a context's burst that come before the one of a deed; 0 where nothing runs in the context.
+fn turns_in(
+    alloc: Global,
+    domain: Domain,
+    context: u8,
+    burst: u32,
+    faults: &[Fault],
+    place: u64,
+) -> Result<u32, NoMemory>
+    ensures { IfOk result (λ turns. turns ≡ turns_by place (faults_of_burst burst faults.now) domain.state
+        (context_of context domain.state.contexts)) }
+{
+    match domain.find_inside(context) {
+        Some(inside) => {
+            let script = script_of(alloc, faults)?;
+            turns_inside(alloc, domain, &inside, script.faults_at(burst), place)
+        }
+        None => Ok(0),
+    }
+}
+
+/// The faults of a part in the order in which they strike.
+fn script_of(alloc: Global, faults: &[Fault]) -> Result<FaultScript, NoMemory>
+    ensures { IfOk result (λ script. (burst : ℕ) → faults_of_burst burst script ≡ faults_of_burst burst faults.now) }
+{
+    let mut own = Vec::with_capacity(alloc, faults.len())?;
+    own.extend_from_slice(faults)?;
+    FaultScript::new(Items::from_vec(own))
+}
+
+/// The turns of the burst of what runs in a context that come before the one of a deed. `faults` are those of the burst
+/// in the order in which they strike.
+fn turns_inside(
+    alloc: Global,
+    domain: Domain,
+    inside: &Context,
+    faults: &[Fault],
+    place: u64,
+) -> Result<u32, NoMemory>
+    ensures { IfOk result (λ turns. turns
+        ≡ turns_before place domain.state.entries faults.now (machine_of inside.now domain.state)) }
+{
+    let mut cpu = inside.cpu;
+    let mut bus = domain.detach();
+    turns_before(alloc, &mut cpu, &mut bus, faults, place)
 }

@@ -83,4 +83,3 @@ guarded_moved s (c ∷ choices) = guarded_taken s (c ∷ choices)
 unfoldable pub stops_found : ℕ → Simulation → List Stop
 stops_found zero s = []
 stops_found (suc more) s = stop_made s (choices_of s) ++ stops_found more (guarded_moved s (choices_of s))
-

@@ -1,12 +1,11 @@
 -- The trap of the first burst of a run that breaks a clause.
-use Rattle.std.proofs.Common.{◌≡◌, ◌<◌, ℕ, true, Option, Some, None, List, length, slice_get, refl, sym, ap, subst, ◌∙◌}
+use Rattle.std.proofs.Common.{◌≡◌, ◌<◌, true, Option, Some, None, List, length, slice_get, refl, sym, ap, subst, ◌∙◌}
 use Rattle.std.proofs.lemmas.Option.{slice_get_within}
 use Rattle.nook_data.proofs.Options.{none_is_some, same_inside}
 use Rattle.nook_data.specs.declared.clause.Clause.{Clause}
 use Rattle.nook_data.specs.declared.scenario.Fault.{Fault}
 use Rattle.nook_data.specs.declared.scenario.PartSpec.{PartSpec}
 use Rattle.nook_data.specs.declared.scenario.Scenario.{Scenario}
-use Rattle.nook_data.specs.declared.steps.Step.{Step}
 use Rattle.nook_data.specs.declared.steps.Step.TheVariants as step
 use Rattle.front_laws.proofs.FirstStops.{first_trap, guard_is, spec_there}
 use Rattle.front_laws.proofs.GuardedParts.{MayTake, may_take}
@@ -15,9 +14,8 @@ use Rattle.guard_defs.specs.Guard.{guard, guard_trap}
 use Rattle.guard_defs.specs.GuardedRuns.{known_of, spec_of}
 use Rattle.guard_defs.specs.declared.stop.Stop.{Stop}
 use Rattle.guard_point.specs.Stopping.{IsStop, StopsBurst}
-use Rattle.part_defs.specs.State.{PartState}
 use Rattle.part_defs.specs.Steps.{enabled}
-use Rattle.run_defs.specs.Simulation.{Choice, RunningPart, Simulation, begins, choices_of, runs}
+use Rattle.run_defs.specs.Simulation.{RunningPart, Simulation, begins, choices_of, runs}
 use Rattle.run_laws.proofs.Choices.{IsGood, choices_good}
 use Rattle.sim_run.specs.Breaks.{IsWrongBurst}
 use Rattle.sim_run.specs.declared.breaking.WrongBurst.{WrongBurst}

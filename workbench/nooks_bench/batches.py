@@ -21,8 +21,8 @@ Results = list[Outcome]
 
 @dataclass(frozen=True)
 class Asking:
-    """How the program is asked about a batch: by a campaign first, with detail if it has that, or by each member's report
-    alone; and whether the runs are guarded, of which a campaign's row does not say what the guard stopped."""
+    """How the program is asked about a batch: by a campaign first, with detail if it has that, or by each member's
+    report alone; and whether the runs are guarded, of which a campaign's row does not say what the guard stopped."""
 
     by_rows: bool = True
     detail: bool = False

@@ -6,7 +6,7 @@ from __future__ import annotations
 import json
 import re
 from dataclasses import dataclass
-from typing import Any, Iterator, Sequence
+from typing import Any, Generator, Iterator, Sequence
 
 from .batches import is_base
 from .faults import Selection
@@ -86,10 +86,10 @@ class Every:
         last = LAST.fullmatch(next(lines, ""))
         if last is None:
             raise Mistake("the table has no last line where one is due")
-        counts = [int(number) for number in last.groups()[:4]]
-        self.whole = Whole(base.status, *counts, traps=int(last[5]) if last[5] else None)
+        members, kept, given_up, broken = (int(last[place]) for place in (1, 2, 3, 4))
+        self.whole = Whole(base.status, members, kept, given_up, broken, int(last[5]) if last[5] else None)
 
-    def outcomes(self, faults: Sequence[Fault]) -> Iterator[Outcome | None]:
+    def outcomes(self, faults: Sequence[Fault]) -> Generator[Outcome | None, None, None]:
         """What became of each fault of a sweep, in their order; None if the row does not have all of it."""
         rows = self.rows()
         for fault in faults:
@@ -101,7 +101,7 @@ class Every:
             pass
 
 
-def can_say(program: Program, selection: Selection, kinds: Sequence[Fault], base: Scenario) -> bool:
-    """Whether a choice over a base is one that a campaign of the program can say by `every`."""
-    whole = is_whole(selection, kinds) and is_base(base, selection.part)
+def can_say(program: Program, selection: Selection, kinds: Sequence[Fault], bases: Sequence[Scenario]) -> bool:
+    """Whether a choice over some bases is one that campaigns of the program can say by `every`."""
+    whole = is_whole(selection, kinds) and all(is_base(base, selection.part) for base in bases)
     return whole and program.has_campaign_key(KEY) and program.has_campaign_key("detail")

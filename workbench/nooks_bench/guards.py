@@ -1,7 +1,8 @@
 """The traps of a guard in words: which deed each one stopped, and which clause that deed would have broken.
 
-The lines of `guard` have the burst, the turn and the clause. The deed itself never happens in the guarded run, and so is
-in no report of it: it is looked up in the trace of that burst without the trap, in the scenario with the traps before."""
+The lines of `guard` have the burst, the turn and the clause. The deed itself never happens in the guarded run, and so
+is in no report of it: it is looked up in the trace of that burst without the trap, in the scenario with the traps
+before."""
 
 from __future__ import annotations
 
@@ -9,7 +10,6 @@ import json
 import re
 from dataclasses import replace
 
-from .facts import SERVICE_NUMBERS
 from .program import Mistake, Program
 from .report import GuardTrap, Report, parse_report
 from .scenario import Scenario, with_traps
@@ -17,26 +17,21 @@ from .trace_text import Trace, parse_trace
 from .words import CLAUSES, short
 
 CROSSING = re.compile(r"n\d+ (.*?)(?: \| .*?)?(?: -> (.*?))?(?: ! .*)?")
-HAND_UP = re.compile(rf"service {SERVICE_NUMBERS['net_rx']} \d+ \d+(?: = \d+)? (\[.*\])")
-REPLY = re.compile(r"reply (\d+)")
 
 
 def crossing_text(end: str) -> str:
-    """The reply or the frame handed up with which a burst ended, by the last line of its trace."""
+    """The reply, or the call that handed a frame up, with which a burst ended: by the last line of its trace."""
     found = CROSSING.fullmatch(end)
     crossing, answer = (found[1], found[2]) if found else (end, None)
-    if handed := HAND_UP.fullmatch(crossing):
-        return f"the frame {short(handed[1])} handed up"
-    if replied := REPLY.fullmatch(crossing):
-        return f"the reply {replied[1]}" + (f" -> {short(answer)}" if answer else "")
-    return short(crossing)
+    return short(f"{crossing} -> {answer}" if answer else crossing)
 
 
 def deed_text(trace: Trace, after: int) -> str:
     """What a driver does in the turn that comes after some others of a burst."""
     turn = next((turn for turn in trace.turns() if turn.number == after + 1), None)
     if turn is None:
-        raise Mistake(f"burst {trace.burst} of part {trace.part} has no turn {after + 1}: the traps are of another scenario")
+        where = f"burst {trace.burst} of part {trace.part}"
+        raise Mistake(f"{where} has no turn {after + 1}: the traps are of another scenario")
     return short(turn.acts[0]) if turn.acts else crossing_text(trace.end)
 
 
@@ -69,9 +64,9 @@ def guarded_scenario(program: Program, scenario: Scenario) -> Scenario:
 
 
 def would_have(trap: GuardTrap) -> str:
-    """What the driver would have done that broke its contract."""
-    with_deed = f"with {trap.deed} " if trap.deed else ""
-    return f"{with_deed}it would have {CLAUSES[trap.clause]} (clause {trap.clause})"
+    """What the driver would have done that broke its contract, and by which deed, in the words of a report."""
+    by_deed = f'by "{trap.deed}" ' if trap.deed else ""
+    return f"{by_deed}it would have {CLAUSES[trap.clause]} (clause {trap.clause})"
 
 
 def stopped_line(trap: GuardTrap, event: int, at: str = "") -> str:

@@ -18,8 +18,8 @@ ABOUT = """Draws a sweep as an SVG: for each burst a row for each thing that str
 over them a strip of the burst's instructions, in which those that act on the device are marked. A cell has the colour
 of what became of the fault; the number in it is the clause that was broken, or how much was lost. Rows that look the
 same are one. The pointer over a cell says the fault, the outcome and the instruction. With --guard the same faults
-behind a guard are on the right. The options are those of sweep; with --from, the sweep is one that `sweep --json` wrote,
-and the program is asked for the strip alone."""
+behind a guard are on the right. The options are those of sweep; with --from, the sweep is one that `sweep --json`
+wrote, and the program is asked for the strip alone."""
 
 DEFAULT_WIDTH = 1500
 

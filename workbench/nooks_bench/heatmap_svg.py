@@ -1,5 +1,5 @@
-"""A map as an SVG. Each burst has its own turns, a strip of its instructions over them, and its rows below. With a guard
-there are two halves: on the left the faults without it, on the right the same faults behind it."""
+"""A map as an SVG. Each burst has its own turns, a strip of its instructions over them, and its rows below. With a
+guard there are two halves: on the left the faults without it, on the right the same faults behind it."""
 
 from __future__ import annotations
 

@@ -36,8 +36,8 @@ DETAIL = re.compile(r"(same|other) left (same|other) break (\d+|-)(?: traps \d+)
 
 @dataclass(frozen=True)
 class Detail:
-    """What a row has with `detail`: whether the answers, and what the parts were left with, are those of the base's run;
-    the clause that the struck part's driver broke, 0 for none; and why it failed first, empty if it did not."""
+    """What a row has with `detail`: whether the answers, and what the parts were left with, are those of the base's
+    run; the clause that the struck part's driver broke, 0 for none; and why it failed first, empty if it did not."""
 
     same_answers: bool
     same_left: bool
@@ -144,8 +144,8 @@ def parse_row(line: str) -> Row:
     found = ROW.fullmatch(line)
     if not found:
         raise Mistake(f"no row of a table: {line!r}")
-    *numbers, words = found.groups()
-    return Row(*(int(number) for number in numbers), parse_detail(words) if words else None)
+    status, events, failures, gone, lost = (int(found[place]) for place in range(1, 6))
+    return Row(status, events, failures, gone, lost, parse_detail(found[6]) if found[6] else None)
 
 
 def row_of(report: Report) -> Row:
@@ -184,9 +184,9 @@ class Judge:
         return row_of(self.base)
 
     def reach(self, event: Event) -> int:
-        """At how many places of a burst of the base's run, from 0 on, a fault strikes: before each turn. Of a burst that
-        one of the part's own hangs ended the report does not have the turns: it says 4096. A guard's trap comes behind
-        all other faults of its place."""
+        """At how many places of a burst of the base's run, from 0 on, a fault strikes: before each turn. Of a burst
+        that one of the part's own hangs ended the report does not have the turns: it says 4096. A guard's trap comes
+        behind all other faults of its place."""
         trap = self.base.parts[self.part].guards.get(event.burst)
         if trap is not None:
             return trap.after + 1

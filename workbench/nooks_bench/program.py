@@ -73,9 +73,9 @@ class Program:
         with tempfile.TemporaryFile() as file:
             file.write(given.encode())
             file.seek(0)
-            null = subprocess.DEVNULL
+            streams = {"stdin": file, "stdout": subprocess.PIPE, "stderr": subprocess.DEVNULL}
             try:
-                process = subprocess.Popen([self.path, *words], stdin=file, stdout=subprocess.PIPE, stderr=null, text=True)
+                process = subprocess.Popen([self.path, *words], text=True, **streams)
             except OSError as error:
                 raise self.unrun(error) from error
         assert process.stdout is not None

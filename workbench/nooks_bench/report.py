@@ -50,8 +50,8 @@ class Event:
 
 @dataclass(frozen=True)
 class GuardTrap:
-    """A trap of a guard: so many turns of a burst come before the deed that would have broken a clause. `deed` says what
-    the deed was, if the program was asked."""
+    """A trap of a guard: so many turns of a burst come before the deed that would have broken a clause. `deed` has the
+    deed in the words of a report, if the program was asked."""
 
     part: int
     burst: int
@@ -143,7 +143,8 @@ class Lines:
         if found := PART.fullmatch(line):
             self.report.parts.append(self.part(int(found[1]), found[2], found[3], int(found[4])))
         elif not self.report.parts and (found := GUARD.fullmatch(line)):
-            self.report.guards.append(GuardTrap(*(int(number) for number in found.groups())))
+            part, burst, after, clause = map(int, found.groups())
+            self.report.guards.append(GuardTrap(part, burst, after, clause))
         elif words[0] == "thread" and len(words) == 3:
             self.report.threads.append(Thread(int(words[1]), words[2]))
         elif words[0] == "tap":

@@ -40,8 +40,8 @@ Known = list[Outcome | None]
 @dataclass
 class Sweep:
     """A sweep that is run: what is known of each fault so far, by its place in the whole, and `behind` a guard. `first`
-    is the report of the scenario under its own schedule. `wholes` has what the tables of campaigns with `every` came to,
-    without a guard and with one."""
+    is the report of the scenario under its own schedule. `wholes` has what the tables of campaigns with `every` came
+    to, without a guard and with one."""
 
     program: Program
     selection: Selection
@@ -73,12 +73,15 @@ class Sweep:
             return run_dask(self.how.dask, self.how.dask_program or self.program.path, batches)
         return run_local(self.program.path, batches, self.how.jobs)
 
-    def take(self, known: Known, first: int, results: Results) -> None:
-        """Takes some results from a place on, and writes them down."""
+    def take(self, known: Known, first: int, results: Results, number: int, progress: Progress) -> None:
+        """Takes some results of a base from a place on, and writes them down."""
+        if not results:
+            return
         with uninterrupted():
             known[first : first + len(results)] = results
             if self.journal:
                 self.journal.add(first + (len(self.known) if known is self.behind else 0), results)
+        progress.take(results, number)
 
     def run(self) -> None:
         """Runs what is left; an interruption ends it with what is known so far."""
@@ -115,21 +118,21 @@ class Sweep:
         """Runs what is left in batches."""
         batches = self.batches(known, asking)
         for place, results in self.results(batches):
-            self.take(known, batches[place].first, results)
-            progress.take(results, batches[place].number)
+            self.take(known, batches[place].first, results, batches[place].number, progress)
 
     def run_every(self, progress: Progress) -> bool:
         """Asks for all faults by campaigns with `every`, if the choice is one that these can say and nothing is known
-        yet. Those whose rows do not have all are left. Whether it has asked."""
+        yet. Those whose rows do not have all are left. Whether it has asked. What a table comes to is not written down,
+        so that a sweep with a journal does not have it, whether it was interrupted or not."""
         kinds = templates(self.selection)
-        bases = (plan.base for plan in self.plans)
-        if self.how.dask or any(self.known) or not all(can_say(self.program, self.selection, kinds, each) for each in bases):
+        bases = [plan.base for plan in self.plans]
+        if self.how.dask or any(self.known) or not can_say(self.program, self.selection, kinds, bases):
             return False
         for number, plan in enumerate(self.plans):
             judge = judge_of(plan.report, plan.base, self.selection.part)
             every = Every(self.program, plan.base, self.selection.part, judge, kinds)
             self.fill(every, plan, number, progress)
-            if len(self.plans) == 1 and every.whole:
+            if len(self.plans) == 1 and every.whole and not self.journal:
                 self.wholes[False] = every.whole
         return True
 
@@ -141,11 +144,9 @@ class Sweep:
             for place, outcome in enumerate(outcomes, plan.first):
                 results += [outcome] if outcome else []
                 if outcome is None or len(results) == MOST_LOCAL:
-                    self.take(self.known, first, results)
-                    progress.take(results, number)
+                    self.take(self.known, first, results, number, progress)
                     results, first = [], place + 1
-        self.take(self.known, first, results)
-        progress.take(results, number)
+        self.take(self.known, first, results, number, progress)
 
     def guarded_whole(self) -> Whole:
         """What the table of the guarded campaign with `every` comes to; of one plan."""

@@ -111,7 +111,8 @@ class Drawing:
         struck = {strike.fault["kind"] for each in self.times for strike in each.struck()}
         key += [(self.lettered(letter, RED, WHITE), f"fault: {name}") for name, letter in STRIKES.items()
                 if name in struck]
-        key += [(self.lettered(GUARD, BLACK, WHITE), "stopped by a guard")] if any(each.guarded() for each in self.times) else []
+        if any(each.guarded() for each in self.times):
+            key.append((self.lettered(GUARD, BLACK, WHITE), "stopped by a guard"))
         return key
 
     def flow(self, entries: list[tuple[Mark, str]]) -> None:

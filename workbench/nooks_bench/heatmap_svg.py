@@ -78,6 +78,7 @@ class Map:
         self.halves = 2 if any(line.behind for group in groups for line in group.lines) else 1
         self.fit, self.cell = self.sizes((look.width - self.left - 12 - GAP * (self.halves - 1)) / self.halves)
         self.shift = 0.0
+        self.widest = max(self.per_row(group) for group in groups)
         cells = [cell for half in range(self.halves) for cell in self.cells(half)]
         amounts = [cell.lost for cell in cells if cell.outcome == LOSSES]
         self.amounts = sorted(set(amounts))
@@ -237,7 +238,7 @@ class Map:
         """Some turns of a burst, in one half or in two of the same height."""
         top = self.y
         for half in range(self.halves):
-            self.y, self.shift = top, half * (self.fit * self.cell + GAP)
+            self.y, self.shift = top, half * (self.widest * self.cell + GAP)
             if self.halves > 1 and first == 0:
                 self.canvas.words(self.x(0, 0), self.y + 8, HALVES[half], 9, GREY)
                 self.y += 12

@@ -255,7 +255,7 @@ class Judge:
         if event is None:
             return ""
         trap = report.parts[self.part].guards.get(event.burst)
-        return f"guard, {clause_text(trap.clause)}" if trap else plain_cause(event.cause or "")
+        return f"guard, clause {trap.clause}" if trap else plain_cause(event.cause or "")
 
     def failing(self, fault: Fault, report: Report) -> Event | None:
         """The event at which the struck driver failed: that of the burst itself, or a later one if it failed more often

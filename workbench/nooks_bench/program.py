@@ -73,9 +73,9 @@ class Program:
         with tempfile.TemporaryFile() as file:
             file.write(given.encode())
             file.seek(0)
-            streams = {"stdin": file, "stdout": subprocess.PIPE, "stderr": subprocess.DEVNULL}
+            asked, pipe, null = [self.path, *words], subprocess.PIPE, subprocess.DEVNULL
             try:
-                process = subprocess.Popen([self.path, *words], text=True, **streams)
+                process = subprocess.Popen(asked, stdin=file, stdout=pipe, stderr=null, text=True)
             except OSError as error:
                 raise self.unrun(error) from error
         assert process.stdout is not None

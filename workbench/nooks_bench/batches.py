@@ -20,6 +20,16 @@ Results = list[Outcome]
 
 
 @dataclass(frozen=True)
+class Asking:
+    """How the program is asked about a batch: by a campaign first, with detail if it has that, or by each member's
+    report alone; and whether the runs are guarded, of which a campaign's row does not say what the guard stopped."""
+
+    by_rows: bool = True
+    detail: bool = False
+    guarded: bool = False
+
+
+@dataclass(frozen=True)
 class Batch:
     """Some faults of one base. `first` is the place of the first of them in the whole sweep, `number` that of the base
     among its bases."""
@@ -29,14 +39,23 @@ class Batch:
     faults: tuple[Fault, ...]
     first: int
     number: int = 0
+    asking: Asking = Asking()
+
+
+def is_base(scenario: Scenario, part: int) -> bool:
+    """Whether a scenario is small enough to be the base of a campaign."""
+    own = scenario["parts"][part].get("faults", [])
+    return operations(scenario) <= MOST_OPERATIONS and len(own) <= MOST_OWN_FAULTS
 
 
 def rows_of(program: Program, batch: Batch) -> list[Row | None]:
-    """The campaign's rows, or none if the base is too large for a campaign."""
-    own = batch.base["parts"][batch.part].get("faults", [])
-    if operations(batch.base) > MOST_OPERATIONS or len(own) > MOST_OWN_FAULTS:
+    """The campaign's rows, or none if there is to be no campaign."""
+    asking = batch.asking
+    if asking.guarded or not asking.by_rows or not is_base(batch.base, batch.part):
         return [None] * len(batch.faults)
     campaign = {"base": batch.base, "part": batch.part, "faults": list(batch.faults)}
+    if asking.detail:
+        campaign["detail"] = True
     lines = program.answer(["campaign"], json.dumps(campaign)).out.split("\n")
     rows = [parse_row(line) for line in lines if line and not line.startswith("campaign")]
     if len(rows) != len(batch.faults):
@@ -44,10 +63,15 @@ def rows_of(program: Program, batch: Batch) -> list[Row | None]:
     return list(rows)
 
 
+def report_of(program: Program, scenario: Scenario, guarded: bool) -> Report:
+    """The report of a scenario's run, or of its guarded run."""
+    return parse_report(program.guard(scenario) if guarded else program.report(scenario))
+
+
 def member_outcome(program: Program, judge: Judge, batch: Batch, fault: Fault) -> Outcome:
     """The outcome of one fault by the report of its run."""
-    report = program.report(with_faults(batch.base, batch.part, [fault]))
-    return judge.by_report(fault, parse_report(report))
+    member = with_faults(batch.base, batch.part, [fault])
+    return judge.by_report(fault, report_of(program, member, batch.asking.guarded))
 
 
 def outcomes_of(program: Program, base: Report, batch: Batch) -> Results:
@@ -69,5 +93,5 @@ def outcomes_of(program: Program, base: Report, batch: Batch) -> Results:
 def run_batch(path: str, batch: Batch) -> Results:
     """A batch from nothing but a path and the batch, as a worker on another machine runs it."""
     program = Program(path)
-    base = parse_report(program.report(batch.base))
+    base = report_of(program, batch.base, batch.asking.guarded)
     return outcomes_of(program, base, batch)

@@ -7,15 +7,19 @@ import json
 
 from .build import built
 from .explain_report import report_lines
-from .program import Mistake
+from .guards import guarded
+from .program import Mistake, find_program
 from .refused import Explained, explain_asm, explain_fault, parse_fault
 from .report import parse_report
+from .scenario import read_scenario
 from .source import Node, Place, Reader, read_text
 from .unstruck import strikes_of_report
 
 ABOUT = """Explains what the program wrote. FILE (- is standard input) is a report, or the line `fault ..` of a
 refused input, which needs --input: the scenario, campaign, image or assembler text that was refused. For a report
---input is its scenario, and then each fault of it is listed, with the burst that it struck or why it did not."""
+--input is its scenario, and then each fault of it is listed, with the burst that it struck or why it did not. With
+--guard FILE is a scenario, and its guarded run is explained: each deed that the guard stopped, and the clause that it
+would have broken."""
 
 
 def not_json(file: str, text: str) -> Explained:
@@ -41,6 +45,11 @@ def refused(line: str, file: str) -> Explained:
 
 
 def run(args: argparse.Namespace) -> int:
+    if args.guard:
+        scenario = read_scenario(args.file)
+        report = guarded(find_program(args.program), scenario)
+        print("\n".join(report_lines(report, strikes_of_report(report, scenario))))
+        return 0
     text = read_text(args.file)
     if text.startswith("fault "):
         if not args.input:
@@ -58,4 +67,5 @@ def add_to(commands: argparse._SubParsersAction[argparse.ArgumentParser]) -> Non
     parser = commands.add_parser("explain", help=about, description=ABOUT)
     parser.add_argument("file", metavar="FILE", nargs="?", default="-")
     parser.add_argument("--input", metavar="INPUT", help="the input that was refused, or the scenario of the report")
+    parser.add_argument("--guard", action="store_true", help="FILE is a scenario: explain its guarded run")
     parser.set_defaults(run=run)

@@ -5,6 +5,7 @@ from __future__ import annotations
 from .calls import AT_ENTER, BY_DRIVER, BY_SHADOW, GONE, REFUSED, Call, calls_of, calls_of_threads
 from .facts import STATUSES as NUMBERS
 from .folding import folded_lines, short_event
+from .guards import stopped_line
 from .held import held_lines
 from .report import Part, Report, Thread
 from .unstruck import Strike
@@ -58,6 +59,9 @@ def failure_lines(part: Part) -> list[str]:
     for event in part.bursts():
         if event.failed:
             at = f"c{event.call} {asked[event.call]}" if event.call else "a stage of its start"
+            if trap := part.guards.get(event.burst):
+                lines.append(stopped_line(trap, event.number, at))
+                continue
             place = f"event {event.number}, burst {event.burst}, turn {event.turns}"
             cause = event.cause or ""
             lines.append(f"failed at {place}, in {at}: {cause} ({cause_words(cause)})")
@@ -115,6 +119,8 @@ def part_lines(part: Part, strikes: list[Strike]) -> list[str]:
 def report_lines(report: Report, strikes: dict[int, list[Strike]] | None = None) -> list[str]:
     """A report for people; `strikes` has what became of the faults of each part."""
     lines = [f"status {report.status}: {STATUSES.get(report.status, 'unknown')}"]
+    if report.guards:
+        lines.append(f"behind a guard, which stopped drivers {counted(len(report.guards), 'time')}")
     for thread, calls in zip(report.threads, calls_of_threads(report)):
         lines += ["", *thread_lines(thread, calls)]
     for part in report.parts:

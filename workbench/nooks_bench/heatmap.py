@@ -17,8 +17,9 @@ from .sweep import add_sweep_options, swept
 ABOUT = """Draws a sweep as an SVG: for each burst a row for each thing that strikes there, a column for each turn, and
 over them a strip of the burst's instructions, in which those that act on the device are marked. A cell has the colour
 of what became of the fault; the number in it is the clause that was broken, or how much was lost. Rows that look the
-same are one. The pointer over a cell says the fault, the outcome and the instruction. The options are those of sweep;
-with --from, the sweep is one that `sweep --json` wrote, and the program is asked for the strip alone."""
+same are one. The pointer over a cell says the fault, the outcome and the instruction. With --guard the same faults
+behind a guard are on the right. The options are those of sweep; with --from, the sweep is one that `sweep --json`
+wrote, and the program is asked for the strip alone."""
 
 DEFAULT_WIDTH = 1500
 
@@ -76,6 +77,7 @@ def picture_of(args: argparse.Namespace) -> str:
     if not args.no_fold:
         groups = [fold_rows(group) for group in groups]
     names = ", ".join(part["name"] for part in runs[0]["base"]["parts"])
+    names += ", without a guard and behind one" if any(line.behind for group in groups for line in group.lines) else ""
     notes = caption_lines(args, program, f"scenario {hash_of(runs[0]['base'])}")
     strip = NO_STRIP if args.no_instructions else args.strip
     look = Look(room_of(args, DEFAULT_WIDTH), args.wrap, strip)

@@ -52,17 +52,30 @@ class Cell:
         return self.outcome, self.clause, self.lost if self.outcome == LOSSES else 0
 
 
+Cells = dict[int, Cell]
+CellsLook = tuple[tuple[int, tuple[str, int, int]], ...]
+
+
+def look_of(cells: Cells) -> CellsLook:
+    return tuple((turn, cells[turn].look) for turn in sorted(cells))
+
+
 @dataclass
 class Line:
-    """A row of the map: what strikes, and a cell for each turn."""
+    """A row of the map: what strikes, and a cell for each turn; and those behind a guard, if there was one."""
 
     strikes: str
     faults: list[Fault]
-    cells: dict[int, Cell] = field(default_factory=dict)
+    cells: Cells = field(default_factory=dict)
+    behind: Cells = field(default_factory=dict)
 
     @property
-    def look(self) -> tuple[tuple[int, tuple[str, int, int]], ...]:
-        return tuple((turn, self.cells[turn].look) for turn in sorted(self.cells))
+    def look(self) -> tuple[CellsLook, CellsLook]:
+        return look_of(self.cells), look_of(self.behind)
+
+    def side(self, place: int) -> Cells:
+        """The cells without a guard, 0, or behind one, 1."""
+        return self.behind if place else self.cells
 
     def span(self) -> int:
         """How many turns a cell covers: a sweep over each Kth turn leaves no gaps."""
@@ -92,13 +105,19 @@ def lost_in(entry: dict[str, Any]) -> int:
     return sum(number for number in losses.values() if isinstance(number, int))
 
 
-def cell_text(entry: dict[str, Any]) -> str:
-    """What the pointer over a cell shows of one fault."""
-    cause = f": {entry['cause']}" if entry["cause"] else ""
-    losses = entry.get("losses") or {}
+def cell_text(entry: dict[str, Any], became: dict[str, Any]) -> str:
+    """What the pointer over a cell shows of one fault, and of what became of it."""
+    cause = f": {became['cause']}" if became["cause"] else ""
+    losses = became.get("losses") or {}
     lost = ", ".join(f"{name} {number}" for name, number in losses.items() if number)
     at = f"\nat {entry['instruction']}" if entry["instruction"] else ""
-    return f"{json.dumps(entry['fault'])}\n{entry['outcome']}{cause}" + (f"\nlost: {lost}" if lost else "") + at
+    return f"{json.dumps(entry['fault'])}\n{became['outcome']}{cause}" + (f"\nlost: {lost}" if lost else "") + at
+
+
+def take_entry(cells: Cells, entry: dict[str, Any], became: dict[str, Any]) -> None:
+    """Takes what became of a fault into the cell of its turn."""
+    cell = cells.setdefault(entry["fault"]["after"], Cell(became["outcome"]))
+    cell.take(became["outcome"], became["cause"], lost_in(became), cell_text(entry, became))
 
 
 def groups_of(runs: list[dict[str, Any]], together: bool) -> list[Group]:
@@ -115,8 +134,9 @@ def groups_of(runs: list[dict[str, Any]], together: bool) -> list[Group]:
             if key not in rows:
                 rows[key] = Line(strikes, [fault])
                 group.lines.append(rows[key])
-            cell = rows[key].cells.setdefault(fault["after"], Cell(entry["outcome"]))
-            cell.take(entry["outcome"], entry["cause"], lost_in(entry), cell_text(entry))
+            take_entry(rows[key].cells, entry, entry)
+            if "guarded" in entry:
+                take_entry(rows[key].behind, entry, entry["guarded"])
     return [found[key] for key in sorted(found)]
 
 
@@ -155,20 +175,25 @@ def merged(lines: list[Line]) -> Line:
     """Rows that look the same as one."""
     if len(lines) == 1:
         return lines[0]
-    first = lines[0]
-    row = Line(folded_label(lines), [fault for line in lines for fault in line.faults])
-    for turn, cell in first.cells.items():
-        others = len(lines) - 1
-        more = f"and {others} faults more that look the same" if others > 1 else "and 1 fault more that looks the same"
-        texts = [*cell.texts, more]
-        kinds = [kind for line in lines for kind in line.cells[turn].kinds]
-        row.cells[turn] = Cell(cell.outcome, cell.cause, cell.lost, texts, kinds)
-    return row
+    faults = [fault for line in lines for fault in line.faults]
+    sides = (merged_cells([line.side(place) for line in lines]) for place in (0, 1))
+    return Line(folded_label(lines), faults, *sides)
+
+
+def merged_cells(sides: list[Cells]) -> Cells:
+    """The cells of rows that look the same as one."""
+    found: Cells = {}
+    others = len(sides) - 1
+    more = f"and {others} faults more that look the same" if others > 1 else "and 1 fault more that looks the same"
+    for turn, cell in sides[0].items():
+        kinds = [kind for cells in sides for kind in cells[turn].kinds]
+        found[turn] = Cell(cell.outcome, cell.cause, cell.lost, [*cell.texts, more], kinds)
+    return found
 
 
 def fold_rows(group: Group) -> Group:
     """The group with equal rows as one, at the place of the first of them."""
-    alike: dict[tuple[tuple[int, tuple[str, int, int]], ...], list[Line]] = {}
+    alike: dict[tuple[CellsLook, CellsLook], list[Line]] = {}
     for line in group.lines:
         alike.setdefault(line.look, []).append(line)
     return Group(group.run, group.burst, group.place, [merged(lines) for lines in alike.values()])

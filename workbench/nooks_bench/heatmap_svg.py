@@ -1,4 +1,5 @@
-"""A map as an SVG. Each burst has its own turns, a strip of its instructions over them, and its rows below."""
+"""A map as an SVG. Each burst has its own turns, a strip of its instructions over them, and its rows below. With a
+guard there are two halves: on the left the faults without it, on the right the same faults behind it."""
 
 from __future__ import annotations
 
@@ -6,7 +7,7 @@ import math
 from collections import Counter
 from dataclasses import dataclass
 
-from .heatmap_rows import Cell, Group, Line
+from .heatmap_rows import Cell, Cells, Group
 from .outcomes import BROKEN, CHANGED, GIVEN_UP, LOSSES, MISSED, NO_TRACE, OUTCOMES, RECOVERED
 from .picture import caption
 from .strip import Step, Strip, Strips
@@ -21,6 +22,10 @@ ACT_ROW = 12
 WIDEST_CELL, READABLE_CELL, NARROWEST_CELL = 12, 8, 3
 # A burst goes on in at most this many rows before its cells get narrower.
 MOST_ROWS = 4
+
+# The room between the two halves, and what stands over them.
+GAP = 24
+HALVES = ("without a guard", "behind a guard")
 
 # Behind the place of a burst whose turns go on in a further row.
 AGAIN = ", on"
@@ -70,17 +75,21 @@ class Map:
         self.y = 12.0
         self.labelled = len({line.strikes for group in groups for line in group.lines}) > 1
         self.left = 20 + max(self.label_width(group) for group in groups)
-        self.fit, self.cell = self.sizes(look.width - self.left - 12)
-        amounts = [cell.lost for cell in self.cells() if cell.outcome == LOSSES]
+        self.halves = 2 if any(line.behind for group in groups for line in group.lines) else 1
+        self.fit, self.cell = self.sizes((look.width - self.left - 12 - GAP * (self.halves - 1)) / self.halves)
+        self.shift = 0.0
+        self.widest = max(self.per_row(group) for group in groups)
+        cells = [cell for half in range(self.halves) for cell in self.cells(half)]
+        amounts = [cell.lost for cell in cells if cell.outcome == LOSSES]
         self.amounts = sorted(set(amounts))
         self.shades = [self.shade_fill(place) for place in range(len(SHADES))]
-        self.counts = Counter(kind for cell in self.cells() for kind in cell.kinds)
-        self.clauses = sorted(clause for name, clause in self.counts if name == BROKEN)
+        self.counts = [Counter(kind for cell in self.cells(half) for kind in cell.kinds) for half in range(self.halves)]
+        self.clauses = sorted({clause for counts in self.counts for name, clause in counts if name == BROKEN})
         self.hatched = {clause: self.hatch(place) for place, clause in enumerate(self.clauses)}
         self.given_up = self.canvas.stripes("given_up", BLUE, PURPLE)
 
-    def cells(self) -> list[Cell]:
-        return [cell for group in self.groups for line in group.lines for cell in line.cells.values()]
+    def cells(self, half: int) -> list[Cell]:
+        return [cell for group in self.groups for line in group.lines for cell in line.side(half).values()]
 
     def label_width(self, group: Group) -> float:
         names = [text_width(line.strikes, 9) for line in group.lines] if self.labelled else []
@@ -149,13 +158,13 @@ class Map:
         self.y += 20
         entries: list[Entry] = []
         for name in OUTCOMES:
-            count = self.counts[name, 0]
+            count = self.count(name, 0)
             if count and name == LOSSES:
                 entries.append(self.loss_entry(count))
             elif name == BROKEN:
                 entries += [self.clause_entry(clause) for clause in self.clauses]
             elif count:
-                entries.append(Entry(((self.given_up if name == GIVEN_UP else FILLS[name], ""),), f"{name} ({count})"))
+                entries.append(Entry(((self.given_up if name == GIVEN_UP else FILLS[name], ""),), f"{name} {count}"))
         self.flow(entries)
         acts = {step.letter for strip in self.strips.values() for step in strip.values() if step.letter}
         if acts:
@@ -166,23 +175,30 @@ class Map:
         self.text(12, "across: the turns of the burst before the fault" + strip, 9, GREY)
         self.y += 4
 
+    def count(self, name: str, clause: int) -> str:
+        """How many faults had an outcome, in brackets, in each half if there are two; empty if none had."""
+        counts = [counts[name, clause] for counts in self.counts]
+        if not any(counts):
+            return ""
+        return f"({counts[0]})" if len(counts) == 1 else f"({counts[0]}, behind a guard {counts[1]})"
+
     def text(self, x: float, text: str, size: float, fill: str) -> None:
         """Words of the legend, in as many lines as they need."""
         self.y += self.canvas.lines(x, self.y + 9, text, self.look.width - x - 12, size, fill) + 4
 
-    def loss_entry(self, count: int) -> Entry:
+    def loss_entry(self, count: str) -> Entry:
         """Losses, with the least and the most of them."""
         if not self.amounts or self.amounts[-1] <= 0:
-            return Entry(((self.shades[1], ""),), f"{LOSSES} ({count})")
+            return Entry(((self.shades[1], ""),), f"{LOSSES} {count}")
         ends = sorted({self.amounts[0], self.amounts[-1]})
         boxes = tuple((self.shades[self.shade(amount)], str(amount)) for amount in ends)
         amounts = f"{ends[0]}" if len(ends) == 1 else f"from {ends[0]} to {ends[1]}"
-        return Entry(boxes, f"{LOSSES}: {amounts} ({count})")
+        return Entry(boxes, f"{LOSSES}: {amounts} {count}")
 
     def clause_entry(self, clause: int) -> Entry:
         number = str(clause) if self.readable and clause else ""
         words = f", clause {clause}: {CLAUSES[clause]}" if clause else ""
-        return Entry(((self.hatched[clause], number),), f"{BROKEN}{words} ({self.counts[BROKEN, clause]})")
+        return Entry(((self.hatched[clause], number),), f"{BROKEN}{words} {self.count(BROKEN, clause)}")
 
     def flow(self, entries: list[Entry]) -> None:
         """Entries of the legend beside each other, on as many lines as they need."""
@@ -219,7 +235,18 @@ class Map:
         self.y += 6
 
     def piece(self, group: Group, strip: Strip, first: int, last: int) -> None:
-        """Some turns of a burst: their numbers, the strip, and the rows."""
+        """Some turns of a burst, in one half or in two of the same height."""
+        top = self.y
+        for half in range(self.halves):
+            self.y, self.shift = top, half * (self.widest * self.cell + GAP)
+            if self.halves > 1 and first == 0:
+                self.canvas.words(self.x(0, 0), self.y + 8, HALVES[half], 9, GREY)
+                self.y += 12
+            self.half(group, half, strip, first, last)
+        self.shift = 0.0
+
+    def half(self, group: Group, half: int, strip: Strip, first: int, last: int) -> None:
+        """Some turns of a burst, without a guard or behind one: their numbers, the strip, and the rows."""
         steps = {turn: strip[turn] for turn in range(first, last + 1) if turn in strip}
         self.ruler(first, last)
         tops = {turn for turn, step in steps.items() if step.acts}
@@ -229,20 +256,22 @@ class Map:
                 self.act(self.x(turn, first) + self.cell / 2, self.y, steps[turn].letter, step_title(turn, steps[turn]))
             self.y += ACT_ROW
         self.strip(steps, first)
-        label = group.place + (AGAIN if first else "")
-        if self.labelled:
+        label = group.place + (AGAIN if first else "") if half == 0 else ""
+        if self.labelled and label:
             self.canvas.words(10, self.y - 3, label, 10)
         for line in group.lines:
-            if not self.labelled:
+            if not self.labelled and label:
                 self.canvas.words(10, self.y + ROW - 4, label, 10)
-            self.line(line, first, last)
+            if self.labelled and label:
+                self.canvas.words(self.left - 6, self.y + ROW - 4, line.strikes, 9, GREY, text_anchor="end")
+            self.line(line.side(half), line.span(), first, last)
         for turn in tops:
             x = self.x(turn + 1, first)
             self.canvas.line(x, top + ACT_ROW, x, self.y, WHITE, stroke_width=2.2)
             self.canvas.line(x, top + ACT_ROW, x, self.y, GREEN, step_title(turn, steps[turn]), stroke_width=1.2)
 
     def x(self, turn: int, first: int) -> float:
-        return self.left + (turn - first) * self.cell
+        return self.left + self.shift + (turn - first) * self.cell
 
     def ruler(self, first: int, last: int) -> None:
         """The turns that come before the fault."""
@@ -289,12 +318,9 @@ class Map:
         self.canvas.end_group()
         self.y += high
 
-    def line(self, line: Line, first: int, last: int) -> None:
-        """One row: what strikes, and its cells."""
-        if self.labelled:
-            self.canvas.words(self.left - 6, self.y + ROW - 4, line.strikes, 9, GREY, text_anchor="end")
-        wide = line.span()
-        shown = [(turn, cell) for turn, cell in sorted(line.cells.items()) if turn + wide > first and turn <= last]
+    def line(self, cells: Cells, wide: int, first: int, last: int) -> None:
+        """The cells of one row, each so many turns wide."""
+        shown = [(turn, cell) for turn, cell in sorted(cells.items()) if turn + wide > first and turn <= last]
         self.canvas.group(stroke=GREY, stroke_width=0.3)
         for turn, cell in shown:
             begin, end = max(turn, first), min(turn + wide, last + 1)

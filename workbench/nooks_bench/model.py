@@ -13,7 +13,8 @@ from .scenario import Fault, Scenario
 
 @dataclass(frozen=True)
 class Entry:
-    """One fault with what became of it. `losses` is what its run lost more than the run without it."""
+    """One fault with what became of it. `losses` is what its run lost more than the run without it; `guarded` is what
+    became of it behind a guard, if that was asked."""
 
     fault: Fault
     outcome: str
@@ -21,22 +22,26 @@ class Entry:
     place: str
     instruction: str = ""
     losses: Losses = NOTHING_LOST
+    guarded: Outcome | None = None
 
     def as_json(self) -> dict[str, Any]:
-        return {**vars(self), "losses": vars(self.losses)}
+        shown = {**vars(self), "losses": vars(self.losses)}
+        del shown["guarded"]
+        return {**shown, "guarded": self.guarded.as_json()} if self.guarded else shown
 
 
 @dataclass(frozen=True)
 class Swept:
     """The sweep of one base: one scenario under one schedule. `own` is what became of the base itself, with no fault of
     the sweep, against the scenario under its own schedule. `chosen` counts the faults of this base; an interrupted
-    sweep has fewer entries."""
+    sweep has fewer entries. `guarded` is the report of the base's guarded run, if a guard was asked for."""
 
     base: Scenario
     report: Report
     entries: list[Entry]
     own: Outcome = Outcome(SAME)
     chosen: int = 0
+    guarded: Report | None = None
 
     @property
     def start(self) -> int | None:
@@ -47,4 +52,7 @@ class Swept:
     def as_json(self) -> dict[str, Any]:
         faults = [entry.as_json() for entry in self.entries]
         own = self.own.as_json()
-        return {"base": self.base, "status": self.report.status, "own": own, "chosen": self.chosen, "faults": faults}
+        shown = {"base": self.base, "status": self.report.status, "own": own, "chosen": self.chosen, "faults": faults}
+        if self.guarded is None:
+            return shown
+        return {**shown, "guarded": {"status": self.guarded.status, "traps": len(self.guarded.guards)}}

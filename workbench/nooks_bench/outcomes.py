@@ -3,8 +3,9 @@ own report."""
 
 from __future__ import annotations
 
+import functools
 import re
-from dataclasses import dataclass
+from dataclasses import dataclass, field
 from typing import Any, Callable, Iterable
 
 from .facts import FAULT_KINDS, STATUSES
@@ -29,7 +30,19 @@ SHORT_NAMES = dict(zip(("missed", "no-trace", "changed", "recovered", "losses", 
 # What becomes of a base under another schedule, if it is as under its own.
 SAME = "the same"
 
-ROW = re.compile(r"\d+ status (\d+) events (\d+) failures (\d+) gone (\d+) lost (\d+)")
+ROW = re.compile(r"\d+ status (\d+) events (\d+) failures (\d+) gone (\d+) lost (\d+)(?: answers (.*))?")
+DETAIL = re.compile(r"(same|other) left (same|other) break (\d+|-)(?: traps \d+)? cause (.*)")
+
+
+@dataclass(frozen=True)
+class Detail:
+    """What a row has with `detail`: whether the answers, and what the parts were left with, are those of the base's
+    run; the clause that the struck part's driver broke, 0 for none; and why it failed first, empty if it did not."""
+
+    same_answers: bool
+    same_left: bool
+    clause: int
+    cause: str
 
 
 @dataclass(frozen=True)
@@ -41,6 +54,7 @@ class Row:
     failures: int
     gone: int
     lost: int
+    detail: Detail | None = field(default=None, compare=False)
 
 
 @dataclass(frozen=True)
@@ -117,11 +131,21 @@ class Outcome:
         return {"outcome": self.name, "cause": self.cause, "losses": vars(self.losses)}
 
 
+def parse_detail(words: str) -> Detail:
+    """What a row has behind `answers`."""
+    found = DETAIL.fullmatch(words)
+    if not found:
+        raise Mistake(f"no detail of a row: {words!r}")
+    clause, cause = (word if word != "-" else "" for word in (found[3], found[4]))
+    return Detail(found[1] == "same", found[2] == "same", int(clause or 0), cause)
+
+
 def parse_row(line: str) -> Row:
     found = ROW.fullmatch(line)
     if not found:
         raise Mistake(f"no row of a table: {line!r}")
-    return Row(*(int(number) for number in found.groups()))
+    status, events, failures, gone, lost = (int(found[place]) for place in range(1, 6))
+    return Row(status, events, failures, gone, lost, parse_detail(found[6]) if found[6] else None)
 
 
 def row_of(report: Report) -> Row:
@@ -154,32 +178,60 @@ class Judge:
         """The burst of the base's run that a fault names."""
         return self.bursts.get(fault["burst"])
 
-    def strikes(self, fault: Fault) -> bool:
-        """Up to a fault its run is the base's, so it strikes if the base's burst has that turn. Of a burst that one of
-        the part's own hangs ended the report does not have the turns: it says 4096."""
-        event = self.burst(fault)
-        if event is None:
-            return False
-        turns = event.turns
+    @functools.cached_property
+    def base_row(self) -> Row:
+        """The row of the base's run."""
+        return row_of(self.base)
+
+    def reach(self, event: Event) -> int:
+        """At how many places of a burst of the base's run, from 0 on, a fault strikes: before each turn. Of a burst
+        that one of the part's own hangs ended the report does not have the turns: it says 4096. A guard's trap comes
+        behind all other faults of its place."""
+        trap = self.base.parts[self.part].guards.get(event.burst)
+        if trap is not None:
+            return trap.after + 1
         if event.cause == "trap hang" and event.burst in self.hangs:
-            turns = self.hangs[event.burst]
+            return self.hangs[event.burst]
+        return event.turns
+
+    def strikes(self, fault: Fault) -> bool:
+        """Up to a fault its run is the base's, so it strikes if the base's burst has that turn."""
+        event = self.burst(fault)
         after: int = fault["after"]
-        return after < turns
+        return event is not None and after < self.reach(event)
 
     def by_row(self, fault: Fault, row: Row) -> Outcome | None:
-        """The outcome, if the row has all of it: of a trap or a hang, since these stop the driver and nothing else, of
-        which nothing is lost. A row does not say what was lost."""
-        base = row_of(self.base)
+        """The outcome, if the row has all of it. One without detail has it of a trap or a hang, since these stop the
+        driver and nothing else, of which nothing is lost. A row does not say what was lost."""
+        base = self.base_row
         if not self.strikes(fault):
             if row != base:
                 raise Mistake(f"a fault that does not strike has another row than the base: {fault}")
             return Outcome(MISSED)
+        if row.detail is not None:
+            return self.by_detail(row, row.detail)
         if FAULT_KINDS[fault["kind"]] or self.is_open or self.base.status or row.status == STATUSES["contract_broken"]:
             return None
         if row.lost or base.lost:
             return None
         cause = "trap injected" if fault["kind"] == "trap" else "trap hang"
         return Outcome(GIVEN_UP if row.status else RECOVERED, cause)
+
+    def by_detail(self, row: Row, detail: Detail) -> Outcome | None:
+        """The outcome by a row with detail, if it has all of it: of one part whose driver neither fails nor breaks its
+        contract without the fault, and of which nothing is lost."""
+        base = self.base_row
+        if len(self.base.parts) > 1 or base.failures or base.status:
+            return None
+        if not detail.same_left and (self.is_open or row.lost or base.lost):
+            return None
+        if detail.clause:
+            return Outcome(BROKEN, clause_text(detail.clause))
+        if row.failures:
+            return Outcome(GIVEN_UP if row.status else RECOVERED, plain_cause(detail.cause))
+        if not detail.same_left:
+            return None
+        return Outcome(NO_TRACE) if detail.same_answers else Outcome(CHANGED, "answers")
 
     def by_report(self, fault: Fault, report: Report) -> Outcome:
         """The outcome by a member's report."""
@@ -198,19 +250,28 @@ class Judge:
         return Outcome(CHANGED, changed, more) if changed else Outcome(NO_TRACE)
 
     def cause(self, fault: Fault, report: Report) -> str:
-        """Why the struck driver failed: in the burst itself, or later if it failed more often than in the base."""
+        """Why the struck driver failed; a trap of a guard by the clause that it kept from being broken."""
+        event = self.failing(fault, report)
+        if event is None:
+            return ""
+        trap = report.parts[self.part].guards.get(event.burst)
+        return f"guard, clause {trap.clause}" if trap else plain_cause(event.cause or "")
+
+    def failing(self, fault: Fault, report: Report) -> Event | None:
+        """The event at which the struck driver failed: that of the burst itself, or a later one if it failed more often
+        than in the base."""
         ours, theirs = report.parts[self.part], self.base.parts[self.part]
         struck = [event for event in ours.bursts() if event.burst == fault["burst"] and event.failed]
         base = self.burst(fault)
         stops = not FAULT_KINDS[fault["kind"]]
         if struck and base and (stops or struck[0].cause != base.cause):
-            return plain_cause(struck[0].cause or "")
+            return struck[0]
         if ours.failures > theirs.failures:
             later = [event for event in ours.bursts() if event.failed and event.burst >= fault["burst"]]
             known = [event.cause for event in theirs.bursts() if event.failed]
             fresh = [event for event in later if event.cause not in known] or later
-            return plain_cause(fresh[0].cause or "")
-        return ""
+            return fresh[0]
+        return None
 
 
 def clause_text(clause: int) -> str:

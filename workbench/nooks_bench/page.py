@@ -7,6 +7,7 @@ import os
 import sys
 from typing import Any
 
+from .guards import guarded, guarded_scenario
 from .listing import source_of
 from .messages import say
 from .page_bursts import important, traces_of
@@ -41,10 +42,10 @@ def data_of(args: argparse.Namespace) -> dict[str, Any]:
     """The data of the page that the options ask for."""
     program = find_program(args.program)
     scenario = read_scenario(args.file)
-    text = program.report(scenario)
-    report = parse_report(text)
+    report = guarded(program, scenario) if args.guard else parse_report(program.report(scenario))
     times = times_of(report, strikes_of_report(report, scenario))
-    runs = [part_run(program, scenario, each, args.traces) for each in times]
+    shown = guarded_scenario(program, scenario) if args.guard else scenario
+    runs = [part_run(program, shown, each, args.traces) for each in times]
     title = args.title or os.path.splitext(os.path.basename(args.file))[0]
     made = [command_text(args), f"{version_of(program)}; scenario {hash_of(scenario)}"]
     return page_data(title, report, runs, made)
@@ -68,6 +69,7 @@ def run(args: argparse.Namespace) -> int:
 def add_to(commands: argparse._SubParsersAction[argparse.ArgumentParser]) -> None:
     parser = commands.add_parser("page", help="a run as one HTML page, event by event", description=ABOUT)
     parser.add_argument("file", metavar="SCENARIO", help="a scenario; - is standard input")
+    parser.add_argument("--guard", action="store_true", help="the run behind a guard (docs/GUARD.md)")
     parser.add_argument("--title", metavar="TEXT", help="the page's title (default: the file's name)")
     traced = f"trace at most N bursts of each part (default {DEFAULT_TRACES})"
     parser.add_argument("--traces", type=int, default=DEFAULT_TRACES, metavar="N", help=traced)

@@ -11,6 +11,7 @@ from .deeds import Deed, deed_of
 from .event_words import Sentences
 from .explain_report import STATUSES, answered_line, contract_lines, failure_lines, recovery_lines
 from .folding import folded_lines, short_event
+from .guards import would_have
 from .held import held_lines
 from .listing import Source
 from .page_bursts import burst_rows, source_rows
@@ -92,10 +93,13 @@ def lane_rows(times: PartTimes) -> dict[str, Any]:
     }
 
 
-def notes_of(event: Event, deed: Deed | None, strikes: list[Strike]) -> list[list[str]]:
-    """What is said of an event beside its sentence, with its kind: faults that struck, and a broken contract."""
+def notes_of(part: Part, event: Event, deed: Deed | None, strikes: list[Strike]) -> list[list[str]]:
+    """What is said of an event beside its sentence, with its kind: faults that struck, a deed that a guard stopped, and
+    a broken contract."""
     notes = [["fault", f"A fault of the scenario struck here: {strike.text}."]
              for strike in strikes if strike.event == event.number]
+    if trap := part.guards.get(event.burst):
+        notes.append(["fault", f"The guard stopped the driver here, before turn {trap.after + 1}: {would_have(trap)}."])
     if deed and deed.event == event.number:
         notes.append(["broken", f"CONTRACT BROKEN here, clause {deed.clause}: {deed.about}. The deed: {deed.text}"])
     return notes
@@ -107,8 +111,9 @@ def event_rows(run: PartRun, states: list[PartState], deed: Deed | None) -> list
     struck = {strike.event for strike in run.times.struck()}
     rows: list[list[Any]] = []
     for event, before, after in zip(run.part.events, states, states[1:]):
-        said = event.number in struck or (deed is not None and deed.event == event.number)
-        notes = notes_of(event, deed, run.times.struck()) if said else []
+        said = event.number in struck or event.burst in run.part.guards
+        said = said or (deed is not None and deed.event == event.number)
+        notes = notes_of(run.part, event, deed, run.times.struck()) if said else []
         rows.append([sentences.of(event, before, after), short_event(event), event.burst, notes])
     return rows
 

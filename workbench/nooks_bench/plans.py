@@ -4,10 +4,10 @@ from __future__ import annotations
 
 import functools
 import time
-from dataclasses import dataclass
+from dataclasses import dataclass, replace
 from typing import Iterator, Sequence
 
-from .batches import Batch
+from .batches import Asking, Batch, report_of
 from .chosen import faults_of
 from .faults import Selection
 from .outcomes import Outcome
@@ -21,16 +21,17 @@ from .scenario import Fault, Scenario
 @dataclass(frozen=True)
 class Plan:
     """A base with its report, the time that its run took, and the faults that it is swept with. Its faults have the
-    places from `first` on in the whole sweep."""
+    places from `first` on in the whole sweep. `guarded` is the report of its guarded run, if there is to be a guard."""
 
     base: Scenario
     report: Report
     seconds: float
     faults: list[Fault]
     first: int = 0
+    guarded: Report | None = None
 
 
-def plan_of(path: str, selection: Selection, base: Scenario) -> Plan:
+def plan_of(path: str, selection: Selection, guard: bool, base: Scenario) -> Plan:
     """The plan of one base."""
     program = Program(path)
     begun = time.monotonic()
@@ -39,19 +40,22 @@ def plan_of(path: str, selection: Selection, base: Scenario) -> Plan:
     report = parse_report(text)
     if selection.part >= len(report.parts):
         raise Mistake(f"there is no part {selection.part}: the scenario has {len(report.parts)}")
+    guarded = report_of(program, base, guarded=True) if guard else None
     part = report.parts[selection.part]
-    return Plan(base, report, seconds, faults_of(selection, part, Probe(program, base, selection.part)))
+    faults = faults_of(selection, part, Probe(program, base, selection.part))
+    return Plan(base, report, seconds, faults, guarded=guarded)
 
 
-def plans_of(path: str, selection: Selection, bases: Sequence[Scenario], jobs: int) -> list[Plan]:
+def plans_of(
+    path: str, selection: Selection, bases: Sequence[Scenario], jobs: int, guard: bool = False
+) -> list[Plan]:
     """The plans of all bases, in order."""
-    found = dict(each_done(functools.partial(plan_of, path, selection), bases, jobs))
+    found = dict(each_done(functools.partial(plan_of, path, selection, guard), bases, jobs))
     plans: list[Plan] = []
     first = 0
     for number in range(len(bases)):
-        plan = found[number]
-        plans.append(Plan(plan.base, plan.report, plan.seconds, plan.faults, first))
-        first += len(plan.faults)
+        plans.append(replace(found[number], first=first))
+        first += len(plans[-1].faults)
     return plans
 
 
@@ -69,12 +73,14 @@ def gaps(known: Sequence[Outcome | None], first: int, end: int) -> Iterator[tupl
         start = stop
 
 
-def batches_of(plans: Sequence[Plan], part: int, known: Sequence[Outcome | None], size: int) -> list[Batch]:
-    """The faults of which no outcome is known, in batches of at most a size."""
+def batches_of(
+    plans: Sequence[Plan], part: int, known: Sequence[Outcome | None], size: int, asking: Asking = Asking()
+) -> list[Batch]:
+    """The faults of which no outcome is known, in batches of at most a size, by their places in what is known."""
     batches: list[Batch] = []
     for number, plan in enumerate(plans):
         for start, stop in gaps(known, plan.first, plan.first + len(plan.faults)):
             for at in range(start, stop, size):
                 faults = plan.faults[at - plan.first : min(at + size, stop) - plan.first]
-                batches.append(Batch(plan.base, part, tuple(faults), at, number))
+                batches.append(Batch(plan.base, part, tuple(faults), at, number, asking))
     return batches

@@ -5,8 +5,9 @@ from __future__ import annotations
 import json
 import os
 import subprocess
+import tempfile
 from dataclasses import dataclass
-from typing import Any
+from typing import Any, Iterator
 
 from .facts import STATUSES
 
@@ -22,6 +23,7 @@ BUILT = {
 # The statuses with which a whole report was written.
 REPORTED = (STATUSES["done"], STATUSES["given_up"], STATUSES["contract_broken"])
 REFUSED = STATUSES["bad_input"]
+USAGE = STATUSES["usage"]
 
 # How the line of a version begins: that of the program, and that of the plain one.
 NAMES = ("nooks", "plain")
@@ -62,9 +64,32 @@ class Program:
         try:
             ended = subprocess.run([self.path, *words], input=given.encode(), capture_output=True, check=False)
         except OSError as error:
-            raise Mistake(f"{self.path} cannot be run ({error.strerror}); --program names another") from error
+            raise self.unrun(error) from error
         out, err = (text.decode(errors="replace") for text in (ended.stdout, ended.stderr))
         return Ended(ended.returncode, out, err)
+
+    def lines(self, words: list[str], given: str) -> Iterator[str]:
+        """The lines that it writes, each as soon as it is there. A caller that stops to listen ends it."""
+        with tempfile.TemporaryFile() as file:
+            file.write(given.encode())
+            file.seek(0)
+            asked, pipe, null = [self.path, *words], subprocess.PIPE, subprocess.DEVNULL
+            try:
+                process = subprocess.Popen(asked, stdin=file, stdout=pipe, stderr=null, text=True)
+            except OSError as error:
+                raise self.unrun(error) from error
+        assert process.stdout is not None
+        try:
+            yield from (line.rstrip("\n") for line in process.stdout)
+            process.wait()
+        finally:
+            process.kill()
+            process.wait()
+            process.stdout.close()
+
+    def unrun(self, error: OSError) -> Mistake:
+        """The mistake of a program that cannot be run."""
+        return Mistake(f"{self.path} cannot be run ({error.strerror}); --program names another")
 
     def version(self) -> str | None:
         """The program's own line of its version, None if it has none. A program that answers neither with such a line
@@ -82,10 +107,25 @@ class Program:
         ended = self.ask(words, given)
         if ended.status == REFUSED:
             raise Refusal(ended.out.strip())
+        if ended.status == USAGE:
+            raise self.too_old(f"`{' '.join(words)}`")
         if ended.status not in statuses:
             said = (ended.err or ended.out).strip().split("\n")[-1]
             raise Mistake(f"`{' '.join(words)}` ended with status {ended.status}: {said}")
         return ended
+
+    def too_old(self, what: str) -> Mistake:
+        """The mistake of a program that does not have something yet."""
+        return Mistake(f"{self.path} is too old: it has no {what}; the program that ./nooks-plain builds has it")
+
+    def has_campaign_key(self, key: str) -> bool:
+        """Whether a campaign may have a key: one that may not is what the program names first, and the base that is
+        missing comes after it."""
+        return "unknown_key" not in self.ask(["campaign"], json.dumps({key: 1})).out
+
+    def guard(self, scenario: Any) -> str:
+        """The traps of a guard, and the report of the guarded run."""
+        return self.answer(["guard"], json.dumps(scenario), (STATUSES["done"], STATUSES["given_up"])).out
 
     def report(self, scenario: Any, threads: bool = False) -> str:
         """The report of a scenario, of any status that has one."""

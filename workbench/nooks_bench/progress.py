@@ -14,16 +14,24 @@ WIDEST = 120
 
 @dataclass
 class Progress:
-    """`schedules` is the number of bases, if there are several."""
+    """`schedules` is the number of bases, if there are several; `about` stands before each line. Left as a context, its
+    line is ended."""
 
     whole: int
     quiet: bool
     schedules: int = 1
+    about: str = ""
     done: int = 0
     counts: dict[str, int] = field(default_factory=dict)
     begun: float = field(default_factory=time.monotonic)
     last: float = field(default_factory=time.monotonic)
     is_open: bool = False
+
+    def __enter__(self) -> Progress:
+        return self
+
+    def __exit__(self, *_: object) -> None:
+        self.end()
 
     def take(self, results: Results, number: int) -> None:
         """Takes the results of a batch, of the base with a number."""
@@ -38,7 +46,7 @@ class Progress:
 
     def write(self, seconds: float, number: int) -> None:
         shown = ", ".join(f"{count} {name}" for name, count in sorted(self.counts.items(), key=lambda each: -each[1]))
-        front = f"schedule {number + 1} of {self.schedules}: " if self.schedules > 1 else ""
+        front = self.about + (f"schedule {number + 1} of {self.schedules}: " if self.schedules > 1 else "")
         line = f"{front}{self.done:,} of {self.whole:,} faults in {seconds:.1f} s: {shown}"
         if is_terminal():
             write_error("\r\x1b[K" + line[:WIDEST])

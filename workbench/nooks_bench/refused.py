@@ -138,6 +138,10 @@ def kind_of_object(path: str, value: Any) -> str:
     return "this object"
 
 
+# Keys of a campaign that the schema does not have until the proved program has them.
+NEWER_KEYS = ("members", "every", "guard", "detail")
+
+
 def unknown_key(refused: Refused) -> Explained:
     """A key that may not stand there: since its version, its class or kind, or no kind has it."""
     node = refused.node
@@ -148,6 +152,12 @@ def unknown_key(refused: Refused) -> Explained:
     if not unknown:
         return refused.told("unknown key")
     place = node.keys.get(unknown[0], node.place)
+    newer = [key for key in unknown if key in NEWER_KEYS] if refused.path == "/" and "base" in node.value else []
+    if newer == unknown:
+        named = ", ".join(json.dumps(key) for key in newer)
+        about = f"the program is too old for {named} in a campaign; the program that ./nooks-plain builds has it"
+        return refused.told(about, "", place)
+    unknown = [key for key in unknown if key not in newer]
     if unknown == ["bad"] and refused.scenario.get("version") == 1:
         about = '"bad" needs version 2, and this scenario has version 1: write "version": 2'
         return refused.told(about, "", place)

@@ -1,4 +1,5 @@
-"""A report of the program, line by line (docs/REPORT.md; the grammar is in docs/AUDIT.md)."""
+"""A report of the program, line by line (docs/REPORT.md; the grammar is in docs/AUDIT.md), and the lines that `guard`
+writes before one (docs/GUARD.md)."""
 
 from __future__ import annotations
 
@@ -21,6 +22,7 @@ REPLY = re.compile(r" -> c(\d+) ((?:\w+)(?: \[[^]]*\]| \w+)?)")
 ARRIVE = re.compile(r"(\[[^]]*\]) (kept|lost)")
 CONTRACT = re.compile(r"contract (?:kept|broken event (\d+) clause (\d+))")
 ANSWER = re.compile(r"(\d+) p(\d+) (.*)")
+GUARD = re.compile(r"guard (\d+) burst (\d+) after (\d+) clause (\d+)")
 
 
 @dataclass(frozen=True)
@@ -46,9 +48,22 @@ class Event:
         return self.cause is not None
 
 
+@dataclass(frozen=True)
+class GuardTrap:
+    """A trap of a guard: so many turns of a burst come before the deed that would have broken a clause. `deed` has the
+    deed in the words of a report, if the program was asked."""
+
+    part: int
+    burst: int
+    after: int
+    clause: int
+    deed: str = ""
+
+
 @dataclass
 class Part:
-    """A part's section. `left` has the lines of objects and of the device, `losses` those of losses and frames."""
+    """A part's section. `left` has the lines of objects and of the device, `losses` those of losses and frames, and
+    `guards` the traps of a guard, by their bursts."""
 
     place: int
     name: str
@@ -60,6 +75,7 @@ class Part:
     losses: list[str] = field(default_factory=list)
     failures: int = 0
     broken: tuple[int, int] | None = None
+    guards: dict[int, GuardTrap] = field(default_factory=dict)
 
     @property
     def given_up(self) -> bool:
@@ -83,6 +99,9 @@ class Thread:
 
 @dataclass
 class Report:
+    """A report. `guards` has the traps of a guard in the order of the run, if it is one of a guarded run."""
+
+    guards: list[GuardTrap] = field(default_factory=list)
     parts: list[Part] = field(default_factory=list)
     threads: list[Thread] = field(default_factory=list)
     taps: list[str] = field(default_factory=list)
@@ -122,7 +141,10 @@ class Lines:
         """Puts a line where it belongs; one that is none of a report is a mistake."""
         words = line.split(" ")
         if found := PART.fullmatch(line):
-            self.report.parts.append(Part(int(found[1]), found[2], found[3], int(found[4])))
+            self.report.parts.append(self.part(int(found[1]), found[2], found[3], int(found[4])))
+        elif not self.report.parts and (found := GUARD.fullmatch(line)):
+            part, burst, after, clause = map(int, found.groups())
+            self.report.guards.append(GuardTrap(part, burst, after, clause))
         elif words[0] == "thread" and len(words) == 3:
             self.report.threads.append(Thread(int(words[1]), words[2]))
         elif words[0] == "tap":
@@ -135,6 +157,10 @@ class Lines:
             self.of_part(self.report.parts[-1], line, words)
         else:
             raise Mistake(f"no line of a report: {line[:80]!r}")
+
+    def part(self, place: int, name: str, kind: str, limit: int) -> Part:
+        guards = {trap.burst: trap for trap in self.report.guards if trap.part == place}
+        return Part(place, name, kind, limit, guards=guards)
 
     def answer(self, line: str) -> None:
         found = ANSWER.fullmatch(line)

@@ -3,10 +3,11 @@
 from __future__ import annotations
 
 import copy
-from typing import Any
+from typing import Any, Iterable
 
 from .build import built
 from .program import Mistake
+from .report import GuardTrap
 
 Scenario = dict[str, Any]
 Fault = dict[str, Any]
@@ -28,6 +29,14 @@ def with_faults(scenario: Scenario, part: int, faults: list[Fault]) -> Scenario:
     parts = list(scenario["parts"])
     parts[part] = struck
     return {**scenario, "parts": parts}
+
+
+def with_traps(scenario: Scenario, traps: Iterable[GuardTrap]) -> Scenario:
+    """The scenario with the traps of a guard after its parts' own faults."""
+    for trap in traps:
+        fault = {"burst": trap.burst, "after": trap.after, "kind": "trap"}
+        scenario = with_faults(scenario, trap.part, [fault])
+    return scenario
 
 
 def with_schedule(scenario: Scenario, schedule: dict[str, Any]) -> Scenario:

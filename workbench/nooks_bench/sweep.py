@@ -22,7 +22,9 @@ from .scenario import Scenario, with_limit, with_schedule
 from .source import read_text
 from .sweeping import How, Sweep
 from .table import fold, table_lines, write_members
-from .totals import GROUPS, counts_of, coverage_of, group_lines, groups_of, own_groups, own_lines, total_lines, wilson
+from .totals import GROUPS, counts_of, coverage_of, group_lines, groups_of, guarded_counts, guarded_lines
+from .totals import own_groups, own_lines, total_lines, whole_lines, wilson
+from .words import counted
 
 INTERRUPTED = 130
 
@@ -72,31 +74,29 @@ def bases_of(args: argparse.Namespace, base: Scenario) -> list[Scenario]:
 
 def open_journal(args: argparse.Namespace, sweep: Sweep, base: Scenario) -> None:
     """Opens the journal, and takes what it has."""
-    choice = {**vars(sweep.selection), "schedules": args.schedules}
+    choice = {**vars(sweep.selection), "schedules": args.schedules, **({"guard": True} if args.guard else {})}
     faults = [plan.faults for plan in sweep.plans]
     version = sweep.program.version() or "no version"
     sweep.journal = Journal(args.journal)
     sweep.journal.open(heading_of(version, base, choice, faults), args.resume)
-    for place, outcome in sweep.journal.known.items():
-        if place < len(sweep.known):
-            sweep.known[place] = outcome
+    sweep.start(sweep.journal.known)
 
 
 def sweep_of(args: argparse.Namespace) -> Sweep:
     """Runs all that the options ask for."""
     selection = selection_of(args)
     check_options(args)
-    how = How(args.jobs, args.quiet, args.instructions, args.dask, args.dask_program)
+    how = How(args.jobs, args.quiet, args.instructions, args.dask, args.dask_program, args.guard)
     program = find_program(args.program)
     base = scenario_of(program, args.file)
     if not args.part < len(base["parts"]):
         raise Mistake(f"there is no part {args.part}: the scenario has {len(base['parts'])}")
     if args.limit is not None:
         base = with_limit(base, args.part, args.limit)
-    plans = plans_of(program.path, selection, bases_of(args, base), how.jobs)
+    plans = plans_of(program.path, selection, bases_of(args, base), how.jobs, how.guard)
     first = plans[0].report if args.schedules is None else parse_report(program.report(base))
     sweep = Sweep(program, selection, how, plans, first)
-    sweep.known = [None for plan in plans for _ in plan.faults]
+    sweep.start({})
     if args.journal:
         open_journal(args, sweep, base)
     try:
@@ -115,16 +115,26 @@ def swept(args: argparse.Namespace) -> list[Swept]:
     return sweep.runs()
 
 
+def base_line(report: Report) -> str:
+    """What a run was like, in numbers."""
+    row = row_of(report)
+    return f"status {row.status}, {row.events} events, {row.failures} failures, {row.gone} gone, {row.lost} lost"
+
+
 def base_lines(report: Report) -> list[str]:
     """What the run without a fault more was like."""
-    row = row_of(report)
-    lines = [f"without: status {row.status}, {row.events} events, {row.failures} failures, "
-             f"{row.gone} gone, {row.lost} lost"]
+    lines = [f"without: {base_line(report)}"]
     for part in report.parts:
         if part.broken:
             event, clause = part.broken
             lines.append(f"without: the contract of {part.name} is broken at event {event}, clause {clause}")
     return lines
+
+
+def guarded_base_lines(runs: Sequence[Swept]) -> list[str]:
+    """What the guarded run without a fault more was like, if the guard stopped anything there."""
+    guarded = [run.guarded for run in runs if run.guarded and run.guarded.guards]
+    return [f"without, behind a guard: {base_line(each)}, {counted(len(each.guards), 'trap')}" for each in guarded]
 
 
 def as_json(sweep: Sweep, runs: list[Swept], args: argparse.Namespace) -> dict[str, Any]:
@@ -141,6 +151,10 @@ def as_json(sweep: Sweep, runs: list[Swept], args: argparse.Namespace) -> dict[s
         "per": {by: [group.as_json() for group in groups_of(runs, args.part, by)] for by in args.per or ()},
         "runs": [run.as_json() for run in runs],
     }
+    if args.guard:
+        shown["guarded"] = guarded_counts(entries)
+    if sweep.wholes:
+        shown["every"] = [{"guard": guarded, **whole.as_json()} for guarded, whole in sweep.wholes.items()]
     if args.random is not None:
         shown["intervals"] = {name: wilson(count, len(entries)) for name, count in counts.items()}
     if args.schedules is not None:
@@ -150,7 +164,7 @@ def as_json(sweep: Sweep, runs: list[Swept], args: argparse.Namespace) -> dict[s
 
 def as_text(sweep: Sweep, runs: list[Swept], args: argparse.Namespace) -> str:
     """A sweep for people."""
-    lines = base_lines(sweep.first)
+    lines = base_lines(sweep.first) + guarded_base_lines(runs)
     if args.schedules is not None:
         lines += own_lines(runs)
     rows = fold(runs, args.amounts)
@@ -158,20 +172,25 @@ def as_text(sweep: Sweep, runs: list[Swept], args: argparse.Namespace) -> str:
     for by in args.per or ():
         lines += ["", *group_lines(runs, args.part, by)]
     lines += ["", *total_lines(runs, args.part, args.random is not None)]
+    if args.guard:
+        lines += ["", *guarded_lines(runs)]
+    if sweep.wholes:
+        lines += ["", *whole_lines(sweep.wholes)]
     return "\n".join(lines)
 
 
 def fails(runs: Sequence[Swept], named: str) -> bool:
-    """Whether an outcome is as bad as the named one or worse: that of a fault, or of a base without one."""
+    """Whether an outcome is as bad as the named one or worse: that of a fault, or of a base without one. With a guard
+    those behind it count."""
     least = OUTCOMES.index(SHORT_NAMES[named])
-    names = {entry.outcome for run in runs for entry in run.entries}
-    names |= {run.own.name for run in runs if run.own.name != SAME}
+    names = {entry.guarded.name if entry.guarded else entry.outcome for run in runs for entry in run.entries}
+    names |= {run.own.name for run in runs if run.own.name != SAME and run.guarded is None}
     return any(OUTCOMES.index(name) >= least for name in names)
 
 
 def interrupted_text(sweep: Sweep) -> str:
     """How far an interrupted sweep came."""
-    done, chosen = sum(outcome is not None for outcome in sweep.known), len(sweep.known)
+    done, chosen = sweep.done(), len(sweep.known)
     text = f"interrupted: {done:,} of {chosen:,} faults"
     if done == chosen:
         return f"{text}, and not all instructions are known"
@@ -202,6 +221,7 @@ def add_sweep_options(parser: argparse.ArgumentParser, needed: bool = True) -> N
     else:
         parser.add_argument("file", metavar="FILE", nargs="?", help=about)
     add_selection(parser)
+    parser.add_argument("--guard", action="store_true", help="each fault behind a guard too (docs/GUARD.md)")
     parser.add_argument("--limit", type=int, metavar="L", help="let the part be recovered L times")
     parser.add_argument("--schedules", type=int, metavar="N", help="under N drawn schedules, from --seed on")
     about = "how many runs at a time (default: one for each processor)"

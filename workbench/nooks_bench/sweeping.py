@@ -2,15 +2,18 @@
 
 from __future__ import annotations
 
+import contextlib
 from dataclasses import dataclass, field
 from typing import Iterator
 
-from .batches import Batch, Results
-from .engines import CLUSTER_BATCH, local_size, run_dask, run_local
+from .batches import Asking, Batch, Results
+from .chosen import templates
+from .engines import CLUSTER_BATCH, MOST_LOCAL, local_size, run_dask, run_local
+from .every import Every, Whole, can_say
 from .faults import Selection
 from .journal import Journal
 from .model import Entry, Swept
-from .outcomes import Outcome, bursts_of, judge_of, own_outcome, place_of
+from .outcomes import BROKEN, Outcome, bursts_of, judge_of, own_outcome, place_of
 from .plans import Plan, batches_of
 from .pool import uninterrupted
 from .probe import Probe, instructions
@@ -21,19 +24,24 @@ from .report import Report
 
 @dataclass(frozen=True)
 class How:
-    """How a sweep is run, beside its faults."""
+    """How a sweep is run, beside its faults. With `guard` each fault is tried behind a guard too."""
 
     jobs: int
     quiet: bool
     instructions: bool
     dask: str | None = None
     dask_program: str | None = None
+    guard: bool = False
+
+
+Known = list[Outcome | None]
 
 
 @dataclass
 class Sweep:
-    """A sweep that is run: what is known of each fault so far, by its place in the whole. `first` is the report of the
-    scenario under its own schedule."""
+    """A sweep that is run: what is known of each fault so far, by its place in the whole, and `behind` a guard. `first`
+    is the report of the scenario under its own schedule. `wholes` has what the tables of campaigns with `every` came
+    to, without a guard and with one."""
 
     program: Program
     selection: Selection
@@ -41,16 +49,23 @@ class Sweep:
     plans: list[Plan]
     first: Report
     journal: Journal | None = None
-    known: list[Outcome | None] = field(default_factory=list)
+    known: Known = field(default_factory=list)
+    behind: Known = field(default_factory=list)
+    wholes: dict[bool, Whole] = field(default_factory=dict)
     texts: dict[tuple[int, int, int], str] = field(default_factory=dict)
     interrupted: bool = False
 
-    def batches(self) -> list[Batch]:
+    def start(self, known: dict[int, Outcome]) -> None:
+        """Begins with what is known already, by its place in a journal: that behind a guard comes after all else."""
+        chosen = sum(len(plan.faults) for plan in self.plans)
+        self.known = [known.get(place) for place in range(chosen)]
+        self.behind = [known.get(chosen + place) for place in range(chosen if self.how.guard else 0)]
+
+    def batches(self, known: Known, asking: Asking) -> list[Batch]:
         """The work that is left."""
-        chosen = len(self.known)
         seconds = max(plan.seconds for plan in self.plans)
-        size = CLUSTER_BATCH if self.how.dask else local_size(chosen, self.how.jobs, seconds)
-        return batches_of(self.plans, self.selection.part, self.known, size)
+        size = CLUSTER_BATCH if self.how.dask else local_size(len(known), self.how.jobs, seconds)
+        return batches_of(self.plans, self.selection.part, known, size, asking)
 
     def results(self, batches: list[Batch]) -> Iterator[tuple[int, Results]]:
         """The place and the results of each batch as it is done."""
@@ -58,27 +73,91 @@ class Sweep:
             return run_dask(self.how.dask, self.how.dask_program or self.program.path, batches)
         return run_local(self.program.path, batches, self.how.jobs)
 
-    def take(self, batch: Batch, results: Results) -> None:
-        """Takes the results of a batch, and writes them down."""
-        self.known[batch.first : batch.first + len(results)] = results
-        if self.journal:
-            self.journal.add(batch.first, results)
+    def take(self, known: Known, first: int, results: Results, number: int, progress: Progress) -> None:
+        """Takes some results of a base from a place on, and writes them down."""
+        if not results:
+            return
+        with uninterrupted():
+            known[first : first + len(results)] = results
+            if self.journal:
+                self.journal.add(first + (len(self.known) if known is self.behind else 0), results)
+        progress.take(results, number)
 
     def run(self) -> None:
         """Runs what is left; an interruption ends it with what is known so far."""
-        progress = Progress(len(self.known), self.how.quiet, len(self.plans))
-        progress.take([outcome for outcome in self.known if outcome], 0)
-        batches = self.batches()
         try:
-            for place, results in self.results(batches):
-                with uninterrupted():
-                    self.take(batches[place], results)
-                progress.take(results, batches[place].number)
+            self.run_before()
+            if self.how.guard:
+                self.run_behind()
             if self.how.instructions:
                 self.ask_instructions()
         except KeyboardInterrupt:
             self.interrupted = True
-        progress.end()
+
+    def run_before(self) -> None:
+        """Tries the faults without a guard."""
+        with Progress(len(self.known), self.how.quiet, len(self.plans)) as progress:
+            progress.take([outcome for outcome in self.known if outcome], 0)
+            asked = self.run_every(progress)
+            asking = Asking(by_rows=not asked, detail=self.program.has_campaign_key("detail"))
+            self.run_batches(self.known, asking, progress)
+
+    def run_behind(self) -> None:
+        """Tries the faults behind a guard. If the base keeps its contract, a fault that breaks none has no trap."""
+        for plan in self.plans:
+            if plan.guarded is not None and not plan.guarded.guards:
+                for place in range(plan.first, plan.first + len(plan.faults)):
+                    outcome = self.known[place]
+                    self.behind[place] = outcome if outcome and outcome.name != BROKEN else self.behind[place]
+        with Progress(self.behind.count(None), self.how.quiet, len(self.plans), "behind a guard: ") as progress:
+            self.run_batches(self.behind, Asking(guarded=True), progress)
+        if False in self.wholes and self.program.has_campaign_key("guard"):
+            self.wholes[True] = self.guarded_whole()
+
+    def run_batches(self, known: Known, asking: Asking, progress: Progress) -> None:
+        """Runs what is left in batches."""
+        batches = self.batches(known, asking)
+        for place, results in self.results(batches):
+            self.take(known, batches[place].first, results, batches[place].number, progress)
+
+    def run_every(self, progress: Progress) -> bool:
+        """Asks for all faults by campaigns with `every`, if the choice is one that these can say and nothing is known
+        yet. Those whose rows do not have all are left. Whether it has asked. What a table comes to is not written down,
+        so that a sweep with a journal does not have it, whether it was interrupted or not."""
+        kinds = templates(self.selection)
+        bases = [plan.base for plan in self.plans]
+        if self.how.dask or any(self.known) or not can_say(self.program, self.selection, kinds, bases):
+            return False
+        for number, plan in enumerate(self.plans):
+            judge = judge_of(plan.report, plan.base, self.selection.part)
+            every = Every(self.program, plan.base, self.selection.part, judge, kinds)
+            self.fill(every, plan, number, progress)
+            if len(self.plans) == 1 and every.whole and not self.journal:
+                self.wholes[False] = every.whole
+        return True
+
+    def fill(self, every: Every, plan: Plan, number: int, progress: Progress) -> None:
+        """Takes the outcomes of a plan's faults from a campaign, as far as its rows have them, some at a time."""
+        results: Results = []
+        first = plan.first
+        with contextlib.closing(every.outcomes(plan.faults)) as outcomes:
+            for place, outcome in enumerate(outcomes, plan.first):
+                results += [outcome] if outcome else []
+                if outcome is None or len(results) == MOST_LOCAL:
+                    self.take(self.known, first, results, number, progress)
+                    results, first = [], place + 1
+        self.take(self.known, first, results, number, progress)
+
+    def guarded_whole(self) -> Whole:
+        """What the table of the guarded campaign with `every` comes to; of one plan."""
+        plan = self.plans[0]
+        judge = judge_of(plan.guarded or plan.report, plan.base, self.selection.part)
+        kinds = templates(self.selection)
+        every = Every(self.program, plan.base, self.selection.part, judge, kinds, guarded=True)
+        with contextlib.closing(every.outcomes([])) as outcomes:
+            list(outcomes)
+        assert every.whole is not None
+        return every.whole
 
     def ask_instructions(self) -> None:
         """Asks which instruction stands at each place that was struck."""
@@ -90,25 +169,33 @@ class Sweep:
             for (burst, after), text in instructions(probe, places, self.how.jobs).items():
                 self.texts[number, burst, after] = text
 
+    def done(self) -> int:
+        """Of how many faults all is known that is asked for."""
+        behind = self.behind or self.known
+        return sum(None not in pair for pair in zip(self.known, behind))
+
     def entries(self, number: int) -> list[Entry]:
         """The faults of a base of which the outcome is known."""
         plan = self.plans[number]
         bursts = bursts_of(plan.report, self.selection.part)
         places: dict[int, str] = {}
         entries: list[Entry] = []
-        for fault, outcome in zip(plan.faults, self.known[plan.first : plan.first + len(plan.faults)]):
+        for at, fault in enumerate(plan.faults, plan.first):
             burst = fault["burst"]
             if burst not in places:
                 event, is_alone = bursts.get(burst), len(self.plans) == 1
                 places[burst] = place_of(event, plan.report, self.selection.part, is_alone)
-            if outcome is not None:
+            outcome, behind = self.known[at], self.behind[at] if self.how.guard else None
+            if outcome is not None and (behind is not None or not self.how.guard):
                 text = self.texts.get((number, burst, fault["after"]), "")
-                entries.append(Entry(fault, outcome.name, outcome.cause, places[burst], text, outcome.losses))
+                told = (outcome.name, outcome.cause, places[burst], text, outcome.losses)
+                entries.append(Entry(fault, *told, guarded=behind))
         return entries
 
     def runs(self) -> list[Swept]:
         """What is known, base by base."""
-        return [
-            Swept(plan.base, plan.report, self.entries(number), own_outcome(plan.report, self.first), len(plan.faults))
-            for number, plan in enumerate(self.plans)
-        ]
+        found: list[Swept] = []
+        for number, plan in enumerate(self.plans):
+            own = own_outcome(plan.report, self.first)
+            found.append(Swept(plan.base, plan.report, self.entries(number), own, len(plan.faults), plan.guarded))
+        return found

@@ -1,4 +1,5 @@
-"""The table of a sweep: entries of one outcome, cause, place and kinds of losses in one row."""
+"""The table of a sweep: entries of one outcome, cause, place and kinds of losses in one row; and behind a guard of one
+outcome, cause and kinds of losses, too."""
 
 from __future__ import annotations
 
@@ -9,7 +10,7 @@ from typing import Any, Sequence
 
 from .jsontext import json_text
 from .model import Entry, Swept
-from .outcomes import NOTHING_LOST, OUTCOMES, Losses, least_and_most
+from .outcomes import NOTHING_LOST, OUTCOMES, Losses, Outcome, least_and_most
 from .program import Mistake
 from .scenario import Fault, Scenario, with_faults
 from .words import counted, ranges_text
@@ -19,9 +20,25 @@ LONGEST_LIST = 60
 
 
 @dataclass
+class Behind:
+    """What became of a row's faults behind a guard."""
+
+    outcome: str
+    cause: str
+    least: Losses
+    most: Losses
+
+    def take(self, losses: Losses) -> None:
+        self.least, self.most = least_and_most((self.least, self.most, losses))
+
+    def as_json(self) -> dict[str, Any]:
+        return {"outcome": self.outcome, "cause": self.cause, "losses": losses_json(self.least, self.most)}
+
+
+@dataclass
 class Folded:
     """A row: how many faults, one of them, the turns at which they strike, what they lose at least and at most, and
-    the starts of the schedules under which they come."""
+    the starts of the schedules under which they come. `behind` is there if there was a guard."""
 
     outcome: str
     cause: str
@@ -31,6 +48,7 @@ class Folded:
     base: Scenario
     least: Losses
     most: Losses
+    behind: Behind | None = None
     count: int = 0
     after: list[int] = field(default_factory=list)
     starts: list[int] = field(default_factory=list)
@@ -39,13 +57,26 @@ class Folded:
         """Takes an entry more."""
         self.count += 1
         self.least, self.most = least_and_most((self.least, self.most, entry.losses))
+        if self.behind and entry.guarded:
+            self.behind.take(entry.guarded.losses)
         self.after.append(entry.fault["after"])
         if start is not None and start not in self.starts[-1:]:
             self.starts.append(start)
 
     def as_json(self) -> dict[str, Any]:
-        shown = {key: value for key, value in vars(self).items() if key not in ("base", "least", "most")}
-        return {**shown, "losses": losses_json(self.least, self.most), "schedule": self.base.get("schedule")}
+        shown = {key: value for key, value in vars(self).items() if key not in ("base", "least", "most", "behind")}
+        whole = {**shown, "losses": losses_json(self.least, self.most), "schedule": self.base.get("schedule")}
+        return {**whole, "guarded": self.behind.as_json()} if self.behind else whole
+
+
+def amounts_key(losses: Losses, by_amount: bool) -> tuple[int, ...]:
+    """By what losses are told apart: by what is lost, or by how much of it too."""
+    return losses.numbers() if by_amount else tuple(int(number != 0) for number in losses.numbers())
+
+
+def guarded_key(outcome: Outcome | None, by_amount: bool) -> tuple[Any, ...]:
+    """By what the outcomes behind a guard are told apart."""
+    return (outcome.name, outcome.cause, *amounts_key(outcome.losses, by_amount)) if outcome else ()
 
 
 def fold(runs: Sequence[Swept], by_amount: bool = False) -> list[Folded]:
@@ -54,12 +85,12 @@ def fold(runs: Sequence[Swept], by_amount: bool = False) -> list[Folded]:
     rows: dict[tuple[Any, ...], Folded] = {}
     for run in runs:
         for entry in run.entries:
-            losses = entry.losses
-            amounts = losses.numbers() if by_amount else tuple(number != 0 for number in losses.numbers())
+            losses, guarded = entry.losses, entry.guarded
             texts = (entry.outcome, entry.cause, entry.place, entry.instruction)
-            key = (*texts, *amounts)
+            key = (*texts, *amounts_key(losses, by_amount), *guarded_key(guarded, by_amount))
             if key not in rows:
-                rows[key] = Folded(*texts, entry.fault, run.base, losses, losses)
+                behind = Behind(guarded.name, guarded.cause, guarded.losses, guarded.losses) if guarded else None
+                rows[key] = Folded(*texts, entry.fault, run.base, losses, losses, behind)
             rows[key].take(entry, run.start)
     for row in rows.values():
         row.after = sorted(set(row.after))
@@ -107,6 +138,18 @@ def write_members(rows: Sequence[Folded], part: int, folder: str) -> None:
         raise Mistake(f"{folder}: {error.strerror}") from error
 
 
+def behind_lines(row: Folded) -> list[str]:
+    """What became of a row's faults behind a guard; a fault that breaks no contract has the same run there."""
+    behind = row.behind
+    if behind is None:
+        return []
+    if (behind.outcome, behind.cause) == (row.outcome, row.cause):
+        return ["        behind a guard: the same"]
+    lost = losses_text(behind.least, behind.most)
+    told = behind.outcome + (f": {behind.cause}" if behind.cause else "")
+    return [f"        behind a guard: {told}", *([f"        lost there: {lost}"] if lost else [])]
+
+
 def row_lines(row: Folded, schedules: int) -> list[str]:
     """A row as text; with the schedules, if there are several."""
     at = f", at {row.instruction}" if row.instruction else ""
@@ -114,6 +157,7 @@ def row_lines(row: Folded, schedules: int) -> list[str]:
     lines = [
         f"{row.count:6}  {row.outcome}" + (f": {row.cause}" if row.cause else ""),
         *([f"        lost: {lost}"] if lost else []),
+        *behind_lines(row),
         f"        {row.place}{at}, after {after_text(row.after)}",
         f"        {json.dumps(row.fault)}",
     ]

@@ -8,18 +8,21 @@ import shutil
 
 from .build import built
 from .picture import add_picture_options, caption_lines, check_picture_options, hash_of, put_picture, room_of, scale_of
-from .program import Mistake
-from .report import parse_report
+from .guards import guarded
+from .program import Mistake, find_program
+from .report import Report, parse_report
+from .scenario import read_scenario
 from .source import read_text
 from .timeline_svg import drawing
 from .timeline_text import text_lines
 from .times import PartTimes, times_of
-from .unstruck import strikes_of_report
+from .unstruck import Strike, strikes_of_report
 
 ABOUT = """Draws a report: for each part a lane with its modes and stages, one for each thread with its calls, one
 for what the driver did to the device, the failures, a break of the contract and the frames that came. Each event is
 a step to the right. With --input, the scenario of the report, the faults that struck are marked, and of the others
-it is said why they did not. SVG, or text with --text."""
+it is said why they did not. With --guard FILE is a scenario, and its guarded run is drawn: where the guard stopped the
+driver, before which deed, and which clause that would have broken. SVG, or text with --text."""
 
 DEFAULT_WIDTH = 1500
 
@@ -47,17 +50,27 @@ def chosen(args: argparse.Namespace, times: list[PartTimes]) -> list[PartTimes]:
     return windowed(times, args.events) if args.events else times
 
 
-def run(args: argparse.Namespace) -> int:
-    check_picture_options(args)
+def told(args: argparse.Namespace) -> tuple[Report, dict[int, list[Strike]] | None, str]:
+    """The report that the options name, what became of the faults if the scenario is known, and what a caption says."""
+    if args.guard:
+        scenario = read_scenario(args.file)
+        report = guarded(find_program(args.program), scenario)
+        return report, strikes_of_report(report, scenario), f"guarded run of scenario {hash_of(scenario)}"
     text = read_text(args.file)
     report = parse_report(text)
     strikes = strikes_of_report(report, built(args.input).plain()) if args.input else None
+    return report, strikes, f"report {hash_of(text)}"
+
+
+def run(args: argparse.Namespace) -> int:
+    check_picture_options(args)
+    report, strikes, of_what = told(args)
     times = chosen(args, times_of(report, strikes))
     if args.text:
         wide = args.width or shutil.get_terminal_size((100, 24)).columns
         print("\n".join(text_lines(times, max(wide, 40), args.wrap)))
         return 0
-    notes = caption_lines(args, None, f"report {hash_of(text)}, status {report.status}")
+    notes = caption_lines(args, None, f"{of_what}, status {report.status}")
     put_picture(drawing(times, room_of(args, DEFAULT_WIDTH), args.wrap, notes, scale_of(args)), args)
     return 0
 
@@ -66,6 +79,7 @@ def add_to(commands: argparse._SubParsersAction[argparse.ArgumentParser]) -> Non
     parser = commands.add_parser("timeline", help="a report as lanes, as an SVG or as text", description=ABOUT)
     parser.add_argument("file", metavar="FILE", nargs="?", default="-", help="a report (default: standard input)")
     parser.add_argument("--input", metavar="SCENARIO", help="the scenario of the report, to show its faults")
+    parser.add_argument("--guard", action="store_true", help="FILE is a scenario: draw its guarded run")
     parser.add_argument("--part", type=int, metavar="P", help="this part alone")
     parser.add_argument("--events", metavar="A-B", help="these events of each part alone")
     parser.add_argument("--text", action="store_true", help="text for a terminal")

@@ -11,7 +11,8 @@ from .picture import caption
 from .report import Event
 from .svg import BLACK, BLUE, GREEN, GREY, ORANGE, PALE, PURPLE, RED, SKY, WHITE, Canvas
 from .svg import cross, diamond, text_width, triangle
-from .times import ACTS, BOOT, GIVEN_UP, RECOVERS, SERVES, SEVERAL, STAGES, STRIKES, PartTimes, act_letter
+from .times import ACTS, BOOT, GIVEN_UP, GUARD, RECOVERS, SERVES, SEVERAL, STAGES, STRIKES, PartTimes
+from .times import act_letter, failure_note
 from .words import counted, short
 
 LANE = 30
@@ -110,6 +111,8 @@ class Drawing:
         struck = {strike.fault["kind"] for each in self.times for strike in each.struck()}
         key += [(self.lettered(letter, RED, WHITE), f"fault: {name}") for name, letter in STRIKES.items()
                 if name in struck]
+        if any(each.guarded() for each in self.times):
+            key.append((self.lettered(GUARD, BLACK, WHITE), "stopped by a guard"))
         return key
 
     def flow(self, entries: list[tuple[Mark, str]]) -> None:
@@ -203,12 +206,15 @@ class Drawing:
             self.device(times)
         if times.struck():
             self.faults(times)
+        if times.guarded():
+            self.guards(times)
         if times.events("arrive"):
             self.arrivals(times)
         for event in times.failures():
             if self.shows(event.number):
                 x = self.middle(event.number)
-                title = f"event {event.number}: {event.cause}"
+                guarded = event.burst in times.part.guards
+                title = failure_note(times.part, event) if guarded else f"event {event.number}: {event.cause}"
                 self.canvas.line(x, top - 4, x, low, RED, title, stroke_width=1.5, stroke_dasharray="4 2")
         if broken:
             self.broken(times, broken, top, low)
@@ -329,6 +335,15 @@ class Drawing:
             if self.shows(number):
                 letter = kinds[number] if len(lines) == 1 else SEVERAL
                 self.lettered(letter, RED, WHITE)(self.middle(number), self.y + BAR / 2, "\n".join(lines))
+        self.y += LOW_LANE
+
+    def guards(self, times: PartTimes) -> None:
+        """Where a guard stopped the driver."""
+        self.lane_name("guard")
+        for event, _ in times.guarded():
+            if self.shows(event.number):
+                x, note = self.middle(event.number), failure_note(times.part, event)
+                self.lettered(GUARD, BLACK, WHITE)(x, self.y + BAR / 2, note)
         self.y += LOW_LANE
 
     def arrivals(self, times: PartTimes) -> None:

@@ -3,7 +3,7 @@
 from __future__ import annotations
 
 from .calls import AT_ENTER, BY_DRIVER, BY_SHADOW, GONE, REFUSED, Call
-from .times import BOOT, GIVEN_UP, RECOVERS, SERVES, STAGES, STRIKES, PartTimes, act_letter
+from .times import BOOT, GIVEN_UP, GUARD, RECOVERS, SERVES, STAGES, STRIKES, PartTimes, act_letter
 from .words import counted, short
 
 MODES = {BOOT: "^", SERVES: "-", RECOVERS: "~", GIVEN_UP: "#"}
@@ -19,6 +19,7 @@ LEGEND = [
 ]
 CONTRACT = "contract * broken"
 FRAMES = "frames   v kept  x lost"
+GUARDS = "guard    G stopped the driver"
 FAULTS = "faults   T trap  H hang  P poke  C code  R reg  + several"
 
 
@@ -84,6 +85,7 @@ def marks_of(times: PartTimes) -> list[tuple[str, dict[int, str]]]:
     return [
         ("device", {event.number: act_letter(event) for event in times.acting()}),
         ("faults", struck),
+        ("guard", {event.number: GUARD for event, _ in times.guarded()}),
         ("failures", {event.number: "X" for event in times.failures()}),
         ("contract", {broken.number: "*"} if broken else {}),
         ("frames", arrived),
@@ -140,5 +142,6 @@ def text_lines(times: list[PartTimes], wide: int, wrap: int | None = None) -> li
         lines += [*part_text(each, wide, wrap), ""]
     lines += LEGEND
     lines += [CONTRACT] if any(each.broken() for each in times) else []
+    lines += [GUARDS] if any(each.guarded() for each in times) else []
     lines += [FRAMES] if any(each.events("arrive") for each in times) else []
     return lines + ([FAULTS] if any(each.struck() for each in times) else [])

@@ -5,8 +5,9 @@ from __future__ import annotations
 from dataclasses import dataclass, field
 
 from .calls import Call, calls_of
+from .guards import stopped_line
 from .held import held_lines
-from .report import Event, Part, Report
+from .report import Event, GuardTrap, Part, Report
 from .unstruck import Strike
 from .words import CLAUSES, cause_words
 
@@ -31,6 +32,7 @@ STAGES = dict(zip(("stop", "collect", "reset", "load", "init", "replay_set", "re
 ACTS = {"load": "l", "store": "s", "sent": "t", "popped": "o", "played": "p", "register": "r", "failed": "f"}
 SEVERAL = "+"
 STRIKES = {"trap": "T", "hang": "H", "poke": "P", "code": "C", "reg": "R"}
+GUARD = "G"
 
 
 @dataclass(frozen=True)
@@ -79,6 +81,11 @@ class PartTimes:
         """The bursts with acts on the device."""
         return [event for event in self.events("burst") if event.acts]
 
+    def guarded(self) -> list[tuple[Event, GuardTrap]]:
+        """The failures that a guard made, each with its trap."""
+        guards = self.part.guards
+        return [(event, guards[event.burst]) for event in self.failures() if event.burst in guards]
+
     def broken(self) -> Event | None:
         """The event that broke the contract, if it is shown."""
         if self.part.broken and self.shows(self.part.broken[0]):
@@ -100,8 +107,7 @@ class PartTimes:
 
     def notes(self) -> list[str]:
         """What the lanes do not say in words: causes, the broken clause, losses, faults that missed, and a leak."""
-        lines = [f"failure at event {event.number}: {event.cause} ({cause_words(event.cause or '')})"
-                 for event in self.failures()]
+        lines = [failure_note(self.part, event) for event in self.failures()]
         if self.part.broken:
             number, clause = self.part.broken
             lines.append(f"CONTRACT BROKEN at event {number}, clause {clause}: the driver {CLAUSES[clause]}")
@@ -109,6 +115,13 @@ class PartTimes:
             lines.append(f"losses: {self.loss_text()}")
         lines.extend(strike.line for strike in self.strikes if strike.why)
         return [*lines, *held_lines(self.part)]
+
+
+def failure_note(part: Part, event: Event) -> str:
+    """Why a driver failed at an event, or which deed a guard stopped there."""
+    if trap := part.guards.get(event.burst):
+        return stopped_line(trap, event.number)
+    return f"failure at event {event.number}: {event.cause} ({cause_words(event.cause or '')})"
 
 
 def act_letter(event: Event) -> str:

@@ -7,6 +7,7 @@ import math
 from dataclasses import dataclass, field
 from typing import Any, Callable, Iterable, Optional, Sequence
 
+from .every import Whole
 from .model import Entry, Swept
 from .outcomes import MISSED, OUTCOMES, SAME, SHORT_NAMES, Losses, bursts_of, least_and_most
 from .report import Event
@@ -56,6 +57,42 @@ def coverage_of(runs: Sequence[Swept], part: int) -> Coverage:
         turns += sum(bursts_here[burst].turns for burst in named)
         bursts += len(named)
     return Coverage(struck, turns, bursts)
+
+
+def guarded_counts(entries: Iterable[Entry]) -> dict[str, int]:
+    """How often each outcome came behind a guard, from the mildest to the worst."""
+    names = [entry.guarded.name for entry in entries if entry.guarded]
+    return {name: names.count(name) for name in OUTCOMES if name in names}
+
+
+def share_cell(count: int, whole: int) -> str:
+    """How many, and which part of all."""
+    return f"{count:6} {percent(count / whole):>5} %"
+
+
+def guarded_lines(runs: Sequence[Swept]) -> list[str]:
+    """The outcomes before and behind a guard, side by side."""
+    entries = [entry for run in runs for entry in run.entries]
+    sides = [counts_of(entries), guarded_counts(entries)]
+    lines = [f"{'before':>16}{'behind':>16}  a guard"]
+    for name in OUTCOMES:
+        if any(name in counts for counts in sides):
+            cells = [share_cell(counts[name], len(entries)) if name in counts else "." for counts in sides]
+            lines.append("".join(f"{cell:>16}" for cell in cells) + f"  {name}")
+    return lines
+
+
+def whole_lines(wholes: dict[bool, Whole]) -> list[str]:
+    """What campaigns over every place came to."""
+    lines: list[str] = []
+    for guarded, whole in wholes.items():
+        behind = "behind a guard: " if guarded else ""
+        traps = f", {whole.traps:,} traps" if whole.traps is not None else ""
+        lines.append(f"{behind}{whole.members:,} faults at every burst and turn, those of the shadow's bursts too: "
+                     f"{whole.given_up:,} given up, {whole.broken:,} broken{traps}")
+        if whole.all_kept:
+            lines.append("        so no single fault of these, wherever it strikes, ends with another status than 0")
+    return lines
 
 
 def total_lines(runs: Sequence[Swept], part: int, is_drawn: bool) -> list[str]:
@@ -196,7 +233,7 @@ def group_lines(runs: Sequence[Swept], part: int, by: str) -> list[str]:
     for group in groups:
         counts = counts_of(group.entries)
         whole = len(group.entries)
-        cells = [f"{counts[name]:6} {percent(counts[name] / whole):>5} %" if name in counts else "." for name in came]
+        cells = [share_cell(counts[name], whole) if name in counts else "." for name in came]
         lost = losses_text(*group.losses())
         columns = "".join(f"{cell:>14}" for cell in cells)
         lines.append(f"{whole:6}{columns}  {group.name}" + (f"; lost: {lost}" if lost else ""))

@@ -52,8 +52,8 @@ def ended_by(event: Event, faults: list[Fault]) -> int | None:
     return min(own, key=lambda place: (faults[place]["after"], place)) if own else None
 
 
-def strike_of(part: Part, bursts: dict[int, Event], faults: list[Fault], place: int) -> Strike:
-    """What became of one fault."""
+def strike_of(part: Part, bursts: dict[int, Event], faults: list[Fault], own: int, place: int) -> Strike:
+    """What became of one fault. The first so many are those of the scenario; behind them are the traps of a guard."""
     fault = faults[place]
     event = bursts.get(fault["burst"])
     if event is None:
@@ -61,7 +61,8 @@ def strike_of(part: Part, bursts: dict[int, Event], faults: list[Fault], place: 
     ender = ended_by(event, faults)
     if ender is not None:
         if (fault["after"], place) > (faults[ender]["after"], ender):
-            first = f"fault {ender}, a {faults[ender]['kind']} after {faults[ender]['after']} turns"
+            who = f"fault {ender}, a" if ender < own else "the guard's"
+            first = f"{who} {faults[ender]['kind']} after {faults[ender]['after']} turns"
             return Strike(place, fault, 0, f"{first}, ended the burst before")
     elif fault["after"] >= event.turns:
         turns = "1 turn" if event.turns == 1 else f"{event.turns} turns"
@@ -78,7 +79,8 @@ def bursts_text(part: Part) -> str:
 def strikes_of(part: Part, faults: list[Fault]) -> list[Strike]:
     """What became of each fault of a part."""
     bursts = {event.burst: event for event in part.bursts()}
-    return [strike_of(part, bursts, faults, place) for place in range(len(faults))]
+    traps = [{"burst": trap.burst, "after": trap.after, "kind": "trap"} for trap in part.guards.values()]
+    return [strike_of(part, bursts, [*faults, *traps], len(faults), place) for place in range(len(faults))]
 
 
 def strikes_of_report(report: Report, scenario: Scenario) -> dict[int, list[Strike]]:

@@ -1,0 +1,75 @@
+"""The traps of a guard in words: which deed each one stopped, and which clause that deed would have broken.
+
+The lines of `guard` have the burst, the turn and the clause. The deed itself never happens in the guarded run, and so
+is in no report of it: it is looked up in the trace of that burst without the trap, in the scenario with the traps
+before."""
+
+from __future__ import annotations
+
+import json
+import re
+from dataclasses import replace
+
+from .program import Mistake, Program
+from .report import GuardTrap, Report, parse_report
+from .scenario import Scenario, with_traps
+from .trace_text import Trace, parse_trace
+from .words import CLAUSES, short
+
+CROSSING = re.compile(r"n\d+ (.*?)(?: \| .*?)?(?: -> (.*?))?(?: ! .*)?")
+
+
+def crossing_text(end: str) -> str:
+    """The reply, or the call that handed a frame up, with which a burst ended: by the last line of its trace."""
+    found = CROSSING.fullmatch(end)
+    crossing, answer = (found[1], found[2]) if found else (end, None)
+    return short(f"{crossing} -> {answer}" if answer else crossing)
+
+
+def deed_text(trace: Trace, after: int) -> str:
+    """What a driver does in the turn that comes after some others of a burst."""
+    turn = next((turn for turn in trace.turns() if turn.number == after + 1), None)
+    if turn is None:
+        where = f"burst {trace.burst} of part {trace.part}"
+        raise Mistake(f"{where} has no turn {after + 1}: the traps are of another scenario")
+    return short(turn.acts[0]) if turn.acts else crossing_text(trace.end)
+
+
+def deed_of(program: Program, scenario: Scenario, traps: list[GuardTrap], place: int) -> str:
+    """The deed that a trap stopped, by the run with the traps before it."""
+    trap = traps[place]
+    front = with_traps(scenario, traps[:place])
+    words = ["trace", str(trap.part), str(trap.burst)]
+    return deed_text(parse_trace(program.answer(words, json.dumps(front)).out), trap.after)
+
+
+def with_deeds(program: Program, scenario: Scenario, report: Report) -> Report:
+    """The report of a guarded run, each trap with its deed."""
+    traps = report.guards
+    report.guards = [replace(trap, deed=deed_of(program, scenario, traps, place)) for place, trap in enumerate(traps)]
+    for part in report.parts:
+        part.guards = {trap.burst: trap for trap in report.guards if trap.part == part.place}
+    return report
+
+
+def guarded(program: Program, scenario: Scenario) -> Report:
+    """The report of a scenario's guarded run, each trap with its deed."""
+    return with_deeds(program, scenario, parse_report(program.guard(scenario)))
+
+
+def guarded_scenario(program: Program, scenario: Scenario) -> Scenario:
+    """The scenario whose run the guarded run is."""
+    made: Scenario = json.loads(program.answer(["guard", "scenario"], json.dumps(scenario)).out)
+    return made
+
+
+def would_have(trap: GuardTrap) -> str:
+    """What the driver would have done that broke its contract, and by which deed, in the words of a report."""
+    by_deed = f'by "{trap.deed}" ' if trap.deed else ""
+    return f"{by_deed}it would have {CLAUSES[trap.clause]} (clause {trap.clause})"
+
+
+def stopped_line(trap: GuardTrap, event: int, at: str = "") -> str:
+    """A line that says what a guard stopped at an event, and what the driver was at."""
+    place = f"event {event}, burst {trap.burst}, before turn {trap.after + 1}"
+    return f"stopped by the guard at {place}{', in ' if at else ''}{at}: {would_have(trap)}"

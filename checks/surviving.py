@@ -1,0 +1,296 @@
+"""The page docs/SURVIVAL.md: the experiments that it is about, the files with their counts, and its text, of which each
+number is taken from these files."""
+
+from __future__ import annotations
+
+import json
+import os
+import re
+import sys
+from collections.abc import Callable
+from dataclasses import dataclass
+from typing import Any
+
+from running import TOP
+
+sys.path.insert(0, os.path.join(TOP, "workbench"))
+
+from nooks_bench.inject_counts import share_text  # noqa: E402
+from nooks_bench.inject_figure import figure  # noqa: E402
+from nooks_bench.inject_found import GIVEN_UP  # noqa: E402
+from nooks_bench.inject_mutants import KINDS, MIXED  # noqa: E402
+from nooks_bench.inject_tables import (  # noqa: E402
+    Row, count_text, ending_rows, markdown_lines, means_rows, question_rows, wait_rows)
+from nooks_bench.inject_trials import Asked  # noqa: E402
+from nooks_bench.jsontext import json_text  # noqa: E402
+from nooks_bench.program import Mistake  # noqa: E402
+
+FOLDER = os.path.join(TOP, "docs/survival")
+TEMPLATE = os.path.join(FOLDER, "page.template")
+PAGE = os.path.join(TOP, "docs/SURVIVAL.md")
+
+# The drivers, each with the scenario of its work.
+LOADS = os.path.join(TOP, "workbench/examples")
+DRIVERS = {name: os.path.join(LOADS, f"load-{name}.jsonc") for name in ("block", "media", "net", "sound")}
+
+WITHOUT, WITH = "without", "with"
+
+# A table of a kind of trials: of one driver, of one guard, of one limit.
+Tables = dict[str, Any]
+
+
+@dataclass(frozen=True)
+class Experiment:
+    """One of the page's experiments, which all drivers are put through."""
+
+    asked: Asked
+    limits: tuple[int, ...]
+    guard: str
+
+    @property
+    def most(self) -> str:
+        """The greatest limit, as files name it."""
+        return str(max(self.limits))
+
+
+EXPERIMENTS = {
+    # The papers' plan.
+    "live": Experiment(Asked((*KINDS, MIXED), 400, 5, 1), (1, 4, 16), "both"),
+    # The same with fewer faults a trial.
+    "one": Experiment(Asked(KINDS, 200, 1, 1), (16,), "no"),
+    "two": Experiment(Asked(KINDS, 200, 2, 1), (16,), "no"),
+    # One fault in the middle of a call's work.
+    "turn": Experiment(Asked(KINDS, 200, 1, 1, any_turn=True), (16,), "both"),
+    # Every mutant, in the image.
+    "latent": Experiment(Asked(KINDS, 1, 1, 1, latent=True, every=True), (1, 4, 16), "both"),
+}
+
+
+def path_of(name: str) -> str:
+    """The file of an experiment's counts."""
+    return os.path.join(FOLDER, f"{name}.json")
+
+
+def nested(ran: dict[str, Any]) -> Tables:
+    """The counts of one driver by guard, limit and kind."""
+    found: Tables = {}
+    for table in ran["tables"]:
+        guard = found.setdefault(WITH if table["guard"] else WITHOUT, {})
+        kinds = {each["kind"]: each for each in table["kinds"]}
+        guard[str(table["limit"])] = {"kinds": kinds, "questions": table["questions"]}
+    return found
+
+
+def file_text(name: str, drivers: dict[str, Tables]) -> str:
+    """The text of an experiment's file."""
+    experiment = EXPERIMENTS[name]
+    asked = {**vars(experiment.asked), "limits": list(experiment.limits)}
+    return json_text({"asked": json.loads(json.dumps(asked)), "drivers": drivers}) + "\n"
+
+
+def read_files() -> dict[str, Any]:
+    """The files, as the tool wrote them."""
+    found: dict[str, Any] = {}
+    for name in EXPERIMENTS:
+        try:
+            with open(path_of(name), encoding="utf-8") as file:
+                found[name] = json.load(file)
+        except (OSError, ValueError) as error:
+            raise Mistake(f"{path_of(name)} cannot be read: checks/survival writes it") from error
+    return found
+
+
+# Figures.
+
+
+def figures(files: dict[str, Any]) -> dict[str, str]:
+    """The page's pictures, by the names of their files."""
+    found: dict[str, str] = {}
+    for name, title in {"live": "live faults, 5 a trial", "latent": "latent faults, every mutant"}.items():
+        for guard, about in {WITHOUT: "without a guard", WITH: "with a guard"}.items():
+            limit = EXPERIMENTS[name].most
+            panels = [(driver, list(each[guard][limit]["kinds"].values()))
+                      for driver, each in files[name]["drivers"].items()]
+            found[f"{name}-{guard}.svg"] = figure(f"{title}, limit {limit}, {about}", panels)
+    return found
+
+
+# Tables. Each takes the files and the words behind its name.
+
+
+def counts_at(files: dict[str, Any], name: str, driver: str, guard: str, limit: str) -> dict[str, Any]:
+    """The counts of each kind."""
+    kinds: dict[str, Any] = files[name]["drivers"][driver][guard][limit]["kinds"]
+    return kinds
+
+
+def kinds_table(files: dict[str, Any], name: str, driver: str, guard: str, limit: str) -> list[Row]:
+    return ending_rows(list(counts_at(files, name, driver, guard, limit).values()))
+
+
+def questions_table(files: dict[str, Any], name: str, driver: str, guard: str, limit: str) -> list[Row]:
+    table = files[name]["drivers"][driver][guard][limit]
+    return question_rows(table["kinds"]["all"], table["questions"])
+
+
+def all_kinds(files: dict[str, Any], name: str, guard: str, limit: str) -> dict[str, dict[str, Any]]:
+    """For each driver the counts of all kinds together."""
+    return {driver: counts_at(files, name, driver, guard, limit)["all"] for driver in files[name]["drivers"]}
+
+
+def drivers_table(files: dict[str, Any], name: str, guard: str, limit: str) -> list[Row]:
+    """A row a driver, all kinds together."""
+    rows = ending_rows([{**each, "kind": driver} for driver, each in all_kinds(files, name, guard, limit).items()])
+    return [["driver", *rows[0][1:]], *rows[1:]]
+
+
+def means_table(files: dict[str, Any], name: str, guard: str, limit: str) -> list[Row]:
+    return means_rows(all_kinds(files, name, guard, limit), "driver")
+
+
+def waits_table(files: dict[str, Any], name: str, guard: str, limit: str) -> list[Row]:
+    return wait_rows(all_kinds(files, name, guard, limit), "driver")
+
+
+def papers_table(files: dict[str, Any], name: str, guard: str, limit: str) -> list[Row]:
+    """How often a driver was stopped and went on, as the papers count, and how many of these had broken the contract."""
+    rows = [["driver", "failures", "stopped and recovered", "of these, broken before", "never stopped",
+             "of these, seen in answers"]]
+    for driver, each in all_kinds(files, name, guard, limit).items():
+        recovered = each["stopped"] - each["system"][GIVEN_UP]
+        late = recovered - each["endings"]["recovered"] - each["endings"]["with losses"]
+        silent = each["endings"]["silent"]
+        of_failures = [of_whole(number, each["failures"]) for number in (recovered, silent)]
+        seen, before = of_whole(each["silent_seen"], silent), of_whole(late, recovered)
+        rows.append([driver, str(each["failures"]), of_failures[0], before, of_failures[1], seen])
+    return rows
+
+
+def of_whole(number: int, whole: int) -> str:
+    """A number with its share of a whole."""
+    return f"{number} ({round(100 * number / whole)} %)" if whole else count_text(number)
+
+
+def limits_table(files: dict[str, Any], name: str, guard: str) -> list[Row]:
+    """A row for each driver and limit: what became of the trials that were stopped."""
+    rows = [["driver", "limit", "failures", "stopped", "recovered", "with losses", "given up", "broken and stopped",
+             "silent"]]
+    for driver, each in files[name]["drivers"].items():
+        for limit, table in each[guard].items():
+            counts = table["kinds"]["all"]
+            ends = counts["endings"]
+            both = ends["broken, then stopped"] + ends["stopped, later broken"]
+            numbers = [counts["failures"], counts["stopped"], ends["recovered"], ends["with losses"], ends["given up"],
+                       both, ends["silent"]]
+            rows.append([driver, limit, *map(count_text, numbers)])
+    return rows
+
+
+def silent_table(files: dict[str, Any], *names: str) -> list[Row]:
+    """The silent share of the failures by experiment, all kinds together, without a guard."""
+    drivers = list(files[names[0]]["drivers"])
+    rows = [["faults a trial", *drivers]]
+    for name in names:
+        counts = all_kinds(files, name, WITHOUT, EXPERIMENTS[name].most)
+        asked = EXPERIMENTS[name].asked
+        label = f"{asked.faults}, at any turn" if asked.any_turn else str(asked.faults)
+        rows.append([label, *(share_text(counts[driver]["percent"]["silent"]) for driver in drivers)])
+    return rows
+
+
+def guard_table(files: dict[str, Any], *names: str) -> list[Row]:
+    """What a guard changes: broken contracts and wrong answers, without it and with it."""
+    rows = [["faults", "driver", "trials", "broken without", "broken with", "other answers without",
+             "other answers with", "given up without", "given up with"]]
+    for name in names:
+        limit = EXPERIMENTS[name].most
+        without, guarded = (all_kinds(files, name, guard, limit) for guard in (WITHOUT, WITH))
+        for driver in files[name]["drivers"]:
+            pair = (without[driver], guarded[driver])
+            broken = [each["trials"] - each["contract"]["kept"] for each in pair]
+            answers = [each["other_answers"] for each in pair]
+            lost = [each["system"][GIVEN_UP] for each in pair]
+            rows.append([name, driver, str(pair[0]["trials"]), *map(str, (*broken, *answers, *lost))])
+    return rows
+
+
+TABLES: dict[str, Callable[..., list[Row]]] = {
+    "kinds": kinds_table,
+    "questions": questions_table,
+    "drivers": drivers_table,
+    "means": means_table,
+    "waits": waits_table,
+    "papers": papers_table,
+    "limits": limits_table,
+    "silent": silent_table,
+    "guard": guard_table,
+}
+
+
+# The text.
+
+HOLE = re.compile(r"\{\{(.+?)\}\}")
+FOLDS: dict[str, Callable[[list[Any]], Any]] = {"min": min, "max": max, "sum": sum}
+
+# What of a template has no number of an experiment: code, links and pictures, and years and the name of an interval.
+NO_NUMBERS = re.compile(r"`[^`]*`|\]\([^)]*\)|\{\{.+?\}\}|95 %|\b(?:19|20)\d\d\b|^#+ .*$", re.MULTILINE)
+
+
+def values_at(value: Any, path: list[str]) -> list[Any]:
+    """What stands at a path, in which `*` is every key."""
+    if not path:
+        return [value]
+    key, *rest = path
+    if isinstance(value, list):
+        return values_at(value[int(key)], rest)
+    keys = list(value) if key == "*" else [key]
+    return [found for each in keys for found in values_at(value[each], rest)]
+
+
+def filled(files: dict[str, Any], hole: str) -> str:
+    """What belongs into a hole of the template: a table by its name, or a number by its path."""
+    word, *rest = hole.split(" ")
+    try:
+        if word in TABLES:
+            return "\n".join(markdown_lines(TABLES[word](files, *rest)))
+        path = rest[0] if word in FOLDS else word
+        values = values_at(files, path.split("/"))
+        return f"{FOLDS[word](values) if word in FOLDS else values[0]:,}"
+    except (KeyError, IndexError, TypeError, ValueError) as error:
+        raise Mistake(f"the template's {{{{{hole}}}}} is in no file: {error!r}") from error
+
+
+def page_text(template: str, files: dict[str, Any]) -> str:
+    """The page: its template with the numbers of the files."""
+    for number in re.findall(r"\d+", NO_NUMBERS.sub("", template)):
+        raise Mistake(f"the template has the number {number} itself: it has to be one of a file")
+    return HOLE.sub(lambda found: filled(files, found[1]), template)
+
+
+def read_template() -> str:
+    with open(TEMPLATE, encoding="utf-8") as file:
+        return file.read()
+
+
+def expected() -> dict[str, str]:
+    """The page and its pictures, by their paths, as the files of counts have them."""
+    files = read_files()
+    pictures = {os.path.join(FOLDER, name): text for name, text in figures(files).items()}
+    return {PAGE: page_text(read_template(), files), **pictures}
+
+
+def differences() -> list[str]:
+    """The files that differ from what the counts say, each with the first line that differs."""
+    found: list[str] = []
+    for path, text in expected().items():
+        name = os.path.relpath(path, TOP)
+        if not os.path.exists(path):
+            found.append(f"{name} is missing")
+            continue
+        with open(path, encoding="utf-8") as file:
+            lines, wanted = file.read().split("\n"), text.split("\n")
+        if lines != wanted:
+            pairs = zip([*lines, ""], [*wanted, ""])
+            place = next((at for at, (ours, theirs) in enumerate(pairs) if ours != theirs), min(len(lines), len(wanted)))
+            found.append(f"{name}, line {place + 1}: differs from the counts in docs/survival")
+    return found

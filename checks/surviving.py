@@ -233,7 +233,7 @@ HOLE = re.compile(r"\{\{(.+?)\}\}")
 FOLDS: dict[str, Callable[[list[Any]], Any]] = {"min": min, "max": max, "sum": sum}
 
 # What of a template has no number of an experiment: code, links and pictures, and years and the name of an interval.
-NO_NUMBERS = re.compile(r"`[^`]*`|\]\([^)]*\)|\{\{.+?\}\}|95 %|\b(?:19|20)\d\d\b|^#+ .*$", re.MULTILINE)
+NO_NUMBERS = re.compile(r"`[^`]*`|\]\([^)]*\)|\{\{.+?\}\}|95 %|\b(?:19|20)\d\d\b|^#+ .*$|^    .*$", re.MULTILINE)
 
 
 def values_at(value: Any, path: list[str]) -> list[Any]:
@@ -249,13 +249,12 @@ def values_at(value: Any, path: list[str]) -> list[Any]:
 
 def filled(files: dict[str, Any], hole: str) -> str:
     """What belongs into a hole of the template: a table by its name, or a number by its path."""
-    word, *rest = hole.split(" ")
+    word, _, rest = hole.partition(" ")
     try:
         if word in TABLES:
-            return "\n".join(markdown_lines(TABLES[word](files, *rest)))
-        path = rest[0] if word in FOLDS else word
-        values = values_at(files, path.split("/"))
-        return f"{FOLDS[word](values) if word in FOLDS else values[0]:,}"
+            return "\n".join(markdown_lines(TABLES[word](files, *rest.split(" "))))
+        fold, path = (FOLDS[word], rest) if word in FOLDS else (FOLDS["sum"], hole)
+        return f"{fold(values_at(files, path.split('/'))):,}"
     except (KeyError, IndexError, TypeError, ValueError) as error:
         raise Mistake(f"the template's {{{{{hole}}}}} is in no file: {error!r}") from error
 

@@ -165,7 +165,7 @@ class Models(unittest.TestCase):
         self.assertEqual(status, 0)
         self.assertIn("not measured", out)
         self.assertRegex(out, r"(?m)^  all calls +10 +9 +18 ")
-        self.assertRegex(out, r"(?m)^  1 recovery +10 +1 ")
+        self.assertRegex(out, r"(?m)^  1 recovery +0 +10 +1 ")
         self.assertNotIn("cycles", bench("cost", example_path("sound-skips.json"))[1])
         cost, = shown(example_path("block.json"), "--model", MODEL)
         self.assertEqual(cost["reckoned"]["measured"], False)

@@ -12,7 +12,7 @@ from .facts import INPUTS
 from .faults import RANGES, check_range
 from .inject_counts import Counts, counts_of, ending_of, together
 from .inject_figure import figure
-from .inject_found import Found
+from .inject_found import CONTRACT, SYSTEM, Found
 from .inject_mutants import KINDS, MIXED, Mutant, mutants_of
 from .inject_run import Batch, Setting, check_base, check_live, results_of, run_trials, setting_of
 from .inject_tables import ending_rows, question_rows, text_lines
@@ -74,8 +74,6 @@ class Ran:
 
 def questions_of(ran: Ran, guard: bool, limit: int) -> dict[str, dict[str, int]]:
     """How often the system saw one thing, and the contract another, over all kinds but the mixed one."""
-    from .inject_found import CONTRACT, SYSTEM
-
     cells = {name: dict.fromkeys(CONTRACT, 0) for name in SYSTEM}
     for population, results in zip(ran.populations, ran.results[guard]):
         for each in results if population.kind != MIXED or len(ran.populations) == 1 else []:
@@ -124,6 +122,8 @@ def asked_of(args: argparse.Namespace) -> Asked:
         check_range("limit", limit, INPUTS["part"]["limit"].ends)
     if args.latent and args.any_turn:
         raise Mistake("--any-turn is for live faults: latent ones are there from the beginning")
+    if args.any_turn and args.every_mutant:
+        raise Mistake("--any-turn draws, and --every-mutant does not")
     if args.scenario and not args.again:
         raise Mistake("--scenario is for --again")
     kinds = tuple(dict.fromkeys(args.kind or KINDS))

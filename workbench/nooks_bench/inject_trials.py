@@ -107,29 +107,31 @@ def one_of(draw: random.Random, items: Sequence[Item]) -> Item:
     return items[int(draw.random() * len(items))]
 
 
+# The mutants of a kind, by their addresses.
+Places = dict[int, list[Mutant]]
+
+
+def by_address(mutants: Sequence[Mutant]) -> Places:
+    found: Places = {}
+    for mutant in mutants:
+        found.setdefault(mutant.address, []).append(mutant)
+    return found
+
+
 @dataclass(frozen=True)
 class Draws:
-    """Draws trials of one kind. `pool` has the mutants by their kinds, `strikes` when they may strike."""
+    """Draws trials of one kind. `pool` has the mutants of those kinds of which each fault is one, `strikes` when they
+    may strike."""
 
     asked: Asked
     kind: str
-    pool: dict[str, list[Mutant]]
+    pool: dict[str, Places]
     strikes: list[tuple[Strike, int]]
     draw: random.Random
 
-    @property
-    def kinds(self) -> tuple[str, ...]:
-        return tuple(kind for kind in KINDS if self.pool[kind]) if self.kind == MIXED else (self.kind,)
-
-    def by_address(self, kind: str) -> dict[int, list[Mutant]]:
-        found: dict[int, list[Mutant]] = {}
-        for mutant in self.pool[kind]:
-            found.setdefault(mutant.address, []).append(mutant)
-        return found
-
     def size(self) -> int:
         """How many faults a trial has: not more than there are addresses."""
-        addresses = {mutant.address for kind in self.kinds for mutant in self.pool[kind]}
+        addresses = {address for places in self.pool.values() for address in places}
         return min(1 if self.asked.every else self.asked.faults, len(addresses))
 
     def moments(self) -> list[Strike | None]:
@@ -143,16 +145,16 @@ class Draws:
 
     def all(self) -> Iterator[tuple[Strike | None, tuple[Mutant, ...]]]:
         """All trials there are."""
-        by_address = self.by_address(self.kind)
+        places = self.pool[self.kind]
         for moment in self.moments():
-            for addresses in itertools.combinations(sorted(by_address), self.size()):
-                for mutants in itertools.product(*(by_address[each] for each in addresses)):
+            for addresses in itertools.combinations(sorted(places), self.size()):
+                for mutants in itertools.product(*(places[each] for each in addresses)):
                     yield moment, mutants
 
     def number(self) -> int:
         """How many trials there are: the ways to choose addresses, and at each a mutant, at each time."""
         ways = [1] + [0] * self.size()
-        for mutants in self.by_address(self.kind).values():
+        for mutants in self.pool[self.kind].values():
             for chosen in range(len(ways) - 1, 0, -1):
                 ways[chosen] += ways[chosen - 1] * len(mutants)
         return ways[-1] * len(self.moments())
@@ -160,11 +162,12 @@ class Draws:
     def mutants(self) -> tuple[Mutant, ...]:
         """Some mutants at as many addresses: first the address is drawn, and then one there."""
         found: dict[int, Mutant] = {}
-        while len(found) < self.size():
-            by_address = self.by_address(one_of(self.draw, self.kinds))
-            free = [address for address in by_address if address not in found]
+        kinds, size = list(self.pool), self.size()
+        while len(found) < size:
+            places = self.pool[one_of(self.draw, kinds)]
+            free = [address for address in places if address not in found]
             if free:
-                mutant = one_of(self.draw, by_address[one_of(self.draw, free)])
+                mutant = one_of(self.draw, places[one_of(self.draw, free)])
                 found[mutant.address] = mutant
         return tuple(found[address] for address in sorted(found))
 
@@ -191,17 +194,20 @@ class Draws:
         whole = self.kind != MIXED and (self.asked.every or self.number() <= self.asked.trials)
         found = self.all() if whole else self.drawn()
         trials = tuple(Trial(self.kind, number, mutants, moment) for number, (moment, mutants) in enumerate(found))
-        return Population(self.kind, sum(len(self.pool[kind]) for kind in self.kinds), whole, trials)
+        in_pool = sum(len(each) for places in self.pool.values() for each in places.values())
+        return Population(self.kind, in_pool, whole, trials)
 
 
 def populations(asked: Asked, pool: dict[str, list[Mutant]], part: Part) -> list[Population]:
     """The trials of each kind that is asked for and of which the driver has mutants."""
     strikes = strikes_of(part)
-    if not strikes and not asked.latent:
-        raise Mistake(f"no call comes to the driver of part {part.place}: live faults have nothing to strike")
+    if not strikes:
+        raise Mistake(f"no call comes to the driver of part {part.place}: its faults would have nothing to strike")
+    places = {kind: by_address(pool[kind]) for kind in KINDS if pool.get(kind)}
     found: list[Population] = []
     for kind in asked.kinds:
-        if kind == MIXED or pool[kind]:
-            draws = Draws(asked, kind, pool, strikes, random.Random(f"{asked.seed} {kind}"))
+        here = places if kind == MIXED else {kind: places[kind]} if kind in places else {}
+        if here:
+            draws = Draws(asked, kind, here, strikes, random.Random(f"{asked.seed} {kind}"))
             found.append(draws.population())
     return found

@@ -17,8 +17,8 @@ from .sweep import scenario_of
 from .words import counted
 
 ABOUT = """Runs the scenario FILE and counts what protects the kernel from its drivers: changes of domain, kernel calls,
-words that are copied and cleared, pages whose rights change or that are loaded, for each operation, for the boot and for
-recoveries. The counts are exact. With --model they are weighed with cycles from a TOML file, which nobody measured:
+words that are copied and cleared, pages whose rights change or that are loaded, for each operation, for the boot and
+for recoveries. The counts are exact. With --model they are weighed with cycles from a TOML file, which nobody measured:
 the time with protection and without, and where the one is twice the other."""
 
 TURN = re.compile(r"^\d+ \d+ ", re.MULTILINE)

@@ -1,7 +1,7 @@
 """What the protection of a part did in a run, counted from its events.
 
-A report has each entry of the driver, each burst with its instructions and acts, each kernel call with the words that it
-moved, and each stage. What follows from an event by a rule of the kernel is counted by that rule: a burst enters the
+A report has each entry of the driver, each burst with its instructions and acts, each kernel call with the words that
+it moved, and each stage. What follows from an event by a rule of the kernel is counted by that rule: a burst enters the
 driver's domain and leaves it; a call with a buffer has its words copied there and the rest of the buffer cleared; a
 buffer that is lent for writing has the rights of its pages changed, and changed back when it is taken back; a load
 makes every page of the driver anew."""

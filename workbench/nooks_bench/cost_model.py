@@ -14,8 +14,9 @@ from .source import read_text
 @dataclass(frozen=True)
 class Model:
     """The cycles of: the work of an operation outside the driver; an instruction of the driver; an act on the device; a
-    procedure call; a change of domain; a word that is copied, and one that is cleared; the rights of a page; a page that
-    is loaded; a reset of the device; and a reboot of the whole machine, if recoveries are to be weighed against it."""
+    procedure call; a change of domain; a word that is copied, and one that is cleared; the rights of a page; a page
+    that is loaded; a reset of the device; and a reboot of the whole machine, if recoveries are to be weighed against
+    it."""
 
     operation: float
     instruction: float

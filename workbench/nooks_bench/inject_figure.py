@@ -4,8 +4,8 @@ from __future__ import annotations
 
 from typing import Any, Sequence
 
-from .inject_counts import (ENDINGS, GIVEN_UP_KEPT, IN_TIME, IN_TIME_LOSSES, LATE, LATER, NO_EFFECT, NOT_EXECUTED, OTHER,
-                            SILENT)
+from .inject_counts import (ENDINGS, GIVEN_UP_KEPT, IN_TIME, IN_TIME_LOSSES, LATE, LATER, NO_EFFECT, NOT_EXECUTED,
+                            OTHER, SILENT)
 from .svg import BLACK, BLUE, GREEN, GREY, ORANGE, PALE, RED, SKY, WHITE, YELLOW, Canvas, text_width
 
 BAR_WIDTH, BAR_HEIGHT, BAR_STEP = 260, 12, 16

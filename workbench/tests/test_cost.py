@@ -63,7 +63,7 @@ def by_lines(text: str) -> dict[str, int]:
         "kernel_calls": sum(rest.startswith("service ") for _, rest in bursts),
         "acts": sum(rest.count(" | ") for _, rest in bursts),
         "calls": len(re.findall(r"(?m)^\d+ invoke ", text)),
-        "entries": len(re.findall(r"(?m)^\d+ enter [^>]*$", text)),
+        "entries": len(re.findall(r"(?m)^\d+ enter [^>\n]*$", text)),
         "pages": 115 * len(re.findall(r"(?m)^\d+ stage load$", text)),
         "resets": len(re.findall(r"(?m)^\d+ stage reset$", text)),
     }

@@ -3,11 +3,13 @@ number is taken from these files."""
 
 from __future__ import annotations
 
+import itertools
 import json
 import os
 import re
 import sys
-from collections.abc import Callable
+import textwrap
+from collections.abc import Callable, Sequence
 from dataclasses import dataclass
 from typing import Any
 
@@ -15,14 +17,14 @@ from running import TOP
 
 sys.path.insert(0, os.path.join(TOP, "workbench"))
 
-from nooks_bench.inject_counts import share_text  # noqa: E402
+from nooks_bench.columns import Row, markdown_lines  # noqa: E402
+from nooks_bench.inject_counts import ENDINGS, WAIT_NAMES, share_text  # noqa: E402
 from nooks_bench.inject_figure import figure  # noqa: E402
-from nooks_bench.inject_found import GIVEN_UP  # noqa: E402
+from nooks_bench.inject_found import CONTRACT, GIVEN_UP, MEANS, SYSTEM  # noqa: E402
 from nooks_bench.inject_mutants import KINDS, MIXED  # noqa: E402
 from nooks_bench.inject_tables import (  # noqa: E402
-    Row, count_text, ending_rows, markdown_lines, means_rows, question_rows, wait_rows)
+    count_text, ending_rows, means_rows, question_rows, wait_rows)
 from nooks_bench.inject_trials import Asked  # noqa: E402
-from nooks_bench.jsontext import json_text  # noqa: E402
 from nooks_bench.program import Mistake  # noqa: E402
 
 FOLDER = os.path.join(TOP, "docs/survival")
@@ -55,14 +57,14 @@ class Experiment:
 
 EXPERIMENTS = {
     # The papers' plan.
-    "live": Experiment(Asked((*KINDS, MIXED), 400, 5, 1), (1, 4, 16), "both"),
+    "live": Experiment(Asked((*KINDS, MIXED), 400, 5, 1), (1, 16), "both"),
     # The same with fewer faults a trial.
     "one": Experiment(Asked(KINDS, 200, 1, 1), (16,), "no"),
     "two": Experiment(Asked(KINDS, 200, 2, 1), (16,), "no"),
     # One fault in the middle of a call's work.
     "turn": Experiment(Asked(KINDS, 200, 1, 1, any_turn=True), (16,), "both"),
-    # One fault, in the image.
-    "latent": Experiment(Asked(KINDS, 60, 1, 1, latent=True), (1, 4, 16), "both"),
+    # Every mutant, in the image.
+    "latent": Experiment(Asked(KINDS, 1, 1, 1, latent=True, every=True), (1, 4, 16), "both"),
 }
 
 
@@ -77,15 +79,59 @@ def nested(ran: dict[str, Any]) -> Tables:
     for table in ran["tables"]:
         guard = found.setdefault(WITH if table["guard"] else WITHOUT, {})
         kinds = {each["kind"]: each for each in table["kinds"]}
-        guard[str(table["limit"])] = {"kinds": kinds, "questions": table["questions"]}
+        guard[str(table["limit"])] = {"questions": table["questions"], "kinds": kinds}
     return found
 
 
+def pruned(value: Any) -> Any:
+    """Counts without those that are 0."""
+    if isinstance(value, dict):
+        return {key: pruned(each) for key, each in value.items() if each != 0 or isinstance(each, bool)}
+    return value
+
+
+# The names of counts, of which a file has only those that are not 0.
+NAMES: dict[str, Sequence[str]] = {"endings": ENDINGS, "system": SYSTEM, "contract": CONTRACT, "means": MEANS,
+                                   "waits": WAIT_NAMES}
+SINGLE = ("trials", "failures", "stopped", "other_answers", "other_left", "silent_seen")
+
+
+def restored(counts: dict[str, Any]) -> dict[str, Any]:
+    """The counts of a kind with those that are 0."""
+    named = {name: {**dict.fromkeys(keys, 0), **counts.get(name, {})} for name, keys in NAMES.items()}
+    return {**counts, **dict.fromkeys(SINGLE, 0), **{name: counts[name] for name in SINGLE if name in counts}, **named}
+
+
+def restored_table(table: dict[str, Any]) -> dict[str, Any]:
+    """The counts of one driver, guard and limit with those that are 0."""
+    questions = {name: {**dict.fromkeys(CONTRACT, 0), **table["questions"].get(name, {})} for name in SYSTEM}
+    return {"questions": questions, "kinds": {kind: restored(each) for kind, each in table["kinds"].items()}}
+
+
 def file_text(name: str, drivers: dict[str, Tables]) -> str:
-    """The text of an experiment's file."""
+    """The text of an experiment's file: a line for each kind."""
     experiment = EXPERIMENTS[name]
     asked = {**vars(experiment.asked), "limits": list(experiment.limits)}
-    return json_text({"asked": json.loads(json.dumps(asked)), "drivers": drivers}) + "\n"
+    tables = [f'  "{driver}/{guard}/{limit}": {{\n{table_text(table)}\n  }}' for driver, guards in drivers.items()
+              for guard, limits in guards.items() for limit, table in limits.items()]
+    return f'{{"asked": {json.dumps(asked)}, "tables": {{\n' + ",\n".join(tables) + "\n}}\n"
+
+
+def table_text(table: dict[str, Any]) -> str:
+    """The counts of one driver, guard and limit: a line for each kind."""
+    rows = {"questions": table["questions"], **table["kinds"]}
+    return ",\n".join(f"    {json.dumps(name)}: {json.dumps(pruned(each))}" for name, each in rows.items())
+
+
+def drivers_of(tables: dict[str, Any]) -> dict[str, Tables]:
+    """The tables of a file by driver, guard and limit."""
+    found: dict[str, Tables] = {}
+    for name, table in tables.items():
+        driver, guard, limit = name.split("/")
+        kinds = {key: each for key, each in table.items() if key != "questions"}
+        whole = restored_table({"questions": table["questions"], "kinds": kinds})
+        found.setdefault(driver, {}).setdefault(guard, {})[limit] = whole
+    return found
 
 
 def read_files() -> dict[str, Any]:
@@ -94,8 +140,9 @@ def read_files() -> dict[str, Any]:
     for name in EXPERIMENTS:
         try:
             with open(path_of(name), encoding="utf-8") as file:
-                found[name] = json.load(file)
-        except (OSError, ValueError) as error:
+                read = json.load(file)
+            found[name] = {"asked": read["asked"], "drivers": drivers_of(read["tables"])}
+        except (OSError, ValueError, KeyError) as error:
             raise Mistake(f"{path_of(name)} cannot be read: checks/survival writes it") from error
     return found
 
@@ -106,12 +153,12 @@ def read_files() -> dict[str, Any]:
 def figures(files: dict[str, Any]) -> dict[str, str]:
     """The page's pictures, by the names of their files."""
     found: dict[str, str] = {}
-    for name, title in {"live": "live faults, 5 a trial", "latent": "latent faults, every mutant"}.items():
+    for name, title in {"live": "live faults", "latent": "latent faults"}.items():
         for guard, about in {WITHOUT: "without a guard", WITH: "with a guard"}.items():
-            limit = EXPERIMENTS[name].most
+            asked, limit = EXPERIMENTS[name].asked, EXPERIMENTS[name].most
             panels = [(driver, list(each[guard][limit]["kinds"].values()))
                       for driver, each in files[name]["drivers"].items()]
-            found[f"{name}-{guard}.svg"] = figure(f"{title}, limit {limit}, {about}", panels)
+            found[f"{name}-{guard}.svg"] = figure(f"{title}, {asked.faults} a trial, limit {limit}, {about}", panels)
     return found
 
 
@@ -153,7 +200,7 @@ def waits_table(files: dict[str, Any], name: str, guard: str, limit: str) -> lis
 
 
 def papers_table(files: dict[str, Any], name: str, guard: str, limit: str) -> list[Row]:
-    """How often a driver was stopped and went on, as the papers count, and how many of these had broken the contract."""
+    """How often a driver was stopped and recovered, as the papers count, and how many of these were late."""
     rows = [["driver", "failures", "stopped and recovered", "of these, broken before", "never stopped",
              "of these, seen in answers"]]
     for driver, each in all_kinds(files, name, guard, limit).items():
@@ -259,11 +306,21 @@ def filled(files: dict[str, Any], hole: str) -> str:
         raise Mistake(f"the template's {{{{{hole}}}}} is in no file: {error!r}") from error
 
 
+def wrapped(block: str) -> str:
+    """A block of a page in lines of one width, if it is a paragraph or a list."""
+    if block.startswith(("|", "#", "    ", "!")):
+        return block
+    items = re.split(r"\n(?=- )", block)
+    return "\n".join(textwrap.fill(" ".join(item.split()), 118, subsequent_indent="  " if item.startswith("- ") else "",
+                                   break_long_words=False, break_on_hyphens=False) for item in items)
+
+
 def page_text(template: str, files: dict[str, Any]) -> str:
     """The page: its template with the numbers of the files."""
     for number in re.findall(r"\d+", NO_NUMBERS.sub("", template)):
         raise Mistake(f"the template has the number {number} itself: it has to be one of a file")
-    return HOLE.sub(lambda found: filled(files, found[1]), template)
+    text = HOLE.sub(lambda found: filled(files, found[1]), template).strip("\n")
+    return "\n\n".join(wrapped(block) for block in text.split("\n\n")) + "\n"
 
 
 def read_template() -> str:
@@ -289,7 +346,7 @@ def differences() -> list[str]:
         with open(path, encoding="utf-8") as file:
             lines, wanted = file.read().split("\n"), text.split("\n")
         if lines != wanted:
-            pairs = zip([*lines, ""], [*wanted, ""])
-            place = next((at for at, (ours, theirs) in enumerate(pairs) if ours != theirs), min(len(lines), len(wanted)))
+            pairs = itertools.zip_longest(lines, wanted)
+            place = next(at for at, (ours, theirs) in enumerate(pairs) if ours != theirs)
             found.append(f"{name}, line {place + 1}: differs from the counts in docs/survival")
     return found

@@ -8,6 +8,7 @@ import re
 import sys
 from typing import Any
 
+from .columns import Row, text_lines
 from .cost_count import BOOT, Counts, PartCost, cost_of
 from .cost_model import Model, Reckoned, model_of, reckon
 from .program import Program, find_program
@@ -59,15 +60,11 @@ def named_counts(cost: PartCost) -> list[tuple[str, Counts]]:
 
 def count_lines(cost: PartCost) -> list[str]:
     """The table of counts of a part."""
-    heads = [name.replace("_", " ") for name in COLUMNS]
-    rows = named_counts(cost)
-    wide = max(len(name) for name, _ in rows)
-    lines = [" " * (wide + 2) + "".join(f"{head:>14}" for head in heads)]
-    for name, counts in rows:
+    rows: list[Row] = [["", *(name.replace("_", " ") for name in COLUMNS)]]
+    for name, counts in named_counts(cost):
         is_call = name in cost.operations or name == ALL
-        numbers = [getattr(counts, column) if is_call or column != "calls" else "" for column in COLUMNS]
-        lines.append(f"  {name.ljust(wide)}" + "".join(f"{number:>14}" for number in numbers))
-    return lines
+        rows.append([name, *(str(getattr(counts, each)) if is_call or each != "calls" else "" for each in COLUMNS)])
+    return [f"  {line}" for line in text_lines(rows)]
 
 
 def model_lines(reckoned: Reckoned, file: str) -> list[str]:
@@ -81,7 +78,7 @@ def model_lines(reckoned: Reckoned, file: str) -> list[str]:
     if reckoned.twice is not None:
         lines.append(f"    twice the time at a change of domain of {reckoned.twice:,.0f} cycles")
     if reckoned.pays is not None:
-        lines.append(f"    less than a reboot from one failure in {reckoned.pays:,.0f} calls on")
+        lines.append(f"    cheaper than a reboot for each failure from one failure in {reckoned.pays:,.0f} calls on")
     return lines
 
 

@@ -8,6 +8,7 @@ import sys
 from dataclasses import dataclass
 from typing import Any, Iterator, Sequence
 
+from .columns import text_lines
 from .facts import INPUTS
 from .faults import RANGES, check_range
 from .inject_counts import Counts, counts_of, ending_of, together
@@ -15,7 +16,7 @@ from .inject_figure import figure
 from .inject_found import CONTRACT, SYSTEM, Found
 from .inject_mutants import KINDS, MIXED, Mutant, mutants_of
 from .inject_run import Batch, Setting, check_base, check_live, results_of, run_trials, setting_of
-from .inject_tables import ending_rows, question_rows, text_lines
+from .inject_tables import ending_rows, question_rows
 from .inject_trials import MOST_FAULTS, Asked, Population, Strike, Trial, populations, scenario_of
 from .jsontext import json_text
 from .outcomes import Outcome

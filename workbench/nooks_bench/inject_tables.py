@@ -1,13 +1,12 @@
-"""The tables of an experiment, as text and as Markdown."""
+"""The tables of an experiment."""
 
 from __future__ import annotations
 
 from typing import Any, Sequence
 
+from .columns import Row
 from .inject_counts import ENDINGS, WAIT_NAMES, share_text
 from .inject_found import CONTRACT, MEANS, SYSTEM
-
-Row = list[str]
 
 # The columns of shares of the failures: their names in a file, and in a table.
 SHARES = {"in_time": "in time, %", "late": "late, %", "silent": "silent, %"}
@@ -54,17 +53,3 @@ def wait_rows(named: dict[str, dict[str, Any]], first: str) -> list[Row]:
     for name, each in named.items():
         rows.append([name, str(each["stopped"]), *(count_text(each["waits"][wait]) for wait in WAIT_NAMES)])
     return rows
-
-
-def text_lines(rows: Sequence[Row]) -> list[str]:
-    """A table in columns: the first one to the left, the others to the right."""
-    wide = [max(len(row[place]) for row in rows) for place in range(len(rows[0]))]
-    return ["  ".join(cell.ljust(width) if place == 0 else cell.rjust(width)
-                      for place, (cell, width) in enumerate(zip(row, wide))).rstrip() for row in rows]
-
-
-def markdown_lines(rows: Sequence[Row]) -> list[str]:
-    """A table of a page."""
-    head, *others = rows
-    lines = ["| " + " | ".join(head) + " |", "|" + "---|" * len(head)]
-    return lines + ["| " + " | ".join(row) + " |" for row in others]

@@ -63,8 +63,8 @@ EXPERIMENTS = {
     "two": Experiment(Asked(KINDS, 200, 2, 1), (16,), "no"),
     # One fault in the middle of a call's work.
     "turn": Experiment(Asked(KINDS, 200, 1, 1, any_turn=True), (16,), "both"),
-    # Every mutant, in the image.
-    "latent": Experiment(Asked(KINDS, 1, 1, 1, latent=True, every=True), (1, 4, 16), "both"),
+    # One fault, in the image.
+    "latent": Experiment(Asked(KINDS, 60, 1, 1, latent=True), (1, 4, 16), "both"),
 }
 
 

@@ -42,7 +42,7 @@ check-program:
 	@$(generate) version > /dev/null
 
 install: check-program
-	install -d $(addprefix $(DESTDIR),$(bindir) $(mandir) $(docdir)/docs/maps $(docdir)/docs/pages $(bashdir) $(zshdir) $(vimdir)/syntax \
+	install -d $(addprefix $(DESTDIR),$(bindir) $(mandir) $(docdir)/docs/maps $(docdir)/docs/pages $(docdir)/docs/survival $(bashdir) $(zshdir) $(vimdir)/syntax \
 	    $(vimdir)/ftdetect $(sharedir)/nooks_bench/schemas $(sharedir)/nooks_bench/page_files)
 	install -m 755 $(program) $(DESTDIR)$(bindir)/nooks
 	sed '1s|.*|#!$(PYTHON)|' workbench/nooks-bench > $(DESTDIR)$(sharedir)/nooks-bench
@@ -65,6 +65,7 @@ install: check-program
 	$(data) docs/*.md $(DESTDIR)$(docdir)/docs
 	$(data) docs/maps/* $(DESTDIR)$(docdir)/docs/maps
 	$(data) docs/pages/* $(DESTDIR)$(docdir)/docs/pages
+	$(data) docs/survival/*.svg $(DESTDIR)$(docdir)/docs/survival
 	cp -R examples $(DESTDIR)$(docdir)
 	chmod -R u+rwX,go+rX,go-w $(DESTDIR)$(docdir) $(DESTDIR)$(sharedir)
 	chmod 644 $(DESTDIR)$(mandir)/nooks*.1.gz $(addprefix $(DESTDIR)$(bashdir)/,nooks nooks-bench) \

@@ -20,6 +20,8 @@ SUBCOMMANDS = {
     "gen": "operations to try one's own driver with",
     "sweep": "what becomes of each of a set of faults",
     "map": "a sweep as an SVG",
+    "inject": "what becomes of mistakes in a driver's code",
+    "cost": "what protection costs",
     "timeline": "a report as lanes, as an SVG or as text",
     "page": "a run as one HTML page, event by event",
     "explain": "a report, or the line of a refused input, for people",

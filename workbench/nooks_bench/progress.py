@@ -14,13 +14,14 @@ WIDEST = 120
 
 @dataclass
 class Progress:
-    """`schedules` is the number of bases, if there are several; `about` stands before each line. Left as a context, its
-    line is ended."""
+    """`schedules` is the number of bases, if there are several; `about` comes before each line, and `noun` says what is
+    counted. Used as a context, it ends its line."""
 
     whole: int
     quiet: bool
     schedules: int = 1
     about: str = ""
+    noun: str = "faults"
     done: int = 0
     counts: dict[str, int] = field(default_factory=dict)
     begun: float = field(default_factory=time.monotonic)
@@ -47,7 +48,7 @@ class Progress:
     def write(self, seconds: float, number: int) -> None:
         shown = ", ".join(f"{count} {name}" for name, count in sorted(self.counts.items(), key=lambda each: -each[1]))
         front = self.about + (f"schedule {number + 1} of {self.schedules}: " if self.schedules > 1 else "")
-        line = f"{front}{self.done:,} of {self.whole:,} faults in {seconds:.1f} s: {shown}"
+        line = f"{front}{self.done:,} of {self.whole:,} {self.noun} in {seconds:.1f} s: {shown}"
         if is_terminal():
             write_error("\r\x1b[K" + line[:WIDEST])
             self.is_open = True

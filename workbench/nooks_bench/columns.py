@@ -1,0 +1,21 @@
+"""Tables in columns, as text and as Markdown."""
+
+from __future__ import annotations
+
+from typing import Sequence
+
+Row = list[str]
+
+
+def text_lines(rows: Sequence[Row]) -> list[str]:
+    """A table in columns: the first one to the left, the others to the right."""
+    wide = [max(len(row[place]) for row in rows) for place in range(len(rows[0]))]
+    return ["  ".join(cell.ljust(width) if place == 0 else cell.rjust(width)
+                      for place, (cell, width) in enumerate(zip(row, wide))).rstrip() for row in rows]
+
+
+def markdown_lines(rows: Sequence[Row]) -> list[str]:
+    """A table of a page."""
+    head, *others = rows
+    lines = ["| " + " | ".join(head) + " |", "|" + "---|" * len(head)]
+    return lines + ["| " + " | ".join(row) + " |" for row in others]

@@ -1,0 +1,207 @@
+"""A driver's image as instructions: what each operand is for, where the counter goes next, and which writes of a
+register reach which reads. This is what mutants are made of; the words themselves the program reads and writes."""
+
+from __future__ import annotations
+
+import json
+from dataclasses import dataclass
+from typing import Any, Iterator
+
+from .facts import CLASSES, OPERANDS, REGISTERS, SERVICES
+from .program import Program
+
+# What an operand is for.
+DESTINATION, SOURCE, POINTER, NUMBER, TARGET = "destination", "source", "pointer", "number", "target"
+
+# The operands of each instruction, in their order (docs/DRIVER_MACHINE.md).
+COMPUTES = ("ADD", "SUB", "AND", "OR", "XOR", "SHL", "SHR")
+CONDITIONS = ("BEQ", "BNE", "BLT")
+ROLES: dict[str, tuple[str, ...]] = {
+    "LI": (DESTINATION, NUMBER),
+    "LUI": (DESTINATION, NUMBER),
+    "MOV": (DESTINATION, SOURCE),
+    **dict.fromkeys(COMPUTES, (DESTINATION, SOURCE)),
+    "ADDI": (DESTINATION, SOURCE, NUMBER),
+    "LD": (DESTINATION, POINTER, NUMBER),
+    "ST": (SOURCE, POINTER, NUMBER),
+    "JMP": (TARGET,),
+    **dict.fromkeys(CONDITIONS, (SOURCE, SOURCE, TARGET)),
+    "JAL": (DESTINATION, TARGET),
+    "JR": (SOURCE,),
+    "IN": (DESTINATION, NUMBER),
+    "OUT": (SOURCE, NUMBER),
+    "KCALL": (NUMBER,),
+    "RET": (SOURCE,),
+    "FAULT": (),
+}
+
+# Instructions whose destination is read too.
+READS_DESTINATION = (*COMPUTES, "LUI")
+
+# The registers that a service of the kernel checks, and the one that has its result.
+ARGUMENTS = {"alloc": (1,), "free": (1,), "register": (1,), "borrow": (1,), "give_back": (1,), "net_rx": (1, 2)}
+RESULT = 1
+
+# The registers that an entry is passed: r14 has the end of the stack page.
+STACK_END = 14
+PASSED = {"read": (1, 2, 3), "write": (1, 2, 3), "send": (2, 3), "play": (2, 3), "get": (1, 3), "set": (1, 2)}
+
+# Where a register's word is from that the entry was passed; any other origin is an instruction's address.
+FROM_CALLER = -1
+
+# An instruction that changes nothing.
+NOTHING = "MOV r0 r0"
+
+# For each register the origins that its word may have.
+Origins = list[frozenset[int]]
+
+
+@dataclass(frozen=True)
+class Instruction:
+    """A word of the text that is an instruction. Registers are operands by their numbers."""
+
+    address: int
+    word: int
+    name: str
+    operands: tuple[int, ...]
+
+    @property
+    def text(self) -> str:
+        """As `dis` writes it."""
+        return text_of(self.name, self.operands)
+
+    def with_operand(self, place: int, value: int) -> str:
+        """The instruction with another operand, as text."""
+        return text_of(self.name, (*self.operands[:place], value, *self.operands[place + 1 :]))
+
+    def of_role(self, role: str) -> list[int]:
+        """The places of the operands that are for something."""
+        return [place for place, each in enumerate(ROLES[self.name]) if each == role]
+
+    def operand(self, role: str) -> int | None:
+        """The first operand that is for something."""
+        places = self.of_role(role)
+        return self.operands[places[0]] if places else None
+
+    def reads(self) -> set[int]:
+        """The registers that it reads, those of a kernel call's arguments too."""
+        found = {self.operands[place] for role in (SOURCE, POINTER) for place in self.of_role(role)}
+        if self.name in READS_DESTINATION:
+            found.add(self.operands[0])
+        return found | set(self.arguments())
+
+    def arguments(self) -> tuple[int, ...]:
+        """The registers that the kernel checks, if it is a kernel call."""
+        return ARGUMENTS.get(SERVICES.get(self.operands[0], ""), ()) if self.name == "KCALL" else ()
+
+    def writes(self) -> int | None:
+        """The register that it writes, if it writes one."""
+        return RESULT if self.name == "KCALL" else self.operand(DESTINATION)
+
+    def next(self) -> list[int]:
+        """The addresses to which the counter may go. Whether a subroutine comes back is not known: it may."""
+        target = self.operand(TARGET)
+        if self.name == "JMP" and target is not None:
+            return [target]
+        if self.name in ("RET", "JR", "FAULT"):
+            return []
+        return [self.address + 1] + ([target] if target is not None else [])
+
+
+def text_of(name: str, operands: tuple[int, ...]) -> str:
+    """An instruction as text."""
+    written = [f"r{each}" if sort in ("a", "b") else str(each) for sort, each in zip(OPERANDS[name].split(), operands)]
+    return " ".join([name, *written])
+
+
+def parse_instruction(address: int, word: int, text: str) -> Instruction | None:
+    """The instruction of a line of `dis`; None if the word is none."""
+    name, *operands = text.split()
+    if name not in ROLES:
+        return None
+    return Instruction(address, word, name, tuple(int(each.lstrip("r")) for each in operands))
+
+
+@dataclass(frozen=True)
+class Code:
+    """A driver's image, as `asm` writes it, with those of its words that are instructions, by rising address."""
+
+    image: dict[str, Any]
+    instructions: tuple[Instruction, ...]
+
+    @property
+    def kind(self) -> str:
+        """Its class."""
+        return str(self.image["class"])
+
+    def with_words(self, words: dict[int, int]) -> dict[str, Any]:
+        """The image with other words at some addresses."""
+        text = list(self.image["text"])
+        for address, word in words.items():
+            text[address] = f"{word:08x}"
+        return {**self.image, "text": text}
+
+
+def code_of(program: Program, driver: dict[str, Any]) -> Code:
+    """The code of a scenario's driver."""
+    image = driver["image"] if "image" in driver else json.loads(program.answer(["asm"], driver["asm"]).out)
+    lines = program.listing({"image": image})
+    words = [int(each, 16) for each in image["text"]]
+    found = (parse_instruction(at, word, line) for at, (word, line) in enumerate(zip(words, lines)))
+    return Code(image, tuple(each for each in found if each is not None))
+
+
+def encoded(program: Program, kind: str, lines: list[str]) -> list[int]:
+    """The words of some instructions, by the program's own assembler, which takes so many at a time."""
+    entries = [f".entry {name} 0" for name in CLASSES[kind].entries]
+    found: list[int] = []
+    for start in range(0, len(lines), 2000):
+        text = "\n".join([f".class {kind}", *entries, *lines[start : start + 2000]]) + "\n"
+        found += [int(each, 16) for each in json.loads(program.answer(["asm"], text).out)["text"]]
+    return found
+
+
+@dataclass(frozen=True)
+class Flow:
+    """For each address that the counter may come to, the origins of each register's word there."""
+
+    code: Code
+    origins: dict[int, Origins]
+
+    def of(self, instruction: Instruction, register: int) -> frozenset[int]:
+        """The origins of a register's word as an instruction finds it."""
+        known = self.origins.get(instruction.address)
+        return known[register] if known else frozenset()
+
+    def uses(self, address: int) -> Iterator[Instruction]:
+        """The instructions that read what an instruction wrote."""
+        for each in self.code.instructions:
+            if any(address in self.of(each, register) for register in each.reads()):
+                yield each
+
+
+def at_entry(name: str) -> Origins:
+    """The origins at an entry. What is not passed is 0, and has none."""
+    passed = (*PASSED.get(name, ()), STACK_END)
+    return [frozenset({FROM_CALLER}) if register in passed else frozenset() for register in range(REGISTERS)]
+
+
+def flow_of(code: Code) -> Flow:
+    """Follows the counter from each entry until nothing new is found."""
+    by_address = {each.address: each for each in code.instructions}
+    found: dict[int, Origins] = {}
+    work = [(address, at_entry(name)) for name, address in code.image["entries"].items()]
+    while work:
+        address, coming = work.pop()
+        known = found.get(address)
+        joined = [one | other for one, other in zip(known, coming)] if known else coming
+        if address not in by_address or joined == known:
+            continue
+        found[address] = joined
+        instruction = by_address[address]
+        after = list(joined)
+        written = instruction.writes()
+        if written is not None:
+            after[written] = frozenset({address})
+        work += [(each, after) for each in instruction.next()]
+    return Flow(code, found)

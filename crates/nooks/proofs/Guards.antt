@@ -80,20 +80,22 @@ pub fault_first : (bytes : List ℕ) (stop : ScenarioFault) → Fails stop (scen
 fault_first bytes (stops.Bad refusal) fails = ap guardable fails
 fault_first bytes stops.NoMemory fails = tt
 
-ok_inside : {T E : Type 0} (a b : T) → Ok {T = T} {E = E} a ≡ Ok b → a ≡ b
-ok_inside a b e = cc
+ok_once : (r : Result Scenario Refusal) (one other : Scenario) → r ≡ Ok one → r ≡ Ok other → one ≡ other
+ok_once r one other e f = cc
+
+parts_of_read : (read scenario : Scenario) (first : Option ℕ) → first_without_room 0 read.parts ≡ first → with_room read first ≡ Ok scenario
+    → (read ≡ scenario) × All HasRoom scenario.parts
+parts_of_read read scenario None none same =
+    let e : read ≡ scenario = ok_once (Ok read) read scenario refl same in
+    (e, subst (λ (s : Scenario). All HasRoom s.parts) e (all_room read none))
+parts_of_read read scenario (Some place) there same = absurd (cc)
 
 -- what is guardable was read, and has room
 pub guardable_parts : (r : Result Scenario Refusal) (scenario : Scenario) → guardable r ≡ Ok scenario
     → (r ≡ Ok scenario) × All HasRoom scenario.parts
 guardable_parts (Err refusal) scenario e = absurd (cc)
-guardable_parts (Ok read) scenario e = by_first (first_without_room 0 read.parts) refl e
-  where
-    by_first : (first : Option ℕ) → first_without_room 0 read.parts ≡ first → with_room read first ≡ Ok scenario
-        → (Ok read ≡ Ok scenario) × All HasRoom scenario.parts
-    by_first None none same =
-        (same, subst (λ (s : Scenario). All HasRoom s.parts) (ok_inside read scenario same) (all_room read none))
-    by_first (Some place) there same = absurd (cc)
+guardable_parts (Ok read) scenario e =
+    let parts = parts_of_read read scenario (first_without_room 0 read.parts) refl e in (ap Ok parts.0, parts.1)
 
 -- ---- no driver breaks a clause
 

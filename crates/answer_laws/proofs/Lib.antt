@@ -1,4 +1,5 @@
 pub mod Audited
 pub mod Existing
+pub mod Guarding
 pub mod Once
 pub mod Stops

@@ -3,13 +3,10 @@
 //! Each law is the contract of a public function with an empty body: what it promises holds of all its arguments.
 #![tactic(auto)]
 
-ghost use Rattle.std.specs.Prelude.{◌≡◌, ℕ, true, List, All, None, Option, Some};
+ghost use Rattle.std.specs.Prelude.{◌≡◌, ℕ, true, List, None, Option, Some};
 ghost use Rattle.command_forms.specs.Forms.{AskAlone, Asks, is_alone};
 ghost use Rattle.command_forms.specs.declared.words.Form.{Form};
 ghost use Rattle.command_forms.specs.declared.words.Form.TheVariants.{RunThreads};
-ghost use Rattle.guard_defs.specs.Guard.{HasRoom};
-ghost use Rattle.guarded_run.specs.Guarded.{IsGuarded};
-ghost use Rattle.guarded_run.specs.declared.guarded.Guarded.{Guarded};
 ghost use Rattle.nook_data.specs.Valid.{IsValidScenario};
 ghost use Rattle.nook_data.specs.declared.scenario.Scenario.{Scenario};
 ghost use Rattle.nook_io.specs.Listening.{Listening};
@@ -30,12 +27,9 @@ pub fn every_answer_is_one()
         → AnswersBytes words hearing bytes other end → (text ≡ other) × (status ≡ end) }
 {}
 
-/// Words that ask for nothing that waits have an answer over whatever bytes, if every valid scenario that has room for
-/// its traps has a guarded run.
+/// Words that ask for nothing that waits have an answer over whatever bytes.
 pub fn every_form_has_an_answer()
-    ensures { ((scenario : Scenario) → IsValidScenario scenario → All HasRoom scenario.parts
-        → (made : Guarded) × IsGuarded scenario made)
-        → (words : List (List ℕ)) (asked : Option Form) (hearing : List Listening) (bytes : List ℕ)
+    ensures { (words : List (List ℕ)) (asked : Option Form) (hearing : List Listening) (bytes : List ℕ)
         → Asks words asked → AskAlone words
         → (text : List ℕ) × ((status : Status) × AnswersBytes words hearing bytes text status) }
 {}

@@ -346,7 +346,6 @@ class Whole(unittest.TestCase):
                           f"{int(given_up):,} given up, {int(broken):,} broken", line)
             self.assertEqual("so no single fault of these" in out, guarded)
 
-
     def test_those_that_are_kept(self):
         """docs/maps has the whole tables of a link and a stream, and for each class what the workbench makes of them."""
         kinds = [{"kind": "reg", "register": register, "value": 2} for register in range(16)]

@@ -42,7 +42,7 @@ check-program:
 	@$(generate) version > /dev/null
 
 install: check-program
-	install -d $(addprefix $(DESTDIR),$(bindir) $(mandir) $(docdir)/docs/maps $(docdir)/docs/pages $(docdir)/docs/survival $(bashdir) $(zshdir) $(vimdir)/syntax \
+	install -d $(addprefix $(DESTDIR),$(bindir) $(mandir) $(addprefix $(docdir)/docs/,guard maps pages survival) $(bashdir) $(zshdir) $(vimdir)/syntax \
 	    $(vimdir)/ftdetect $(sharedir)/nooks_bench/schemas $(sharedir)/nooks_bench/page_files)
 	install -m 755 $(program) $(DESTDIR)$(bindir)/nooks
 	sed '1s|.*|#!$(PYTHON)|' workbench/nooks-bench > $(DESTDIR)$(sharedir)/nooks-bench
@@ -63,6 +63,7 @@ install: check-program
 	$(data) README.md $(DESTDIR)$(docdir)
 	gzip -9nc CHANGELOG.md > $(DESTDIR)$(docdir)/changelog.gz
 	$(data) docs/*.md $(DESTDIR)$(docdir)/docs
+	$(data) docs/guard/* $(DESTDIR)$(docdir)/docs/guard
 	$(data) docs/maps/* $(DESTDIR)$(docdir)/docs/maps
 	$(data) docs/pages/* $(DESTDIR)$(docdir)/docs/pages
 	$(data) docs/survival/*.svg $(DESTDIR)$(docdir)/docs/survival

@@ -346,22 +346,21 @@ class Whole(unittest.TestCase):
                           f"{int(given_up):,} given up, {int(broken):,} broken", line)
             self.assertEqual("so no single fault of these" in out, guarded)
 
-
     def test_those_that_are_kept(self):
-        """docs/maps has the whole tables of a link and a stream, and for each class what the workbench makes of them."""
+        """docs/guard has the whole tables of a link and a stream, and for each class what the workbench makes of them."""
         kinds = [{"kind": "reg", "register": register, "value": 2} for register in range(16)]
         for name in ("net", "sound"):
             base = with_limit(example(name + ".json"), 0, 16)
             campaign = {"base": base, "part": 0, "every": kinds, "guard": True, "detail": True}
             found = program().ask(["campaign"], json.dumps(campaign)).out
-            self.assertEqual(found, kept_text(f"guard-{name}.table"))
+            self.assertEqual(found, kept_text(f"{name}.table"))
         for name in ("block", "net", "sound"):
             words = [example_path(name + ".json"), "--limit", "16", *REGISTERS, "--guard", "--quiet"]
-            self.assertEqual(bench("sweep", *words), (0, kept_text(f"guard-{name}.txt"), ""))
+            self.assertEqual(bench("sweep", *words), (0, kept_text(f"{name}.txt"), ""))
 
 
 def kept_text(name: str) -> str:
-    with open(os.path.join(TOP, "docs/maps", name), encoding="utf-8") as file:
+    with open(os.path.join(TOP, "docs/guard", name), encoding="utf-8") as file:
         return file.read()
 
 

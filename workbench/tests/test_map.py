@@ -14,6 +14,8 @@ from unittest import mock
 
 from common import TOP, bench, example_path, example_text, file_of, program
 
+from nooks_bench.facts import STATUSES
+
 SVG = "{http://www.w3.org/2000/svg}"
 
 
@@ -168,7 +170,10 @@ class Documented(unittest.TestCase):
         section = text[text.index("## Maps of the reference drivers") :].split("\n## ")[0]
         pairs = re.findall(r"(?m)^    nooks-bench (map .*)\n\n!\[.*?\]\((.*?)\)", section)
         self.assertEqual(len(pairs), len(os.listdir(os.path.join(TOP, "docs/maps"))))
+        has_guard = program().ask(["guard"], "").status != STATUSES["usage"]
         for command, picture in pairs:
+            if "--guard" in command and not has_guard:
+                continue
             with open(os.path.join(TOP, "docs", picture), encoding="utf-8") as file:
                 drawn = file.read()
             # The caption has the versions that drew the map, which may be wider than the map and give it its width.

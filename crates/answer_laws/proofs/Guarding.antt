@@ -151,7 +151,8 @@ next_by : (scenario : Scenario) (n : ℕ) → IsValidScenario scenario → 2 ^ 2
 next_by scenario n valid l = by_found (search scenario n)
   where
     by_found : IsFree scenario n ⊎ HasStop scenario → HasNext scenario
-    by_found (inl free) = (None, runs n (begins scenario), ends_by scenario n valid l, subst NoneBreaks free (guarded_keeps scenario n))
+    by_found (inl free) =
+        (None, (runs n (begins scenario), ends_by scenario n valid l, subst NoneBreaks free (guarded_keeps scenario n)))
     by_found (inr (stop, first)) = (Some stop, first)
 
 next : (scenario : Scenario) → IsValidScenario scenario → HasNext scenario
@@ -159,16 +160,22 @@ next scenario valid = next_by scenario (2 ^ 26) valid (omega arith)
 
 -- ---- the rounds end
 
+round_by : (scenario : Scenario) (rounds : ℕ) (made : Guarded) → IsValidScenario scenario → All HasRoom scenario.parts
+    → IsGuardedSoFar scenario rounds made → HasNext made.scenario
+    → ((new : Guarded) → IsGuardedSoFar scenario (rounds + 1) new → (last : Guarded) × IsGuarded scenario last)
+    → (last : Guarded) × IsGuarded scenario last
+round_by scenario rounds made valid room h (None, end) again =
+    (made, rounds_end scenario rounds made None valid room h end (λ stop no. none_is_some no))
+round_by scenario rounds made valid room h (Some stop, first) again =
+    let new : Guarded = record { scenario = struck made.scenario stop.part stop.trap; stops = made.stops ++ stop ∷ [] } in
+    again new (round_more scenario rounds made new stop h first refl refl)
+
 rounds_on : (fuel rounds : ℕ) (scenario : Scenario) (made : Guarded) → IsValidScenario scenario → All HasRoom scenario.parts
-    → IsGuardedSoFar scenario rounds made → 137 ≤ fuel + rounds → (new : Guarded) × IsGuarded scenario new
+    → IsGuardedSoFar scenario rounds made → 137 ≤ fuel + rounds → (last : Guarded) × IsGuarded scenario last
 rounds_on zero rounds scenario made valid room h l = absurd (few_rounds scenario rounds made valid h l)
-rounds_on (suc fuel) rounds scenario made valid room h l = by_next (next made.scenario (round_valid scenario rounds made valid room h))
-  where
-    by_next : HasNext made.scenario → (new : Guarded) × IsGuarded scenario new
-    by_next (None, end) = (made, rounds_end scenario rounds made None valid room h end (λ stop no. none_is_some no))
-    by_next (Some stop, first) =
-        let new : Guarded = record { scenario = struck made.scenario stop.part stop.trap; stops = made.stops ++ stop ∷ [] } in
-        rounds_on fuel (rounds + 1) scenario new valid room (round_more scenario rounds made new stop h first refl refl) (omega arith)
+rounds_on (suc fuel) rounds scenario made valid room h l =
+    round_by scenario rounds made valid room h (next made.scenario (round_valid scenario rounds made valid room h))
+    (λ new more. rounds_on fuel (rounds + 1) scenario new valid room more (omega arith))
 
 pub can_be_guarded : (scenario : Scenario) → IsValidScenario scenario → All HasRoom scenario.parts
     → (made : Guarded) × IsGuarded scenario made

@@ -172,7 +172,8 @@ round_by scenario rounds made valid room h (Some stop, first) again =
 
 rounds_on : (fuel rounds : ℕ) (scenario : Scenario) (made : Guarded) → IsValidScenario scenario → All HasRoom scenario.parts
     → IsGuardedSoFar scenario rounds made → 137 ≤ fuel + rounds → (last : Guarded) × IsGuarded scenario last
-rounds_on zero rounds scenario made valid room h l = absurd (few_rounds scenario rounds made valid h l)
+rounds_on zero rounds scenario made valid room h l =
+    let low : 137 ≤ rounds = omega arith in absurd (few_rounds scenario rounds made valid h low)
 rounds_on (suc fuel) rounds scenario made valid room h l =
     round_by scenario rounds made valid room h (next made.scenario (round_valid scenario rounds made valid room h))
     (λ new more. rounds_on fuel (rounds + 1) scenario new valid room more (omega arith))

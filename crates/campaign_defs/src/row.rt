@@ -1,0 +1,31 @@
+//! The rows of a campaign's table.
+
+use nook_data::campaign::MemberRow;
+use nook_data::lists::Items;
+use nook_data::steps::FailCause;
+
+/// How a member's run compares with the base's, and what its struck part did.
+#[derive(Clone, Copy, Debug, PartialEq, Eq)]
+pub struct Detail {
+    /// Whether each thread has the answers that it has in the base's run.
+    pub same_answers: bool,
+    /// Whether each part is left with what it is left with in the base's run.
+    pub same_left: bool,
+    /// The number of the first clause that the struck part broke.
+    pub clause: Option<u8>,
+    /// Why the struck part failed first.
+    pub cause: Option<FailCause>,
+}
+
+/// The row of a run.
+#[derive(Clone, Copy, Debug, PartialEq, Eq)]
+pub struct Row {
+    pub counts: MemberRow,
+    /// Present if the campaign asks for it.
+    pub detail: Option<Detail>,
+    /// The traps of the guard in all parts; present if the campaign is guarded.
+    pub traps: Option<u64>,
+}
+
+/// The rows of some runs, in order.
+pub type Rows = Items<Row>;

@@ -1,0 +1,11 @@
+pub mod Words
+pub mod Led
+pub mod Counted
+pub mod AnyOrder
+pub mod OneList
+pub mod ClosingLines
+pub mod Judged
+pub mod SamePresent
+pub mod RowNumbers
+pub mod Merged
+pub mod HeldRuns

@@ -1,0 +1,21 @@
+use Rattle.std.specs.Prelude.{ℕ, Option, List, option_map}
+use Rattle.nook_data.specs.Types.{Break, Event, PartSpec}
+use Rattle.part_defs.specs.State.{PartState}
+use Rattle.promise_defs.specs.Contract.{first_break}
+use Rattle.promise_defs.specs.Losses.{losses}
+use Rattle.report_defs.specs.ReportText.{final_lines}
+
+-- The lines of a part after its events, without the number of the event that broke a clause first.
+
+-- a clause, at no event
+abbrev pub at_no_event : ℕ → Break
+at_no_event clause = record { event = 0; clause = clause }
+
+-- a verdict that does not say which event it was
+abbrev pub undated : Option Break → Option Break
+undated verdict = option_map (λ (b : Break). at_no_event b.clause) verdict
+
+-- the lines of a part that is made from this, with its journal and the state that it ends in
+abbrev pub closing_lines : PartSpec → List Event → PartState → List ℕ
+closing_lines spec events p =
+    final_lines spec.class events (losses events) (undated (first_break spec.class spec.blocks events)) p

@@ -1,0 +1,11 @@
+//! The laws of every order of steps: theorems over the definitions alone.
+//!
+//! Each law is the contract of a public function with an empty body: what it promises holds of all its arguments,
+//! whoever made them.
+#![tactic(auto)]
+
+pub mod cases;
+pub mod merging;
+pub mod orders;
+pub mod presents;
+pub mod rows;

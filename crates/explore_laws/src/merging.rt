@@ -1,0 +1,39 @@
+//! One run for each present is enough.
+
+ghost use Rattle.explore_defs.specs.Explored.{AreOutcomes, IsExplored};
+ghost use Rattle.explore_defs.specs.Orders.{Path};
+ghost use Rattle.explore_laws.specs.Held.{AreFirstHeld, AreHeldLevels, AreRowsOf, Held, all_levels, held_first};
+ghost use Rattle.explore_laws.specs.Held.{held_status, held_text};
+ghost use Rattle.explore_laws.specs.Worklists.{AreFirstsOf, AreLevels, AreMerged, StandFor, start};
+ghost use Rattle.nook_data.specs.declared.scenario.Scenario.{Scenario};
+ghost use Rattle.explore_defs.specs.declared.TheConstants.{MOST_STATES};
+ghost use Rattle.std.specs.Prelude.{◌≡◌, ◌≤◌, IfSome, is_some, ℕ, suc, ◌∷◌, [], List, Option, flat_map};
+
+/// A worklist that holds one run for each present, with the least picks, stands for all runs of its length: at first,
+/// and level by level.
+pub fn a_worklist_stands_for_its_level()
+    ensures first { (scenario : Scenario) (cut : Option (List ℕ)) → StandFor scenario cut 0 (start scenario ∷ []) }
+    ensures next { (scenario : Scenario) (cut : Option (List ℕ)) (steps : ℕ) (held next : List Path)
+        → StandFor scenario cut steps held → AreMerged cut held next → StandFor scenario cut (suc steps) next }
+{}
+
+/// What such worklists find, level by level until no run goes on, are the outcomes of all orders, each with its least
+/// picks; with a cut, those of the orders that are not past it.
+pub fn worklists_find_every_outcome()
+    ensures { (scenario : Scenario) (cut : Option (List ℕ)) (levels : List (List Path)) (firsts : List Path)
+        → AreLevels cut (start scenario ∷ []) levels
+        → AreFirstsOf cut (flat_map (λ level. level) ((start scenario ∷ []) ∷ levels)) firsts
+        → AreOutcomes scenario cut firsts }
+{}
+
+/// The same holds of what a program keeps: of each run the picks and the present alone. What such worklists find are
+/// the rows; if no more states are held than may be, they are the answer to the scenario.
+pub fn presents_alone_find_every_row()
+    ensures rows { (scenario : Scenario) (cut : Option (List ℕ)) (levels : List (List Held)) (firsts : List Held)
+        → AreHeldLevels cut (held_first scenario ∷ []) levels
+        → AreFirstHeld cut (all_levels ((held_first scenario ∷ []) ∷ levels)) firsts
+        → AreRowsOf scenario cut firsts }
+    ensures answer { (scenario : Scenario) (cut : Option (List ℕ)) (firsts : List Held) (states : ℕ)
+        → AreRowsOf scenario cut firsts → states ≤ MOST_STATES → IfSome cut (λ last. states ≡ MOST_STATES)
+        → IsExplored scenario (held_text (is_some cut) states firsts) (held_status (is_some cut) firsts) }
+{}

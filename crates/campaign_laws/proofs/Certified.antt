@@ -1,5 +1,6 @@
 -- The table of every fault speaks of every fault.
-use Rattle.std.proofs.Common.{◌≡◌, ◌∙◌, ◌⊎◌, inl, inr, ℕ, zero, suc, ◌<◌, Bool, true, false, List, [], ◌∷◌, ◌++◌, map, length, Option, Some, None, slice_get, ap, refl, subst, sym, arith, length-map}
+use Rattle.std.proofs.Common.{◌≡◌, ◌∙◌, ◌⊎◌, inl, inr, ℕ, zero, suc, ◌<◌, Bool, true, false, List, [], ◌∷◌, ◌++◌, map, length, Option, Some, None, slice_get, ap, refl, subst, sym, arith}
+use Rattle.std.proofs.lemmas.List.{length-map}
 use Rattle.std.specs.List.{AllZip}
 use Rattle.campaign_defs.specs.Members.{IsFreeRun, IsGuardedRunOf, IsRunUnder, Ran, alone, every_of, every_under, members_of}
 use Rattle.campaign_defs.specs.Rows.{AreMemberRows, IsMemberRow, IsPlanTable, plan_row}
@@ -9,7 +10,6 @@ use Rattle.campaign_laws.specs.Certificates.{AllEndWell, EndsWellUnder}
 use Rattle.front_laws.proofs.EveryFault.{kept_by_rows, listed_guarded}
 use Rattle.front_laws.proofs.GuardedRuns.{AreOf, begins_of, guarded_scheduled}
 use Rattle.front_laws.proofs.GuardedStruck.{guarded_schedule_same}
-use Rattle.front_laws.proofs.WholeRuns.{owned_journals}
 use Rattle.front_laws.proofs.FirstStops.{specs_of_run}
 use Rattle.front_laws.specs.Every.{AllKept, AreRowsOf, EndsWell, base_row}
 use Rattle.front_laws.specs.GuardedPast.{IsUnreachedGuarded, inserted_at}
@@ -19,7 +19,6 @@ use Rattle.guard_defs.specs.GuardedRuns.{IsGuardedSchedule, guarded_runs, guarde
 use Rattle.campaign_defs.specs.Plans.{IsValidPlan, struck_by, with_struck_by}
 use Rattle.campaign_defs.specs.Types.{Plan, Strikes}
 use Rattle.campaign_defs.specs.declared.plan.Strikes.TheVariants as strikes
-use Rattle.nook_data.proofs.Options.{none_is_some}
 use Rattle.nook_data.specs.Members.{struck, with_struck}
 use Rattle.nook_data.specs.declared.campaign.MemberRow.{MemberRow}
 use Rattle.nook_data.specs.declared.scenario.Fault.{Fault}
@@ -67,7 +66,7 @@ zip_in R (a ∷ front) x back (row ∷ rows) h =
 
 -- ---- without a guard
 
-counts_of : Row → MemberRow
+abbrev counts_of : Row → MemberRow
 counts_of row = row.counts
 
 module _ (plan : Plan) (free : plan.guard ≡ false) (base : Ran) where
@@ -218,7 +217,7 @@ as_many_parts : (g : Bool) (scenario : Scenario) (ran : Ran) → IsRunUnder g sc
 as_many_parts false scenario ran is =
     let counted : length (map spec_of (runs is.scheduled.steps (begins scenario)).parts) ≡ length scenario.parts =
     ap length (specs_of_run scenario is.scheduled.steps) in
-    sym (length-map spec_of ran.simulation.parts)
+    sym (length-map ran.simulation.parts spec_of)
     ∙ sym (ap (λ (t : Simulation). length (map spec_of t.parts)) is.scheduled.reached) ∙ counted
 as_many_parts true scenario ran is =
     sym (ap (λ (t : Simulation). length t.parts) is.guarded.reached)

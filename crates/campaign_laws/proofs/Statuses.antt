@@ -1,5 +1,5 @@
 -- The status of a guarded run, by the parts that it ends in.
-use Rattle.std.proofs.Common.{◌≡◌, ◌∙◌, ℕ, suc, ◌+◌, Bool, true, false, if◌then◌else◌, ◌||◌, is_some, List, [], ◌∷◌, map, Option, Some, None, slice_get, ap, refl, subst, sym}
+use Rattle.std.proofs.Common.{◌≡◌, ◌∙◌, ℕ, suc, ◌+◌, Bool, false, if◌then◌else◌, ◌||◌, is_some, List, [], ◌∷◌, map, Some, None, slice_get, ap, refl, subst, sym}
 use Rattle.front_laws.proofs.FirstStops.{guarded_keeps}
 use Rattle.front_laws.proofs.GuardedRuns.{guarded_scheduled}
 use Rattle.front_laws.specs.Owned.{owning}

@@ -1,10 +1,10 @@
 use Rattle.std.specs.Prelude.{◌≡◌, ◌≤◌, ℕ, suc, nat_lt, if◌then◌else◌, Bool, true, false, All, Contains, decimal}
-use Rattle.std.specs.Prelude.{◌==◌, count_by, IfSome, Option, is_some, List, [], ◌∷◌, ◌++◌, codes, length, map}
+use Rattle.std.specs.Prelude.{◌==◌, count_by, IfSome, Option, Some, None, is_some, List, [], ◌∷◌, ◌++◌, codes, length, map}
 use Rattle.nook_data.specs.Types.{MemberRow, Scenario}
 use Rattle.report_defs.specs.Campaigns.{row_of}
 use Rattle.report_defs.specs.ReportLines.{line_feed, with_list, with_number}
-use Rattle.run_defs.specs.Simulation.{answer_table, journals_of}
-use Rattle.explore_defs.specs.Orders.{IsWholePath, IsWithin, Path, comes_before}
+use Rattle.run_defs.specs.Simulation.{answer_table, begins, journals_of}
+use Rattle.explore_defs.specs.Orders.{IsWholePath, IsWithin, Path, comes_before, led}
 use Rattle.explore_defs.specs.Outcomes.{Outcome, outcome_of}
 use Rattle.explore_defs.specs.declared.TheConstants.{CUT_STATUS, MOST_STATES}
 
@@ -85,13 +85,28 @@ explored_status is_cut rows =
     if nat_lt 0 (rows_of_status 7 rows) then 7
     else if is_cut then CUT_STATUS else if nat_lt 0 (rows_of_status 1 rows) then 1 else 0
 
+-- the picks of the last of these runs
+unfoldable pub last_picks : List Path → Option (List ℕ)
+last_picks [] = None
+last_picks (path ∷ []) = Some path.picks
+last_picks (path ∷ next ∷ paths) = last_picks (next ∷ paths)
+
+-- a number of states was held, each after the steps of some run, and no two after those of one run; if there is a cut, it
+-- is where the last of as many as may be held was reached
+pub record AreStates (scenario : Scenario) (cut : Option (List ℕ)) (states : ℕ) : Type 0 where
+  pub held : List Path
+  pub reached : All (λ (path : Path). led (begins scenario) path.picks ≡ Some path.end) held
+  pub rising : AreRising held
+  pub count : states ≡ length held
+  pub few : states ≤ MOST_STATES
+  pub full : IfSome cut (λ last. (states ≡ MOST_STATES) × (last_picks held ≡ Some last))
+
 -- the text and the status that answer a scenario. How many states are held, and where a cut is, depends on which of
 -- them are held as one
 pub record IsExplored (scenario : Scenario) (text : List ℕ) (status : ℕ) : Type 0 where
-  pub states : ℕ
-  pub few : states ≤ MOST_STATES
   pub cut : Option (List ℕ)
-  pub full : IfSome cut (λ last. states ≡ MOST_STATES)
+  pub states : ℕ
+  pub are_states : AreStates scenario cut states
   pub firsts : List Path
   pub outcomes : AreOutcomes scenario cut firsts
   pub text_is : text ≡ explored_text scenario (is_some cut) states firsts

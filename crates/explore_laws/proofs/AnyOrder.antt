@@ -20,8 +20,7 @@ use Rattle.promise_defs.specs.Contract.{first_break}
 use Rattle.report_defs.specs.Campaigns.{row_of}
 use Rattle.report_defs.specs.ReportText.{has_break}
 use Rattle.run_defs.specs.Simulation.{IsScheduledRun, RunningPart, Simulation, ThreadState, answer_table}
-use Rattle.run_defs.specs.Simulation.{answers_of_thread}
-use Rattle.run_defs.specs.Simulation.{journal_of, journals_of}
+use Rattle.run_defs.specs.Simulation.{answers_of_thread, journal_of, journals_of}
 use Rattle.sim_run.specs.Reached.{AreSeatsOf}
 
 -- ---- complete and sound

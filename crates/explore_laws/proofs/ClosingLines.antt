@@ -1,7 +1,6 @@
 -- An outcome decides the lines after the events.
 use Rattle.std.proofs.Common.{◌≡◌, ℕ, suc, if◌then◌else◌, bytes_eq, codes, filter, flat_map, option_map, Option}
-use Rattle.std.proofs.Common.{Some, None}
-use Rattle.std.proofs.Common.{List, [], ◌∷◌, ◌++◌, refl, sym, ap, ap₂, ◌∙◌}
+use Rattle.std.proofs.Common.{Some, None, List, [], ◌∷◌, ◌++◌, refl, sym, ap, ap₂, ◌∙◌}
 use Rattle.explore_defs.specs.Outcomes.{PartOutcome, clause_of, given_by, left_by, objects_of, shown_losses}
 use Rattle.explore_laws.specs.Closing.{at_no_event, closing_lines, undated}
 use Rattle.machine_defs.specs.Devices.{medium_of}
@@ -14,8 +13,7 @@ use Rattle.promise_defs.specs.Contract.{first_break}
 use Rattle.promise_defs.specs.Losses.{is_played, is_sent, losses}
 use Rattle.report_defs.specs.ReportLines.{line_feed, spaced, with_list, with_number}
 use Rattle.report_defs.specs.ReportText.{block_lines, contract_line, device_lines, journal_acts, losses_lines}
-use Rattle.report_defs.specs.ReportText.{object_lines}
-use Rattle.report_defs.specs.ReportText.{played_line, wire_line}
+use Rattle.report_defs.specs.ReportText.{object_lines, played_line, wire_line}
 
 -- ---- the lines by the outcome
 

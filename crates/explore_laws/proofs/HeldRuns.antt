@@ -1,12 +1,11 @@
 -- A worklist of picks and presents is one of runs.
-use Rattle.std.proofs.Common.{◌≡◌, ℕ, suc, ◌+◌, ◌≤◌, false, true, All, Contains, IfSome, is_some, Option, Some}
+use Rattle.std.proofs.Common.{◌≡◌, ℕ, suc, ◌+◌, false, true, All, Contains, IfSome, is_some, Option, Some}
 use Rattle.std.proofs.Common.{None, List, [], ◌∷◌, ◌++◌, flat_map}
 use Rattle.std.proofs.Common.{get_or, length, map, slice_get, refl, sym, ap, ap₂, ◌∙◌, subst, arith, length-append}
 use Rattle.std.proofs.lemmas.List.Elements.{All-append, All-contains, All-cons, All-head, All-map, All-nil}
 use Rattle.std.proofs.lemmas.List.Elements.{All-tail, All-weaker}
-use Rattle.explore_defs.specs.Explored.{AreRising, HasOutcome, IsExplored, all_numbers, explored_line}
-use Rattle.explore_defs.specs.Explored.{explored_status}
-use Rattle.explore_defs.specs.Explored.{outcome_line, outcome_lines}
+use Rattle.explore_defs.specs.Explored.{AreRising, AreStates, HasOutcome, IsExplored, all_numbers, explored_line}
+use Rattle.explore_defs.specs.Explored.{explored_status, last_picks, outcome_line, outcome_lines}
 use Rattle.explore_defs.specs.declared.TheConstants.{MOST_STATES}
 use Rattle.explore_defs.specs.Orders.{IsOfLevel, IsWithin, Path, comes_before, follows, goes_on, led, ways_on}
 use Rattle.explore_defs.specs.Outcomes.{outcome_of}
@@ -15,14 +14,13 @@ use Rattle.explore_laws.proofs.Merged.{contains_at, contains_get, get_contains, 
 use Rattle.explore_laws.proofs.RowNumbers.{numbers_told}
 use Rattle.explore_laws.proofs.SamePresent.{choices_bare, outcome_present, present_follows}
 use Rattle.explore_laws.specs.Held.{AreFirstHeld, AreHeldLevels, AreJoined, AreRowsOf, DoRise, HasHeldOutcome}
-use Rattle.explore_laws.specs.Held.{Held, IsWayFrom}
+use Rattle.explore_laws.specs.Held.{Held, IsFilled, IsWayFrom}
 use Rattle.explore_laws.specs.Held.{StandsAmong, all_levels, choices_in, held_after, held_first, held_lines}
-use Rattle.explore_laws.specs.Held.{held_numbers, held_status, held_text}
-use Rattle.explore_laws.specs.Held.{ways_from}
+use Rattle.explore_laws.specs.Held.{held_numbers, held_status, held_text, last_held, ways_from}
 use Rattle.explore_laws.specs.Present.{bare_run, goes_on_by, numbers_in, outcome_in, present}
 use Rattle.explore_laws.specs.Worklists.{AreFirstsOf, AreLevels, AreMerged, IsWayOn, start}
 use Rattle.nook_data.specs.Types.{MemberRow, Scenario}
-use Rattle.part_laws.proofs.Places.{from_map, get_map}
+use Rattle.part_laws.proofs.Places.{from_map, get_map, length_map}
 use Rattle.run_defs.specs.Simulation.{Choice, Simulation, begins, choices_of}
 
 abbrev or_else : Simulation → Option Simulation → Simulation
@@ -301,9 +299,37 @@ module _ (scenario : Scenario) where
         (numbers_told scenario r.0 (path_at h) r.1.level ∙ ap₂ numbers_in (sym r.1.level.count) r.1.now))
         (lines_held (suc place) firsts (All-tail IsSomeReal h firsts real))
 
+    last_path : (held : List Held) → last_picks (paths held) ≡ last_held held
+    unfolding last_picks last_held
+    last_path [] = refl
+    last_path (h ∷ []) = refl
+    last_path (h ∷ next ∷ helds) = last_path (next ∷ helds)
+
+    full_path : (cut : Option (List ℕ)) (held : List Held)
+        → IfSome cut (λ last. (length held ≡ MOST_STATES) × (last_held held ≡ Some last))
+        → IfSome cut (λ last. (length held ≡ MOST_STATES) × (last_picks (paths held) ≡ Some last))
+    full_path None held h = h
+    full_path (Some last) held h = (h.0, last_path held ∙ h.1)
+
+    states_held : (held : List Held) → All IsSomeReal held → IsFilled cut held → AreStates scenario cut (length held)
+    states_held held real filled = record {
+      held = paths held;
+      reached = All-map (λ (path : Path). led (begins scenario) path.picks ≡ Some path.end) path_at held
+          (All-weaker IsSomeReal (λ h. led (begins scenario) h.picks ≡ Some (path_at h).end) (λ h r. r.1.level.led) held real);
+      rising = rising_paths held filled.rising;
+      count = sym (length_map path_at held);
+      few = filled.few;
+      full = full_path cut held filled.full;
+    }
+
     start_path : path_at (held_first scenario) ≡ start scenario
     unfolding led
     start_path = refl
+
+    first_levels_real : (levels : List (List Held)) → AreHeldLevels cut (held_first scenario ∷ []) levels
+        → All IsSomeReal (all_levels ((held_first scenario ∷ []) ∷ levels))
+    first_levels_real levels are = levels_real levels 0 (held_first scenario ∷ [])
+        (All-cons (IsReal 0) (held_first scenario) [] first_real (All-nil (IsReal 0))) are
 
     rows_found : (levels : List (List Held)) (firsts : List Held) → AreHeldLevels cut (held_first scenario ∷ []) levels
         → AreFirstHeld cut (all_levels ((held_first scenario ∷ []) ∷ levels)) firsts → AreRowsOf scenario cut firsts
@@ -311,7 +337,7 @@ module _ (scenario : Scenario) where
         let one : All (IsReal 0) (held_first scenario ∷ []) =
         All-cons (IsReal 0) (held_first scenario) [] first_real (All-nil (IsReal 0)) in
         let held : List Held = all_levels ((held_first scenario ∷ []) ∷ levels) in
-        let real : All IsSomeReal held = levels_real levels 0 (held_first scenario ∷ []) one are in
+        let real : All IsSomeReal held = first_levels_real levels are in
         record {
           paths = paths firsts;
           outcomes = levels_find scenario cut (map paths levels) (paths firsts)
@@ -332,16 +358,20 @@ held_rows scenario cut levels firsts are f = rows_found scenario cut levels firs
 
 -- ---- the answer
 
-pub held_answer : (scenario : Scenario) (cut : Option (List ℕ)) (firsts : List Held) (states : ℕ) → AreRowsOf scenario cut firsts
-    → states ≤ MOST_STATES → IfSome cut (λ last. states ≡ MOST_STATES)
-    → IsExplored scenario (held_text (is_some cut) states firsts) (held_status (is_some cut) firsts)
-held_answer scenario cut firsts states r few full = record {
-  states = states;
-  few = few;
-  cut = cut;
-  full = full;
-  firsts = r.paths;
-  outcomes = r.outcomes;
-  text_is = ap₂ (λ (lines : List ℕ) rows. lines ++ explored_line (is_some cut) states rows) (sym r.lines) (sym r.numbers);
-  status_is = ap (explored_status (is_some cut)) (sym r.numbers);
-}
+pub held_answer : (scenario : Scenario) (cut : Option (List ℕ)) (levels : List (List Held)) (firsts : List Held)
+    → AreHeldLevels cut (held_first scenario ∷ []) levels
+    → AreFirstHeld cut (all_levels ((held_first scenario ∷ []) ∷ levels)) firsts
+    → IsFilled cut (all_levels ((held_first scenario ∷ []) ∷ levels))
+    → IsExplored scenario (held_text (is_some cut) (length (all_levels ((held_first scenario ∷ []) ∷ levels))) firsts)
+    (held_status (is_some cut) firsts)
+held_answer scenario cut levels firsts are f filled =
+    let held : List Held = all_levels ((held_first scenario ∷ []) ∷ levels) in
+    let r : AreRowsOf scenario cut firsts = held_rows scenario cut levels firsts are f in record {
+      cut = cut;
+      states = length held;
+      are_states = states_held scenario cut held (first_levels_real scenario cut levels are) filled;
+      firsts = r.paths;
+      outcomes = r.outcomes;
+      text_is = ap₂ (λ (lines : List ℕ) rows. lines ++ explored_line (is_some cut) (length held) rows) (sym r.lines) (sym r.numbers);
+      status_is = ap (explored_status (is_some cut)) (sym r.numbers);
+    }

@@ -1,7 +1,6 @@
 -- What the contract's judge goes on from after one more event of a journal.
 use Rattle.std.proofs.Common.{◌≡◌, ℕ, ◌+◌, Option, Some, None, List, [], ◌∷◌, ◌++◌, fold, option_map, refl, sym}
-use Rattle.std.proofs.Common.{ap, ◌∙◌, subst}
-use Rattle.std.proofs.Common.{append_assoc, append-nil}
+use Rattle.std.proofs.Common.{ap, ◌∙◌, subst, append_assoc, append-nil}
 use Rattle.std.proofs.lemmas.List.Sums.{fold-append}
 use Rattle.contract_monitor.proofs.Stands.{stands_first, stands_more}
 use Rattle.contract_monitor.proofs.Tracking.{tracked}

@@ -2,8 +2,7 @@
 use Rattle.std.proofs.Common.{◌≡◌, ℕ, zero, suc, ◌+◌, ◌<◌, ◌==◌, nat_lt, Bool, true, false, Option, Some, None}
 use Rattle.std.proofs.Common.{List, [], ◌∷◌}
 use Rattle.std.proofs.Common.{length, map, find, slice_get, refl, sym, ap, ◌∙◌, subst, arith, eq-eqb, eqb-true}
-use Rattle.std.proofs.Common.{ltb-true, lt-ltb}
-use Rattle.std.proofs.Common.{position}
+use Rattle.std.proofs.Common.{ltb-true, lt-ltb, position}
 use Rattle.std.specs.List.{AllByRecursion, position_or_len}
 use Rattle.explore_defs.specs.Orders.{IsWholePath, Path, choice_of_actor, follows, led, with_schedule}
 use Rattle.nook_data.proofs.Options.{none_is_some, same_inside}
@@ -12,8 +11,7 @@ use Rattle.nook_data.specs.declared.scenario.ScheduleSpec.TheVariants as schedul
 use Rattle.part_laws.proofs.Places.{split}
 use Rattle.run_defs.specs.Schedules.{Order, Picked, listed, listed_pick, opening_order, picked}
 use Rattle.run_defs.specs.Simulation.{Choice, IsScheduledRun, RunningPart, Simulation, actor_of, begins}
-use Rattle.run_defs.specs.Simulation.{choices_of, runs}
-use Rattle.run_defs.specs.Simulation.{stepped_by, taken}
+use Rattle.run_defs.specs.Simulation.{choices_of, runs, stepped_by, taken}
 use Rattle.run_defs.proofs.RunChanges.{taken_by}
 use Rattle.sim_run.proofs.Choosing.{choices_found, choices_open}
 use Rattle.sim_run.proofs.Ending.{moved_some}

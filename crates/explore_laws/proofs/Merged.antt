@@ -2,16 +2,14 @@
 use Rattle.std.proofs.Common.{◌≡◌, ◌⊎◌, inl, inr, ℕ, zero, suc, ◌+◌, ◌-◌, ◌<◌, ◌≤◌, false, All, Contains, Option}
 use Rattle.std.proofs.Common.{Some, None}
 use Rattle.std.proofs.Common.{List, [], ◌∷◌, ◌++◌, flat_map, get_or, length, slice_get, refl, sym, ap, ◌∙◌, subst}
-use Rattle.std.proofs.Common.{arith}
-use Rattle.std.proofs.Common.{◌==◌, eqb-true, length-append}
+use Rattle.std.proofs.Common.{arith, ◌==◌, eqb-true, length-append}
 use Rattle.std.proofs.lemmas.Bool.{eqb-false}
 use Rattle.std.proofs.lemmas.List.Elements.{All-append, All-contains, All-nil, All-weaker, Contains-append_left}
 use Rattle.std.proofs.lemmas.List.Elements.{Contains-append_right}
 use Rattle.std.proofs.lemmas.Option.{get_or_from_slice_get, slice_get_read, slice_get_within}
 use Rattle.explore_defs.specs.Explored.{AreOutcomes, HasOutcome, IsFirst}
 use Rattle.explore_defs.specs.Orders.{IsOfLevel, IsWholePath, IsWithin, Path, choice_of_actor, comes_before}
-use Rattle.explore_defs.specs.Orders.{follows, goes_on}
-use Rattle.explore_defs.specs.Orders.{is_lower, led, ways_on}
+use Rattle.explore_defs.specs.Orders.{follows, goes_on, is_lower, led, ways_on}
 use Rattle.explore_defs.specs.Outcomes.{outcome_of}
 use Rattle.explore_laws.proofs.Led.{HasStep, IsPlaced, chosen_at, led_one, led_step, placed}
 use Rattle.explore_laws.proofs.SamePresent.{same_choices, same_follows, same_outcome}

@@ -1,7 +1,6 @@
 -- A scenario has one list of rows.
 use Rattle.std.proofs.Common.{◌≡◌, ◌⊎◌, inl, inr, ℕ, zero, suc, ◌<◌, false, true, All, Contains, Option, None}
-use Rattle.std.proofs.Common.{List, []}
-use Rattle.std.proofs.Common.{◌∷◌, length, get_or, refl, sym, ap, ap₂, ◌∙◌, subst, arith}
+use Rattle.std.proofs.Common.{List, [], ◌∷◌, length, get_or, refl, sym, ap, ap₂, ◌∙◌, subst, arith}
 use Rattle.std.proofs.lemmas.List.Elements.{All-contains}
 use Rattle.explore_defs.specs.Explored.{AreOutcomes, AreRising, HasOutcome, IsFirst}
 use Rattle.explore_defs.specs.Orders.{IsWholePath, IsWithin, Path, comes_before, led}

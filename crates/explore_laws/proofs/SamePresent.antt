@@ -1,7 +1,6 @@
 -- The present of a simulation is enough: by it are the choices, the present of what follows, and the outcome.
 use Rattle.std.proofs.Common.{◌≡◌, ℕ, zero, suc, ◌+◌, Option, Some, None, List, [], ◌∷◌, ◌++◌, filter, flat_map}
-use Rattle.std.proofs.Common.{fold, length, map}
-use Rattle.std.proofs.Common.{option_map, slice_get, slice_set, refl, sym, ap, ◌∙◌}
+use Rattle.std.proofs.Common.{fold, length, map, option_map, slice_get, slice_set, refl, sym, ap, ◌∙◌}
 use Rattle.std.proofs.lemmas.Grind.{flat_map-append}
 use Rattle.std.proofs.lemmas.List.Elements.{filter-append}
 use Rattle.std.proofs.lemmas.List.Sums.{fold-append}
@@ -26,11 +25,9 @@ use Rattle.part_laws.proofs.Places.{map_join, map_set}
 use Rattle.promise_defs.specs.Contract.{Known, first_break, known_after}
 use Rattle.promise_defs.specs.Losses.{Tally, is_played, is_sent, losses, tallies_after}
 use Rattle.report_defs.specs.ReportText.{journal_acts}
-use Rattle.run_defs.proofs.ChoicesInOrder.{choices_in_order, part_choices, thread_choices, with_choice}
-use Rattle.run_defs.proofs.ChoicesInOrder.{with_thread}
+use Rattle.run_defs.proofs.ChoicesInOrder.{choices_in_order, part_choices, thread_choices, with_choice, with_thread}
 use Rattle.run_defs.specs.Simulation.{Choice, RunningPart, Simulation, ThreadState, Waiting, arrival, choices_of}
-use Rattle.run_defs.specs.Simulation.{coming_after}
-use Rattle.run_defs.specs.Simulation.{going_on, invocation, part_after, stepped_by, threads_after}
+use Rattle.run_defs.specs.Simulation.{coming_after, going_on, invocation, part_after, stepped_by, threads_after}
 
 -- ---- the choices
 

@@ -1,9 +1,10 @@
-use Rattle.std.specs.Prelude.{◌≡◌, ◌++◌, ℕ, suc, Bool, false, true, All, Contains, Option, List, [], ◌∷◌, flat_map}
+use Rattle.std.specs.Prelude.{◌≡◌, ◌≤◌, ◌++◌, ℕ, suc, Bool, false, true, All, Contains, IfSome, Option, Some, None, List, [], ◌∷◌, flat_map}
 use Rattle.std.specs.Prelude.{length, map}
 use Rattle.explore_defs.specs.Explored.{AreOutcomes, all_numbers, explored_line, explored_status, outcome_line}
 use Rattle.explore_defs.specs.Explored.{outcome_lines}
 use Rattle.explore_defs.specs.Orders.{IsWithin, Path, comes_before}
 use Rattle.explore_defs.specs.Outcomes.{Outcome}
+use Rattle.explore_defs.specs.declared.TheConstants.{MOST_STATES}
 use Rattle.explore_laws.specs.Present.{Present, bare_run, goes_on_by, numbers_in, outcome_in, present}
 use Rattle.nook_data.specs.Types.{MemberRow, Scenario}
 use Rattle.run_defs.specs.Simulation.{Choice, begins, choices_of}
@@ -78,6 +79,18 @@ pub record AreFirstHeld (cut : Option (List ℕ)) (held firsts : List Held) : Ty
   pub each : (h : Held) → Contains held h → choices_in h.now ≡ [] → IsWithin cut h.picks
       → HasHeldOutcome firsts (outcome_in h.now)
   pub rising : DoRise firsts
+
+-- the picks of the last of these
+unfoldable pub last_held : List Held → Option (List ℕ)
+last_held [] = None
+last_held (h ∷ []) = Some h.picks
+last_held (h ∷ next ∷ helds) = last_held (next ∷ helds)
+
+-- no more is held than may be, in the order of picks, and a cut is where the last was reached
+pub record IsFilled (cut : Option (List ℕ)) (held : List Held) : Type 0 where
+  pub rising : DoRise held
+  pub few : length held ≤ MOST_STATES
+  pub full : IfSome cut (λ last. (length held ≡ MOST_STATES) × (last_held held ≡ Some last))
 
 -- the numbers of a row
 abbrev pub held_numbers : Held → MemberRow

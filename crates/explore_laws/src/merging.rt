@@ -2,12 +2,11 @@
 
 ghost use Rattle.explore_defs.specs.Explored.{AreOutcomes, IsExplored};
 ghost use Rattle.explore_defs.specs.Orders.{Path};
-ghost use Rattle.explore_laws.specs.Held.{AreFirstHeld, AreHeldLevels, AreRowsOf, Held, all_levels, held_first};
+ghost use Rattle.explore_laws.specs.Held.{AreFirstHeld, AreHeldLevels, AreRowsOf, Held, IsFilled, all_levels, held_first};
 ghost use Rattle.explore_laws.specs.Held.{held_status, held_text};
 ghost use Rattle.explore_laws.specs.Worklists.{AreFirstsOf, AreLevels, AreMerged, StandFor, start};
 ghost use Rattle.nook_data.specs.declared.scenario.Scenario.{Scenario};
-ghost use Rattle.explore_defs.specs.declared.TheConstants.{MOST_STATES};
-ghost use Rattle.std.specs.Prelude.{◌≡◌, ◌≤◌, IfSome, is_some, ℕ, suc, ◌∷◌, [], List, Option, flat_map};
+ghost use Rattle.std.specs.Prelude.{is_some, ℕ, suc, ◌∷◌, [], length, List, Option, flat_map};
 
 /// A worklist that holds one run for each present, with the least picks, stands for all runs of its length: at first,
 /// and level by level.
@@ -33,7 +32,11 @@ pub fn presents_alone_find_every_row()
         → AreHeldLevels cut (held_first scenario ∷ []) levels
         → AreFirstHeld cut (all_levels ((held_first scenario ∷ []) ∷ levels)) firsts
         → AreRowsOf scenario cut firsts }
-    ensures answer { (scenario : Scenario) (cut : Option (List ℕ)) (firsts : List Held) (states : ℕ)
-        → AreRowsOf scenario cut firsts → states ≤ MOST_STATES → IfSome cut (λ last. states ≡ MOST_STATES)
-        → IsExplored scenario (held_text (is_some cut) states firsts) (held_status (is_some cut) firsts) }
+    ensures answer { (scenario : Scenario) (cut : Option (List ℕ)) (levels : List (List Held)) (firsts : List Held)
+        → AreHeldLevels cut (held_first scenario ∷ []) levels
+        → AreFirstHeld cut (all_levels ((held_first scenario ∷ []) ∷ levels)) firsts
+        → IsFilled cut (all_levels ((held_first scenario ∷ []) ∷ levels))
+        → IsExplored scenario
+        (held_text (is_some cut) (length (all_levels ((held_first scenario ∷ []) ∷ levels))) firsts)
+        (held_status (is_some cut) firsts) }
 {}

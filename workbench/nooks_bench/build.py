@@ -6,6 +6,7 @@ import argparse
 import os
 import sys
 from dataclasses import dataclass
+from typing import Callable
 
 from .facts import SCHEDULES
 from .jsontext import json_text
@@ -24,10 +25,11 @@ names by "driver": "NAME"; {"repeat": 16, "of": 7} in any list. A mistake is rep
 
 @dataclass(frozen=True)
 class Builder:
-    """Builds one file: its folder, and its table of drivers."""
+    """Builds one file: its folder, its table of drivers, and how the files that it names are read."""
 
     folder: str
     drivers: dict[str, Node]
+    read: Callable[[str], str]
 
     def value(self, node: Node, key: str = "") -> Node:
         """A value as the program reads it, with the place where it was written."""
@@ -58,7 +60,7 @@ class Builder:
             raise Misplaced(named.place, "expected the path of a file")
         path = os.path.normpath(os.path.join(self.folder, named.value))
         try:
-            text = read_text(path)
+            text = self.read(path)
         except Mistake as error:
             raise Misplaced(named.place, str(error)) from error
         others = {key: each for key, each in node.value.items() if key != "asm_file"}
@@ -76,8 +78,8 @@ class Builder:
         return [self.value(each)] * times.value
 
 
-def built(file: str, text: str | None = None) -> Node:
-    """The scenario of a file, each value with its place."""
+def built(file: str, text: str | None = None, read: Callable[[str], str] = read_text) -> Node:
+    """The scenario of a file, each value with its place. `read` reads a file that it names."""
     whole = read_source(file, text)
     if not isinstance(whole.value, dict):
         raise Misplaced(whole.place, "a scenario is an object")
@@ -85,7 +87,7 @@ def built(file: str, text: str | None = None) -> Node:
     if table is not None and not isinstance(table.value, dict):
         raise Misplaced(table.place, 'the table of drivers is {"NAME": DRIVER}')
     folder = os.path.dirname(file) if file != "-" else ""
-    builder = Builder(folder, table.value if table else {})
+    builder = Builder(folder, table.value if table else {}, read)
     kept = {key: each for key, each in whole.value.items() if key != "drivers"}
     return builder.value(Node(kept, whole.place, whole.keys))
 

@@ -24,6 +24,8 @@ SUBCOMMANDS = {
     "cost": "what protection costs",
     "timeline": "a report as lanes, as an SVG or as text",
     "page": "a run as one HTML page, event by event",
+    "serve": "the page from a local server, with editing",
+    "gallery": "the pages of all scenarios of a folder",
     "explain": "a report, or the line of a refused input, for people",
     "trace": "one burst, turn by turn, beside the driver's source",
     "replay": "the schedule that gives a report of threads again",

@@ -10,6 +10,7 @@ from .heatmap_rows import fold_rows, groups_of
 from .heatmap_svg import MNEMONICS, NO_STRIP, STRIPS, Look, drawing
 from .picture import add_picture_options, caption_lines, check_picture_options, hash_of, put_picture, room_of, scale_of
 from .program import Mistake, Program, find_program
+from .scenario import Scenario
 from .source import read_text
 from .strip import Strips, fill_instructions, strips_of, writes_traces
 from .sweep import add_sweep_options, swept
@@ -51,20 +52,20 @@ def program_of(args: argparse.Namespace) -> Program | None:
         return None
 
 
-def made_runs(args: argparse.Namespace, program: Program) -> Runs:
+def made_runs(args: argparse.Namespace, program: Program, base: Scenario | None) -> Runs:
     """The runs of the sweep that the options name. The instructions come from traces if the program writes these, and
     else from runs with faults of the workbench's own."""
     args.instructions = not args.no_instructions and not writes_traces(program)
-    return [run.as_json() for run in swept(args)]
+    return [run.as_json() for run in swept(args, base)]
 
 
-def picture_of(args: argparse.Namespace) -> str:
-    """The SVG of the sweep that the options name."""
+def picture_of(args: argparse.Namespace, base: Scenario | None = None) -> str:
+    """The SVG of the sweep that the options name, of the scenario of the file or of another one."""
     program = program_of(args)
     if args.from_ is not None:
         runs, part = read_runs(args.from_)
     elif args.file is not None and program:
-        runs, part = made_runs(args, program), args.part
+        runs, part = made_runs(args, program, base), args.part
     else:
         raise Mistake("a scenario is needed, or --from")
     strips: Strips = {}

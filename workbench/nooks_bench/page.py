@@ -38,17 +38,22 @@ def part_run(program: Program, scenario: Scenario, times: PartTimes, most: int) 
     return PartRun(times, source_of(program, driver), driver.get("asm", ""), traces)
 
 
+def made_data(program: Program, scenario: Scenario, guard: bool, most: int, title: str,
+              args: argparse.Namespace) -> dict[str, Any]:
+    """The data of the page of a scenario's run, with at most so many bursts of each part traced."""
+    report = guarded(program, scenario) if guard else parse_report(program.report(scenario))
+    times = times_of(report, strikes_of_report(report, scenario))
+    shown = guarded_scenario(program, scenario) if guard else scenario
+    runs = [part_run(program, shown, each, most) for each in times]
+    made = [command_text(args), f"{version_of(program)}; scenario {hash_of(scenario)}"]
+    return page_data(title, report, runs, made)
+
+
 def data_of(args: argparse.Namespace) -> dict[str, Any]:
     """The data of the page that the options ask for."""
     program = find_program(args.program)
-    scenario = read_scenario(args.file)
-    report = guarded(program, scenario) if args.guard else parse_report(program.report(scenario))
-    times = times_of(report, strikes_of_report(report, scenario))
-    shown = guarded_scenario(program, scenario) if args.guard else scenario
-    runs = [part_run(program, shown, each, args.traces) for each in times]
     title = args.title or os.path.splitext(os.path.basename(args.file))[0]
-    made = [command_text(args), f"{version_of(program)}; scenario {hash_of(scenario)}"]
-    return page_data(title, report, runs, made)
+    return made_data(program, read_scenario(args.file), args.guard, args.traces, title, args)
 
 
 def run(args: argparse.Namespace) -> int:

@@ -17,8 +17,11 @@ from .svg import BLACK, BLUE, GREEN, GREY, ORANGE, PALE, PURPLE, RED, SKY, WHITE
 
 FOLDER = os.path.join(os.path.dirname(os.path.abspath(__file__)), "page_files")
 
-# The modules of the script, each after those that it imports.
-MODULES = ("history.js", "elements.js", "events.js", "lanes.js", "state.js", "burst.js", "page.js")
+# The modules of the script, each after those that it imports: those of each page, the one that begins a page by itself,
+# and those of the page that a server brings.
+SHARED = ("history.js", "elements.js", "events.js", "lanes.js", "state.js", "burst.js", "page.js")
+MODULES = (*SHARED, "start.js")
+SERVED_MODULES = (*SHARED, "ask.js", "editor.js", "map.js", "orders.js", "serve.js")
 
 IMPORT = re.compile(r'^import [^;]*;\n', re.MULTILINE)
 EXPORT = re.compile(r"^export (?=const |function |class )", re.MULTILINE)
@@ -32,16 +35,16 @@ def file_text(name: str) -> str:
         return file.read()
 
 
-def script_text() -> str:
-    """All modules as one."""
-    pieces = [EXPORT.sub("", IMPORT.sub("", file_text(name))).strip() for name in MODULES]
+def script_text(modules: tuple[str, ...] = MODULES) -> str:
+    """Some modules as one."""
+    pieces = [EXPORT.sub("", IMPORT.sub("", file_text(name))).strip() for name in modules]
     return "\n\n".join(pieces) + "\n"
 
 
-def style_text() -> str:
+def style_text(*files: str) -> str:
     """The style, with the colours that timelines and maps have as well."""
     colours = " ".join(f"--{name}: {value};" for name, value in COLOURS.items())
-    return f":root {{ {colours} }}\n{file_text('page.css')}"
+    return f":root {{ {colours} }}\n" + "\n".join(file_text(name) for name in ("page.css", *files))
 
 
 def data_text(data: Any) -> str:
@@ -54,10 +57,14 @@ def digest(text: str) -> str:
     return "'sha256-" + base64.b64encode(hashlib.sha256(text.encode()).digest()).decode() + "'"
 
 
-def page_text(data: dict[str, Any]) -> str:
-    """The whole page. Its policy lets no other script run, and no address be asked for."""
-    script, style = f"\n{script_text()}", f"\n{style_text()}"
-    policy = f"default-src 'none'; script-src {digest(script)}; style-src {digest(style)}; img-src data:"
+def policy_of(script: str, style: str, *more: str) -> str:
+    """A policy that lets no other script run, and no other address be asked for than what more it allows."""
+    rules = ["default-src 'none'", f"script-src {digest(script)}", f"style-src {digest(style)}", "img-src data:", *more]
+    return "; ".join(rules)
+
+
+def html_text(title: str, policy: str, script: str, style: str, data: Any) -> str:
+    """A page with its script, its style and its data."""
     return "\n".join([
         "<!doctype html>",
         '<html lang="en">',
@@ -66,7 +73,7 @@ def page_text(data: dict[str, Any]) -> str:
         f'<meta http-equiv="Content-Security-Policy" content="{escape(policy, quote=False)}">',
         '<meta name="viewport" content="width=device-width, initial-scale=1">',
         '<link rel="icon" href="data:,">',
-        f"<title>{escape(data['title'])}</title>",
+        f"<title>{escape(title)}</title>",
         f"<style>{style}</style>",
         "</head>",
         "<body>",
@@ -77,3 +84,17 @@ def page_text(data: dict[str, Any]) -> str:
         "</html>",
         "",
     ])
+
+
+def page_text(data: dict[str, Any]) -> str:
+    """The whole page of a run. It asks for no address."""
+    script, style = f"\n{script_text()}", f"\n{style_text()}"
+    return html_text(data["title"], policy_of(script, style), script, style, data)
+
+
+def served_page(about: dict[str, Any]) -> tuple[str, str]:
+    """The page that a server brings, which asks that server alone; and its policy as the server tells it, which may say
+    more than that in the page."""
+    script, style = f"\n{script_text(SERVED_MODULES)}", f"\n{style_text('serve.css')}"
+    policy = policy_of(script, style, "connect-src 'self'", "base-uri 'none'", "form-action 'none'")
+    return html_text("nooks-bench serve", policy, script, style, about), f"{policy}; frame-ancestors 'none'"

@@ -7,7 +7,7 @@ import os
 import subprocess
 import tempfile
 from dataclasses import dataclass
-from typing import Any, Iterator
+from typing import IO, Any, Iterator
 
 from .facts import STATUSES
 
@@ -70,7 +70,7 @@ class Program:
 
     def lines(self, words: list[str], given: str) -> Iterator[str]:
         """The lines that it writes, each as soon as it is there. A caller that stops to listen ends it."""
-        with tempfile.TemporaryFile() as file:
+        with unnamed_file() as file:
             file.write(given.encode())
             file.seek(0)
             asked, pipe, null = [self.path, *words], subprocess.PIPE, subprocess.DEVNULL
@@ -150,6 +150,13 @@ class Program:
         words = len(json.loads(image)["text"])
         code = [line for line in lines if line and not line.startswith((".class", ".entry"))]
         return code[:words]
+
+
+def unnamed_file() -> IO[bytes]:
+    """A file without a name for an input, in memory where the system has such files."""
+    if hasattr(os, "memfd_create"):
+        return os.fdopen(os.memfd_create("input"), "w+b")
+    return tempfile.TemporaryFile()
 
 
 def installed() -> str | None:

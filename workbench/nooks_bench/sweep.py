@@ -82,13 +82,13 @@ def open_journal(args: argparse.Namespace, sweep: Sweep, base: Scenario) -> None
     sweep.start(sweep.journal.known)
 
 
-def sweep_of(args: argparse.Namespace) -> Sweep:
-    """Runs all that the options ask for."""
+def sweep_of(args: argparse.Namespace, base: Scenario | None = None) -> Sweep:
+    """Runs all that the options ask for, of the scenario of the file or of another one."""
     selection = selection_of(args)
     check_options(args)
     how = How(args.jobs, args.quiet, args.instructions, args.dask, args.dask_program, args.guard)
     program = find_program(args.program)
-    base = scenario_of(program, args.file)
+    base = scenario_of(program, args.file) if base is None else base
     if not args.part < len(base["parts"]):
         raise Mistake(f"there is no part {args.part}: the scenario has {len(base['parts'])}")
     if args.limit is not None:
@@ -107,9 +107,9 @@ def sweep_of(args: argparse.Namespace) -> Sweep:
     return sweep
 
 
-def swept(args: argparse.Namespace) -> list[Swept]:
+def swept(args: argparse.Namespace, base: Scenario | None = None) -> list[Swept]:
     """The whole sweep that the options ask for; an interrupted one is no whole."""
-    sweep = sweep_of(args)
+    sweep = sweep_of(args, base)
     if sweep.interrupted:
         raise KeyboardInterrupt
     return sweep.runs()

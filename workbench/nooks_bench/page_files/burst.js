@@ -7,9 +7,10 @@ const TURN_ROW = 18;
 const MOST_WORDS = 12;
 
 export class BurstView {
-  /** `go` is called with the item that was chosen. */
-  constructor(go) {
+  /** `go` is called with the item that was chosen; `place`, if it is there, with the turn that a fault is placed before. */
+  constructor(go, place = null) {
     this.go = go;
+    this.place = place;
     this.part = null;
     this.burst = null;
     this.turn = 0;
@@ -105,7 +106,24 @@ export class BurstView {
     const breaks = place === this.burst.breaks;
     const [line, text] = this.textOf(item);
     const cells = [[String(item[0]), "number"], [line, "number"], [text, "instruction"], [(breaks ? "\u25c0 BREAKS: " : "") + item[2], `effect ${breaks ? "broken" : ""}`]];
-    return element("div", { class: `row item ${chosen}`, title: `at ${item[1]}: ${item[2]}`, ...choose }, ...cells.map(([text, kind]) => element("span", { class: `cell ${kind}` }, text)));
+    return element("div", { class: `row item ${chosen}`, title: `at ${item[1]}: ${item[2]}`, ...choose }, ...cells.map(([text, kind]) => element("span", { class: `cell ${kind}` }, text)), this.placeButton(item[0]));
+  }
+
+  /** What places a fault before a turn. By the keyboard it is the key f, at the turn that is looked at. */
+  placeButton(turn) {
+    if (this.place === null) return "";
+    const place = (click) => {
+      click.stopPropagation();
+      this.place(turn);
+    };
+    return element("button", { type: "button", class: "place", tabindex: -1, title: `place the fault before turn ${turn} (f)`, onclick: place }, "fault");
+  }
+
+  /** The turn before which a fault is placed at what is looked at: the turn itself, or the one after a fault; 0 for none. */
+  get turnHere() {
+    if (this.burst === null) return 0;
+    const item = this.burst.items[Math.max(this.turn - 1, 0)];
+    return item ? item[0] || item[1] + 1 : 0;
   }
 
   showRegisters() {

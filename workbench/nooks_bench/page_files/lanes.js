@@ -331,7 +331,10 @@ export function legendOf(part, step) {
   return entries;
 }
 
-/** An entry of the legend. */
+/**
+ * An entry of the legend.
+ * @param {any[]} entry
+ */
 export function legendMark([form, kind, , letter]) {
   const forms = {
     box: () => [shape("rect", { x: 1, y: 1, width: 18, height: 12, rx: 2, class: kind })],

@@ -21,25 +21,45 @@ const KEYS = [
   ["?", "these keys"],
 ];
 
-class Page {
-  constructor(data) {
-    this.data = data;
+/** Keys in words, what each does, and what a click on a turn places: what a page has beside what each page has. */
+const NOTHING_MORE = { keys: [], acts: {}, place: null };
+
+export class Page {
+  /** Shows runs in an element. */
+  constructor(root, more = NOTHING_MORE) {
+    this.root = root;
+    this.more = more;
+    this.data = null;
     this.zoom = 1;
     this.view = null;
     this.playing = 0;
     this.writing = 0;
+    this.here = { part: 0, event: 0, turn: 0 };
+  }
+
+  /** Shows a run from its beginning on. */
+  take(data) {
+    this.data = data;
+    this.view = null;
+    if (this.playing) this.togglePlay();
+    clearTimeout(this.writing);
     this.here = { part: 0, event: 0, turn: 0 };
     for (const part of data.parts) {
       part.failed = new Set(part.lanes.failures);
       part.marks = marksOf(part);
     }
     this.events = new EventList((event) => this.goEvent(event));
-    this.burst = new BurstView((turn) => this.go({ ...this.here, turn }));
+    this.burst = new BurstView((turn) => this.go({ ...this.here, turn }), this.more.place);
     this.build();
   }
 
   get part() {
     return this.data.parts[this.here.part];
+  }
+
+  /** The burst of the event that is looked at, 0 if it is none. */
+  get burstNumber() {
+    return this.here.event ? this.part.events[this.here.event - 1][2] : 0;
   }
 
   /** Makes the elements that stay. What happened is told at the beginning, and in print. */
@@ -55,7 +75,7 @@ class Page {
     this.where = element("output", { class: "event-where" });
     this.play = button("\u25b6 play", "play (space)", () => this.togglePlay());
     this.link = element("a", { class: "link", title: "a link to this event" }, "link");
-    this.help = element("dl", { class: "keys", hidden: true }, ...KEYS.flatMap(([keys, about]) => [element("dt", {}, keys), element("dd", {}, about)]));
+    this.help = element("dl", { class: "keys", hidden: true }, ...[...KEYS, ...this.more.keys].flatMap(([keys, about]) => [element("dt", {}, keys), element("dd", {}, about)]));
     const bar = element("div", { class: "bar event-bar" },
       button("|\u25c0", "the beginning (Home)", () => this.goEvent(0)), button("\u25c0 back", "one event back (arrow left)", () => this.goEvent(this.here.event - 1)),
       button("on \u25b6", "one event on (arrow right)", () => this.goEvent(this.here.event + 1)), button("\u25b6|", "the last event (End)", () => this.goEvent(this.part.events.length)),
@@ -64,7 +84,7 @@ class Page {
     this.said = element("div", { class: "said", "aria-live": "polite" });
     this.state = element("div", { class: "state" });
     const column = (name, title, ...children) => element("section", { class: `column ${name}` }, element("h2", {}, title), ...children);
-    document.body.append(
+    this.root.replaceChildren(
       element("header", {}, element("h1", {}, this.data.title), this.tabs, element("p", { class: "status" }, this.data.status)),
       element("div", { class: "top" }, this.overview, this.lanes, this.legend, bar, this.help, this.summary, this.said),
       element("main", {}, column("of-events", "Events", this.events.list.holder), this.stateColumn = column("of-state", "State after the event", this.state),
@@ -89,6 +109,13 @@ class Page {
 
   goEvent(event) {
     this.go({ part: this.here.part, event, turn: null });
+  }
+
+  /** The event of a burst; the last event if the run has no such burst. */
+  goBurst(part, burst) {
+    const events = this.data.parts[part].events;
+    const place = events.findIndex((event) => event[2] === burst);
+    this.go({ part, event: place < 0 ? events.length : place + 1, turn: null });
   }
 
   goPart(part) {
@@ -188,8 +215,7 @@ class Page {
     clearTimeout(this.writing);
     this.writing = setTimeout(() => {
       const { event, turn } = this.here;
-      const burst = event ? this.part.events[event - 1][2] : 0;
-      const address = addressOf(this.part.place, event, turn === this.burst.firstTurn(burst) ? 0 : turn);
+      const address = addressOf(this.part.place, event, turn === this.burst.firstTurn(this.burstNumber) ? 0 : turn);
       if (address !== location.hash) history.replaceState(null, "", address);
     }, WRITE_AFTER);
   }
@@ -242,6 +268,7 @@ class Page {
       "+": () => this.zoomBy(1.25),
       "-": () => this.zoomBy(0.8),
       "?": () => this.toggleKeys(),
+      ...this.more.acts,
     };
     if (/^[1-8]$/.test(name) && Number(name) <= this.data.parts.length) this.goPart(Number(name) - 1);
     else if (Object.hasOwn(keys, name)) keys[name]();
@@ -250,14 +277,15 @@ class Page {
   }
 
   pressed(press) {
-    if (press.ctrlKey || press.altKey || press.metaKey) return;
+    if (press.ctrlKey || press.altKey || press.metaKey || this.data === null || isTyping(press.target)) return;
     const chosen = press.target instanceof Element ? press.target.tagName : "";
-    if (press.key === " " && ["BUTTON", "SUMMARY"].includes(chosen)) return;
+    if (press.key === " " && ["BUTTON", "SUMMARY", "INPUT"].includes(chosen) && press.target !== this.slider) return;
     if (this.key(press.key, press.shiftKey)) press.preventDefault();
   }
 
   /** For print the lists are whole, and the lanes go on in rows. */
   print(begins) {
+    if (this.data === null) return;
     this.events.list.draw(begins ? MOST_PRINTED : 0);
     this.burst.draw(begins ? MOST_PRINTED : 0);
     document.body.classList.toggle("printing", begins);
@@ -278,9 +306,10 @@ class Page {
   }
 
   start() {
-    addEventListener("hashchange", () => this.readAddress());
+    addEventListener("hashchange", () => this.data && this.readAddress());
     addEventListener("keydown", (press) => this.pressed(press), true);
     addEventListener("resize", () => {
+      if (this.data === null) return;
       this.view = null;
       this.width = this.lanes.clientWidth;
       this.drawOverview();
@@ -288,7 +317,6 @@ class Page {
     });
     addEventListener("beforeprint", () => this.print(true));
     addEventListener("afterprint", () => this.print(false));
-    this.readAddress();
   }
 }
 
@@ -298,5 +326,7 @@ function marksOf(part) {
   return [...found].sort((one, other) => one - other);
 }
 
-const page = new Page(JSON.parse(document.getElementById("data").textContent));
-page.start();
+/** Whether a key is for a field that one types or chooses in. */
+function isTyping(target) {
+  return target instanceof Element && target.matches("textarea, select, input:not([type=range]):not([type=checkbox])");
+}

@@ -1,0 +1,20 @@
+/** Requests to the server that brought the page. */
+
+/** What the server answers: `made`, `refused` with a text and perhaps a place, or `ended` with a text. */
+export class Asking {
+  constructor(token) {
+    this.token = token;
+  }
+
+  /** Asks for something; `signal` ends the request, and with it what the server does for it. */
+  async ask(path, given, signal = undefined) {
+    const headers = { "Content-Type": "application/json", "X-Nooks-Token": this.token };
+    try {
+      const answer = await fetch(path, { method: "POST", headers, body: JSON.stringify(given), signal });
+      return await answer.json();
+    } catch (error) {
+      if (signal?.aborted) return { ended: { text: "stopped" } };
+      return { refused: { text: `the server does not answer (${error.message}): is \`nooks-bench serve\` still running?` } };
+    }
+  }
+}

@@ -1,0 +1,327 @@
+/** The page of a server: texts that are edited, faults that are placed, and the run of what stands there. */
+
+import { Asking } from "./ask.js";
+import { Editor } from "./editor.js";
+import { element } from "./elements.js";
+import { DrawnMap } from "./map.js";
+import { OrderList } from "./orders.js";
+import { Page } from "./page.js";
+
+const CHECK_AFTER = 500;
+
+/** The fields that a kind of fault has. */
+const FIELDS = { trap: [], hang: [], reg: ["register", "value"], poke: ["address", "value"], code: ["address", "value"] };
+const KIND_WORDS = { trap: "trap: the driver stops", hang: "hang: the driver goes on for ever", reg: "reg: a register gets another word", poke: "poke: a word of memory", code: "code: a word of its text" };
+
+/** What can be made as a file, with its ending. */
+const MAKES = { exact: ["exact JSON", ".json"], report: ["report", ".report"], page: ["page", ".html"], map: ["map of the burst", ".svg"], guarded: ["guarded scenario", ".json"] };
+
+const BENCH_KEYS = [
+  ["r", "run; Ctrl+Enter does so from a text"],
+  ["g", "with a guard or without one, and run"],
+  ["f", "place the fault before the turn that is looked at"],
+  ["u", "undo the last fault or schedule"],
+  ["m", "a map of the burst that is looked at"],
+  ["x", "the outcomes of all orders"],
+  ["e, Esc", "to the text; back from it; Esc also stops a run"],
+  ["Ctrl+S", "save"],
+];
+
+class Bench {
+  constructor({ token, folder, seconds }) {
+    this.asking = new Asking(token);
+    this.seconds = seconds;
+    this.file = "";
+    this.before = [];
+    this.stop = null;
+    this.checking = 0;
+    this.editor = new Editor(() => this.changed());
+    this.map = new DrawnMap((fault, part) => this.place(part, fault));
+    this.orders = new OrderList((schedule) => this.openOrder(schedule));
+    this.root = element("div", { class: "run" });
+    this.page = new Page(this.root, { keys: BENCH_KEYS, acts: this.acts(), place: (turn) => this.placeAt(turn) });
+    this.build(folder);
+  }
+
+  /** What the keys of the bench do. */
+  acts() {
+    return {
+      r: () => this.run(),
+      g: () => this.toggleGuard(),
+      f: () => this.placeAt(this.page.burst.turnHere),
+      u: () => this.undo(),
+      m: () => this.drawMap(),
+      x: () => this.explore(),
+    };
+  }
+
+  build(folder) {
+    const button = (text, label, act, more = {}) => element("button", { type: "button", title: label, onclick: act, ...more }, text);
+    const field = (name, label, value, more = {}) => element("input", { class: `field-${name}`, "aria-label": label, title: label, value, autocomplete: "off", ...more });
+    this.files = element("select", { "aria-label": "scenario", class: "files", onchange: () => this.open(this.files.value) });
+    this.guard = element("input", { type: "checkbox", onchange: () => this.run() });
+    this.stopper = button("\u25a0 stop", "stop the run (Esc)", () => this.stop?.abort(), { disabled: true, class: "stop" });
+    this.undoer = button("undo", "take the last fault or schedule back (u)", () => this.undo(), { disabled: true, class: "undo" });
+    this.kind = element("select", { "aria-label": "kind of fault", class: "kind", onchange: () => this.showFields() },
+      ...Object.entries(KIND_WORDS).map(([kind, words]) => element("option", { value: kind }, words)));
+    this.fields = { register: field("register", "registers: 8, or 1-3,7 for a map", "8"), address: field("address", "addresses: 4096, or 4096-4099 for a map", "4096"), value: field("value", "value", "2") };
+    this.labels = Object.fromEntries(Object.entries(this.fields).map(([name, input]) => [name, element("label", {}, `${name} `, input)]));
+    this.makes = element("select", { "aria-label": "what is made", class: "makes" }, ...Object.entries(MAKES).map(([name, [words, ending]]) => element("option", { value: name }, `${words} ${ending}`)));
+    this.target = field("target", "the file's name", "");
+    this.over = button("write over it", "write over the file that is there", () => this.make(true), { hidden: true });
+    this.said = element("p", { class: "bench-said", role: "status", "aria-live": "assertive" });
+    this.tools = element("div", { class: "tools" },
+      element("div", { class: "tool" }, element("b", {}, "A fault"), this.kind, ...Object.values(this.labels),
+        button("place (f)", "place it before the turn that is looked at (f)", () => this.placeAt(this.page.burst.turnHere), { class: "place-here" }), this.undoer,
+        element("span", { class: "none" }, "or a click on 'fault' at a turn, or on a cell of a map")),
+      element("div", { class: "tool" }, button("map of this burst (m)", "what becomes of this fault at each turn of the burst that is looked at (m)", () => this.drawMap(), { class: "draw" }),
+        button("all orders (x)", "what comes of every order of the steps (x)", () => this.explore(), { class: "explore" })),
+      element("div", { class: "tool" }, button("save (Ctrl+S)", "save the texts that are not saved", () => this.save(), { class: "save" }),
+        element("span", {}, "make a file:"), this.makes, this.target, button("make", "make this file in the folder", () => this.make(false), { class: "make" }), this.over),
+      this.orders.holder);
+    document.body.append(
+      element("section", { class: "bench", "aria-label": "workbench" },
+        element("div", { class: "bar bench-bar" }, element("b", {}, "nooks-bench serve"), element("span", { class: "none folder", title: "the folder that is served" }, folder), this.files,
+          button("\u25b6 run (r)", "run what stands in the texts (r, or Ctrl+Enter)", () => this.run(), { class: "run-it" }),
+          element("label", { class: "guard" }, this.guard, " with a guard (g)"), this.stopper, button("texts", "show or hide the texts", () => this.toggleTexts()),
+          this.said),
+        element("div", { class: "bench-body" }, this.editor.holder, this.tools)),
+      this.map.holder, this.root);
+    this.said.addEventListener("click", () => this.editor.goFault());
+    this.showFields();
+  }
+
+  async start() {
+    addEventListener("keydown", (press) => this.pressed(press), true);
+    addEventListener("beforeunload", (leaving) => {
+      if (this.editor.unsaved.length) leaving.preventDefault();
+    });
+    this.page.start();
+    const { made, refused } = await this.asking.ask("/files", {});
+    if (!made) return this.say(refused.text, "refused");
+    const scenarios = made.files.filter((name) => /\.jsonc?$/.test(name));
+    this.files.replaceChildren(element("option", { value: "" }, "open a scenario .."), ...scenarios.map((name) => element("option", { value: name }, name)));
+    this.files.focus();
+    const more = scenarios.length ? "Choose a scenario above." : "There is no scenario (.json, .jsonc) in this folder: copy one of the examples into it, and load this page again.";
+    this.say(more, "");
+  }
+
+  say(text, kind) {
+    this.said.textContent = text;
+    this.said.className = `bench-said ${kind}`;
+    this.said.title = kind === "refused" ? "a click goes to the place" : "";
+  }
+
+  /** Says what the server refused or ended, and marks its place. */
+  sayRefused({ refused, ended }) {
+    this.say((refused ?? ended).text, "refused");
+    this.editor.mark(refused && refused.line ? refused : null);
+  }
+
+  /** Shows the fields that the kind of fault has. */
+  showFields() {
+    for (const [name, label] of Object.entries(this.labels)) label.hidden = !FIELDS[this.kind.value].includes(name);
+  }
+
+  toggleTexts() {
+    document.querySelector(".bench-body").toggleAttribute("hidden");
+  }
+
+  // What is asked for.
+
+  /** What every request of a run has: the texts as they stand. */
+  get given() {
+    return { file: this.file, texts: this.editor.plain, guard: this.guard.checked };
+  }
+
+  /** Asks for a run, which another one, or Esc, stops. What was made, or null. */
+  async work(task, more = {}) {
+    if (!this.file) {
+      this.say("no scenario is open", "refused");
+      return null;
+    }
+    this.stop?.abort();
+    const stop = new AbortController();
+    this.stop = stop;
+    this.stopper.disabled = false;
+    this.say(`at work, at most ${this.seconds} s ..`, "at-work");
+    const answer = await this.asking.ask("/work", { ...this.given, task, ...more }, stop.signal);
+    if (this.stop !== stop) return null;
+    this.stop = null;
+    this.stopper.disabled = true;
+    if (!answer.made) {
+      this.sayRefused(answer);
+      return null;
+    }
+    this.editor.mark(null);
+    this.say("", "");
+    return answer.made;
+  }
+
+  /** Opens a scenario, and runs it. */
+  async open(name) {
+    if (!name) return;
+    const answer = await this.asking.ask("/work", { task: "open", file: name, texts: {} });
+    if (!answer.made) return this.sayRefused(answer);
+    const { file, texts } = answer.made;
+    this.file = file;
+    this.before = [];
+    this.undoer.disabled = true;
+    this.orders.clear();
+    this.map.clear();
+    this.target.value = file.replace(/\.jsonc?$/, "");
+    this.editor.take(texts);
+    document.title = `${file} - nooks-bench`;
+    this.files.blur();
+    await this.run();
+  }
+
+  /** Runs what stands in the texts; what is looked at is where it was, or where `go` goes. */
+  async run(go = null) {
+    const made = await this.work("run");
+    if (!made) return;
+    const before = this.page.data ? { ...this.page.here } : null;
+    this.page.take(made.data);
+    if (go) go();
+    else if (before) this.page.go({ ...before, turn: null });
+    else this.page.readAddress();
+    const how = this.guard.checked ? "with a guard" : "without a guard";
+    this.say(`${this.file}, ${how}: ${made.data.status}`, "ran");
+    this.root.classList.toggle("guarded", this.guard.checked);
+  }
+
+  toggleGuard() {
+    this.guard.checked = !this.guard.checked;
+    this.run();
+  }
+
+  /** Places the fault of the fields before a turn of the burst that is looked at. */
+  placeAt(turn) {
+    const burst = this.page.burstNumber;
+    if (!burst || !turn) return this.say("look at an event in which the driver works: a fault strikes in a burst, before a turn", "refused");
+    const fault = { burst, after: turn - 1, kind: this.kind.value };
+    for (const name of FIELDS[fault.kind]) {
+      if (!/^\d+$/.test(this.fields[name].value.trim())) return this.say(`a fault has one ${name}, a number; only a map takes several`, "refused");
+      fault[name] = Number(this.fields[name].value);
+    }
+    return this.place(this.page.here.part, fault);
+  }
+
+  /** Places a fault in the scenario, runs it, and goes to where it struck. */
+  async place(part, fault) {
+    const made = await this.work("place", { part, fault });
+    if (made) await this.change(made.text, () => this.page.goBurst(part, fault.burst));
+  }
+
+  async openOrder(schedule) {
+    const made = await this.work("schedule", { schedule });
+    if (made) await this.change(made.text, () => this.goFirstWrong());
+  }
+
+  /** Where a run first went wrong, or its beginning. */
+  goFirstWrong() {
+    const part = Math.max(0, this.page.data.parts.findIndex((each) => each.marks.length));
+    this.page.go({ part, event: this.page.data.parts[part].marks[0] ?? 0, turn: null });
+  }
+
+  /** Puts another text in the place of the scenario's, and runs it. */
+  async change(text, go) {
+    this.before.push(this.editor.texts.get(this.file).text);
+    this.undoer.disabled = false;
+    this.editor.put(this.file, text);
+    await this.run(go);
+  }
+
+  async undo() {
+    if (!this.before.length) return;
+    this.editor.put(this.file, this.before.pop());
+    this.undoer.disabled = this.before.length === 0;
+    await this.run();
+  }
+
+  /** The burst that is looked at and the fault of the fields, as a map takes them. */
+  mapOptions() {
+    const kind = this.kind.value;
+    const fields = Object.fromEntries(FIELDS[kind].map((name) => [name, this.fields[name].value.trim()]));
+    return { part: this.page.here.part, burst: this.page.burstNumber, kind, ...fields, width: Math.max(600, this.root.clientWidth - 20) };
+  }
+
+  async drawMap() {
+    const options = this.mapOptions();
+    if (!options.burst) return this.say("look at an event in which the driver works: a map is of one burst", "refused");
+    const made = await this.work("map", options);
+    if (!made) return;
+    this.map.take(made.svg, options.part);
+    this.say(made.command, "ran");
+    this.map.drawing.focus();
+  }
+
+  async explore() {
+    const made = await this.work("explore");
+    if (!made) return;
+    this.orders.take(made);
+    this.say(made.words, "ran");
+  }
+
+  // Files.
+
+  /** Saves the texts that are not saved, each under its name. */
+  async save() {
+    const saved = [];
+    for (const name of this.editor.unsaved) {
+      const { text, was } = this.editor.texts.get(name);
+      const answer = await this.asking.ask("/save", { name, text, was });
+      if (!answer.made) return this.sayRefused(answer);
+      this.editor.keep(name, text, answer.made.was);
+      saved.push(name);
+    }
+    this.say(saved.length ? `saved: ${saved.join(", ")}` : "all texts are saved", "ran");
+  }
+
+  /** Makes a file of the scenario. */
+  async make(over) {
+    const makes = this.makes.value;
+    const ending = MAKES[makes][1];
+    const name = this.target.value.endsWith(ending) ? this.target.value : this.target.value + ending;
+    const made = await this.work("make", { makes, name, over, ...(makes === "map" ? this.mapOptions() : {}) });
+    this.over.hidden = made !== null || !this.said.textContent.includes("is there already");
+    if (made) this.say(`made: ${made.name}`, "ran");
+  }
+
+  /** After a pause in typing, asks whether the program takes the texts. */
+  changed() {
+    clearTimeout(this.checking);
+    this.checking = setTimeout(() => this.check(), CHECK_AFTER);
+  }
+
+  async check() {
+    const given = this.given;
+    const answer = await this.asking.ask("/work", { ...given, task: "check" });
+    if (JSON.stringify(given.texts) !== JSON.stringify(this.editor.plain) || this.stop) return;
+    if (answer.made) {
+      this.editor.mark(null);
+      this.say("the program takes these texts; r or Ctrl+Enter runs them", "ran");
+    } else this.sayRefused(answer);
+  }
+
+  /** The keys that work in a text too. */
+  pressed(press) {
+    const isCtrl = press.ctrlKey || press.metaKey;
+    const inText = document.activeElement === this.editor.area;
+    if (isCtrl && press.key === "Enter") this.run();
+    else if (isCtrl && press.key === "s") this.save();
+    else if (press.key === "Escape") this.escape();
+    else if (press.key === "e" && !isCtrl && !press.altKey && document.activeElement.matches(":not(textarea, input, select)")) this.editor.area.focus();
+    else return;
+    if (!inText || press.key !== "Escape") press.preventDefault();
+  }
+
+  /** Stops what is under way, or leaves what one types in. */
+  escape() {
+    if (this.stop) this.stop.abort();
+    else if (document.activeElement instanceof HTMLElement) document.activeElement.blur();
+  }
+}
+
+const bench = new Bench(JSON.parse(document.getElementById("data").textContent));
+bench.start();

@@ -1,0 +1,209 @@
+"""What the server of `serve` answers: the page to who knows the token, and JSON to that page alone."""
+
+from __future__ import annotations
+
+import hmac
+import json
+import socket
+import time
+from dataclasses import dataclass
+from http.server import BaseHTTPRequestHandler, ThreadingHTTPServer
+from typing import Any
+from urllib.parse import parse_qs, urlsplit
+
+from .program import Mistake
+from .serve_folder import Folder, Outside
+from .serve_runs import Ended, Gone, Runs
+
+ADDRESS = "127.0.0.1"
+NAMES = (ADDRESS, "localhost")
+
+# The most bytes of a request: a scenario, and the texts of its drivers.
+MOST_BODY = 4 * 2**20
+
+# How much of a request that is too large is read and thrown away, so that its sender gets the answer.
+MOST_DRAINED = 64 * 2**20
+
+# How long a request may take to come, in seconds.
+PATIENCE = 20
+
+TOKEN = "X-Nooks-Token"
+
+# What every answer says to the browser.
+HEADERS = {
+    "Cache-Control": "no-store",
+    "X-Content-Type-Options": "nosniff",
+    "X-Frame-Options": "DENY",
+    "Referrer-Policy": "no-referrer",
+    "Cross-Origin-Opener-Policy": "same-origin",
+    "Cross-Origin-Resource-Policy": "same-origin",
+}
+
+
+class Refused(Exception):
+    """A request that is not answered, with its status of HTTP."""
+
+    def __init__(self, status: int, text: str) -> None:
+        super().__init__(text)
+        self.status = status
+
+
+@dataclass(frozen=True)
+class Served:
+    """What a server has: its folder, its runs, its token, and the page with the policy of its scripts."""
+
+    folder: Folder
+    runs: Runs
+    token: str
+    page: str
+    policy: str
+
+
+class Server(ThreadingHTTPServer):
+    """Listens on this machine's own address alone."""
+
+    daemon_threads = True
+    allow_reuse_address = False
+
+    def __init__(self, port: int, served: Served) -> None:
+        self.served = served
+        super().__init__((ADDRESS, port), Requests)
+
+    @property
+    def first_address(self) -> str:
+        return f"http://{ADDRESS}:{self.server_port}/?token={self.served.token}"
+
+    def handle_error(self, request: Any, client_address: Any) -> None:
+        """A connection that breaks is no error of the server."""
+
+
+class Requests(BaseHTTPRequestHandler):
+    """Answers one request."""
+
+    server: Server
+    timeout = PATIENCE
+    server_version = "nooks-bench"
+    sys_version = ""
+
+    @property
+    def served(self) -> Served:
+        return self.server.served
+
+    def log_message(self, format: str, *args: Any) -> None:
+        """Nothing is logged: addresses have the token."""
+
+    def do_GET(self) -> None:
+        try:
+            self.check_sender()
+            address = urlsplit(self.path)
+            self.check_token(parse_qs(address.query).get("token", [""])[0])
+            if address.path != "/":
+                raise Refused(404, "there is nothing here: the page is at /")
+            self.put(200, "text/html; charset=utf-8", self.served.page, {"Content-Security-Policy": self.served.policy})
+        except Refused as refused:
+            self.put(refused.status, "text/plain; charset=utf-8", f"nooks-bench serve: {refused}\n")
+
+    def do_POST(self) -> None:
+        try:
+            self.check_sender()
+            self.check_token(self.headers.get(TOKEN, ""))
+            given = self.body()
+            status, made = self.made(self.path, given)
+        except Refused as refused:
+            status, made = refused.status, {"refused": {"text": str(refused)}}
+        except Gone:
+            return
+        self.put(status, "application/json", json.dumps(made))
+
+    # What is checked before anything else.
+
+    def check_sender(self) -> None:
+        """Refuses another host's name, which a page elsewhere may have given to this address, and another origin."""
+        hosts = [f"{name}:{self.server.server_port}" for name in NAMES]
+        if self.headers.get_all("Host") not in [[host] for host in hosts]:
+            raise Refused(403, f"this server is {hosts[0]}, and answers to no other name")
+        origins = self.headers.get_all("Origin") or []
+        if not set(origins) <= {f"http://{host}" for host in hosts}:
+            raise Refused(403, "a page of another origin is not answered")
+
+    def check_token(self, token: str) -> None:
+        if not hmac.compare_digest(token.encode(), self.served.token.encode()):
+            raise Refused(403, "the token is missing, or is not this server's: open the address that it printed")
+
+    def body(self) -> dict[str, Any]:
+        """The JSON of a request."""
+        if self.headers.get("Content-Type", "").split(";")[0].strip() != "application/json":
+            raise Refused(415, "a request is JSON")
+        length = self.headers.get("Content-Length", "")
+        if not length.isdecimal():
+            raise Refused(411, "a request says how long it is")
+        if len(length) > 15 or int(length) > MOST_BODY:
+            self.drain(int(length[:15]))
+            raise Refused(413, f"the request has more than {MOST_BODY >> 20} MB: a scenario with its drivers has less")
+        try:
+            given = json.loads(self.rfile.read(int(length)))
+        except (ValueError, RecursionError) as error:
+            raise Refused(400, "the request is no JSON") from error
+        except OSError as error:
+            raise Refused(408, "the request did not come") from error
+        if not isinstance(given, dict):
+            raise Refused(400, "a request is an object")
+        return given
+
+    def drain(self, length: int) -> None:
+        """Reads what is still to come of a request, a piece at a time, and keeps none of it."""
+        left, ends = min(length, MOST_DRAINED), time.monotonic() + PATIENCE
+        try:
+            while left > 0 and time.monotonic() < ends and (more := self.rfile.read(min(left, 1 << 16))):
+                left -= len(more)
+        except OSError:
+            return
+
+    # What is answered.
+
+    def made(self, path: str, given: dict[str, Any]) -> tuple[int, dict[str, Any]]:
+        """What is answered to a request, with its status of HTTP."""
+        try:
+            if path == "/files":
+                return 200, {"made": {"files": self.served.folder.files()}}
+            if path == "/save":
+                return 200, {"made": self.saved(given)}
+            if path == "/work":
+                return 200, self.worked(given)
+        except Outside as outside:
+            return 403, {"refused": {"text": str(outside)}}
+        except Ended as ended:
+            return 200, {"ended": {"text": str(ended)}}
+        except Mistake as mistake:
+            return 200, {"refused": {"text": str(mistake)}}
+        raise Refused(404, "there is nothing of this name")
+
+    def saved(self, given: dict[str, Any]) -> dict[str, Any]:
+        """A file that was written, with what distinguishes its text."""
+        name, text, was = (given.get(key) for key in ("name", "text", "was"))
+        if not isinstance(name, str) or not isinstance(text, str) or not isinstance(was, (str, type(None))):
+            raise Refused(400, "a file has a name and a text")
+        return {"name": name, "was": self.served.folder.write(name, text, was)}
+
+    def worked(self, given: dict[str, Any]) -> dict[str, Any]:
+        """What a run answers; what it makes as a file is written here."""
+        page: socket.socket = self.connection
+        made = self.served.runs.answer(given, page)
+        if given.get("task") == "make" and "made" in made:
+            name = str(given.get("name"))
+            self.served.folder.write(name, made["made"]["text"], None if given.get("over") else "")
+            return {"made": {"name": name}}
+        return made
+
+    def put(self, status: int, kind: str, text: str, more: dict[str, str] | None = None) -> None:
+        """Writes an answer; nobody may be there to read it."""
+        data = text.encode()
+        try:
+            self.send_response(status)
+            about = {"Content-Type": kind, "Content-Length": str(len(data)), **HEADERS, **(more or {})}
+            for name, value in about.items():
+                self.send_header(name, value)
+            self.end_headers()
+            self.wfile.write(data)
+        except OSError:
+            self.close_connection = True

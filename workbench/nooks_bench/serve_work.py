@@ -1,0 +1,291 @@
+"""What the server of `serve` asks for, done in a process of its own, so that it can be ended at any time.
+
+The process gets one line of JSON on standard input, answers with one JSON value, and ends itself with all that it began
+when standard input is closed: then the server is gone, or has no more use for the answer."""
+
+from __future__ import annotations
+
+import argparse
+import json
+import os
+import resource
+import shlex
+import signal
+import sys
+import threading
+from dataclasses import dataclass
+from typing import Any, Callable
+
+from . import cli, heatmap
+from .build import built, check
+from .explore import explored
+from .guards import guarded_scenario
+from .jsontext import json_text
+from .page import made_data
+from .page_text import page_text
+from .program import Mistake, Program, Refusal
+from .refused import explain_fault, parse_fault
+from .scenario import Scenario
+from .serve_folder import Folder, digest_of
+from .serve_texts import named_files, with_fault, with_files, with_schedule_text
+from .source import Misplaced, Node, Reader
+from .svg import FONT
+
+Answer = dict[str, Any]
+
+# The most bytes of memory that a run may take, and the most that it may write to a file.
+MOST_MEMORY = 4 * 2**30
+MOST_WRITTEN = 256 * 2**20
+
+# The most bursts of a part that are traced.
+TRACES = 100
+
+# The options of a map that the page has.
+MAP_OPTIONS = ("part", "burst", "kind", "register", "address", "value", "width")
+
+
+@dataclass(frozen=True)
+class Asked:
+    """What is asked for: the texts as they are in the page, saved or not."""
+
+    program: Program
+    folder: Folder
+    given: dict[str, Any]
+
+    @property
+    def file(self) -> str:
+        """The scenario's path in the folder."""
+        return str(self.given["file"])
+
+    @property
+    def text(self) -> str:
+        """The scenario's text."""
+        return str(self.given["texts"][self.file])
+
+    def read(self, name: str) -> str:
+        """The text of a file that the scenario names, as it is in the page, or in the folder."""
+        texts = self.given["texts"]
+        return str(texts[name]) if name in texts else self.folder.read(name)
+
+    def node(self) -> Node:
+        """The scenario with its places, which the program takes."""
+        made = built(self.file, self.text, self.read)
+        check(self.program, made, json.dumps(made.plain()))
+        return made
+
+    def scenario(self) -> Scenario:
+        """The scenario as the program reads it."""
+        value: Scenario = self.node().plain()
+        if not isinstance(value.get("parts"), list):
+            about = "a campaign: its base is the scenario" if "base" in value else "no scenario"
+            raise Mistake(f"{self.file} is {about}")
+        return value
+
+    @property
+    def guard(self) -> bool:
+        return bool(self.given.get("guard"))
+
+    @property
+    def title(self) -> str:
+        return os.path.splitext(os.path.basename(self.file))[0]
+
+    def words(self, subcommand: str, *options: str) -> list[str]:
+        """The words of the command line that does the same."""
+        return [subcommand, self.file, *options, *(["--guard"] if self.guard else [])]
+
+
+def page_data_of(asked: Asked) -> Answer:
+    args = argparse.Namespace(words=asked.words("page"))
+    return made_data(asked.program, asked.scenario(), asked.guard, TRACES, asked.title, args)
+
+
+def run_task(asked: Asked) -> Answer:
+    """The run of the scenario, as the page shows it."""
+    return {"data": page_data_of(asked)}
+
+
+def check_task(asked: Asked) -> Answer:
+    """Whether the program takes the texts; a fault is answered as a refusal."""
+    asked.scenario()
+    return {}
+
+
+def place_task(asked: Asked) -> Answer:
+    """The scenario's text with a fault more."""
+    return {"text": with_fault(asked.text, asked.file, int(asked.given["part"]), asked.given["fault"])}
+
+
+def schedule_task(asked: Asked) -> Answer:
+    """The scenario's text with another schedule."""
+    return {"text": with_schedule_text(asked.text, asked.file, asked.given["schedule"])}
+
+
+def explore_task(asked: Asked) -> Answer:
+    """The outcomes of all orders."""
+    return explored(asked.program, asked.scenario())
+
+
+def map_words(asked: Asked) -> list[str]:
+    """The words of the command line that draws the map."""
+    given = {name: asked.given.get(name) for name in MAP_OPTIONS}
+    options = [f"--{name}={value}" for name, value in given.items() if value not in (None, "")]
+    return asked.words("map", *options)
+
+
+def map_args(asked: Asked) -> argparse.Namespace:
+    words = map_words(asked)
+    args = cli.parser(words).parse_args([*words, "--jobs=1", "--quiet"])
+    args.words = words
+    return args
+
+
+def map_text(asked: Asked) -> str:
+    """The SVG of a map."""
+    args = map_args(asked)
+    args.program = asked.program.path
+    return heatmap.picture_of(args, asked.scenario())
+
+
+def map_task(asked: Asked) -> Answer:
+    """A map that the page draws; its font is that of the page, since the page takes no other style."""
+    svg = map_text(asked).replace(f' style="{FONT}"', "", 1)
+    return {"svg": svg, "command": shlex.join(["nooks-bench", *map_words(asked)])}
+
+
+def open_task(asked: Asked) -> Answer:
+    """The texts of a scenario, each driver's in a file of its own, and what distinguishes the files as they are."""
+    return opened(asked.folder, asked.file)
+
+
+def free_name(folder: Folder, stem: str, ending: str) -> str:
+    """A name that nothing has."""
+    names = (f"{stem}{'' if number == 1 else f'-{number}'}{ending}" for number in range(1, 1000))
+    return next((name for name in names if not folder.exists(name)), f"{stem}-new{ending}")
+
+
+def text_of(text: str, known: str | None) -> dict[str, Any]:
+    """A text, what distinguishes the file as it is, empty for none, and whether it is saved."""
+    return {"text": text, "was": "" if known is None else digest_of(known), "saved": text == known}
+
+
+def opened(folder: Folder, file: str) -> Answer:
+    """The texts of a scenario's file: its own, and those of its drivers."""
+    text = folder.read(file)
+    front, _, name = file.rpartition("/")
+    stem = os.path.splitext(name)[0]
+    beside = f"{front}/" if front else ""
+    taken: dict[str, str] = {}
+
+    def name_of(asm: str) -> str:
+        """The file of a text: one that has it already, or a new one."""
+        if asm not in taken:
+            first = f"{beside}{stem}{'' if not taken else f'-driver-{len(taken) + 1}'}"
+            known = f"{first}.asm"
+            is_same = folder.exists(known) and folder.read(known) == asm
+            taken[asm] = known if is_same else free_name(folder, first, ".asm")
+        return taken[asm]
+
+    changed, made = with_files(text, file, name_of)
+    texts: dict[str, Any] = {}
+    scenario = file
+    if made:
+        scenario = file if file.endswith(".jsonc") else free_name(folder, f"{beside}{stem}", ".jsonc")
+    texts[scenario] = text_of(changed, text if scenario == file else None)
+    for each in named_files(Reader(changed, scenario).whole()):
+        path = os.path.normpath(os.path.join(front, each))
+        known = folder.read(path) if path not in made or folder.exists(path) else None
+        texts[path] = text_of(made[path] if known is None else known, known)
+    return {"file": scenario, "texts": texts}
+
+
+def save_task(asked: Asked) -> Answer:
+    """The text of a file that is made of the scenario."""
+    return {"text": MAKERS[str(asked.given["makes"])](asked)}
+
+
+def exact_text(asked: Asked) -> str:
+    return json_text(asked.scenario()) + "\n"
+
+
+def report_text(asked: Asked) -> str:
+    scenario = asked.scenario()
+    return asked.program.guard(scenario) if asked.guard else asked.program.report(scenario)
+
+
+def guarded_text(asked: Asked) -> str:
+    return json_text(guarded_scenario(asked.program, asked.scenario())) + "\n"
+
+
+def page_file(asked: Asked) -> str:
+    return page_text(page_data_of(asked))
+
+
+# What can be made of a scenario as a file.
+MAKERS: dict[str, Callable[[Asked], str]] = {
+    "exact": exact_text, "report": report_text, "guarded": guarded_text, "page": page_file, "map": map_text,
+}
+
+TASKS: dict[str, Callable[[Asked], Answer]] = {
+    "run": run_task, "check": check_task, "place": place_task, "schedule": schedule_task, "explore": explore_task,
+    "map": map_task, "open": open_task, "make": save_task,
+}
+
+
+def refusal(mistake: Mistake, asked: Asked | None) -> Answer:
+    """A mistake as the page shows it, in the words of `explain`, with its place if it has one."""
+    if isinstance(mistake, Misplaced):
+        place = mistake.place
+        return {"text": str(mistake), "file": place.file, "line": place.line, "column": place.column}
+    if isinstance(mistake, Refusal) and asked is not None:
+        explained = explain_fault(parse_fault(mistake.line), built(asked.file, asked.text, asked.read))
+        place = explained.place
+        return {"text": str(explained), "file": place.file, "line": place.line, "column": place.column}
+    return {"text": str(mistake)}
+
+
+def answer(given: dict[str, Any]) -> Answer:
+    """What is answered: what was made, or why it was refused."""
+    asked = None
+    try:
+        asked = Asked(Program(given["program"]), Folder(given["folder"]), given)
+        return {"made": TASKS[str(given["task"])](asked)}
+    except Mistake as mistake:
+        return {"refused": refusal(mistake, asked)}
+    except MemoryError:
+        return {"refused": {"text": f"this needs more than the {MOST_MEMORY >> 30} GB of memory that a run may take"}}
+    except RecursionError:
+        return {"refused": {"text": "lists and objects are nested too deeply"}}
+
+
+def end_with_server() -> None:
+    """Ends this process, and all that it began, when standard input is closed."""
+    os.read(0, 1)
+    os.killpg(os.getpgrp(), signal.SIGKILL)
+
+
+def limit() -> None:
+    """Sets what the process, and each that it begins, may take."""
+    limits = {resource.RLIMIT_AS: MOST_MEMORY, resource.RLIMIT_FSIZE: MOST_WRITTEN, resource.RLIMIT_CORE: 0}
+    for what, most in limits.items():
+        hard = resource.getrlimit(what)[1]
+        resource.setrlimit(what, (most, hard) if hard == resource.RLIM_INFINITY else (min(most, hard), hard))
+
+
+def read_line() -> bytes:
+    """The line of standard input, and nothing after it."""
+    found = bytearray()
+    while not found.endswith(b"\n"):
+        more = os.read(0, 1 << 16)
+        if not more:
+            sys.exit(1)
+        found += more
+    return bytes(found)
+
+
+def main() -> None:
+    limit()
+    given = json.loads(read_line())
+    threading.Thread(target=end_with_server, daemon=True).start()
+    sys.stdout.write(json.dumps(answer(given)))
+    sys.stdout.flush()
+    os._exit(0)

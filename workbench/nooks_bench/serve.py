@@ -49,10 +49,10 @@ def interrupt(number: int, frame: FrameType | None) -> None:
 def run(args: argparse.Namespace) -> int:
     server = serve(args)
     signal.signal(signal.SIGTERM, interrupt)
-    sys.stdout.write(f"{server.first_address}\n")
-    sys.stdout.flush()
-    say(f"serves {server.served.folder.path}; open the address above in a browser; Ctrl-C ends it")
     try:
+        say(f"serves {server.served.folder.path}; open this address in a browser; Ctrl-C ends it")
+        sys.stdout.write(f"{server.first_address}\n")
+        sys.stdout.flush()
         server.serve_forever(poll_interval=0.2)
     except KeyboardInterrupt:
         say("ended")

@@ -15,6 +15,9 @@ from .program import Mistake
 from .serve_folder import Folder, Outside
 from .serve_runs import Ended, Gone, Runs
 
+# What a run may be asked for; serve_work.py does it.
+TASKS = ("open", "check", "run", "place", "schedule", "map", "explore", "make")
+
 ADDRESS = "127.0.0.1"
 NAMES = (ADDRESS, "localhost")
 
@@ -187,6 +190,12 @@ class Requests(BaseHTTPRequestHandler):
 
     def worked(self, given: dict[str, Any]) -> dict[str, Any]:
         """What a run answers; what it makes as a file is written here."""
+        file, texts = given.get("file"), given.get("texts")
+        is_whole = isinstance(file, str) and isinstance(texts, dict) and given.get("task") in TASKS
+        if not is_whole or not all(isinstance(text, str) for text in texts.values()):
+            raise Refused(400, "a run has a task, a file and texts")
+        if given["task"] != "open" and file not in texts:
+            raise Refused(400, "the texts have no scenario")
         page: socket.socket = self.connection
         made = self.served.runs.answer(given, page)
         if given.get("task") == "make" and "made" in made:

@@ -55,12 +55,14 @@ class Asked:
     @property
     def file(self) -> str:
         """The scenario's path in the folder."""
-        return str(self.given["file"])
+        file: str = self.given["file"]
+        return file
 
     @property
     def text(self) -> str:
         """The scenario's text."""
-        return str(self.given["texts"][self.file])
+        text: str = self.given["texts"][self.file]
+        return text
 
     def read(self, name: str) -> str:
         """The text of a file that the scenario names, as it is in the page, or in the folder."""
@@ -112,12 +114,18 @@ def check_task(asked: Asked) -> Answer:
 
 def place_task(asked: Asked) -> Answer:
     """The scenario's text with a fault more."""
-    return {"text": with_fault(asked.text, asked.file, int(asked.given["part"]), asked.given["fault"])}
+    part, fault = asked.given.get("part"), asked.given.get("fault")
+    if not isinstance(part, int) or not isinstance(fault, dict):
+        raise Mistake("a fault is placed in a part")
+    return {"text": with_fault(asked.text, asked.file, part, fault)}
 
 
 def schedule_task(asked: Asked) -> Answer:
     """The scenario's text with another schedule."""
-    return {"text": with_schedule_text(asked.text, asked.file, asked.given["schedule"])}
+    schedule = asked.given.get("schedule")
+    if not isinstance(schedule, dict):
+        raise Mistake("a schedule is an object")
+    return {"text": with_schedule_text(asked.text, asked.file, schedule)}
 
 
 def explore_task(asked: Asked) -> Answer:
@@ -198,9 +206,12 @@ def opened(folder: Folder, file: str) -> Answer:
     return {"file": scenario, "texts": texts}
 
 
-def save_task(asked: Asked) -> Answer:
+def make_task(asked: Asked) -> Answer:
     """The text of a file that is made of the scenario."""
-    return {"text": MAKERS[str(asked.given["makes"])](asked)}
+    makes = asked.given.get("makes")
+    if not isinstance(makes, str) or makes not in MAKERS:
+        raise Mistake(f"nothing is called {makes!r} that is made of a scenario")
+    return {"text": MAKERS[makes](asked)}
 
 
 def exact_text(asked: Asked) -> str:
@@ -227,7 +238,7 @@ MAKERS: dict[str, Callable[[Asked], str]] = {
 
 TASKS: dict[str, Callable[[Asked], Answer]] = {
     "run": run_task, "check": check_task, "place": place_task, "schedule": schedule_task, "explore": explore_task,
-    "map": map_task, "open": open_task, "make": save_task,
+    "map": map_task, "open": open_task, "make": make_task,
 }
 
 
@@ -248,7 +259,7 @@ def answer(given: dict[str, Any]) -> Answer:
     asked = None
     try:
         asked = Asked(Program(given["program"]), Folder(given["folder"]), given)
-        return {"made": TASKS[str(given["task"])](asked)}
+        return {"made": TASKS[given["task"]](asked)}
     except Mistake as mistake:
         return {"refused": refusal(mistake, asked)}
     except MemoryError:

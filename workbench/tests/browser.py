@@ -11,6 +11,7 @@ import shutil
 import subprocess
 import sys
 import tempfile
+import time
 from typing import Any
 
 CHROMIUM = next((path for path in map(shutil.which, ("chromium", "chromium-browser", "google-chrome")) if path), None)
@@ -22,7 +23,8 @@ LAUNCHER = "import os,sys; [os.dup2(int(sys.argv[at]), at + 2) for at in (1, 2)]
 OPTIONS = ["--headless", "--no-sandbox", "--disable-gpu", "--disable-dev-shm-usage", "--no-first-run", "--hide-scrollbars",
            "--disable-background-networking", "--disable-component-update", "--disable-sync", "--remote-debugging-pipe"]
 
-KEYS = {"ArrowLeft": 37, "ArrowUp": 38, "ArrowRight": 39, "ArrowDown": 40, "Home": 36, "End": 35, " ": 32, "Tab": 9, "Enter": 13}
+KEYS = {"ArrowLeft": 37, "ArrowUp": 38, "ArrowRight": 39, "ArrowDown": 40, "Home": 36, "End": 35, " ": 32, "Tab": 9, "Enter": 13,
+        "Escape": 27}
 
 
 def high(fd: int) -> int:
@@ -93,13 +95,20 @@ class Browser:
             self.errors.append(told["exceptionDetails"].get("exception", {}).get("description", str(told)))
         elif method == "Log.entryAdded":
             self.errors.append(told["entry"]["text"])
+        elif method == "Page.javascriptDialogOpening":
+            self.send("Page.handleJavaScriptDialog", accept=True)
 
-    def call(self, method: str, **given: Any) -> dict[str, Any]:
+    def send(self, method: str, **given: Any) -> int:
+        """Asks for something; the number of the answer."""
         number = next(self.numbers)
         message = {"id": number, "method": method, "params": given}
         if self.session:
             message["sessionId"] = self.session
         os.write(self.write, json.dumps(message).encode() + b"\0")
+        return number
+
+    def call(self, method: str, **given: Any) -> dict[str, Any]:
+        number = self.send(method, **given)
         while True:
             answer = self.message()
             if answer.get("id") == number:
@@ -110,16 +119,16 @@ class Browser:
 
     def open(self, path: str, fragment: str = "") -> None:
         """Opens a file, and waits until it is there."""
-        before = self.loaded
-        self.asked = []
-        self.call("Page.navigate", url="about:blank")
-        while self.loaded == before:
-            self.note(self.message())
-        before = self.loaded
-        self.asked = []
-        self.call("Page.navigate", url=f"file://{os.path.abspath(path)}{fragment}")
-        while self.loaded == before:
-            self.note(self.message())
+        self.visit(f"file://{os.path.abspath(path)}{fragment}")
+
+    def visit(self, address: str) -> None:
+        """Opens an address, and waits until it is there."""
+        for each in ("about:blank", address):
+            before = self.loaded
+            self.asked = []
+            self.call("Page.navigate", url=each)
+            while self.loaded == before:
+                self.note(self.message())
 
     def value(self, script: str) -> Any:
         """What an expression is in the page."""
@@ -128,14 +137,38 @@ class Browser:
             raise AssertionError(answer["exceptionDetails"].get("exception", {}).get("description", script))
         return answer["result"].get("value")
 
-    def press(self, key: str, times: int = 1, shift: bool = False) -> None:
+    def press(self, key: str, times: int = 1, shift: bool = False, ctrl: bool = False) -> None:
         """Presses a key."""
         code = KEYS.get(key, ord(key.upper()[0]))
         text = {"text": key} if len(key) == 1 else {"text": "\r"} if key == "Enter" else {}
-        about = {"key": key, "windowsVirtualKeyCode": code, "modifiers": 8 if shift else 0}
+        about = {"key": key, "windowsVirtualKeyCode": code, "modifiers": (8 if shift else 0) + (2 if ctrl else 0)}
+        if ctrl:
+            text = {}
         for _ in range(times):
             self.call("Input.dispatchKeyEvent", type="keyDown", **about, **text)
             self.call("Input.dispatchKeyEvent", type="keyUp", **about)
+
+    def type(self, text: str) -> None:
+        """Types a text where the focus is."""
+        self.call("Input.insertText", text=text)
+
+    def click(self, script: str) -> None:
+        """Clicks with the pointer on the middle of an element."""
+        box = self.value(f"(() => {{ const one = {script}; one.scrollIntoView({{ block: 'center' }}); "
+                         "const box = one.getBoundingClientRect(); return [box.left + box.width / 2, box.top + box.height / 2]; })()")
+        place = {"x": box[0], "y": box[1]}
+        self.call("Input.dispatchMouseEvent", type="mouseMoved", **place)
+        for kind in ("mousePressed", "mouseReleased"):
+            self.call("Input.dispatchMouseEvent", type=kind, button="left", clickCount=1, **place)
+
+    def until(self, script: str, seconds: float = 30) -> Any:
+        """What an expression is as soon as it is true."""
+        ends = time.monotonic() + seconds
+        while not (found := self.value(script)):
+            if time.monotonic() > ends:
+                raise AssertionError(f"not so within {seconds} s: {script}")
+            time.sleep(0.02)
+        return found
 
     def busy(self) -> float:
         """How many seconds of a processor the page's thread has taken: not how long one waited for it."""

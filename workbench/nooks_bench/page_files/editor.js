@@ -19,7 +19,7 @@ export class Editor {
     this.badLine = element("div", { class: "bad-line", hidden: true });
     this.area = element("textarea", { class: "text-area mono", spellcheck: "false", wrap: "off", autocapitalize: "off", autocomplete: "off", "aria-label": "text",
       oninput: () => this.typed(), onscroll: () => this.scrolled() });
-    this.holder = element("div", { class: "editor" }, this.tabs, element("div", { class: "text" }, this.gutter, element("div", { class: "text-holder" }, this.badLine, this.area)));
+    this.holder = element("div", { class: "editor" }, this.tabs, element("div", { class: "text-box" }, this.gutter, element("div", { class: "text-holder" }, this.badLine, this.area)));
   }
 
   /** Other texts, by their names; the first one is the scenario. */
@@ -32,6 +32,11 @@ export class Editor {
   /** The texts as they stand. */
   get plain() {
     return Object.fromEntries([...this.texts].map(([name, each]) => [name, each.text]));
+  }
+
+  /** Whether there are changes that are not saved. */
+  get isEdited() {
+    return [...this.texts.values()].some((each) => each.edited && !each.saved);
   }
 
   /** The names of the texts that are not saved. */
@@ -66,6 +71,7 @@ export class Editor {
     const text = this.texts.get(this.name);
     text.text = this.area.value;
     text.saved = false;
+    text.edited = true;
     this.fault = null;
     this.showTabs();
     this.showLines();
@@ -76,6 +82,7 @@ export class Editor {
   put(name, text) {
     const known = this.texts.get(name);
     known.saved = known.saved && known.text === text;
+    known.edited = true;
     known.text = text;
     if (name === this.name) {
       const { scrollTop } = this.area;

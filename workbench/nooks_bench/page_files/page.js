@@ -53,8 +53,21 @@ export class Page {
     this.build();
   }
 
+  /** Shows nothing. */
+  clear() {
+    clearTimeout(this.writing);
+    if (this.playing) this.togglePlay();
+    this.data = null;
+    this.root.replaceChildren();
+  }
+
   get part() {
     return this.data.parts[this.here.part];
+  }
+
+  /** The turn before which a fault is placed at what is looked at, 0 for none. */
+  get turnHere() {
+    return this.data === null ? 0 : this.burst.turnHere;
   }
 
   /** The burst of the event that is looked at, 0 if it is none. */
@@ -253,9 +266,17 @@ export class Page {
 
   /** What a key does; false if nothing. */
   key(name, isShifted) {
-    const by = isShifted ? 10 : 1;
+    const keys = this.data === null ? this.more.acts : { ...this.keysOfRun(isShifted ? 10 : 1), ...this.more.acts };
+    if (/^[1-8]$/.test(name) && this.data !== null && Number(name) <= this.data.parts.length) this.goPart(Number(name) - 1);
+    else if (Object.hasOwn(keys, name)) keys[name]();
+    else return false;
+    return true;
+  }
+
+  /** What the keys of a run do; `by` is how far a step goes. */
+  keysOfRun(by) {
     const { part, event, turn } = this.here;
-    const keys = {
+    return {
       ArrowLeft: () => this.goEvent(event - by),
       ArrowRight: () => this.goEvent(event + by),
       ArrowUp: () => this.go({ part, event, turn: turn - by }),
@@ -268,16 +289,11 @@ export class Page {
       "+": () => this.zoomBy(1.25),
       "-": () => this.zoomBy(0.8),
       "?": () => this.toggleKeys(),
-      ...this.more.acts,
     };
-    if (/^[1-8]$/.test(name) && Number(name) <= this.data.parts.length) this.goPart(Number(name) - 1);
-    else if (Object.hasOwn(keys, name)) keys[name]();
-    else return false;
-    return true;
   }
 
   pressed(press) {
-    if (press.ctrlKey || press.altKey || press.metaKey || this.data === null || isTyping(press.target)) return;
+    if (press.ctrlKey || press.altKey || press.metaKey || isTyping(press.target, press.key)) return;
     const chosen = press.target instanceof Element ? press.target.tagName : "";
     if (press.key === " " && ["BUTTON", "SUMMARY", "INPUT"].includes(chosen) && press.target !== this.slider) return;
     if (this.key(press.key, press.shiftKey)) press.preventDefault();
@@ -326,7 +342,9 @@ function marksOf(part) {
   return [...found].sort((one, other) => one - other);
 }
 
-/** Whether a key is for a field that one types or chooses in. */
-function isTyping(target) {
-  return target instanceof Element && target.matches("textarea, select, input:not([type=range]):not([type=checkbox])");
+/** Whether a key is for what it is pressed in: a field that one types or chooses in, or a drawing with its own arrows. */
+function isTyping(target, key) {
+  if (!(target instanceof Element)) return false;
+  if (target.matches("[role=application]")) return /^(Arrow|Enter)/.test(key);
+  return target.matches("textarea, select, input:not([type=range]):not([type=checkbox])");
 }

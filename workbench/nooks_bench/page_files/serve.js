@@ -16,6 +16,8 @@ const KIND_WORDS = { trap: "trap: the driver stops", hang: "hang: the driver goe
 /** What can be made as a file, with its ending. */
 const MAKES = { exact: ["exact JSON", ".json"], report: ["report", ".report"], page: ["page", ".html"], map: ["map of the burst", ".svg"], guarded: ["guarded scenario", ".json"] };
 
+const NO_SCENARIO = "There is no scenario (.json, .jsonc) in this folder: copy one of the examples into it, and load this page again.";
+
 const BENCH_KEYS = [
   ["r", "run; Ctrl+Enter does so from a text"],
   ["g", "with a guard or without one, and run"],
@@ -32,6 +34,8 @@ class Bench {
     this.asking = new Asking(token);
     this.seconds = seconds;
     this.file = "";
+    this.opened = "";
+    this.refusedToDrop = "";
     this.before = [];
     this.stop = null;
     this.checking = 0;
@@ -48,7 +52,7 @@ class Bench {
     return {
       r: () => this.run(),
       g: () => this.toggleGuard(),
-      f: () => this.placeAt(this.page.burst.turnHere),
+      f: () => this.placeAt(this.page.turnHere),
       u: () => this.undo(),
       m: () => this.drawMap(),
       x: () => this.explore(),
@@ -72,7 +76,7 @@ class Bench {
     this.said = element("p", { class: "bench-said", role: "status", "aria-live": "assertive" });
     this.tools = element("div", { class: "tools" },
       element("div", { class: "tool" }, element("b", {}, "A fault"), this.kind, ...Object.values(this.labels),
-        button("place (f)", "place it before the turn that is looked at (f)", () => this.placeAt(this.page.burst.turnHere), { class: "place-here" }), this.undoer,
+        button("place (f)", "place it before the turn that is looked at (f)", () => this.placeAt(this.page.turnHere), { class: "place-here" }), this.undoer,
         element("span", { class: "none" }, "or a click on 'fault' at a turn, or on a cell of a map")),
       element("div", { class: "tool" }, button("map of this burst (m)", "what becomes of this fault at each turn of the burst that is looked at (m)", () => this.drawMap(), { class: "draw" }),
         button("all orders (x)", "what comes of every order of the steps (x)", () => this.explore(), { class: "explore" })),
@@ -83,9 +87,9 @@ class Bench {
       element("section", { class: "bench", "aria-label": "workbench" },
         element("div", { class: "bar bench-bar" }, element("b", {}, "nooks-bench serve"), element("span", { class: "none folder", title: "the folder that is served" }, folder), this.files,
           button("\u25b6 run (r)", "run what stands in the texts (r, or Ctrl+Enter)", () => this.run(), { class: "run-it" }),
-          element("label", { class: "guard" }, this.guard, " with a guard (g)"), this.stopper, button("texts", "show or hide the texts", () => this.toggleTexts()),
+          element("label", { class: "guard" }, this.guard, " with a guard (g)"), this.stopper, button("hide texts", "hide or show the texts and tools", (click) => this.toggleTexts(click.currentTarget)),
           this.said),
-        element("div", { class: "bench-body" }, this.editor.holder, this.tools)),
+        this.body = element("div", { class: "bench-body" }, this.editor.holder, this.tools)),
       this.map.holder, this.root);
     this.said.addEventListener("click", () => this.editor.goFault());
     this.showFields();
@@ -94,16 +98,32 @@ class Bench {
   async start() {
     addEventListener("keydown", (press) => this.pressed(press), true);
     addEventListener("beforeunload", (leaving) => {
-      if (this.editor.unsaved.length) leaving.preventDefault();
+      if (this.editor.isEdited) leaving.preventDefault();
     });
     this.page.start();
-    const { made, refused } = await this.asking.ask("/files", {});
-    if (!made) return this.say(refused.text, "refused");
-    const scenarios = made.files.filter((name) => /\.jsonc?$/.test(name));
-    this.files.replaceChildren(element("option", { value: "" }, "open a scenario .."), ...scenarios.map((name) => element("option", { value: name }, name)));
+    const scenarios = await this.listFiles();
+    if (scenarios === null) return;
+    const named = new URLSearchParams(location.search).get("open");
+    if (named && scenarios.includes(named)) {
+      await this.open(named, location.hash);
+      return;
+    }
     this.files.focus();
-    const more = scenarios.length ? "Choose a scenario above." : "There is no scenario (.json, .jsonc) in this folder: copy one of the examples into it, and load this page again.";
-    this.say(more, "");
+    this.say(scenarios.length ? "Choose a scenario in the list above." : NO_SCENARIO, "");
+  }
+
+  /** Lists the scenarios of the folder, the open one chosen. */
+  async listFiles() {
+    const { made, refused } = await this.asking.ask("/files", {});
+    if (!made) {
+      this.say(refused.text, "refused");
+      return null;
+    }
+    const scenarios = made.files.filter((name) => /\.jsonc?$/.test(name));
+    const options = scenarios.map((name) => element("option", { value: name }, name));
+    this.files.replaceChildren(element("option", { value: "" }, "open a scenario .."), ...options);
+    this.files.value = this.opened;
+    return scenarios;
   }
 
   say(text, kind) {
@@ -115,6 +135,7 @@ class Bench {
   /** Says what the server refused or ended, and marks its place. */
   sayRefused({ refused, ended }) {
     this.say((refused ?? ended).text, "refused");
+    this.root.classList.toggle("stale", this.page.data !== null);
     this.editor.mark(refused && refused.line ? refused : null);
   }
 
@@ -123,8 +144,9 @@ class Bench {
     for (const [name, label] of Object.entries(this.labels)) label.hidden = !FIELDS[this.kind.value].includes(name);
   }
 
-  toggleTexts() {
-    document.querySelector(".bench-body").toggleAttribute("hidden");
+  toggleTexts(button) {
+    const isHidden = this.body.toggleAttribute("hidden");
+    button.textContent = isHidden ? "show texts" : "hide texts";
   }
 
   // What is asked for.
@@ -158,12 +180,23 @@ class Bench {
     return answer.made;
   }
 
-  /** Opens a scenario, and runs it. */
-  async open(name) {
+  /** Opens a scenario, runs it, and goes to the event that an address names. */
+  async open(name, address = "") {
     if (!name) return;
+    if (this.editor.isEdited && this.refusedToDrop !== name) {
+      this.refusedToDrop = name;
+      this.files.value = this.opened;
+      this.say(`there are changes that are not saved: save them, or choose ${name} again to drop them`, "refused");
+      return;
+    }
     const answer = await this.asking.ask("/work", { task: "open", file: name, texts: {} });
     if (!answer.made) return this.sayRefused(answer);
     const { file, texts } = answer.made;
+    this.refusedToDrop = "";
+    this.page.clear();
+    this.opened = name;
+    this.files.value = name;
+    this.writeOpened(address);
     this.file = file;
     this.before = [];
     this.undoer.disabled = true;
@@ -173,7 +206,14 @@ class Bench {
     this.editor.take(texts);
     document.title = `${file} - nooks-bench`;
     this.files.blur();
-    await this.run();
+    await this.run(() => this.page.readAddress());
+  }
+
+  /** The address names the scenario that is open, so that it can be loaded again. */
+  writeOpened(address) {
+    const query = new URLSearchParams(location.search);
+    query.set("open", this.opened);
+    history.replaceState(null, "", `?${query}${address}`);
   }
 
   /** Runs what stands in the texts; what is looked at is where it was, or where `go` goes. */
@@ -183,11 +223,11 @@ class Bench {
     const before = this.page.data ? { ...this.page.here } : null;
     this.page.take(made.data);
     if (go) go();
-    else if (before) this.page.go({ ...before, turn: null });
-    else this.page.readAddress();
+    else this.page.go({ ...(before ?? { part: 0, event: 0 }), turn: null });
     const how = this.guard.checked ? "with a guard" : "without a guard";
     this.say(`${this.file}, ${how}: ${made.data.status}`, "ran");
     this.root.classList.toggle("guarded", this.guard.checked);
+    this.root.classList.remove("stale");
   }
 
   toggleGuard() {
@@ -226,7 +266,7 @@ class Bench {
 
   /** Puts another text in the place of the scenario's, and runs it. */
   async change(text, go) {
-    this.before.push(this.editor.texts.get(this.file).text);
+    this.before.push([this.editor.texts.get(this.file).text, text]);
     this.undoer.disabled = false;
     this.editor.put(this.file, text);
     await this.run(go);
@@ -234,7 +274,14 @@ class Bench {
 
   async undo() {
     if (!this.before.length) return;
-    this.editor.put(this.file, this.before.pop());
+    const [before, after] = this.before.pop();
+    if (this.editor.texts.get(this.file).text !== after) {
+      this.before = [];
+      this.undoer.disabled = true;
+      this.say("the text was changed by hand since then: undo it there", "refused");
+      return;
+    }
+    this.editor.put(this.file, before);
     this.undoer.disabled = this.before.length === 0;
     await this.run();
   }
@@ -275,6 +322,7 @@ class Bench {
       this.editor.keep(name, text, answer.made.was);
       saved.push(name);
     }
+    await this.listFiles();
     this.say(saved.length ? `saved: ${saved.join(", ")}` : "all texts are saved", "ran");
   }
 
@@ -290,6 +338,7 @@ class Bench {
 
   /** After a pause in typing, asks whether the program takes the texts. */
   changed() {
+    this.root.classList.toggle("stale", this.page.data !== null);
     clearTimeout(this.checking);
     this.checking = setTimeout(() => this.check(), CHECK_AFTER);
   }

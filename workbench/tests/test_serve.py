@@ -1,0 +1,526 @@
+"""serve: what the server refuses, what it makes, and that it ends what nobody waits for."""
+
+import json
+import os
+import signal
+import socket
+import subprocess
+import sys
+import tempfile
+import time
+import unittest
+
+from common import HERE, bench, example, example_path, example_text, file_of, program
+from race import racing_scenario
+from serving import Site, site
+from test_page import many_events
+
+from nooks_bench import serve_requests, serve_work
+from nooks_bench.build import built
+from nooks_bench.explore import parse_table
+from nooks_bench.program import Mistake, Program
+from nooks_bench.report import parse_report
+from nooks_bench.scenario import with_faults
+from nooks_bench.serve_folder import Folder, Outside
+from nooks_bench.serve_texts import with_fault, with_files, with_schedule_text
+from nooks_bench.source import Reader
+
+TRAP = {"burst": 5, "after": 40, "kind": "trap"}
+
+
+def ends(test: unittest.TestCase, is_so, seconds: float = 20) -> None:
+    """Waits until something is so."""
+    last = time.monotonic() + seconds
+    while not is_so():
+        test.assertLess(time.monotonic(), last)
+        time.sleep(0.02)
+
+
+def is_alive(process: int) -> bool:
+    """Whether a process is there that is not only left to be waited for."""
+    try:
+        with open(f"/proc/{process}/stat", encoding="utf-8") as file:
+            return file.read().rpartition(")")[2].split()[0] not in ("Z", "X")
+    except (FileNotFoundError, ProcessLookupError):
+        return False
+
+
+def group(process: int) -> list[int]:
+    """The processes of a group."""
+    found = []
+    for name in filter(str.isdigit, os.listdir("/proc")):
+        try:
+            if os.getpgid(int(name)) == process and is_alive(int(name)):
+                found.append(int(name))
+        except ProcessLookupError:
+            continue
+    return found
+
+
+class Refuses(unittest.TestCase):
+    @classmethod
+    def setUpClass(cls) -> None:
+        cls.holder = site("write-cut.json", "block.asm")
+        cls.site = cls.holder.__enter__()
+
+    @classmethod
+    def tearDownClass(cls) -> None:
+        cls.holder.__exit__(None, None, None)
+
+    def page(self, token: str | None = None, **headers: str | None) -> tuple[int, str]:
+        query = f"/?token={self.site.token if token is None else token}"
+        return self.site.request("GET", query, **headers)
+
+    def test_the_page(self):
+        status, text = self.page()
+        self.assertEqual(status, 200)
+        self.assertIn("<!doctype html>", text)
+
+    def test_another_host(self):
+        for host in ("example.org", f"example.org:{self.site.server.server_port}", "127.0.0.1", "127.0.0.1:1", "", None,
+                     f"127.0.0.1:{self.site.server.server_port}.example.org"):
+            with self.subTest(host=host):
+                self.assertEqual(self.page(Host=host)[0], 403)
+                self.assertEqual(self.site.ask("/files", {}, Host=host)[0], 403)
+        self.assertEqual(self.page(Host=f"localhost:{self.site.server.server_port}")[0], 200)
+
+    def test_another_origin(self):
+        for origin in ("http://example.org", "null", f"https://{self.site.host}", "http://127.0.0.1:1", f"http://{self.site.host}.example.org"):
+            with self.subTest(origin=origin):
+                status, made = self.site.ask("/files", {}, Origin=origin)
+                self.assertEqual((status, list(made)), (403, ["refused"]))
+        self.assertEqual(self.site.ask("/files", {}, Origin=f"http://{self.site.host}")[0], 200)
+
+    def test_a_preflight_of_another_origin_allows_nothing(self):
+        status, text = self.site.request("OPTIONS", "/files", Origin="http://example.org", Access_Control_Request_Method="POST",
+                                         Access_Control_Request_Headers="x-nooks-token")
+        self.assertGreaterEqual(status, 400)
+
+    def test_no_token(self):
+        for token in ("", "x", self.site.token[:-1], self.site.token + "x", "\u00fc"):
+            with self.subTest(token=token):
+                self.assertEqual(self.page(token="%C3%BC" if token == "\u00fc" else token)[0], 403)
+        for token in (None, "", "x"):
+            status, made = self.site.ask("/work", {"task": "open", "file": "write-cut.json", "texts": {}}, X_Nooks_Token=token)
+            self.assertEqual((status, list(made)), (403, ["refused"]))
+        self.assertNotIn(self.site.token, self.page(token="x")[1])
+        self.assertEqual(self.site.request("GET", "/")[0], 403)
+
+    def test_tokens_differ(self):
+        with site() as other:
+            self.assertNotEqual(other.token, self.site.token)
+            self.assertGreaterEqual(len(other.token), 32)
+
+    def test_a_path_outside_the_folder(self):
+        outside = os.path.join(os.path.dirname(self.site.folder), "outside.json")
+        for name in ("../outside.json", "/etc/outside.json", outside, "a/../../outside.json", "./x.json", ".x.json", "a//x.json", "x.json\0", "x.json/",
+                     "..", "", "x.py", "x", "x.json.sh", "a\\..\\x.json\n", "/".join("a" * 9) + ".json"):
+            with self.subTest(name=name):
+                status, made = self.site.ask("/save", {"name": name, "text": "{}", "was": ""})
+                self.assertEqual((status, list(made)), (403, ["refused"]))
+                self.assertIn("refused", self.site.work("open", name))
+        self.assertFalse(os.path.exists(outside))
+
+    def test_links_lead_nowhere(self):
+        above = os.path.dirname(self.site.folder)
+        secret = os.path.join(above, "secret.json")
+        with open(secret, "w", encoding="utf-8") as file:
+            file.write("{}")
+        os.mkdir(os.path.join(above, "elsewhere"))
+        os.symlink(secret, self.site.path("link.json"))
+        os.symlink(os.path.join(above, "new.json"), self.site.path("dangling.json"))
+        os.symlink(os.path.join(above, "elsewhere"), self.site.path("linked"))
+        for name in ("link.json", "dangling.json", "linked/new.json"):
+            with self.subTest(name=name):
+                status, made = self.site.ask("/save", {"name": name, "text": "[]", "was": None})
+                self.assertEqual((status, list(made)), (403, ["refused"]))
+                self.assertIn("refused", self.site.work("open", name))
+        with open(secret, encoding="utf-8") as file:
+            self.assertEqual(file.read(), "{}")
+        self.assertEqual(os.listdir(os.path.join(above, "elsewhere")), [])
+        self.assertFalse(os.path.exists(os.path.join(above, "new.json")))
+        files = self.site.ask("/files", {})[1]["made"]["files"]
+        self.assertEqual([name for name in files if name.startswith(("link", "dangling"))], [])
+
+    def test_a_driver_outside_the_folder(self):
+        with open(os.path.join(os.path.dirname(self.site.folder), "secret.asm"), "w", encoding="utf-8") as file:
+            file.write("a secret\n")
+        os.symlink("../secret.asm", self.site.path("secret-link.asm"))
+        scenario = example("write-cut.json")
+        for name in ("../secret.asm", "/etc/passwd", "secret-link.asm"):
+            with self.subTest(name=name):
+                scenario["parts"][0]["driver"] = {"asm_file": name}
+                made = self.site.work("run", "w.json", texts={"w.json": json.dumps(scenario)})
+                self.assertEqual(list(made), ["refused"])
+                self.assertNotIn("a secret", json.dumps(made))
+                self.assertIn("line", made["refused"])
+
+    def test_twenty_megabytes(self):
+        status, text = self.site.request("POST", "/work", b" " * 20_000_000)
+        self.assertEqual(status, 413)
+        self.assertIn("more than 4 MB", json.loads(text)["refused"]["text"])
+        status, _ = self.site.request("POST", "/save", b"", Content_Length="20000000")
+        self.assertEqual(status, 413)
+        self.assertEqual(self.page()[0], 200)
+
+    def test_a_request_of_another_form(self):
+        self.assertEqual(self.site.request("POST", "/work", b"{", )[0], 400)
+        self.assertEqual(self.site.request("POST", "/work", b"[]")[0], 400)
+        self.assertEqual(self.site.request("POST", "/work", b"[" * 100_000)[0], 400)
+        self.assertEqual(self.site.request("POST", "/work", b"{}", Content_Type="text/plain")[0], 415)
+        self.assertEqual(self.site.request("POST", "/work", b"{}", Content_Length="-2")[0], 411)
+        self.assertEqual(self.site.request("POST", "/elsewhere", b"{}")[0], 404)
+        self.assertEqual(self.site.request("GET", f"/etc/passwd?token={self.site.token}")[0], 404)
+        self.assertEqual(self.site.ask("/save", {"name": "x.json"})[0], 400)
+        whole = {"task": "run", "file": "x.json", "texts": {"x.json": "{}"}}
+        for more in ({"task": "no"}, {"task": None}, {"file": 1}, {"file": "y.json"}, {"texts": {}}, {"texts": 2}, {"texts": {"x.json": 1}}):
+            status, made = self.site.ask("/work", {**whole, **more})
+            self.assertEqual((status, list(made)), (400, ["refused"]), more)
+        for more in ({"task": "place"}, {"task": "place", "part": 0, "fault": 3}, {"task": "schedule"}, {"task": "make"}, {"task": "make", "makes": []}):
+            status, made = self.site.ask("/work", {**whole, **more})
+            self.assertEqual((status, list(made)), (200, ["refused"]), more)
+
+    def test_the_tasks_are_known(self):
+        self.assertEqual(sorted(serve_requests.TASKS), sorted(serve_work.TASKS))
+
+    def test_headers(self):
+        ended = socket.create_connection(("127.0.0.1", self.site.server.server_port))
+        ended.sendall(f"GET /?token={self.site.token} HTTP/1.1\r\nHost: {self.site.host}\r\n\r\n".encode())
+        front = b""
+        while b"\r\n\r\n" not in front:
+            front += ended.recv(4096)
+        ended.close()
+        head = front.split(b"\r\n\r\n")[0].decode().lower()
+        for line in ("cache-control: no-store", "referrer-policy: no-referrer", "x-frame-options: deny", "x-content-type-options: nosniff"):
+            self.assertIn(line, head)
+        self.assertRegex(head, r"content-security-policy: default-src 'none'; .*connect-src 'self'; .*frame-ancestors 'none'")
+
+    def test_it_listens_on_this_machine_alone(self):
+        self.assertEqual(self.site.server.server_address[0], "127.0.0.1")
+        with self.assertRaises(OSError):
+            socket.create_connection(("127.0.0.2", self.site.server.server_port), timeout=5)
+
+
+class Ends(unittest.TestCase):
+    def long(self, served: Site) -> dict:
+        return {"task": "run", "file": "long.json", "texts": {"long.json": json.dumps(many_events())}}
+
+    def test_a_scenario_that_runs_for_long(self):
+        with site(seconds=0.5) as served:
+            begun = time.monotonic()
+            status, made = served.ask("/work", self.long(served))
+            self.assertEqual((status, list(made)), (200, ["ended"]))
+            self.assertIn("longer than 0.5 s, and was ended", made["ended"]["text"])
+            self.assertLess(time.monotonic() - begun, 15)
+            self.assertEqual(served.server.served.runs.processes, set())
+
+    def test_a_repetition_of_repetitions(self):
+        text = '{"version": 1, "parts": ' + '[{"repeat": 60000, "of": ' * 3 + "1" + "}]" * 3 + "}"
+        with site(seconds=5) as served:
+            made = served.work("run", "large.json", texts={"large.json": text})
+            self.assertIn(list(made), [["ended"], ["refused"]])
+
+    def test_a_page_that_goes_away(self):
+        """Its run is ended, with the program that it runs."""
+        with site(seconds=60) as served:
+            body = json.dumps(self.long(served)).encode()
+            head = f"POST /work HTTP/1.1\r\nHost: {served.host}\r\nX-Nooks-Token: {served.token}\r\n"
+            head += f"Content-Type: application/json\r\nContent-Length: {len(body)}\r\n\r\n"
+            page = socket.create_connection(("127.0.0.1", served.server.server_port))
+            page.sendall(head.encode() + body)
+            runs = served.server.served.runs
+            ends(self, lambda: runs.processes)
+            number = next(iter(runs.processes)).pid
+            ends(self, lambda: len(group(number)) > 1)
+            page.close()
+            ends(self, lambda: not runs.processes, 5)
+            ends(self, lambda: not group(number), 5)
+
+    def test_a_server_that_is_killed(self):
+        """Its runs end themselves."""
+        with tempfile.TemporaryDirectory() as folder:
+            words = [sys.executable, "-B", os.path.join(os.path.dirname(HERE), "nooks-bench"), "serve", folder]
+            server = subprocess.Popen(words, stdout=subprocess.PIPE, stderr=subprocess.DEVNULL, text=True)
+            address = server.stdout.readline().strip()
+            port, token = int(address.split(":")[2].split("/")[0]), address.split("token=")[1]
+            body = json.dumps({"task": "run", "file": "long.json", "texts": {"long.json": json.dumps(many_events())}}).encode()
+            page = socket.create_connection(("127.0.0.1", port))
+            head = f"POST /work HTTP/1.1\r\nHost: 127.0.0.1:{port}\r\nX-Nooks-Token: {token}\r\nContent-Type: application/json\r\n"
+            page.sendall(f"{head}Content-Length: {len(body)}\r\n\r\n".encode() + body)
+            children = f"/proc/{server.pid}/task"
+
+            def below() -> list[str]:
+                found = []
+                for each in os.listdir(children):
+                    with open(f"{children}/{each}/children", encoding="utf-8") as file:
+                        found += file.read().split()
+                return found
+
+            ends(self, below)
+            number = int(below()[0])
+            ends(self, lambda: len(group(number)) > 1)
+            server.send_signal(signal.SIGKILL)
+            server.wait()
+            server.stdout.close()
+            ends(self, lambda: not group(number), 10)
+            page.close()
+
+    def test_interrupted(self):
+        with tempfile.TemporaryDirectory() as folder:
+            words = [sys.executable, "-B", os.path.join(os.path.dirname(HERE), "nooks-bench"), "serve", folder]
+            for way in (signal.SIGINT, signal.SIGTERM):
+                server = subprocess.Popen(words, stdout=subprocess.PIPE, stderr=subprocess.PIPE, text=True)
+                self.assertRegex(server.stdout.readline(), r"^http://127\.0\.0\.1:\d+/\?token=[\w-]{32}\n$")
+                server.send_signal(way)
+                self.assertIn("ended", server.communicate(timeout=20)[1])
+                self.assertEqual(server.returncode, 0)
+
+    def test_options(self):
+        for words in (["--port", "70000"], ["--seconds", "0"], ["/no/such/folder"]):
+            self.assertEqual(bench("serve", *words)[0], 2)
+
+
+class Makes(unittest.TestCase):
+    """What the page makes is what the command line makes of the same files."""
+
+    def test_opening_gives_each_driver_a_text(self):
+        with site("write-cut.json") as served:
+            made = served.work("open", "write-cut.json")["made"]
+            self.assertEqual((made["file"], list(made["texts"])), ("write-cut.jsonc", ["write-cut.jsonc", "write-cut.asm"]))
+            self.assertEqual([each["saved"] for each in made["texts"].values()], [False, False])
+            for name, each in made["texts"].items():
+                self.assertEqual(served.ask("/save", {"name": name, "text": each["text"], "was": each["was"]})[0], 200)
+            status, out, err = bench("build", served.path("write-cut.jsonc"))
+            self.assertEqual((status, json.loads(out)), (0, example("write-cut.json")), err)
+            again = served.work("open", "write-cut.jsonc")["made"]
+            self.assertEqual([each["saved"] for each in again["texts"].values()], [True, True])
+
+    def test_opening_leaves_files_that_are_there(self):
+        with site("write-cut.json") as served:
+            served.put("write-cut.asm", "; another driver\n")
+            served.put("write-cut.jsonc", "{}")
+            made = served.work("open", "write-cut.json")["made"]
+            self.assertEqual(list(made["texts"]), ["write-cut-2.jsonc", "write-cut-2.asm"])
+            self.assertEqual([each["was"] for each in made["texts"].values()], ["", ""])
+
+    def test_opening_takes_a_file_with_the_same_text(self):
+        with site("write-cut.json") as served:
+            served.put("write-cut.asm", example("write-cut.json")["parts"][0]["driver"]["asm"])
+            made = served.work("open", "write-cut.json")["made"]
+            self.assertEqual({name: each["saved"] for name, each in made["texts"].items()}, {"write-cut.jsonc": False, "write-cut.asm": True})
+
+    def test_a_fault_gives_the_run_of_the_command_line(self):
+        with site("write-cut.json") as served:
+            text = served.work("place", "write-cut.json", part=0, fault=TRAP)["made"]["text"]
+            self.assertEqual(json.loads(text), with_faults(example("write-cut.json"), 0, [TRAP]))
+            shown = served.work("run", "write-cut.json", texts={"write-cut.json": text})["made"]["data"]
+            with file_of(text) as path:
+                _, page, _ = bench("page", path)
+            told = json.loads(page.split('id="data">')[1].split("</script>")[0])
+            self.assertEqual(shown["parts"], told["parts"])
+            self.assertEqual(shown["status"], told["status"])
+
+    def test_a_guard(self):
+        with site("sends-twice.json") as served:
+            broken = served.work("run", "sends-twice.json")["made"]["data"]
+            kept = served.work("run", "sends-twice.json", guard=True)["made"]["data"]
+            self.assertIn("status 7", broken["status"])
+            self.assertIn("status 0", kept["status"])
+            self.assertEqual([each["broken"] > 0 for each in (broken["parts"][0], kept["parts"][0])], [True, False])
+
+    def test_a_refused_input_is_told_as_the_command_line_tells_it(self):
+        made = example("write-cut.json")
+        del made["parts"][0]["driver"]
+        made["parts"][0]["limit"] = 22
+        texts = [json.dumps(made), json.dumps({**example("write-cut.json"), "threads": 3}), '{"version": 1,\n "parts": [}', "[]", '{"version": 1'
+                 ]
+        with site() as served:
+            for text in texts:
+                served.put("bad.json", text)
+                refused = served.work("check", "bad.json")["refused"]
+                status, _, err = bench("build", served.path("bad.json"))
+                self.assertEqual(status, 2)
+                self.assertEqual(err.replace(served.path("bad.json"), "bad.json"), f"nooks-bench: {refused['text']}\n")
+                self.assertTrue(refused["text"].startswith(f"bad.json:{refused['line']}:{refused['column']}: "))
+
+    def test_an_assembler_fault_has_its_line(self):
+        with site() as served:
+            text = json.dumps({**example("write-cut.json"), "parts": [{"name": "d", "class": "block", "blocks": 16, "driver": {"asm_file": "d.asm"}}]})
+            served.put("w.json", text)
+            served.put("d.asm", "; nothing\n")
+            lines = example_text("block.asm").split("\n")
+            asm = "\n".join([*lines[:20], "  LI r1 x9, 3", *lines[20:]])
+            refused = served.work("check", "w.json", texts={"w.json": text, "d.asm": asm})["refused"]
+            self.assertEqual((refused["file"], refused["line"]), ("d.asm", 21))
+            served.put("d.asm", asm)
+            _, _, err = bench("build", served.path("w.json"))
+            self.assertEqual(err.replace(f"{served.folder}/", ""), f"nooks-bench: {refused['text']}\n")
+
+    def test_a_campaign_is_no_scenario(self):
+        with site("campaign-block.json") as served:
+            self.assertIn("campaign", served.work("run", "campaign-block.json")["refused"]["text"])
+
+    def test_a_map_is_that_of_the_command_line(self):
+        with site("write-cut.json") as served:
+            options = {"part": 0, "burst": 5, "kind": "reg", "register": "8", "value": "2", "width": 900}
+            made = served.work("map", "write-cut.json", guard=True, **options)["made"]
+            words = [f"--{name}={value}" for name, value in options.items()]
+            status, out, _ = bench("map", served.path("write-cut.json"), *words, "--guard", "--no-caption")
+            self.assertEqual(status, 0)
+            self.assertEqual(made["svg"].count("<rect"), out.count("<rect"))
+            self.assertNotIn("style=", made["svg"])
+            self.assertEqual(made["command"], "nooks-bench map write-cut.json " + " ".join(words) + " --guard")
+            refused = served.work("map", "write-cut.json", part=0, burst=5, kind="reg", register="99", value="2")
+            self.assertIn("allowed is a number from 0 to 15", refused["refused"]["text"])
+            refused = served.work("map", "write-cut.json", part=0, burst="5 -o x.svg", kind="trap")
+            self.assertIn("refused", refused)
+            self.assertEqual(os.listdir(served.folder), ["write-cut.json"])
+
+    def test_files(self):
+        with site("contract-broken.json") as served:
+            for makes, name, words in (("report", "c.report", ["run"]), ("exact", "c.json", []), ("page", "c.html", []), ("map", "c.svg", []),
+                                       ("guarded", "g.json", [])):
+                options = {"part": 0, "burst": 3, "kind": "trap"} if makes == "map" else {}
+                made = served.work("make", "contract-broken.json", makes=makes, name=name, **options)
+                self.assertEqual(made, {"made": {"name": name}})
+            with open(example_path("contract-broken.report"), encoding="utf-8") as file:
+                self.assertEqual(served.text("c.report"), file.read())
+            self.assertEqual(json.loads(served.text("c.json")), example("contract-broken.json"))
+            self.assertIn("id=\"data\"", served.text("c.html"))
+            self.assertTrue(served.text("c.svg").startswith("<svg"))
+            self.assertEqual(parse_report(program().report(json.loads(served.text("g.json")))).status, 1)
+            again = served.work("make", "contract-broken.json", makes="report", name="c.report", guard=True)
+            self.assertIn("is there already", again["refused"]["text"])
+            served.work("make", "contract-broken.json", makes="report", name="c.report", guard=True, over=True)
+            self.assertTrue(served.text("c.report").startswith("guard 0 "))
+            status, made = served.ask("/work", {"task": "make", "makes": "report", "name": "../c.report", "file": "contract-broken.json",
+                                                "texts": {"contract-broken.json": served.text("contract-broken.json")}})
+            self.assertEqual((status, list(made)), (403, ["refused"]))
+
+    def test_a_file_that_another_program_changed(self):
+        with site("block.asm") as served:
+            was = served.ask("/save", {"name": "n.asm", "text": "one", "was": ""})[1]["made"]["was"]
+            self.assertIn("there already", served.ask("/save", {"name": "n.asm", "text": "two", "was": ""})[1]["refused"]["text"])
+            served.put("n.asm", "by another")
+            self.assertIn("another program", served.ask("/save", {"name": "n.asm", "text": "two", "was": was})[1]["refused"]["text"])
+            self.assertEqual(served.text("n.asm"), "by another")
+
+    def test_a_write_that_fails_leaves_the_file(self):
+        with site("block.asm") as served:
+            folder = Folder(served.folder)
+            with self.assertRaises(UnicodeEncodeError):
+                folder.write("block.asm", "\ud800", None)
+            self.assertEqual(served.text("block.asm"), example_text("block.asm"))
+            self.assertEqual(os.listdir(served.folder), ["block.asm"])
+            with self.assertRaises(Outside):
+                folder.write("no/block.asm", "", None)
+
+    def test_nothing_is_left_beside_the_files(self):
+        with site("write-cut.json") as served:
+            for task in ("run", "check"):
+                served.work(task, "write-cut.json")
+            served.work("map", "write-cut.json", part=0, burst=5, kind="trap")
+            self.assertEqual(os.listdir(served.folder), ["write-cut.json"])
+            self.assertEqual(os.listdir(os.path.dirname(served.folder)), ["folder"])
+
+
+class Texts(unittest.TestCase):
+    """A change leaves all else of a text as it is."""
+
+    FAULT = {"burst": 3, "after": 7, "kind": "trap"}
+
+    def placed(self, text: str, place: int = 0) -> str:
+        made = with_fault(text, "x.jsonc", place, self.FAULT)
+        before, after = (Reader(each, "x.jsonc").whole().plain() for each in (text, made))
+        self.assertEqual(after["parts"][place]["faults"], [*before["parts"][place].get("faults", []), self.FAULT])
+        for part in (before, after):
+            part["parts"][place].pop("faults", None)
+        self.assertEqual(after, before)
+        return made
+
+    def test_faults(self):
+        written = json.dumps(self.FAULT)
+        self.assertEqual(self.placed('{"parts": [{"limit": 1}]}'), '{"parts": [{"limit": 1, "faults": [' + written + "]}]}")
+        self.assertEqual(self.placed('{"parts": [{"x": 1}]}'), '{"parts": [{"faults": [' + written + '], "x": 1}]}')
+        self.assertEqual(self.placed('{"parts": [{}]}'), '{"parts": [{"faults": [' + written + "]}]}")
+        self.assertEqual(self.placed('{"parts": [{"faults": [ ]}]}'), '{"parts": [{"faults": [' + written + " ]}]}")
+        self.assertEqual(self.placed('{"parts": [{"faults": [1, // one\n]}]}'), '{"parts": [{"faults": [1, ' + written + ", // one\n]}]}")
+        text = '{\n  "parts": [\n    {},\n    {\n      "limit": 1, // why\n      "faults": [\n        1, // a\n        2, // b\n      ],\n    },\n  ],\n}'
+        self.assertEqual(self.placed(text, 1), text.replace("2, // b", f"2,\n        {written}, // b"))
+        text = '{"parts": [\n  {\n    "name": "a", // the name\n    "limit": 1\n  }\n]}'
+        self.assertEqual(self.placed(text), text.replace('"limit": 1', f'"limit": 1,\n    "faults": [{written}]'))
+
+    def test_parts_that_are_not_written_out(self):
+        for text in ('{"parts": [{"repeat": 2, "of": {}}]}', '{"parts": []}', '{"parts": 1}', "{}", "[]", '{"parts": [{"faults": 1}]}'):
+            with self.assertRaises(Mistake):
+                with_fault(text, "x.json", 0, self.FAULT)
+
+    def test_schedules(self):
+        listed = {"kind": "listed", "picks": [0, 1]}
+        for text, made in (
+            ('{"version": 1, "x": 2}', '{"version": 1, "schedule": {"kind": "listed", "picks": [0, 1]}, "x": 2}'),
+            ('{"schedule": {"kind": "drawn", "start": 1}, // so\n}', '{"schedule": {"kind": "listed", "picks": [0, 1]}, // so\n}'),
+        ):
+            self.assertEqual(with_schedule_text(text, "x.json", listed), made)
+
+    def test_drivers(self):
+        text = '{"drivers": {"d": {"asm": "one"}}, // table\n "parts": [{"driver": "d"}, {"driver": {"asm": "two\\n"}}, {"driver": {"image": {}}}]}'
+        made, files = with_files(text, "x.json", lambda asm: f"sub/{asm.strip()}.asm")
+        self.assertEqual(files, {"sub/one.asm": "one", "sub/two.asm": "two\n"})
+        self.assertEqual(made, text.replace('"asm": "one"', '"asm_file": "one.asm"').replace('"asm": "two\\n"', '"asm_file": "two.asm"'))
+
+    def test_every_example(self):
+        for name in sorted(os.listdir(os.path.dirname(example_path("x")))):
+            if name.endswith(".json") and not name.startswith("campaign"):
+                made = serve_work.opened(Folder(os.path.dirname(example_path(name))), name)
+                texts = {each: value["text"] for each, value in made["texts"].items()}
+                self.assertEqual(built(made["file"], texts[made["file"]], texts.__getitem__).plain(), example(name), name)
+
+
+EXPLORES = program().ask(["explore"], json.dumps(example("block.json"))).status != 2
+PLAIN = Program(os.path.join(os.path.dirname(os.path.dirname(HERE)), "out/plain/nooks"))
+
+
+class Orders(unittest.TestCase):
+    TABLE = "1 status 0 events 5 failures 0 gone 0 lost 0 picks [0,1]\n2 status 7 events 6 failures 1 gone 2 lost 3 picks []\n"
+
+    def test_tables(self):
+        table = parse_table(self.TABLE + "explored 9 states 2 outcomes kept 1 given_up 0 broken 1\n")
+        self.assertEqual([(each.status, each.picks) for each in table.outcomes], [(0, [0, 1]), (7, [])])
+        self.assertEqual((table.states, table.is_whole), (9, True))
+        self.assertFalse(parse_table(self.TABLE + "explored front 9 states 2 outcomes kept 1 given_up 0 broken 1\n").is_whole)
+        for text in ("", "explored", self.TABLE, "3 status\nexplored 9 states 2 outcomes kept 1 given_up 0 broken 1\n"):
+            with self.assertRaises(Mistake):
+                parse_table(text)
+
+    def test_a_program_without_it(self):
+        """A program that answers with its usage line."""
+        with tempfile.TemporaryDirectory() as folder, site("block.json") as served:
+            path = os.path.join(folder, "nooks")
+            with open(path, "w", encoding="utf-8") as file:
+                file.write(f'#!/bin/sh\n[ "$1" = explore ] && {{ echo "usage: nooks run | asm"; exit 2; }}\nexec {program().path} "$@"\n')
+            os.chmod(path, 0o755)
+            served.server.served.runs.about["program"] = path
+            refused = served.work("explore", "block.json")["refused"]["text"]
+            self.assertEqual(refused, f"{path} is too old: it has no `explore`; the program that ./nooks-plain builds has it")
+
+    @unittest.skipUnless(EXPLORES or os.path.exists(PLAIN.path), "no program has `explore`: ./nooks-plain builds one")
+    def test_a_race(self):
+        """Some orders of the racing driver break its contract; each outcome is opened as a schedule that has it."""
+        with site() as served:
+            if not EXPLORES:
+                served.server.served.runs.about["program"] = PLAIN.path
+            served.put("race.json", json.dumps(racing_scenario()))
+            made = served.work("explore", "race.json")["made"]
+            self.assertTrue(made["whole"])
+            self.assertEqual({row["status"] for row in made["rows"]}, {0, 7})
+            for row in made["rows"]:
+                text = served.work("schedule", "race.json", schedule=row["schedule"])["made"]["text"]
+                shown = served.work("run", "race.json", texts={"race.json": text})["made"]["data"]
+                self.assertTrue(shown["status"].startswith(f"status {row['status']}:"))
+                if row["status"] == 7:
+                    self.assertRegex(row["about"][0], r"^link at event \d+, clause 5: sent ")
+
+
+if __name__ == "__main__":
+    unittest.main()

@@ -3,6 +3,7 @@
 from __future__ import annotations
 
 import re
+from typing import Collection
 
 from .calls import AT_ENTER, BY_DRIVER, answerer
 from .folding import folded_lines
@@ -42,10 +43,12 @@ def waits_for(call: OpenCall, now: PartState) -> str:
 
 
 class Sentences:
-    """Words for the events of one part. `names` has those of the threads."""
+    """Words for the events of one part. `names` has those of the threads, and `guarded` the bursts that a guard
+    stopped."""
 
-    def __init__(self, names: dict[int, str]) -> None:
+    def __init__(self, names: dict[int, str], guarded: Collection[int] = ()) -> None:
         self.names = names
+        self.guarded = guarded
 
     def name(self, thread: int) -> str:
         return self.names.get(thread, f"thread {thread}")
@@ -86,6 +89,8 @@ class Sentences:
 
     def end(self, event: Event) -> str:
         """How a burst ended."""
+        if event.burst in self.guarded:
+            return "The guard STOPS it: a failure like any other."
         if event.cause:
             return f"It FAILS: {cause_words(event.cause)} ({event.cause})."
         if event.answer is not None:

@@ -7,7 +7,7 @@ import os
 import sys
 from typing import Any
 
-from .guards import guarded, guarded_scenario
+from .guards import guarded
 from .listing import source_of
 from .messages import say
 from .page_bursts import important, traces_of
@@ -16,7 +16,7 @@ from .page_text import page_text
 from .picture import command_text, hash_of, version_of
 from .program import Mistake, Program, find_program
 from .report import parse_report
-from .scenario import Scenario, read_scenario
+from .scenario import Scenario, read_scenario, with_traps
 from .times import PartTimes, times_of
 from .unstruck import strikes_of_report
 
@@ -43,7 +43,7 @@ def made_data(program: Program, scenario: Scenario, guard: bool, most: int, titl
     """The data of the page of a scenario's run, with at most so many bursts of each part traced."""
     report = guarded(program, scenario) if guard else parse_report(program.report(scenario))
     times = times_of(report, strikes_of_report(report, scenario))
-    shown = guarded_scenario(program, scenario) if guard else scenario
+    shown = with_traps(scenario, report.guards)
     runs = [part_run(program, shown, each, most) for each in times]
     made = [command_text(args), f"{version_of(program)}; scenario {hash_of(scenario)}"]
     return page_data(title, report, runs, made)

@@ -9,10 +9,11 @@ from typing import Any, Iterator
 
 from .deeds import Deed
 from .facts import REGISTERS
+from .guards import would_have
 from .listing import Source
 from .memory import area
 from .program import Program
-from .report import Event, Part
+from .report import Event, GuardTrap, Part
 from .scenario import Scenario
 from .state_rows import History
 from .trace import effect, head_lines, port_line, register_lines, since_reset, strike_text, traced
@@ -46,10 +47,12 @@ def source_rows(source: Source) -> dict[str, Any]:
     }
 
 
-def item_of(item: Turn | Struck, source: Source, kind: str) -> list[Any]:
+def item_of(item: Turn | Struck, source: Source, kind: str, trap: GuardTrap | None) -> list[Any]:
     """A turn: number, address, what it does, and its instruction if that is not the one of the driver's text. A fault:
-    0, the turns before it, and what it does."""
+    0, the turns before it, what it does, and true for the trap of a guard."""
     if isinstance(item, Struck):
+        if trap and (item.after, item.text) == (trap.after, "trap"):
+            return [0, item.after, f"the guard stops the driver: {would_have(trap)}", True]
         return [0, item.after, strike_text(item.text)]
     made = [item.number, item.address, effect(item, kind)]
     return made if source.words.get(item.address) == item.instruction else [*made, item.instruction]
@@ -98,14 +101,15 @@ def deed_place(trace: Trace, deed: Deed | None, event: Event) -> int:
 def burst_rows(part: Part, event: Event, traces: dict[int, Trace], source: Source, deed: Deed | None) -> dict[str, Any]:
     """All of one traced burst."""
     trace = traces[event.burst]
+    trap = part.guards.get(event.burst)
     before = since_reset(part, event)
     device = [*port_line(part, before, traces.get), *register_lines(part, before)]
     return {
         "head": f"context {trace.context}, {head_lines(trace, part, event, source)[1]}",
         "device": "; ".join(device),
-        "items": [item_of(item, source, part.kind) for item in trace.items],
+        "items": [item_of(item, source, part.kind, trap) for item in trace.items],
         **changed_rows(trace),
         "end": short(event.text),
-        "cause": cause_words(event.cause) if event.cause else "",
+        "cause": "the guard stopped the driver" if trap else cause_words(event.cause) if event.cause else "",
         "breaks": deed_place(trace, deed, event),
     }

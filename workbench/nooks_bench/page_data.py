@@ -107,7 +107,7 @@ def notes_of(part: Part, event: Event, deed: Deed | None, strikes: list[Strike])
 
 def event_rows(run: PartRun, states: list[PartState], deed: Deed | None) -> list[list[Any]]:
     """Each event: its sentence, its line of the report, its burst or 0, and notes."""
-    sentences = Sentences(run.times.names)
+    sentences = Sentences(run.times.names, run.part.guards)
     struck = {strike.event for strike in run.times.struck()}
     rows: list[list[Any]] = []
     for event, before, after in zip(run.part.events, states, states[1:]):

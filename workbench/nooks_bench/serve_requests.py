@@ -191,9 +191,10 @@ class Requests(BaseHTTPRequestHandler):
     def worked(self, given: dict[str, Any]) -> dict[str, Any]:
         """What a run answers; what it makes as a file is written here."""
         file, texts = given.get("file"), given.get("texts")
-        is_whole = isinstance(file, str) and isinstance(texts, dict) and given.get("task") in TASKS
-        if not is_whole or not all(isinstance(text, str) for text in texts.values()):
+        if given.get("task") not in TASKS or not isinstance(file, str) or not isinstance(texts, dict):
             raise Refused(400, "a run has a task, a file and texts")
+        if not all(isinstance(text, str) for text in texts.values()):
+            raise Refused(400, "a text is a text")
         if given["task"] != "open" and file not in texts:
             raise Refused(400, "the texts have no scenario")
         page: socket.socket = self.connection

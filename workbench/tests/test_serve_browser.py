@@ -140,7 +140,8 @@ class Served(unittest.TestCase):
         said = self.until_said("write-cut.asm:12:")
         self.assertEqual(self.text(".bad-number"), "12")
         mark, area = (self.browser.value(f"document.querySelector('{name}').getBoundingClientRect().top") for name in (".bad-line", ".text-area"))
-        self.assertEqual(round(mark - area), 4 + 11 * 17)
+        scrolled = self.browser.value("document.querySelector('.text-area').scrollTop")
+        self.assertEqual(round(mark - area + scrolled), 4 + 11 * 17)
         self.assertEqual(self.browser.value("getComputedStyle(document.querySelector('.run.stale'), '::before').content !== 'none'"), True)
         self.browser.press("s", ctrl=True)
         self.until_said("^saved: write-cut.jsonc, write-cut.asm")
@@ -154,7 +155,7 @@ class Served(unittest.TestCase):
 
     def test_a_fault_of_the_scenario_stands_at_its_line(self):
         self.open("block.json")
-        self.browser.value("(() => { const one = document.querySelector('.text-area'); one.value = one.value.replace('\"limit\": 0', '\"limit\": 99'); "
+        self.browser.value("(() => { const one = document.querySelector('.text-area'); one.value = one.value.replace('\"blocks\": ', '\"limit\": 99, \"blocks\": '); "
                            "one.dispatchEvent(new Event('input')); return 0; })()")
         said = self.until_said("limit: 99 is out of range")
         line = int(said.split(":")[1])
@@ -177,7 +178,10 @@ class Served(unittest.TestCase):
         self.browser.press("Home")
         self.browser.press("n")
         self.assertIn("The guard stopped the driver here", self.text(".said"))
-        self.assertNotIn("CONTRACT BROKEN", self.browser.value("document.body.textContent"))
+        self.assertIn("The guard STOPS it", self.text(".sentence"))
+        self.assertIn("after 16 the guard stops the driver", self.text(".items .chosen"))
+        self.assertIn("BNE r5 r4", self.text(".items"))
+        self.assertEqual(self.browser.value("document.querySelector('.run').textContent.includes('CONTRACT BROKEN')"), False)
         self.assertEqual(self.report(), program().guard(example("sends-twice.json")))
         self.browser.press("Escape")
         self.browser.press("g")

@@ -80,12 +80,13 @@ export class BurstView {
     this.head.replaceChildren(element("h3", {}, `Burst ${number}, turn by turn`), element("p", {}, head), device ? element("p", {}, `device before: ${device}`) : "");
     const item = this.burst.items[this.turn - 1];
     const turns = this.burst.items.filter((each) => each[0]).length;
-    this.where.textContent = this.turn === 0 ? `before turn 1 of ${turns}` : item[0] ? `turn ${item[0]} of ${turns}` : `a fault, after turn ${item[1]}`;
+    this.where.textContent = this.turn === 0 ? `before turn 1 of ${turns}` : item[0] ? `turn ${item[0]} of ${turns}` : `${item[3] ? "the guard" : "a fault"}, after turn ${item[1]}`;
     const ends = this.turn === this.burst.items.length;
     const said = [];
     if (this.turn > 0 && this.turn === this.burst.breaks) said.push(element("b", { class: "broken" }, `CONTRACT BROKEN by this turn: ${item[2]}. `));
-    if (item && !item[0]) said.push(element("b", { class: "fault-text" }, `FAULT of the scenario: ${item[2]}. `));
-    if (ends) said.push(`The burst ends: ${this.burst.cause || this.burst.end}.`);
+    const isGuard = item !== undefined && !item[0] && item[3];
+    if (item && !item[0]) said.push(element("b", { class: "fault-text" }, isGuard ? "The GUARD stops the driver here. " : `FAULT of the scenario: ${item[2]}. `));
+    if (ends && !isGuard) said.push(`The burst ends: ${this.burst.cause || this.burst.end}.`);
     this.said.replaceChildren(...said);
   }
 
@@ -101,7 +102,7 @@ export class BurstView {
     const chosen = place === this.turn ? "chosen" : place > this.turn ? "later" : "";
     const choose = { onclick: () => this.go(place) };
     if (!item[0]) {
-      return element("div", { class: `row item fault-row ${chosen}`, ...choose }, element("span", { class: "cell wide" }, `-- fault strikes after ${item[1]}: ${item[2]}`));
+      return element("div", { class: `row item fault-row ${chosen}`, ...choose }, element("span", { class: "cell wide" }, item[3] ? `-- after ${item[1]} ${item[2]}` : `-- fault strikes after ${item[1]}: ${item[2]}`));
     }
     const breaks = place === this.burst.breaks;
     const [line, text] = this.textOf(item);

@@ -19,7 +19,7 @@ from .ports import REGISTERS
 from .report import Event, Part, Report
 from .state import PartState, states_of
 from .state_rows import histories
-from .times import ACTS, SEVERAL, STAGES, STRIKES, PartTimes, act_letter
+from .times import ACTS, GUARD, SEVERAL, STAGES, STRIKES, PartTimes, act_letter
 from .trace_text import Trace
 from .unstruck import Strike
 from .words import counted, short
@@ -27,7 +27,7 @@ from .words import counted, short
 # The letters of acts and of faults, with what they stand for.
 LETTERS = {
     "acts": {letter: name for name, letter in ACTS.items()} | {SEVERAL: "several kinds"},
-    "faults": {letter: name for name, letter in STRIKES.items()},
+    "faults": {letter: f"fault: {name}" for name, letter in STRIKES.items()} | {GUARD: "the guard stops the driver"},
 }
 
 
@@ -65,8 +65,9 @@ def loaded_spans(part: Part) -> list[list[int]]:
 
 
 def strike_marks(times: PartTimes) -> dict[str, list[str]]:
-    """The letters of the faults that struck, by their events."""
-    marks: dict[str, list[str]] = {}
+    """The letters of the faults that struck, and of a guard that stopped the driver, by their events."""
+    stopped = [event.number for event in times.part.bursts() if event.burst in times.part.guards]
+    marks: dict[str, list[str]] = {str(number): [GUARD] for number in stopped}
     for strike in times.struck():
         marks.setdefault(str(strike.event), []).append(STRIKES[strike.fault["kind"]])
     return marks

@@ -14,11 +14,12 @@ from common import bench, example, example_path, example_text, file_of, program
 
 from nooks_bench.deeds import deed_of
 from nooks_bench.event_words import Sentences
-from nooks_bench.page_text import FOLDER, MODULES, script_text
+from nooks_bench.page_text import FOLDER, MODULES, SERVED_MODULES, script_text
 from nooks_bench.report import parse_report
 from nooks_bench.state import states_of
 
 WRITE_CUT = example_path("write-cut.json")
+SCRIPTS = sorted({*MODULES, *SERVED_MODULES})
 
 
 def page_of(path: str, *words: str) -> str:
@@ -113,6 +114,18 @@ class Pages(unittest.TestCase):
         self.assertIn("not known, since burst", part["bursts"]["5"]["device"])
         self.assertEqual(bench("page", WRITE_CUT, "--traces=-1")[0], 2)
 
+    def test_a_guarded_run(self):
+        """The burst that the guard stopped is shown beside the driver's text, and says who stopped it."""
+        data = data_of(page_of(example_path("sends-twice.json"), "--guard"))
+        part = data["parts"][0]
+        words = [words for words, *_ in part["events"] if "STOPS" in words]
+        self.assertEqual(words, ["The driver works 16 turns for app's c3 send [911, 7]: sent [911, 7]. The guard STOPS it: a failure like any other."])
+        self.assertEqual(part["lanes"]["faults"], {"17": ["G"]})
+        burst = part["bursts"]["6"]
+        self.assertEqual(burst["items"][-1], [0, 16, 'the guard stops the driver: by "sent [911, 7]" it would have sent a second frame in one send (clause 6)', True])
+        self.assertEqual(part["source"]["words"]["4"][0], 11)
+        self.assertEqual(part["source"]["lines"][10], "send: LI r4 911")
+
     def test_a_file(self):
         with tempfile.TemporaryDirectory() as folder:
             path = os.path.join(folder, "page.html")
@@ -164,25 +177,47 @@ class Deeds(unittest.TestCase):
 class Scripts(unittest.TestCase):
     def test_names_of_modules_do_not_meet(self):
         """The modules are one in the page, so no two may declare the same name."""
-        names = re.findall(r"(?m)^(?:const|let|function\*?|class) (\w+)", script_text())
-        self.assertEqual(sorted(names), sorted(set(names)))
+        for modules in (MODULES, SERVED_MODULES):
+            names = re.findall(r"(?m)^(?:const|let|function\*?|class) (\w+)", script_text(modules))
+            self.assertEqual(sorted(names), sorted(set(names)))
 
     def test_modules_stand_after_what_they_import(self):
-        for place, name in enumerate(MODULES):
-            with open(os.path.join(FOLDER, name), encoding="utf-8") as file:
-                wanted = re.findall(r'^import .* from "\./(.*)";$', file.read(), re.MULTILINE)
-            self.assertLessEqual(set(wanted), set(MODULES[:place]), name)
-        self.assertEqual(sorted(MODULES), sorted(name for name in os.listdir(FOLDER) if name.endswith(".js")))
-        self.assertEqual(re.findall(r"(?m)^(?:import|export) .*", script_text()), [])
+        for modules in (MODULES, SERVED_MODULES):
+            for place, name in enumerate(modules):
+                with open(os.path.join(FOLDER, name), encoding="utf-8") as file:
+                    wanted = re.findall(r'^import .* from "\./(.*)";$', file.read(), re.MULTILINE)
+                self.assertLessEqual(set(wanted), set(modules[:place]), name)
+            self.assertEqual(re.findall(r"(?m)^(?:import|export) .*", script_text(modules)), [])
+        self.assertEqual(SCRIPTS, sorted(name for name in os.listdir(FOLDER) if name.endswith(".js")))
+
+    def test_the_page_of_a_run_has_nothing_of_the_server(self):
+        self.assertEqual([word for word in ("fetch(", "XMLHttpRequest", "WebSocket", "sendBeacon", "EventSource") if word in script_text()], [])
 
     @unittest.skipUnless(shutil.which("node"), "there is no node, which reads the modules")
     def test_node_reads_them(self):
         with tempfile.TemporaryDirectory() as folder:
-            for name in MODULES:
+            for name in SCRIPTS:
                 shutil.copy(os.path.join(FOLDER, name), os.path.join(folder, name.replace(".js", ".mjs")))
-            for name in MODULES:
+            for name in SCRIPTS:
                 ended = subprocess.run(["node", "--check", os.path.join(folder, name.replace(".js", ".mjs"))], capture_output=True, text=True, check=False)
                 self.assertEqual((ended.returncode, ended.stderr), (0, ""))
+
+    def types(self, *paths: str) -> str:
+        """What the type checker finds."""
+        words = ["tsc", "--noEmit", "--allowJs", "--checkJs", "--target", "es2022", "--module", "es2022", "--lib", "es2022,dom,dom.iterable"]
+        ended = subprocess.run([*words, *paths], capture_output=True, text=True, check=False)
+        self.assertEqual(ended.returncode == 0, ended.stdout == "")
+        return ended.stdout
+
+    @unittest.skipUnless(shutil.which("tsc"), "there is no tsc, which checks the types of the script: apt-get install node-typescript")
+    def test_types(self):
+        self.assertEqual(self.types(*(os.path.join(FOLDER, name) for name in SCRIPTS)), "")
+        with tempfile.TemporaryDirectory() as folder:
+            for name in SCRIPTS:
+                shutil.copy(os.path.join(FOLDER, name), folder)
+            with open(os.path.join(folder, "wrong.js"), "w", encoding="utf-8") as file:
+                file.write('import { addressOf } from "./elements.js";\naddressOf(1, 2).missing();\n')
+            self.assertIn("wrong.js(2,17): error TS2339", self.types(os.path.join(folder, "wrong.js")))
 
 
 if __name__ == "__main__":

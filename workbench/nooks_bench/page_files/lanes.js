@@ -211,10 +211,10 @@ class Drawing {
 
   faults() {
     if (!Object.keys(this.lanes.faults).length) return;
-    this.begin("faults", "faults of the scenario that struck");
+    this.begin("faults", "faults of the scenario that struck, and where a guard stopped the driver");
     for (const event of this.events()) {
       const letters = this.lanes.faults[event];
-      if (letters) this.letter(event, letters.length > 1 ? "+" : letters[0], "fault", `event ${event}: a fault of the scenario struck`);
+      if (letters) this.letter(event, letters.length > 1 ? "+" : letters[0], "fault", `event ${event}: ${letters.map((each) => this.part.letters.faults[each]).join(", ")}`);
     }
     this.y += LANE;
   }
@@ -325,7 +325,7 @@ export function legendOf(part, step) {
   if (part.failed.size) entries.push(["cross", "cross", "the driver fails; a call is cut"]);
   for (const [letter, name] of Object.entries(part.letters.acts)) if (acts.has(letter)) entries.push(["letter", OUTWARD.includes(letter) ? "outward" : letter === "f" ? "failed-act" : "inward", name, letter]);
   const strikes = new Set(Object.values(part.lanes.faults).flat());
-  for (const [letter, name] of Object.entries(part.letters.faults)) if (strikes.has(letter)) entries.push(["letter", "fault", `fault: ${name}`, letter]);
+  for (const [letter, name] of Object.entries(part.letters.faults)) if (strikes.has(letter)) entries.push(["letter", "fault", name, letter]);
   if (Object.values(part.lanes.frames).includes(true)) entries.push(["triangle", "kept", "frame kept"]);
   if (Object.values(part.lanes.frames).includes(false)) entries.push(["triangle", "lost", "frame lost"]);
   return entries;

@@ -18,6 +18,14 @@ const MAKES = { exact: ["exact JSON", ".json"], report: ["report", ".report"], p
 
 const NO_SCENARIO = "There is no scenario (.json, .jsonc) in this folder: copy one of the examples into it, and load this page again.";
 
+/** What can be done, for who sees the page for the first time. */
+const INTRODUCTION = [
+  "A scenario opens as text, with the text of its drivers, and is run at once. Below the texts its run is gone through event by event.",
+  "Change a text, and run it again (r). Place a fault before a turn of a burst (f), and take it back (u).",
+  "Run it with a guard (g), draw what becomes of a fault at each turn of a burst (m), or list what all orders of the steps come to (x).",
+  "Files are written in this folder alone, when you save (Ctrl+S) or make one.",
+];
+
 const BENCH_KEYS = [
   ["r", "run; Ctrl+Enter does so from a text"],
   ["g", "with a guard or without one, and run"],
@@ -27,6 +35,7 @@ const BENCH_KEYS = [
   ["x", "the outcomes of all orders"],
   ["e, Esc", "to the text; back from it; Esc also stops a run"],
   ["Ctrl+S", "save"],
+  ["F8", "to the place of a fault in a text"],
 ];
 
 class Bench {
@@ -75,13 +84,13 @@ class Bench {
     this.over = button("write over it", "write over the file that is there", () => this.make(true), { hidden: true });
     this.said = element("p", { class: "bench-said", role: "status", "aria-live": "assertive" });
     this.tools = element("div", { class: "tools" },
-      element("div", { class: "tool" }, element("b", {}, "A fault"), this.kind, ...Object.values(this.labels),
+      element("div", { class: "tool" }, element("b", {}, "Fault"), this.kind, ...Object.values(this.labels),
         button("place (f)", "place it before the turn that is looked at (f)", () => this.placeAt(this.page.turnHere), { class: "place-here" }), this.undoer,
         element("span", { class: "none" }, "or a click on 'fault' at a turn, or on a cell of a map")),
-      element("div", { class: "tool" }, button("map of this burst (m)", "what becomes of this fault at each turn of the burst that is looked at (m)", () => this.drawMap(), { class: "draw" }),
+      element("div", { class: "tool" }, element("b", {}, "Tries"), button("map of this burst (m)", "what becomes of this fault at each turn of the burst that is looked at (m)", () => this.drawMap(), { class: "draw" }),
         button("all orders (x)", "what comes of every order of the steps (x)", () => this.explore(), { class: "explore" })),
-      element("div", { class: "tool" }, button("save (Ctrl+S)", "save the texts that are not saved", () => this.save(), { class: "save" }),
-        element("span", {}, "make a file:"), this.makes, this.target, button("make", "make this file in the folder", () => this.make(false), { class: "make" }), this.over),
+      element("div", { class: "tool" }, element("b", {}, "Files"), button("save (Ctrl+S)", "save the texts that are not saved", () => this.save(), { class: "save" }),
+        this.makes, this.target, button("make", "make this file in the folder", () => this.make(false), { class: "make" }), this.over),
       this.orders.holder);
     document.body.append(
       element("section", { class: "bench", "aria-label": "workbench" },
@@ -91,6 +100,8 @@ class Bench {
           this.said),
         this.body = element("div", { class: "bench-body" }, this.editor.holder, this.tools)),
       this.map.holder, this.root);
+    this.body.hidden = true;
+    this.root.append(element("ul", { class: "introduction" }, ...INTRODUCTION.map((line) => element("li", {}, line))));
     this.said.addEventListener("click", () => this.editor.goFault());
     this.showFields();
   }
@@ -129,7 +140,7 @@ class Bench {
   say(text, kind) {
     this.said.textContent = text;
     this.said.className = `bench-said ${kind}`;
-    this.said.title = kind === "refused" ? "a click goes to the place" : "";
+    this.said.title = kind === "refused" ? "a click, or F8, goes to the place" : "";
   }
 
   /** Says what the server refused or ended, and marks its place. */
@@ -198,6 +209,7 @@ class Bench {
     this.files.value = name;
     this.writeOpened(address);
     this.file = file;
+    this.body.hidden = false;
     this.before = [];
     this.undoer.disabled = true;
     this.orders.clear();
@@ -359,6 +371,7 @@ class Bench {
     const inText = document.activeElement === this.editor.area;
     if (isCtrl && press.key === "Enter") this.run();
     else if (isCtrl && press.key === "s") this.save();
+    else if (press.key === "F8") this.editor.goFault();
     else if (press.key === "Escape") this.escape();
     else if (press.key === "e" && !isCtrl && !press.altKey && document.activeElement.matches(":not(textarea, input, select)")) this.editor.area.focus();
     else return;

@@ -46,7 +46,10 @@ def made_data(program: Program, scenario: Scenario, guard: bool, most: int, titl
     shown = with_traps(scenario, report.guards)
     runs = [part_run(program, shown, each, most) for each in times]
     made = [command_text(args), f"{version_of(program)}; scenario {hash_of(scenario)}"]
-    return page_data(title, report, runs, made)
+    data = page_data(title, report, runs, made)
+    if guard:
+        data["status"] += ". It is the run behind a guard"
+    return data
 
 
 def data_of(args: argparse.Namespace) -> dict[str, Any]:

@@ -19,7 +19,7 @@ LAST = re.compile(r"explored( front)? (\d+) states (\d+) outcomes kept (\d+) giv
 # The status of a table that does not have every order.
 CUT = 9
 
-# At most so many outcomes are told with their answers: each is run for them.
+# At most this many outcomes are shown with their answers, for which each is run.
 MOST_TOLD = 64
 
 

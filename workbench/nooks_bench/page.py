@@ -40,7 +40,7 @@ def part_run(program: Program, scenario: Scenario, times: PartTimes, most: int) 
 
 def made_data(program: Program, scenario: Scenario, guard: bool, most: int, title: str,
               args: argparse.Namespace) -> dict[str, Any]:
-    """The data of the page of a scenario's run, with at most so many bursts of each part traced."""
+    """The data of the page of a scenario's run, with at most `most` bursts of each part traced."""
     report = guarded(program, scenario) if guard else parse_report(program.report(scenario))
     times = times_of(report, strikes_of_report(report, scenario))
     shown = with_traps(scenario, report.guards)

@@ -1,5 +1,5 @@
-"""The runs of `serve`: each is a process with a group of its own, which is ended when it takes too long, answers with
-too much, or nobody waits for its answer any more."""
+"""The runs of `serve`: each is a process with a separate group, which is ended when it takes too long, answers with too
+much, or nobody waits for its answer any more."""
 
 from __future__ import annotations
 

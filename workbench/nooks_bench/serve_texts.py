@@ -1,5 +1,5 @@
 """Changes of a scenario's text that leave all else of it as it was written, its comments too: a fault more, another
-schedule, and drivers whose text goes into a file of its own."""
+schedule, and drivers whose text goes into a separate file."""
 
 from __future__ import annotations
 

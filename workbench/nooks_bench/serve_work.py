@@ -1,4 +1,4 @@
-"""What the server of `serve` asks for, done in a process of its own, so that it can be ended at any time.
+"""What the server of `serve` asks for, done in a separate process, so that it can be ended at any time.
 
 The process gets one line of JSON on standard input, answers with one JSON value, and ends itself with all that it began
 when standard input is closed: then the server is gone, or has no more use for the answer."""
@@ -161,7 +161,7 @@ def map_task(asked: Asked) -> Answer:
 
 
 def open_task(asked: Asked) -> Answer:
-    """The texts of a scenario, each driver's in a file of its own, and what distinguishes the files as they are."""
+    """The texts of a scenario, each driver's in a separate file, and what distinguishes the files as they are."""
     return opened(asked.folder, asked.file)
 
 

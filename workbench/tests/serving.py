@@ -19,7 +19,7 @@ from nooks_bench.serve_requests import Server
 
 
 class Site:
-    """A server with a folder of its own."""
+    """A server with its folder."""
 
     def __init__(self, server: Server, folder: str) -> None:
         self.server = server
@@ -50,7 +50,7 @@ class Site:
             return file.read()
 
     def request(self, method: str, path: str, body: bytes | None = None, **headers: str | None) -> tuple[int, str]:
-        """A request with some headers of its own, None for one that is left out; the status and the text."""
+        """A request with some other headers, None for one that is left out; the status and the text."""
         named = {name.replace("_", "-"): value for name, value in headers.items()}
         sent = {"Host": self.host, "X-Nooks-Token": self.token, "Content-Type": "application/json", **named}
         connection = http.client.HTTPConnection("127.0.0.1", self.server.server_port, timeout=60)

@@ -17,8 +17,8 @@ class Gallery(unittest.TestCase):
                 with open(os.path.join(folder, name), "w", encoding="utf-8") as file:
                     json.dump(example(name), file)
             made = os.path.join(out, "pages")
-            status, told, err = bench("gallery", folder, "-o", made)
-            self.assertEqual((status, told), (0, os.path.join(made, "index.html") + "\n"))
+            status, written, err = bench("gallery", folder, "-o", made)
+            self.assertEqual((status, written), (0, os.path.join(made, "index.html") + "\n"))
             self.assertIn("no page of campaign-block.json", err)
             files = ["index.html", "sends-twice-guard.html", "sends-twice.html", "write-cut.html"]
             self.assertEqual(sorted(os.listdir(made)), files)

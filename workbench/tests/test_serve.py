@@ -316,9 +316,9 @@ class Makes(unittest.TestCase):
             shown = served.work("run", "write-cut.json", texts={"write-cut.json": text})["made"]["data"]
             with file_of(text) as path:
                 _, page, _ = bench("page", path)
-            told = json.loads(page.split('id="data">')[1].split("</script>")[0])
-            self.assertEqual(shown["parts"], told["parts"])
-            self.assertEqual(shown["status"], told["status"])
+            alone = json.loads(page.split('id="data">')[1].split("</script>")[0])
+            self.assertEqual(shown["parts"], alone["parts"])
+            self.assertEqual(shown["status"], alone["status"])
 
     def test_a_guard(self):
         with site("sends-twice.json") as served:

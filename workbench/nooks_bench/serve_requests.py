@@ -12,7 +12,7 @@ from typing import Any
 from urllib.parse import parse_qs, urlsplit
 
 from .program import Mistake
-from .serve_folder import Folder, Outside
+from .serve_folder import READ, Folder, Outside, steps_of
 from .serve_runs import Ended, Gone, Runs
 
 # What a run may be asked for; serve_work.py does it.
@@ -197,6 +197,8 @@ class Requests(BaseHTTPRequestHandler):
             raise Refused(400, "a text is a text")
         if given["task"] != "open" and file not in texts:
             raise Refused(400, "the texts have no scenario")
+        for name in (file, *texts):
+            steps_of(name, READ)
         page: socket.socket = self.connection
         made = self.served.runs.answer(given, page)
         if given.get("task") == "make" and "made" in made:

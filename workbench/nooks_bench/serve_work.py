@@ -6,6 +6,8 @@ when standard input is closed: then the server is gone, or has no more use for t
 from __future__ import annotations
 
 import argparse
+import contextlib
+import io
 import json
 import os
 import resource
@@ -141,8 +143,13 @@ def map_words(asked: Asked) -> list[str]:
 
 
 def map_args(asked: Asked) -> argparse.Namespace:
+    """The options of a map; one that is no option of it is a mistake."""
     words = map_words(asked)
-    args = cli.parser(words).parse_args([*words, "--jobs=1", "--quiet"])
+    with contextlib.redirect_stderr(io.StringIO()) as said:
+        try:
+            args = cli.parser(words).parse_args([*words, "--jobs=1", "--quiet"])
+        except SystemExit as ended:
+            raise Mistake(said.getvalue().strip().split("\n")[-1]) from ended
     args.words = words
     return args
 

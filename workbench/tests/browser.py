@@ -161,7 +161,7 @@ class Browser:
         for kind in ("mousePressed", "mouseReleased"):
             self.call("Input.dispatchMouseEvent", type=kind, button="left", clickCount=1, **place)
 
-    def until(self, script: str, seconds: float = 30) -> Any:
+    def until(self, script: str, seconds: float = 120) -> Any:
         """What an expression is as soon as it is true."""
         ends = time.monotonic() + seconds
         while not (found := self.value(script)):

@@ -53,7 +53,7 @@ class Site:
         """A request with some other headers, None for one that is left out; the status and the text."""
         named = {name.replace("_", "-"): value for name, value in headers.items()}
         sent = {"Host": self.host, "X-Nooks-Token": self.token, "Content-Type": "application/json", **named}
-        connection = http.client.HTTPConnection("127.0.0.1", self.server.server_port, timeout=60)
+        connection = http.client.HTTPConnection("127.0.0.1", self.server.server_port, timeout=300)
         try:
             connection.putrequest(method, path, skip_host=True, skip_accept_encoding=True)
             if body is not None and "Content-Length" not in named:
@@ -84,7 +84,7 @@ class Site:
 
 
 @contextlib.contextmanager
-def site(*examples: str, seconds: float = 60.0) -> Iterator[Site]:
+def site(*examples: str, seconds: float = 240.0) -> Iterator[Site]:
     """A server of a new folder with some examples."""
     with tempfile.TemporaryDirectory() as above:
         folder = os.path.join(above, "folder")

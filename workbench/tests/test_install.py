@@ -10,6 +10,7 @@ import stat
 import subprocess
 import tempfile
 import unittest
+import urllib.request
 
 from common import TOP, example_path, program
 
@@ -123,6 +124,24 @@ class Installed(unittest.TestCase):
         page = run(["nooks-bench", "page", example_path("block.json")], env=environment, cwd="/")
         self.assertEqual((page.returncode, page.stderr), (0, ""))
         self.assertIn("</html>", page.stdout)
+        self.assertFalse([name for name in self.files() if "__pycache__" in name])
+
+    def test_the_installed_server_runs(self):
+        environment = {"PATH": f"{self.path('usr/bin')}:/usr/bin:/bin", "PYTHONDONTWRITEBYTECODE": "1"}
+        words = ["nooks-bench", "serve", os.path.dirname(example_path("x"))]
+        server = subprocess.Popen(words, env=environment, cwd="/", stdout=subprocess.PIPE, stderr=subprocess.DEVNULL, text=True)
+        try:
+            address, _, token = server.stdout.readline().strip().partition("?token=")
+            with open(example_path("block.json"), encoding="utf-8") as file:
+                given = {"task": "run", "file": "block.json", "texts": {"block.json": file.read()}}
+            headers = {"X-Nooks-Token": token, "Content-Type": "application/json"}
+            asked = urllib.request.Request(f"{address}work", json.dumps(given).encode(), headers)
+            with urllib.request.urlopen(asked) as answer:
+                self.assertTrue(json.load(answer)["made"]["data"]["status"].startswith("status 0:"))
+        finally:
+            server.terminate()
+            server.communicate()
+        self.assertEqual(server.returncode, 0)
         self.assertFalse([name for name in self.files() if "__pycache__" in name])
 
     def test_man_pages(self):

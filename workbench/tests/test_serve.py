@@ -118,7 +118,8 @@ class Refuses(unittest.TestCase):
             with self.subTest(name=name):
                 status, made = self.site.ask("/save", {"name": name, "text": "{}", "was": ""})
                 self.assertEqual((status, list(made)), (403, ["refused"]))
-                self.assertIn("refused", self.site.work("open", name))
+                status, made = self.site.ask("/work", {"task": "open", "file": name, "texts": {}})
+                self.assertEqual((status, list(made)), (403, ["refused"]))
         self.assertFalse(os.path.exists(outside))
 
     def test_links_lead_nowhere(self):
@@ -180,6 +181,24 @@ class Refuses(unittest.TestCase):
             status, made = self.site.ask("/work", {**whole, **more})
             self.assertEqual((status, list(made)), (200, ["refused"]), more)
 
+    def test_a_run_of_another_path(self):
+        """Neither an option of the command line nor a path outside is taken for the scenario's name."""
+        journal = os.path.join(os.path.dirname(self.site.folder), "journal.json")
+        text = self.site.text("write-cut.json")
+        for name in (f"--journal={journal}", "-o", "../write-cut.json", "/tmp/x.json"):
+            for more in ({"task": "map", "part": 0, "burst": 5, "kind": "trap"}, {"task": "run"}):
+                status, made = self.site.ask("/work", {"file": name, "texts": {name: text}, **more})
+                self.assertEqual((status, list(made)), (403, ["refused"]), name)
+            status, made = self.site.ask("/work", {"task": "run", "file": "w.json", "texts": {"w.json": text, name: ""}})
+            self.assertEqual((status, list(made)), (403, ["refused"]), name)
+        self.assertFalse(os.path.exists(journal))
+
+    def test_a_scenario_of_too_many_bytes(self):
+        """It is refused as the command line refuses it."""
+        text = json.dumps({**example("write-cut.json"), "threads": [{"name": "t" * 1_100_000, "ops": []}]})
+        refused = self.site.work("run", "large.json", texts={"large.json": text})["refused"]
+        self.assertRegex(refused["text"], r"^large\.json:1:1: the scenario has 1,1\d\d,\d{3} bytes as the program reads it; it reads at most 1,048,576$")
+
     def test_the_tasks_are_known(self):
         self.assertEqual(sorted(serve_requests.TASKS), sorted(serve_work.TASKS))
 
@@ -222,7 +241,7 @@ class Ends(unittest.TestCase):
 
     def test_a_page_that_goes_away(self):
         """Its run is ended, with the program that it runs."""
-        with site(seconds=60) as served:
+        with site() as served:
             body = json.dumps(self.long(served)).encode()
             head = f"POST /work HTTP/1.1\r\nHost: {served.host}\r\nX-Nooks-Token: {served.token}\r\n"
             head += f"Content-Type: application/json\r\nContent-Length: {len(body)}\r\n\r\n"
@@ -233,8 +252,8 @@ class Ends(unittest.TestCase):
             number = next(iter(runs.processes)).pid
             ends(self, lambda: len(group(number)) > 1)
             page.close()
-            ends(self, lambda: not runs.processes, 5)
-            ends(self, lambda: not group(number), 5)
+            ends(self, lambda: not runs.processes)
+            ends(self, lambda: not group(number))
 
     def test_a_server_that_is_killed(self):
         """Its runs end themselves."""
@@ -372,8 +391,9 @@ class Makes(unittest.TestCase):
             self.assertEqual(made["command"], "nooks-bench map write-cut.json " + " ".join(words) + " --guard")
             refused = served.work("map", "write-cut.json", part=0, burst=5, kind="reg", register="99", value="2")
             self.assertIn("allowed is a number from 0 to 15", refused["refused"]["text"])
-            refused = served.work("map", "write-cut.json", part=0, burst="5 -o x.svg", kind="trap")
-            self.assertIn("refused", refused)
+            for more in ({"burst": "5 -o x.svg"}, {"kind": "no"}, {"part": "x"}, {"width": []}, {"kind": ["trap"]}):
+                refused = served.work("map", "write-cut.json", **{"part": 0, "burst": 5, "kind": "trap", **more})
+                self.assertEqual(list(refused), ["refused"], more)
             self.assertEqual(os.listdir(served.folder), ["write-cut.json"])
 
     def test_files(self):

@@ -21,7 +21,7 @@ FOLDER = os.path.join(os.path.dirname(os.path.abspath(__file__)), "page_files")
 # and those of the page that a server brings.
 SHARED = ("history.js", "elements.js", "events.js", "lanes.js", "state.js", "burst.js", "page.js")
 MODULES = (*SHARED, "start.js")
-SERVED_MODULES = (*SHARED, "ask.js", "editor.js", "map.js", "orders.js", "serve.js")
+SERVED_MODULES = (*SHARED, "ask.js", "editor.js", "fault.js", "map.js", "orders.js", "serve.js")
 
 IMPORT = re.compile(r'^import [^;]*;\n', re.MULTILINE)
 EXPORT = re.compile(r"^export (?=const |function |class )", re.MULTILINE)

@@ -158,6 +158,7 @@ class Served(unittest.TestCase):
         self.browser.value("(() => { const one = document.querySelector('.text-area'); one.value = one.value.replace('\"blocks\": ', '\"limit\": 99, \"blocks\": '); "
                            "one.dispatchEvent(new Event('input')); return 0; })()")
         said = self.until_said("limit: 99 is out of range")
+        self.assertTrue(self.browser.value("document.querySelector('.run.stale') !== null"))
         line = int(said.split(":")[1])
         self.assertEqual(self.text(".bad-number"), str(line))
         shown = self.browser.value("document.querySelector('.text-area').value").split("\n")[line - 1]
@@ -165,6 +166,11 @@ class Served(unittest.TestCase):
         self.browser.click("document.querySelector('.bench-said')")
         chosen = self.browser.value("document.querySelector('.text-area').selectionStart")
         self.assertTrue(self.browser.value("document.querySelector('.text-area').value")[chosen:].startswith("99"))
+        self.browser.value("(() => { const one = document.querySelector('.text-area'); one.value = one.value.replace('\"limit\": 99, ', ''); "
+                           "one.dispatchEvent(new Event('input')); return 0; })()")
+        self.until_said("the program takes these texts")
+        self.assertFalse(self.browser.value("document.querySelector('.run.stale') !== null"))
+        self.assertTrue(self.browser.value("document.querySelector('.bad-number').hidden"))
 
     def test_a_guard_turns_a_broken_run_into_a_recovered_one(self):
         self.open("sends-twice.json")

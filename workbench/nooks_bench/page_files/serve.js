@@ -3,15 +3,12 @@
 import { Asking } from "./ask.js";
 import { Editor } from "./editor.js";
 import { element } from "./elements.js";
+import { FaultForm } from "./fault.js";
 import { DrawnMap } from "./map.js";
 import { OrderList } from "./orders.js";
 import { Page } from "./page.js";
 
 const CHECK_AFTER = 500;
-
-/** The fields that a kind of fault has. */
-const FIELDS = { trap: [], hang: [], reg: ["register", "value"], poke: ["address", "value"], code: ["address", "value"] };
-const KIND_WORDS = { trap: "trap: the driver stops", hang: "hang: the driver goes on for ever", reg: "reg: a register gets another word", poke: "poke: a word of memory", code: "code: a word of its text" };
 
 /** What can be made as a file, with its ending. */
 const MAKES = { exact: ["exact JSON", ".json"], report: ["report", ".report"], page: ["page", ".html"], map: ["map of the burst", ".svg"], guarded: ["guarded scenario", ".json"] };
@@ -38,16 +35,22 @@ const BENCH_KEYS = [
   ["F8", "to the place of a fault in a text"],
 ];
 
+function button(text, label, act, more = {}) {
+  return element("button", { type: "button", title: label, onclick: act, ...more }, text);
+}
+
 class Bench {
   constructor({ token, folder, seconds }) {
     this.asking = new Asking(token);
     this.seconds = seconds;
     this.file = "";
+    this.ran = "";
     this.opened = "";
     this.refusedToDrop = "";
     this.before = [];
     this.stop = null;
     this.checking = 0;
+    this.fault = new FaultForm();
     this.editor = new Editor(() => this.changed());
     this.map = new DrawnMap((fault, part) => this.place(part, fault));
     this.orders = new OrderList((schedule) => this.openOrder(schedule));
@@ -69,41 +72,42 @@ class Bench {
   }
 
   build(folder) {
-    const button = (text, label, act, more = {}) => element("button", { type: "button", title: label, onclick: act, ...more }, text);
-    const field = (name, label, value, more = {}) => element("input", { class: `field-${name}`, "aria-label": label, title: label, value, autocomplete: "off", ...more });
     this.files = element("select", { "aria-label": "scenario", class: "files", onchange: () => this.open(this.files.value) });
     this.guard = element("input", { type: "checkbox", onchange: () => this.run() });
     this.stopper = button("\u25a0 stop", "stop the run (Esc)", () => this.stop?.abort(), { disabled: true, class: "stop" });
-    this.undoer = button("undo", "take the last fault or schedule back (u)", () => this.undo(), { disabled: true, class: "undo" });
-    this.kind = element("select", { "aria-label": "kind of fault", class: "kind", onchange: () => this.showFields() },
-      ...Object.entries(KIND_WORDS).map(([kind, words]) => element("option", { value: kind }, words)));
-    this.fields = { register: field("register", "registers: 8, or 1-3,7 for a map", "8"), address: field("address", "addresses: 4096, or 4096-4099 for a map", "4096"), value: field("value", "value", "2") };
-    this.labels = Object.fromEntries(Object.entries(this.fields).map(([name, input]) => [name, element("label", {}, `${name} `, input)]));
-    this.makes = element("select", { "aria-label": "what is made", class: "makes" }, ...Object.entries(MAKES).map(([name, [words, ending]]) => element("option", { value: name }, `${words} ${ending}`)));
-    this.target = field("target", "the file's name", "");
-    this.over = button("write over it", "write over the file that is there", () => this.make(true), { hidden: true });
-    this.said = element("p", { class: "bench-said", role: "status", "aria-live": "assertive" });
-    this.tools = element("div", { class: "tools" },
-      element("div", { class: "tool" }, element("b", {}, "Fault"), this.kind, ...Object.values(this.labels),
-        button("place (f)", "place it before the turn that is looked at (f)", () => this.placeAt(this.page.turnHere), { class: "place-here" }), this.undoer,
-        element("span", { class: "none" }, "or a click on 'fault' at a turn, or on a cell of a map")),
-      element("div", { class: "tool" }, element("b", {}, "Tries"), button("map of this burst (m)", "what becomes of this fault at each turn of the burst that is looked at (m)", () => this.drawMap(), { class: "draw" }),
-        button("all orders (x)", "what comes of every order of the steps (x)", () => this.explore(), { class: "explore" })),
-      element("div", { class: "tool" }, element("b", {}, "Files"), button("save (Ctrl+S)", "save the texts that are not saved", () => this.save(), { class: "save" }),
-        this.makes, this.target, button("make", "make this file in the folder", () => this.make(false), { class: "make" }), this.over),
-      this.orders.holder);
-    document.body.append(
-      element("section", { class: "bench", "aria-label": "workbench" },
-        element("div", { class: "bar bench-bar" }, element("b", {}, "nooks-bench serve"), element("span", { class: "none folder", title: "the folder that is served" }, folder), this.files,
-          button("\u25b6 run (r)", "run what stands in the texts (r, or Ctrl+Enter)", () => this.run(), { class: "run-it" }),
-          element("label", { class: "guard" }, this.guard, " with a guard (g)"), this.stopper, button("hide texts", "hide or show the texts and tools", (click) => this.toggleTexts(click.currentTarget)),
-          this.said),
-        this.body = element("div", { class: "bench-body" }, this.editor.holder, this.tools)),
-      this.map.holder, this.root);
-    this.body.hidden = true;
+    this.said = element("p", { class: "bench-said", role: "status", "aria-live": "assertive", onclick: () => this.editor.goFault() });
+    const bar = element("div", { class: "bar bench-bar" },
+      element("b", {}, "nooks-bench serve"), element("span", { class: "none folder", title: "the folder that is served" }, folder), this.files,
+      button("\u25b6 run (r)", "run what stands in the texts (r, or Ctrl+Enter)", () => this.run(), { class: "run-it" }),
+      element("label", { class: "guard" }, this.guard, " with a guard (g)"), this.stopper,
+      button("hide texts", "hide or show the texts and tools", (click) => this.toggleTexts(click.currentTarget)), this.said);
+    const tools = element("div", { class: "tools" }, this.faultTools(), this.tryTools(), this.fileTools(), this.orders.holder);
+    this.body = element("div", { class: "bench-body", hidden: true }, this.editor.holder, tools);
     this.root.append(element("ul", { class: "introduction" }, ...INTRODUCTION.map((line) => element("li", {}, line))));
-    this.said.addEventListener("click", () => this.editor.goFault());
-    this.showFields();
+    document.body.append(element("section", { class: "bench", "aria-label": "workbench" }, bar, this.body), this.map.holder, this.root);
+  }
+
+  faultTools() {
+    this.undoer = button("undo", "take the last fault or schedule back (u)", () => this.undo(), { disabled: true, class: "undo" });
+    return element("div", { class: "tool" }, element("b", {}, "Fault"), ...this.fault.elements,
+      button("place (f)", "place it before the turn that is looked at (f)", () => this.placeAt(this.page.turnHere), { class: "place-here" }), this.undoer,
+      element("span", { class: "none" }, "or a click on 'fault' at a turn, or on a cell of a map"));
+  }
+
+  tryTools() {
+    return element("div", { class: "tool" }, element("b", {}, "Tries"),
+      button("map of this burst (m)", "what becomes of this fault at each turn of the burst that is looked at (m)", () => this.drawMap(), { class: "draw" }),
+      button("all orders (x)", "what comes of every order of the steps (x)", () => this.explore(), { class: "explore" }));
+  }
+
+  fileTools() {
+    const makes = Object.entries(MAKES).map(([name, [words, ending]]) => element("option", { value: name }, `${words} ${ending}`));
+    this.makes = element("select", { "aria-label": "what is made", class: "makes" }, ...makes);
+    this.target = element("input", { class: "field-target", "aria-label": "the file's name", title: "the file's name", autocomplete: "off" });
+    this.over = button("write over it", "write over the file that is there", () => this.make(true), { hidden: true, class: "over" });
+    return element("div", { class: "tool" }, element("b", {}, "Files"),
+      button("save (Ctrl+S)", "save the texts that are not saved", () => this.save(), { class: "save" }), this.makes, this.target,
+      button("make", "make this file in the folder", () => this.make(false), { class: "make" }), this.over);
   }
 
   async start() {
@@ -146,18 +150,12 @@ class Bench {
   /** Says what the server refused or ended, and marks its place. */
   sayRefused({ refused, ended }) {
     this.say((refused ?? ended).text, "refused");
-    this.root.classList.toggle("stale", this.page.data !== null);
     this.editor.mark(refused && refused.line ? refused : null);
   }
 
-  /** Shows the fields that the kind of fault has. */
-  showFields() {
-    for (const [name, label] of Object.entries(this.labels)) label.hidden = !FIELDS[this.kind.value].includes(name);
-  }
-
-  toggleTexts(button) {
+  toggleTexts(toggle) {
     const isHidden = this.body.toggleAttribute("hidden");
-    button.textContent = isHidden ? "show texts" : "hide texts";
+    toggle.textContent = isHidden ? "show texts" : "hide texts";
   }
 
   // What is asked for.
@@ -230,8 +228,11 @@ class Bench {
 
   /** Runs what stands in the texts; what is looked at is where it was, or where `go` goes. */
   async run(go = null) {
+    const texts = JSON.stringify(this.editor.plain);
     const made = await this.work("run");
+    this.showStale();
     if (!made) return;
+    this.ran = texts;
     const before = this.page.data ? { ...this.page.here } : null;
     this.page.take(made.data);
     if (go) go();
@@ -239,7 +240,12 @@ class Bench {
     const how = this.guard.checked ? "with a guard" : "without a guard";
     this.say(`${this.file}, ${how}: ${made.data.status}`, "ran");
     this.root.classList.toggle("guarded", this.guard.checked);
-    this.root.classList.remove("stale");
+    this.showStale();
+  }
+
+  /** Whether the run that is shown is of other texts than those that stand there now. */
+  showStale() {
+    this.root.classList.toggle("stale", this.page.data !== null && JSON.stringify(this.editor.plain) !== this.ran);
   }
 
   toggleGuard() {
@@ -247,16 +253,13 @@ class Bench {
     this.run();
   }
 
-  /** Places the fault of the fields before a turn of the burst that is looked at. */
+  /** Places the fault of the form before a turn of the burst that is looked at. */
   placeAt(turn) {
     const burst = this.page.burstNumber;
     if (!burst || !turn) return this.say("look at an event in which the driver works: a fault strikes in a burst, before a turn", "refused");
-    const fault = { burst, after: turn - 1, kind: this.kind.value };
-    for (const name of FIELDS[fault.kind]) {
-      if (!/^\d+$/.test(this.fields[name].value.trim())) return this.say(`a fault has one ${name}, a number; only a map takes several`, "refused");
-      fault[name] = Number(this.fields[name].value);
-    }
-    return this.place(this.page.here.part, fault);
+    const { several } = this.fault;
+    if (several) return this.say(`a fault has one ${several}, a number; only a map takes several`, "refused");
+    return this.place(this.page.here.part, this.fault.before(turn, burst));
   }
 
   /** Places a fault in the scenario, runs it, and goes to where it struck. */
@@ -298,11 +301,10 @@ class Bench {
     await this.run();
   }
 
-  /** The burst that is looked at and the fault of the fields, as a map takes them. */
+  /** The burst that is looked at and the fault of the form, as a map takes them. */
   mapOptions() {
-    const kind = this.kind.value;
-    const fields = Object.fromEntries(FIELDS[kind].map((name) => [name, this.fields[name].value.trim()]));
-    return { part: this.page.here.part, burst: this.page.burstNumber, kind, ...fields, width: Math.max(600, this.root.clientWidth - 20) };
+    const width = Math.max(600, this.root.clientWidth - 20);
+    return { part: this.page.here.part, burst: this.page.burstNumber, kind: this.fault.kind, ...this.fault.written, width };
   }
 
   async drawMap() {
@@ -350,7 +352,7 @@ class Bench {
 
   /** After a pause in typing, asks whether the program takes the texts. */
   changed() {
-    this.root.classList.toggle("stale", this.page.data !== null);
+    this.showStale();
     clearTimeout(this.checking);
     this.checking = setTimeout(() => this.check(), CHECK_AFTER);
   }

@@ -159,12 +159,15 @@ def is_plain(path: str) -> bool:
 
 
 def replace(at: int, step: str, data: bytes) -> None:
-    """Puts a file in the place of another, so that nobody sees a part of it. A link of that name is not followed."""
+    """Puts a file in the place of another, with its rights, so that nobody sees a part of it. A link of that name is
+    not followed."""
     made = f".{step[:80]}.{secrets.token_hex(8)}"
     file = os.open(made, os.O_WRONLY | os.O_CREAT | os.O_EXCL | NO_LINK, 0o666, dir_fd=at)
     try:
         with os.fdopen(file, "wb") as opened:
             opened.write(data)
+            with contextlib.suppress(FileNotFoundError):
+                os.fchmod(file, stat.S_IMODE(os.stat(step, dir_fd=at, follow_symlinks=False).st_mode))
         os.rename(made, step, src_dir_fd=at, dst_dir_fd=at)
     except BaseException:
         with contextlib.suppress(OSError):

@@ -9,7 +9,7 @@ import time
 from dataclasses import dataclass
 from http.server import BaseHTTPRequestHandler, ThreadingHTTPServer
 from typing import Any
-from urllib.parse import parse_qs, urlsplit
+from urllib.parse import SplitResult, parse_qs, urlsplit
 
 from .program import Mistake
 from .serve_folder import READ, Folder, Outside, steps_of
@@ -62,6 +62,14 @@ class Served:
     policy: str
 
 
+def split_address(address: str) -> SplitResult:
+    """The parts of a request's address."""
+    try:
+        return urlsplit(address)
+    except ValueError as error:
+        raise Refused(400, "this is no address") from error
+
+
 class Server(ThreadingHTTPServer):
     """Listens on this machine's own address alone."""
 
@@ -98,7 +106,7 @@ class Requests(BaseHTTPRequestHandler):
     def do_GET(self) -> None:
         try:
             self.check_sender()
-            address = urlsplit(self.path)
+            address = split_address(self.path)
             self.check_token(parse_qs(address.query).get("token", [""])[0])
             if address.path != "/":
                 raise Refused(404, "there is nothing here: the page is at /")
@@ -145,8 +153,9 @@ class Requests(BaseHTTPRequestHandler):
             raise Refused(413, f"the request has more than {MOST_BODY >> 20} MB: a scenario with its drivers has less")
         try:
             given = json.loads(self.rfile.read(int(length)))
+            json.dumps(given, ensure_ascii=False).encode()
         except (ValueError, RecursionError) as error:
-            raise Refused(400, "the request is no JSON") from error
+            raise Refused(400, "the request is no JSON, or has a text that is no UTF-8") from error
         except OSError as error:
             raise Refused(408, "the request did not come") from error
         if not isinstance(given, dict):

@@ -28,7 +28,7 @@ from .page_text import page_text
 from .program import Mistake, Program, Refusal
 from .refused import explain_fault, parse_fault
 from .scenario import Scenario
-from .serve_folder import Folder, digest_of
+from .serve_folder import Folder, Outside, digest_of
 from .serve_texts import named_files, with_fault, with_files, with_schedule_text
 from .source import Misplaced, Node, Reader
 from .svg import FONT
@@ -184,7 +184,8 @@ def text_of(text: str, known: str | None) -> dict[str, Any]:
 
 
 def opened(folder: Folder, file: str) -> Answer:
-    """The texts of a scenario's file: its own, and those of its drivers."""
+    """The texts of a scenario's file: its own, and those of its drivers. A text that is no scenario is opened alone, to
+    be mended."""
     text = folder.read(file)
     front, _, name = file.rpartition("/")
     stem = os.path.splitext(name)[0]
@@ -200,16 +201,20 @@ def opened(folder: Folder, file: str) -> Answer:
             taken[asm] = known if is_same else free_name(folder, first, ".asm")
         return taken[asm]
 
-    changed, made = with_files(text, file, name_of)
-    texts: dict[str, Any] = {}
+    try:
+        changed, made = with_files(text, file, name_of)
+        named = named_files(Reader(changed, file).whole())
+    except Mistake:
+        return {"file": file, "texts": {file: text_of(text, text)}}
     scenario = file
-    if made:
-        scenario = file if file.endswith(".jsonc") else free_name(folder, f"{beside}{stem}", ".jsonc")
-    texts[scenario] = text_of(changed, text if scenario == file else None)
-    for each in named_files(Reader(changed, scenario).whole()):
+    if made and not file.endswith(".jsonc"):
+        scenario = free_name(folder, f"{beside}{stem}", ".jsonc")
+    texts = {scenario: text_of(changed, text if scenario == file else None)}
+    for each in named:
         path = os.path.normpath(os.path.join(front, each))
-        known = folder.read(path) if path not in made or folder.exists(path) else None
-        texts[path] = text_of(made[path] if known is None else known, known)
+        with contextlib.suppress(Outside):
+            known = folder.read(path) if folder.exists(path) else None
+            texts[path] = text_of(made.get(path, "") if known is None else known, known)
     return {"file": scenario, "texts": texts}
 
 

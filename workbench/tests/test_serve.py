@@ -131,7 +131,9 @@ class Refuses(unittest.TestCase):
         os.symlink(secret, self.site.path("link.json"))
         os.symlink(os.path.join(above, "new.json"), self.site.path("dangling.json"))
         os.symlink(os.path.join(above, "elsewhere"), self.site.path("linked"))
-        for name in ("link.json", "dangling.json", "linked/new.json"):
+        os.mkfifo(self.site.path("pipe.json"))
+        os.mkdir(self.site.path("folder.json"))
+        for name in ("link.json", "dangling.json", "linked/new.json", "pipe.json", "folder.json"):
             with self.subTest(name=name):
                 status, made = self.site.ask("/save", {"name": name, "text": "[]", "was": None})
                 self.assertEqual((status, list(made)), (403, ["refused"]))
@@ -141,7 +143,7 @@ class Refuses(unittest.TestCase):
         self.assertEqual(os.listdir(os.path.join(above, "elsewhere")), [])
         self.assertFalse(os.path.exists(os.path.join(above, "new.json")))
         files = self.site.ask("/files", {})[1]["made"]["files"]
-        self.assertEqual([name for name in files if name.startswith(("link", "dangling"))], [])
+        self.assertEqual([name for name in files if name.startswith(("link", "dangling", "pipe", "folder"))], [])
 
     def test_a_driver_outside_the_folder(self):
         with open(os.path.join(os.path.dirname(self.site.folder), "secret.asm"), "w", encoding="utf-8") as file:
@@ -170,6 +172,8 @@ class Refuses(unittest.TestCase):
         self.assertEqual(self.site.request("POST", "/work", b"[" * 100_000)[0], 400)
         self.assertEqual(self.site.request("POST", "/work", b"{}", Content_Type="text/plain")[0], 415)
         self.assertEqual(self.site.request("POST", "/work", b"{}", Content_Length="-2")[0], 411)
+        self.assertEqual(self.site.request("POST", "/save", b'{"name": "x.json", "text": "\\ud800", "was": ""}')[0], 400)
+        self.assertEqual(self.site.request("GET", f"http://[?token={self.site.token}")[0], 400)
         self.assertEqual(self.site.request("POST", "/elsewhere", b"{}")[0], 404)
         self.assertEqual(self.site.request("GET", f"/etc/passwd?token={self.site.token}")[0], 404)
         self.assertEqual(self.site.ask("/save", {"name": "x.json"})[0], 400)
@@ -321,6 +325,27 @@ class Makes(unittest.TestCase):
             made = served.work("open", "write-cut.json")["made"]
             self.assertEqual(list(made["texts"]), ["write-cut-2.jsonc", "write-cut-2.asm"])
             self.assertEqual([each["was"] for each in made["texts"].values()], ["", ""])
+
+    def test_a_text_that_is_no_scenario_is_opened_to_be_mended(self):
+        with site() as served:
+            for text in ("{", "[]", '{"version": 1, "parts": 3}', ""):
+                served.put("bad.json", text)
+                made = served.work("open", "bad.json")["made"]
+                self.assertEqual({name: (each["text"], each["saved"]) for name, each in made["texts"].items()}, {"bad.json": (text, True)})
+
+    def test_a_driver_that_is_not_there_is_opened_empty(self):
+        with site() as served:
+            text = json.dumps({"parts": [{"driver": {"asm_file": name}} for name in ("new.asm", "../../outside.asm")]})
+            served.put("sub/s.json", text)
+            made = served.work("open", "sub/s.json")["made"]
+            self.assertEqual({name: (each["text"], each["saved"]) for name, each in made["texts"].items()},
+                             {"sub/s.json": (text, True), "sub/new.asm": ("", False)})
+
+    def test_a_file_keeps_its_rights(self):
+        with site("block.asm") as served:
+            os.chmod(served.path("block.asm"), 0o640)
+            Folder(served.folder).write("block.asm", "other", None)
+            self.assertEqual(os.stat(served.path("block.asm")).st_mode & 0o777, 0o640)
 
     def test_opening_takes_a_file_with_the_same_text(self):
         with site("write-cut.json") as served:

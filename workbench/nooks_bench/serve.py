@@ -8,6 +8,7 @@ import signal
 import sys
 from types import FrameType
 
+from .facts import FAULT_KINDS
 from .messages import say
 from .page_text import served_page
 from .program import Mistake, find_program
@@ -34,7 +35,8 @@ def serve(args: argparse.Namespace) -> Server:
     program.version()
     folder = Folder(args.folder)
     token = secrets.token_urlsafe(24)
-    page, policy = served_page({"token": token, "folder": folder.path, "seconds": args.seconds})
+    kinds = {kind: {key: allowed.ends for key, allowed in keys.items()} for kind, keys in FAULT_KINDS.items()}
+    page, policy = served_page({"token": token, "folder": folder.path, "seconds": args.seconds, "kinds": kinds})
     served = Served(folder, Runs(program.path, folder.path, args.seconds), token, page, policy)
     try:
         return Server(args.port, served)

@@ -2,27 +2,29 @@
 
 import { element } from "./elements.js";
 
-/** The fields that a kind has. */
-const FIELDS = { trap: [], hang: [], reg: ["register", "value"], poke: ["address", "value"], code: ["address", "value"] };
-
+/** What a kind does, in words. */
 const KIND_WORDS = {
-  trap: "trap: the driver stops",
-  hang: "hang: the driver goes on for ever",
-  reg: "reg: a register gets another word",
-  poke: "poke: a word of memory",
-  code: "code: a word of its text",
+  trap: "the driver stops",
+  hang: "the driver goes on for ever",
+  reg: "a register gets another word",
+  poke: "a word of memory gets another value",
+  code: "a word of its text gets another value",
 };
 
-const FIELD_WORDS = { register: ["8", "a register; for a map also 1-3,7"], address: ["4096", "an address; for a map also 4096-4099"], value: ["2", "a value"] };
+/** What stands in a field at first. */
+const FIRST = { register: "8", address: "4096", value: "2" };
 
 export class FaultForm {
-  constructor() {
-    const kinds = Object.entries(KIND_WORDS).map(([kind, words]) => element("option", { value: kind }, words));
-    this.kinds = element("select", { "aria-label": "kind of fault", class: "kind", onchange: () => this.showFields() }, ...kinds);
+  /** `kinds` has for each kind its fields, with the least and the greatest number of each. */
+  constructor(kinds) {
+    this.fieldsOf = Object.fromEntries(Object.entries(kinds).map(([kind, fields]) => [kind, Object.keys(fields)]));
+    const options = Object.keys(kinds).map((kind) => element("option", { value: kind }, kind in KIND_WORDS ? `${kind}: ${KIND_WORDS[kind]}` : kind));
+    this.kinds = element("select", { "aria-label": "kind of fault", class: "kind", onchange: () => this.showFields() }, ...options);
     this.fields = {};
     this.labels = {};
-    for (const [name, [value, about]] of Object.entries(FIELD_WORDS)) {
-      this.fields[name] = element("input", { class: `field-${name}`, "aria-label": about, title: about, value, autocomplete: "off" });
+    for (const [name, ends] of Object.entries(Object.assign({}, ...Object.values(kinds)))) {
+      const about = `${name}, ${ends[0]} to ${ends[1]}; for a map also several, as 1-3,7`;
+      this.fields[name] = element("input", { class: `field field-${name}`, "aria-label": about, title: about, value: FIRST[name] ?? String(ends[0]), autocomplete: "off" });
       this.labels[name] = element("label", {}, `${name} `, this.fields[name]);
     }
     this.showFields();
@@ -38,12 +40,12 @@ export class FaultForm {
   }
 
   showFields() {
-    for (const [name, label] of Object.entries(this.labels)) label.hidden = !FIELDS[this.kind].includes(name);
+    for (const [name, label] of Object.entries(this.labels)) label.hidden = !this.fieldsOf[this.kind].includes(name);
   }
 
   /** What stands in the fields, as a map takes it. */
   get written() {
-    return Object.fromEntries(FIELDS[this.kind].map((name) => [name, this.fields[name].value.trim()]));
+    return Object.fromEntries(this.fieldsOf[this.kind].map((name) => [name, this.fields[name].value.trim()]));
   }
 
   /** The name of a field that has no single number, or nothing. */

@@ -40,7 +40,7 @@ function button(text, label, act, more = {}) {
 }
 
 class Bench {
-  constructor({ token, folder, seconds }) {
+  constructor({ token, folder, seconds, kinds }) {
     this.asking = new Asking(token);
     this.seconds = seconds;
     this.file = "";
@@ -50,7 +50,7 @@ class Bench {
     this.before = [];
     this.stop = null;
     this.checking = 0;
-    this.fault = new FaultForm();
+    this.fault = new FaultForm(kinds);
     this.editor = new Editor(() => this.changed());
     this.map = new DrawnMap((fault, part) => this.place(part, fault));
     this.orders = new OrderList((schedule) => this.openOrder(schedule));

@@ -6,6 +6,7 @@ nowhere, also if it is put there between two steps."""
 from __future__ import annotations
 
 import contextlib
+import errno
 import hashlib
 import os
 import re
@@ -146,7 +147,7 @@ def about(error: OSError) -> str:
     """Why a path leads to no file."""
     if isinstance(error, (NotADirectoryError, FileNotFoundError)):
         return "there is no such file in the folder"
-    if error.errno == 40:
+    if error.errno == errno.ELOOP:
         return "a symbolic link is not followed"
     return error.strerror or "cannot be opened"
 

@@ -11,7 +11,7 @@ from race import racing_scenario
 from serving import site
 from test_page import many_events
 from test_page_browser import DRAWN, MOST_SECONDS, MOST_STEPS, STEPS
-from test_serve import EXPLORES, group
+from test_serve import EXPLORES, ends, group
 
 from nooks_bench.report import parse_report
 from nooks_bench.scenario import with_faults
@@ -249,20 +249,15 @@ class Served(unittest.TestCase):
             self.browser.until("document.querySelector('.files').options.length > 1")
             self.choose(".files", "long.json")
             self.until_said("at work")
-            self.browser.until("true")
-            numbers = [process.pid for process in runs.processes]
-            self.assertEqual(len(numbers), 1)
+            ends(self, lambda: len(runs.processes) == 1)
+            number = next(iter(runs.processes)).pid
             if way == "Escape":
                 self.browser.press("Escape")
                 self.until_said("stopped")
             else:
                 self.browser.call("Page.navigate", url="about:blank")
-            self.browser.until("true")
-            for _ in range(300):
-                if not runs.processes:
-                    break
-                self.browser.value("new Promise((done) => setTimeout(done, 20))")
-            self.assertEqual([runs.processes, group(numbers[0])], [set(), []])
+            ends(self, lambda: not runs.processes)
+            ends(self, lambda: not group(number))
         os.unlink(self.site.path("long.json"))
 
     def test_ten_thousand_events(self):

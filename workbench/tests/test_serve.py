@@ -2,6 +2,8 @@
 
 import json
 import os
+import re
+import shutil
 import signal
 import socket
 import subprocess
@@ -9,6 +11,7 @@ import sys
 import tempfile
 import time
 import unittest
+import urllib.request
 
 from common import HERE, bench, example, example_path, example_text, file_of, program
 from race import racing_scenario
@@ -467,6 +470,46 @@ class Makes(unittest.TestCase):
             served.work("map", "write-cut.json", part=0, burst=5, kind="trap")
             self.assertEqual(os.listdir(served.folder), ["write-cut.json"])
             self.assertEqual(os.listdir(os.path.dirname(served.folder)), ["folder"])
+
+
+WRITING = re.compile(r"O_WRONLY|O_RDWR|O_CREAT|\b(?:creat|mkdir|mknod|link|symlink|rename|unlink|truncate)(?:at2?)?\(")
+CALLS = "open,openat,creat,mkdir,mkdirat,mknod,mknodat,link,linkat,symlink,symlinkat,rename,renameat,renameat2,unlink,unlinkat,truncate"
+
+
+@unittest.skipUnless(shutil.which("strace"), "there is no strace, which sees what is written: apt-get install strace")
+class Writes(unittest.TestCase):
+    def written(self, folder: str, log: str, asked: list[tuple[str, dict]]) -> list[str]:
+        """The calls of the system by which a server, and all that it begins, write files while it is asked."""
+        words = ["strace", "-f", "-qq", "-y", "-e", "signal=none", "-e", f"trace={CALLS}", "-o", log]
+        words += [sys.executable, "-B", os.path.join(os.path.dirname(HERE), "nooks-bench"), "serve", folder]
+        tracer = subprocess.Popen(words, stdout=subprocess.PIPE, stderr=subprocess.DEVNULL, text=True)
+        try:
+            address, _, token = tracer.stdout.readline().strip().partition("?token=")
+            headers = {"X-Nooks-Token": token, "Content-Type": "application/json"}
+            for path, given in asked:
+                with urllib.request.urlopen(urllib.request.Request(address + path, json.dumps(given).encode(), headers)) as answer:
+                    self.assertEqual(list(json.load(answer)), ["made"], given)
+        finally:
+            with open(f"/proc/{tracer.pid}/task/{tracer.pid}/children", encoding="utf-8") as file:
+                os.kill(int(file.read().split()[0]), signal.SIGTERM)
+            tracer.communicate()
+        with open(log, encoding="utf-8", errors="replace") as file:
+            return [line for line in file if WRITING.search(line) and " = -1 E" not in line and "/dev/null" not in line]
+
+    def test_nothing_is_written_outside_the_folder(self):
+        with tempfile.TemporaryDirectory() as above:
+            folder = os.path.join(os.path.realpath(above), "folder")
+            os.mkdir(folder)
+            base = {"file": "w.json", "texts": {"w.json": example_text("write-cut.json")}}
+            asked = [("work", {**base, "task": task}) for task in ("check", "run")]
+            asked += [("work", {**base, "task": "map", "part": 0, "burst": 5, "kind": "reg", "register": "1-2", "value": "2", "guard": True}),
+                      ("work", {**base, "task": "make", "makes": "page", "name": "w.html"}), ("save", {"name": "w.json", "text": "{}", "was": ""})]
+            written = self.written(folder, os.path.join(above, "log"), asked)
+            opened = [line for line in written if "openat(" in line]
+            self.assertEqual(len(opened), 2, opened)
+            for line in written:
+                self.assertIn(f"<{folder}>", line)
+            self.assertEqual(sorted(os.listdir(folder)), ["w.html", "w.json"])
 
 
 class Texts(unittest.TestCase):

@@ -199,8 +199,7 @@ class Served(unittest.TestCase):
         self.browser.visit(self.site.address)
         self.browser.errors.clear()
         self.browser.until("document.activeElement.className === 'files' && document.activeElement.options.length > 1")
-        for letter in "write":
-            press(letter)
+        press("w")
         self.until_run()
         self.assertIn("write-cut.jsonc", self.text(".bench-said"))
         press("ArrowRight", 9)

@@ -23,7 +23,7 @@ from .build import built, check
 from .explore import explored
 from .guards import guarded_scenario
 from .jsontext import json_text
-from .page import made_data
+from .page import DEFAULT_TRACES, made_data
 from .page_text import page_text
 from .program import Mistake, Program, Refusal
 from .refused import explain_fault, parse_fault
@@ -39,8 +39,8 @@ Answer = dict[str, Any]
 MOST_MEMORY = 4 * 2**30
 MOST_WRITTEN = 256 * 2**20
 
-# The most bursts of a part that are traced.
-TRACES = 100
+# The most bursts of a part that are traced for the page that is shown; for a page that is made, as many as `page` does.
+SHOWN_TRACES = 100
 
 # The options of a map that the page has.
 MAP_OPTIONS = ("part", "burst", "kind", "register", "address", "value", "width")
@@ -98,14 +98,15 @@ class Asked:
         return [subcommand, self.file, *options, *(["--guard"] if self.guard else [])]
 
 
-def page_data_of(asked: Asked) -> Answer:
+def page_data_of(asked: Asked, most: int) -> Answer:
+    """The data of the page, with at most `most` bursts of each part traced."""
     args = argparse.Namespace(words=asked.words("page"))
-    return made_data(asked.program, asked.scenario(), asked.guard, TRACES, asked.title, args)
+    return made_data(asked.program, asked.scenario(), asked.guard, most, asked.title, args)
 
 
 def run_task(asked: Asked) -> Answer:
     """The run of the scenario, as the page shows it."""
-    return {"data": page_data_of(asked)}
+    return {"data": page_data_of(asked, SHOWN_TRACES)}
 
 
 def check_task(asked: Asked) -> Answer:
@@ -240,7 +241,7 @@ def guarded_text(asked: Asked) -> str:
 
 
 def page_file(asked: Asked) -> str:
-    return page_text(page_data_of(asked))
+    return page_text(page_data_of(asked, DEFAULT_TRACES))
 
 
 # What can be made of a scenario as a file.

@@ -16,7 +16,7 @@ import urllib.request
 from common import HERE, bench, example, example_path, example_text, file_of, program
 from race import racing_scenario
 from serving import Site, site
-from test_page import many_events
+from test_page import data_of, many_events
 
 from nooks_bench import serve_requests, serve_work
 from nooks_bench.build import built
@@ -363,7 +363,7 @@ class Makes(unittest.TestCase):
             shown = served.work("run", "write-cut.json", texts={"write-cut.json": text})["made"]["data"]
             with file_of(text) as path:
                 _, page, _ = bench("page", path)
-            alone = json.loads(page.split('id="data">')[1].split("</script>")[0])
+            alone = data_of(page)
             self.assertEqual(shown["parts"], alone["parts"])
             self.assertEqual(shown["status"], alone["status"])
 
@@ -434,7 +434,8 @@ class Makes(unittest.TestCase):
             with open(example_path("contract-broken.report"), encoding="utf-8") as file:
                 self.assertEqual(served.text("c.report"), file.read())
             self.assertEqual(json.loads(served.text("c.json")), example("contract-broken.json"))
-            self.assertIn("id=\"data\"", served.text("c.html"))
+            _, alone, _ = bench("page", served.path("contract-broken.json"))
+            self.assertEqual(data_of(served.text("c.html"))["parts"], data_of(alone)["parts"])
             self.assertTrue(served.text("c.svg").startswith("<svg"))
             self.assertEqual(parse_report(program().report(json.loads(served.text("g.json")))).status, 1)
             again = served.work("make", "contract-broken.json", makes="report", name="c.report", guard=True)

@@ -201,6 +201,8 @@ class Bench {
     const answer = await this.asking.ask("/work", { task: "open", file: name, texts: {} });
     if (!answer.made) return this.sayRefused(answer);
     const { file, texts } = answer.made;
+    this.stop?.abort();
+    this.stop = null;
     this.refusedToDrop = "";
     this.page.clear();
     this.opened = name;

@@ -29,6 +29,7 @@ SUBCOMMANDS = {
     "explain": "a report, or the line of a refused input, for people",
     "trace": "one burst, turn by turn, beside the driver's source",
     "replay": "the schedule that gives a report of threads again",
+    "schedules": "how a run can end, over every order of its steps",
     "shrink": "a smaller scenario of which the same holds",
 }
 

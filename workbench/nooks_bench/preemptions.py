@@ -31,8 +31,8 @@ WAVE = 256
 
 @dataclass
 class Walk(Merge):
-    """Goes through a run pick by pick: an actor has a step exactly if the next event of its part is its own. `steps` has
-    of each event of each part how many steps there are up to it."""
+    """Goes through a run pick by pick: an actor has a step exactly if the next event of its part is its own. `steps`
+    has of each event of each part how many steps there are up to it."""
 
     def __post_init__(self) -> None:
         super().__post_init__()
@@ -73,8 +73,8 @@ class Walk(Merge):
         return all(done == len(part.events) for done, part in zip(self.done, self.report.parts))
 
     def lasts(self, scenario: Scenario) -> Picks:
-        """Of each actor after how many steps it surely has none: a thread after its last answer, arrivals after the last
-        frame, a recovery at the end."""
+        """Of each actor after how many steps it surely has none: a thread after its last answer, arrivals after the
+        last frame, a recovery at the end."""
         threads = [self.steps[calls[-1].part][calls[-1].answered - 1] if calls else 0 for calls in self.calls]
         found = [*threads]
         for part, spec, steps in zip(self.report.parts, scenario["parts"], self.steps):

@@ -16,6 +16,13 @@ ENTRIES = {
 # The drivers that do what their classes ask.
 SOUND_DRIVERS = {"block": ["block", "block-media"], "net": ["net"], "sound": ["sound"]}
 
+# Drivers of examples/ that race with themselves, or are wrong in another way.
+WRONG_DRIVERS = {
+    "block": ["read-ahead", "shared-word", "spins", "stale-read"],
+    "net": ["two-sends", "sends-twice"],
+    "sound": ["plays-on"],
+}
+
 # Changes of the sound drivers, each of which breaks its class's contract in one place, or is wrong in another way.
 HABITS = {
     "block": [

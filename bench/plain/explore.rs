@@ -1,7 +1,7 @@
 //! Every order of the steps of a scenario: the outcomes that some order has, and an order for each.
 //!
-//! This form is ahead of the proved program, which answers its word with the usage line until it has it. No page promises
-//! it yet, and neither the usage line nor `--help` names it.
+//! This form is ahead of the proved program, which answers its word with the usage line until it has it. docs/EXPLORE.md
+//! describes it, and neither the usage line nor `--help` names it.
 //!
 //! Runs are followed level by level: those of one step, those of two, and so on. Runs of one length after which all goes
 //! on alike are one state. The states of a level stand in the order of their least picks, and their successors are made

@@ -16,6 +16,8 @@ from .report import Part, Report, parse_report
 from .scenario import Scenario, with_schedule
 from .words import short
 
+# The things that are parts' contracts, and the value of one that was not broken.
+CONTRACT = "contract of "
 KEPT = "kept"
 
 
@@ -70,7 +72,7 @@ def things_of(report: Report) -> dict[str, str]:
     """All things of an outcome, in the order in which a reader looks at them."""
     things = dict(answers_of(report))
     for part in report.parts:
-        things[f"contract of {part.name}"] = clause_text(part.broken[1]) if part.broken else KEPT
+        things[CONTRACT + part.name] = clause_text(part.broken[1]) if part.broken else KEPT
         things[f"failures of {part.name}"] = str(part.failures)
         things.update(counts_of(part))
         things[f"config of {part.name}"] = part.config

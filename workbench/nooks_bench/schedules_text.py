@@ -6,7 +6,7 @@ from collections import Counter
 from typing import Sequence
 
 from .columns import Row, text_lines
-from .ends import Differing, End, differing, listed, order_text
+from .ends import CONTRACT, KEPT, Differing, End, differing, listed, order_text
 from .explored import is_plain
 from .facts import STATUSES
 from .preemptions import Search
@@ -23,7 +23,6 @@ LONGEST_VALUE = 90
 LONGEST_ORDER = 400
 
 HEAD: Row = ["outcome", "status", "steps", "failures", "gone", "lost"]
-NO_PROOF = "proves nothing"
 
 
 def clipped(text: str, most: int) -> str:
@@ -61,12 +60,18 @@ def outcome_lines(ends: Sequence[End], most: int) -> list[str]:
     return lines + ([f".. and {len(ends) - most:,} more (--all)"] if len(ends) > most else [])
 
 
+def shortened(values: Sequence[str]) -> list[str]:
+    """Some values on few characters; whole, if two of them would look the same."""
+    found = [clipped(short(value), LONGEST_VALUE) or "nothing" for value in values]
+    return found if len({*found}) == len(found) else [value or "nothing" for value in values]
+
+
 def value_lines(thing: Differing, most: int) -> list[str]:
     """A thing that differs: its values, each with its outcomes."""
-    rows = [[clipped(ranges_text(numbers), LONGEST_LIST), clipped(short(value), LONGEST_VALUE) or "nothing"]
-            for value, numbers in list(thing.values.items())[:most]]
-    wide = max(len(numbers) for numbers, _ in rows)
-    lines = [f"  {thing.name}", *(f"    {numbers:{wide}}  {value}" for numbers, value in rows)]
+    lists = [clipped(ranges_text(numbers), LONGEST_LIST) for numbers in thing.values.values()][:most]
+    values = shortened(list(thing.values)[:most])
+    wide = max(len(numbers) for numbers in lists)
+    lines = [f"  {thing.name}", *(f"    {numbers:{wide}}  {value}" for numbers, value in zip(lists, values))]
     left = len(thing.values) - most
     return lines + ([f"    .. and {counted(left, 'other value')} (--all)"] if left > 0 else [])
 
@@ -83,8 +88,9 @@ def worst_lines(ways: Ways) -> list[str]:
     end = ways.end(number)
     if not end.found.row.status:
         return []
-    broken = [f"{name} is {value}" for name, value in end.things.items() if value.startswith("clause ")]
-    about = "; ".join(each.replace(" is clause", " broken, clause") for each in broken) or "a part is given up"
+    broken = [f"{name} broken, {value}" for name, value in end.things.items()
+              if name.startswith(CONTRACT) and value != KEPT]
+    about = "; ".join(broken) or "a part is given up"
     order = clipped(order_text(end.found.picks, ways.scenario), LONGEST_ORDER)
     picks = ", ".join(map(str, listed_picks(end)))
     return ["", f"outcome {number}: {about}", f"  {order}", f'  "schedule": {{"kind": "listed", "picks": [{picks}]}}']
@@ -105,8 +111,8 @@ def search_lines(search: Search) -> list[str]:
         rows.append([*numbers, "all" if level.is_whole else "a part"])
     lines = ["", "search by preemptions, switches away from an actor that could go on:", *text_lines(rows)]
     if search.is_whole:
-        return lines + ["all orders there are were run; nothing is proved of the program that ran them"]
-    return lines + [f"this {NO_PROOF}: any order that was not run may end otherwise, even break a contract"]
+        return lines + ["every order there is was run, one by one"]
+    return lines + ["this proves nothing: any order that was not run may end otherwise, even break a contract"]
 
 
 def verdict_lines(ways: Ways) -> list[str]:

@@ -18,6 +18,7 @@ from nooks_bench.preemptions import Search, Switch, Walk, follow, setting_of
 from nooks_bench.program import BUILT, Mistake, Program
 from nooks_bench.report import parse_report
 from nooks_bench.scenario import with_schedule
+from nooks_bench.schedules_text import shortened
 
 PLAIN = Program(BUILT["./nooks-plain"])
 EXPLORER = next((each for each in (program(), PLAIN) if os.access(each.path, os.X_OK) and has_explore(each)), None)
@@ -170,6 +171,12 @@ class EveryOrder(unittest.TestCase):
         self.assertIn(f".. and {count - 20} more (--all)\n", out)
         self.assertNotIn("(--all)", whole)
         self.assertEqual(len(re.findall(r"(?m)^\d+ +\d+ +\d+ +\d+ +\d+ +\d+$", whole)), count)
+
+    def test_values_that_look_the_same(self):
+        """Long values are shortened, but not so far that two of them cannot be told apart."""
+        lists = ["[" + ",".join(str(word * word) for word in range(64)) + f",{last}]" for last in (1, 2, 3)]
+        self.assertEqual(shortened(lists), lists)
+        self.assertEqual(shortened([lists[0], "", "done"]), ["[0, 1, 4, .. 65 words]", "nothing", "done"])
 
     def test_order_in_words(self):
         scenario = {"threads": [{"name": "a"}, {"name": "b"}], "parts": [{"name": "p"}, {"name": "q"}]}

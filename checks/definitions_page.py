@@ -74,6 +74,16 @@ CHAPTERS = (
         ("nook_io/Listening", "report_defs/ReportLines", "report_defs/ReportText", "report_defs/Campaigns"),
     ),
     Chapter(
+        "Campaigns with every fault",
+        "What campaigns with several faults a member, every fault, a guard and detail come to.",
+        ("campaign_defs/Types", "campaign_defs/Plans", "campaign_defs/Members", "campaign_defs/Rows", "campaign_laws/Certificates"),
+    ),
+    Chapter(
+        "Every order of steps",
+        "Runs by some order, their outcomes, and the row of each outcome.",
+        ("explore_defs/Orders", "explore_defs/Outcomes", "explore_defs/Explored", "explore_laws/Closing"),
+    ),
+    Chapter(
         "Threads",
         "The lock, the desk of a part, and the workers.",
         ("shares/Shares", "turn_lock/Views", "turn_lock/Seats", "turn_lock/Turns", "desk_like/Desks", "app_threads/Works",
@@ -100,7 +110,7 @@ APART = {"Lib", "Views", "Making"}
 
 # The crates of which each file stands in a chapter.
 CRATES = ("nook_data", "nook_io", "machine_defs", "part_defs", "run_defs", "promise_defs", "headline_laws", "guard_defs", "asm_defs",
-          "input_defs", "report_defs", "command_forms", "nooks")
+          "input_defs", "report_defs", "campaign_defs", "explore_defs", "command_forms", "nooks")
 
 HEAD = """# The definitions
 

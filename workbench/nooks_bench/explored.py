@@ -1,5 +1,5 @@
 """What `explore` says of a scenario: how its run can end, and an order of steps for each end. The proved program does
-not have this form yet, the plain one does, and no theorem covers it."""
+not have this form yet, the plain one does, and it is not proved."""
 
 from __future__ import annotations
 

@@ -9,7 +9,7 @@ import re
 from dataclasses import dataclass
 
 from .outcomes import Row
-from .program import BUILT, REFUSED, USAGE, Mistake, Program, Refusal, find_program
+from .program import BUILT, USAGE, Mistake, Program, find_program
 from .scenario import Scenario
 
 FORM = "explore"
@@ -91,9 +91,4 @@ def is_plain(program: Program) -> bool:
 
 def explored(program: Program, scenario: Scenario) -> Explored:
     """Follows every order of the steps of a scenario."""
-    ended = program.ask([FORM], json.dumps(scenario))
-    if ended.status == REFUSED:
-        raise Refusal(ended.out.strip())
-    if ended.status not in ANSWERS:
-        raise Mistake(f"`{FORM}` ended with status {ended.status}: {(ended.err or ended.out).strip()[:200]}")
-    return parse_explored(ended.out)
+    return parse_explored(program.answer([FORM], json.dumps(scenario), ANSWERS).out)

@@ -45,7 +45,7 @@ def covered_lines(ways: Ways) -> list[str]:
     if found and found.is_front:
         lines.append(f"NOT every order: there are more than {found.states:,} states, so longer runs were not followed")
     elif found:
-        lines.append(f"every order of the steps: {found.states:,} states, found by the plain program, which is not proved")
+        lines.append(f"every order of the steps: {found.states:,} states; the program that found them is not proved")
     lines.append(f"{counted(len(ways.ends), 'outcome')}: {statuses_text(ways.ends)}" if ways.ends else "no outcome yet")
     return lines
 

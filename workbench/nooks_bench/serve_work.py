@@ -20,9 +20,9 @@ from typing import Any, Callable
 
 from . import cli, heatmap
 from .build import built, check
-from .explore import explored
 from .guards import guarded_scenario
 from .jsontext import json_text
+from .orders import every_order
 from .page import DEFAULT_TRACES, made_data
 from .page_text import page_text
 from .program import Mistake, Program, Refusal
@@ -133,7 +133,7 @@ def schedule_task(asked: Asked) -> Answer:
 
 def explore_task(asked: Asked) -> Answer:
     """The outcomes of all orders."""
-    return explored(asked.program, asked.scenario())
+    return every_order(asked.program, asked.scenario())
 
 
 def map_words(asked: Asked) -> list[str]:

@@ -103,7 +103,7 @@ class EveryOrder(unittest.TestCase):
         lines = [[int(word) for word in line.split()] for line in out.split("\n") if re.fullmatch(r"[ \d]+", line)]
         self.assertEqual([line[:3] for line in lines], [[number, each[0], len(each[1])] for number, each in enumerate(found, 1)])
         self.assertIn("every order of the steps: ", out)
-        self.assertIn("found by the plain program, which is not proved", out)
+        self.assertIn("the program that found them is not proved", out)
         self.assertIn(f"run by {'the plain program' if EXPLORER == PLAIN else 'the program'}", out.replace(", " + EXPLORER.path, ""))
         self.assertTrue(out.endswith("some order breaks a contract\n"))
         read = report(example("read-ahead.json"), found[1][1])

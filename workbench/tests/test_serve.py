@@ -20,7 +20,6 @@ from test_page import data_of, many_events
 
 from nooks_bench import serve_requests, serve_work
 from nooks_bench.build import built
-from nooks_bench.explore import parse_table
 from nooks_bench.program import Mistake, Program
 from nooks_bench.report import parse_report
 from nooks_bench.scenario import with_faults
@@ -571,17 +570,6 @@ PLAIN = Program(os.path.join(os.path.dirname(os.path.dirname(HERE)), "out/plain/
 
 
 class Orders(unittest.TestCase):
-    TABLE = "1 status 0 events 5 failures 0 gone 0 lost 0 picks [0,1]\n2 status 7 events 6 failures 1 gone 2 lost 3 picks []\n"
-
-    def test_tables(self):
-        table = parse_table(self.TABLE + "explored 9 states 2 outcomes kept 1 given_up 0 broken 1\n")
-        self.assertEqual([(each.status, each.picks) for each in table.outcomes], [(0, [0, 1]), (7, [])])
-        self.assertEqual((table.states, table.is_whole), (9, True))
-        self.assertFalse(parse_table(self.TABLE + "explored front 9 states 2 outcomes kept 1 given_up 0 broken 1\n").is_whole)
-        for text in ("", "explored", self.TABLE, "3 status\nexplored 9 states 2 outcomes kept 1 given_up 0 broken 1\n"):
-            with self.assertRaises(Mistake):
-                parse_table(text)
-
     def test_a_program_without_it(self):
         """A program that answers with its usage line."""
         with tempfile.TemporaryDirectory() as folder, site("block.json") as served:

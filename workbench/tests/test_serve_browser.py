@@ -36,7 +36,7 @@ class Served(unittest.TestCase):
     def open(self, name: str) -> None:
         self.browser.visit(self.site.address)
         self.browser.errors.clear()
-        self.browser.until("document.querySelector('.files').options.length > 1")
+        self.browser.until("document.querySelector('.files')?.options.length > 1")
         self.choose(".files", name)
         self.until_run()
 
@@ -245,7 +245,7 @@ class Served(unittest.TestCase):
         self.site.put("long.json", json.dumps(many_events()))
         for way in ("Escape", "away"):
             self.browser.visit(self.site.address)
-            self.browser.until("document.querySelector('.files').options.length > 1")
+            self.browser.until("document.querySelector('.files')?.options.length > 1")
             self.choose(".files", "long.json")
             self.until_said("at work")
             ends(self, lambda: len(runs.processes) == 1)

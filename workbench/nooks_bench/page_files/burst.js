@@ -60,6 +60,8 @@ export class BurstView {
     this.whole.hidden = this.burst === null;
     this.without.hidden = this.burst !== null;
     if (this.burst === null) {
+      // A scroll event may still come for the rows of the burst before.
+      this.items.resize(0);
       this.head.replaceChildren(element("h3", {}, number ? `Burst ${number}` : "Burst"));
       const command = `nooks-bench trace ${this.part.place} ${number} SCENARIO`;
       this.without.textContent = number ? `This burst was not traced when the page was made; ${command} shows it.` : "This event is no burst: the driver does not run.";

@@ -45,7 +45,8 @@ def covered_lines(ways: Ways) -> list[str]:
     if found and found.is_front:
         lines.append(f"NOT every order: there are more than {found.states:,} states, so longer runs were not followed")
     elif found:
-        lines.append(f"every order of the steps: {found.states:,} states; the program that found them is not proved")
+        trust = "; the program that found them is not proved" if is_plain(ways.program) else ""
+        lines.append(f"every order of the steps: {found.states:,} states{trust}")
     lines.append(f"{counted(len(ways.ends), 'outcome')}: {statuses_text(ways.ends)}" if ways.ends else "no outcome yet")
     return lines
 

@@ -41,17 +41,21 @@ key_kind key.Class = refl
 key_kind key.Close = refl
 key_kind key.Count = refl
 key_kind key.Data = refl
+key_kind key.Detail = refl
 key_kind key.Driver = refl
 key_kind key.Entries = refl
+key_kind key.Every = refl
 key_kind key.Faults = refl
 key_kind key.First = refl
 key_kind key.Frame = refl
 key_kind key.Get = refl
+key_kind key.Guard = refl
 key_kind key.Image = refl
 key_kind key.Init = refl
 key_kind key.Key = refl
 key_kind key.Kind = refl
 key_kind key.Limit = refl
+key_kind key.Members = refl
 key_kind key.Name = refl
 key_kind key.Op = refl
 key_kind key.Open = refl
@@ -88,17 +92,21 @@ key_token key.Class = record { bytes = refl; some = refl }
 key_token key.Close = record { bytes = refl; some = refl }
 key_token key.Count = record { bytes = refl; some = refl }
 key_token key.Data = record { bytes = refl; some = refl }
+key_token key.Detail = record { bytes = refl; some = refl }
 key_token key.Driver = record { bytes = refl; some = refl }
 key_token key.Entries = record { bytes = refl; some = refl }
+key_token key.Every = record { bytes = refl; some = refl }
 key_token key.Faults = record { bytes = refl; some = refl }
 key_token key.First = record { bytes = refl; some = refl }
 key_token key.Frame = record { bytes = refl; some = refl }
 key_token key.Get = record { bytes = refl; some = refl }
+key_token key.Guard = record { bytes = refl; some = refl }
 key_token key.Image = record { bytes = refl; some = refl }
 key_token key.Init = record { bytes = refl; some = refl }
 key_token key.Key = record { bytes = refl; some = refl }
 key_token key.Kind = record { bytes = refl; some = refl }
 key_token key.Limit = record { bytes = refl; some = refl }
+key_token key.Members = record { bytes = refl; some = refl }
 key_token key.Name = record { bytes = refl; some = refl }
 key_token key.Op = record { bytes = refl; some = refl }
 key_token key.Open = record { bytes = refl; some = refl }

@@ -1,4 +1,4 @@
 pub mod Types
-pub mod Plans
 pub mod Members
 pub mod Rows
+pub mod TableText

@@ -1,10 +1,12 @@
-use Rattle.std.specs.Prelude.{◌≡◌, ℕ, Bool, true, false, List, [], ◌∷◌, length, map, Option, Some, slice_get}
+use Rattle.std.specs.Prelude.{◌≡◌, ℕ, All, Bool, true, false, List, [], ◌∷◌, length, map, Option, Some, slice_get}
 use Rattle.guard_defs.specs.Every.{every_fault, every_fault_guarded}
+use Rattle.guard_defs.specs.Guard.{HasRoom}
 use Rattle.guard_defs.specs.GuardedRuns.{IsGuardedSchedule, guarded_scenario, stops_found}
-use Rattle.campaign_defs.specs.Plans.{struck_by}
-use Rattle.campaign_defs.specs.Types.{Plan, Strikes}
-use Rattle.campaign_defs.specs.declared.plan.Strikes.TheVariants as strikes
+use Rattle.plan_defs.specs.Plans.{struck_by}
+use Rattle.plan_defs.specs.Types.{Plan, Strikes}
+use Rattle.plan_defs.specs.declared.plan.Strikes.TheVariants as strikes
 use Rattle.nook_data.specs.Types.{Event, Fault, FaultKind, PartSpec, Scenario}
+use Rattle.nook_data.specs.Valid.{IsValidScenario}
 use Rattle.run_defs.specs.Simulation.{IsScheduledRun, RunningPart, Simulation, begins}
 
 -- The runs of a campaign, and the faults of its members.
@@ -75,3 +77,14 @@ abbrev pub runs_every : Strikes → Bool
 runs_every (strikes.Every kinds) = true
 runs_every (strikes.Faults faults) = false
 runs_every (strikes.Members lists) = false
+
+-- ---- scenarios that can be run
+
+-- a valid scenario; with a guard each part has room for its traps
+pub record CanRunUnder (guard : Bool) (scenario : Scenario) : Type 0 where
+  pub valid : IsValidScenario scenario
+  pub room : guard ≡ true → All HasRoom scenario.parts
+
+-- the scenario of the member with some faults can be run
+abbrev pub CanRunMember : Plan → List Fault → Type 0
+CanRunMember plan faults = CanRunUnder plan.guard (struck_by plan.base plan.part faults)

@@ -3,7 +3,7 @@ use Rattle.std.specs.Prelude.{option_map, slice_get}
 use Rattle.std.specs.List.{AllZip}
 use Rattle.campaign_defs.specs.Members.{IsBaseRun, IsMemberRun, Ran, members}
 use Rattle.campaign_defs.specs.Types.{Detail, Row}
-use Rattle.campaign_defs.specs.Types.{Plan}
+use Rattle.plan_defs.specs.Types.{Plan}
 use Rattle.nook_data.specs.Types.{Answer, Class, Event, FailCause, Fault, Losses, PartSpec}
 use Rattle.nook_data.specs.declared.steps.Event.TheVariants as event
 use Rattle.part_defs.specs.Runs.{state_of}

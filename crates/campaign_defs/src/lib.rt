@@ -1,6 +1,4 @@
-//! Definitions of campaigns: a scenario is run once for each member, with that member's faults, and a table has a row for
-//! each run.
+//! Definitions of the runs of a campaign and of its table: a row for each run.
 #![tactic(auto)]
 
-pub mod plan;
 pub mod row;

@@ -5,4 +5,5 @@ pub mod ImageReading
 pub mod PartReading
 pub mod ScenarioReading
 pub mod CampaignReading
+pub mod PlanReading
 pub mod Faults

@@ -26,7 +26,7 @@ use Rattle.reading_laws.proofs.ScenariosRead.{scenario_holds}
 
 -- ---- faults
 
-faults_hold : (d : Data) → IfOk (member_faults_of d) (Listed (All IsValidFault) 1 4096)
+pub faults_hold : (d : Data) → IfOk (member_faults_of d) (Listed (All IsValidFault) 1 4096)
 faults_hold d = each_holds IsValidFault (λ earlier. fault_of) 1 4096 (λ earlier. fault_holds) d
 
 -- ---- limits of the scenario
@@ -36,12 +36,12 @@ unrefused : (test : Bool) (why : InputFault) → IfOk (refuse_if test why) (λ _
 unrefused true why = tt
 unrefused false why = refl
 
-at_most : (most n : ℕ) → IfOk (refuse_if (nat_lt most n) fault.TooMany) (λ _. n ≤ most)
+pub at_most : (most n : ℕ) → IfOk (refuse_if (nat_lt most n) fault.TooMany) (λ _. n ≤ most)
 at_most most n =
     less (λ _. nat_lt most n ≡ false) (λ _. n ≤ most) (refuse_if (nat_lt most n) fault.TooMany) (unrefused (nat_lt most n) fault.TooMany)
     (λ passes h. ltb-false most n h)
 
-ops_hold : (threads : List ThreadSpec) → IfOk (check_ops threads) (λ _. ops_count threads ≤ 64)
+pub ops_hold : (threads : List ThreadSpec) → IfOk (check_ops threads) (λ _. ops_count threads ≤ 64)
 ops_hold threads =
     beneath (λ _. ops_count threads ≤ 64) (step.At key.Base) (under (step.At key.Threads) (refuse_if (nat_lt 64 (ops_count threads)) fault.TooMany))
     (beneath (λ _. ops_count threads ≤ 64) (step.At key.Threads) (refuse_if (nat_lt 64 (ops_count threads)) fault.TooMany) (at_most 64 (ops_count threads)))

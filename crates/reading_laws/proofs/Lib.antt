@@ -4,6 +4,7 @@ pub mod ImagesRead
 pub mod Members
 pub mod Names
 pub mod PartsRead
+pub mod PlansRead
 pub mod Readings
 pub mod ScenariosRead
 pub mod LineFeed

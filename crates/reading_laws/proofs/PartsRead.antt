@@ -76,7 +76,7 @@ two_numbers P r d makes h valid =
     (λ first hf. chained IsWord IsValidKind (number_at key.Value 0 4294967295 d) (λ second. let read : Result FaultKind Refusal = Ok (makes first second) in read)
     (word_at_holds key.Value d) (λ second hs. valid first second hf hs))
 
-kind_holds : (name : FaultName) (d : Data) → IfOk (fault_kind name d) IsValidKind
+pub kind_holds : (name : FaultName) (d : Data) → IfOk (fault_kind name d) IsValidKind
 unfolding fault_kind
 kind_holds named.Trap d = tt
 kind_holds named.Hang d = tt

@@ -5,9 +5,11 @@ ghost use Rattle.serde_json.specs.Data.{Data};
 ghost use Rattle.nook_data.specs.Valid.{IsValidFault, IsValidImage, IsValidScenario};
 ghost use Rattle.asm_defs.specs.Assembler.{assembled};
 ghost use Rattle.input_defs.specs.CampaignReading.{campaign_from};
+ghost use Rattle.input_defs.specs.PlanReading.{plan_from};
 ghost use Rattle.nook_data.specs.Members.{IsValidCampaign, member};
 ghost use Rattle.input_defs.specs.ImageReading.{image_of};
 ghost use Rattle.input_defs.specs.ScenarioReading.{scenario_from};
+ghost use Rattle.plan_defs.specs.Plans.{IsValidPlan};
 ghost use Rattle.nook_data.specs.declared.campaign.Campaign.{Campaign};
 ghost use Rattle.nook_data.specs.declared.scenario.Fault.{Fault};
 
@@ -29,6 +31,11 @@ pub fn scenarios_are_valid()
 /// The campaign that some bytes are read as keeps its limits.
 pub fn campaigns_are_valid()
     ensures { (bytes : List ℕ) → IfOk (campaign_from bytes) IsValidCampaign }
+{}
+
+/// The campaign with members, kinds of fault, a guard and details that some bytes are read as keeps its limits.
+pub fn plans_are_valid()
+    ensures { (bytes : List ℕ) → IfOk (plan_from bytes) IsValidPlan }
 {}
 
 /// The scenario of each member of a valid campaign keeps every limit.

@@ -1,11 +1,14 @@
 //! Campaigns: a scenario, one of its parts, and the faults that strike it.
 
-ghost use Rattle.std.specs.Prelude.{◌≡◌, ◌-◌, List, IfOk, length, nat_lt};
+ghost use Rattle.std.specs.Prelude.{◌≡◌, ℕ, ◌-◌, ◌<◌, ◌^◌, List, IfOk, length, nat_lt};
 ghost use Rattle.serde_json.specs.View.{view};
 ghost use Rattle.input_defs.specs.CampaignReading.{campaign_from, campaign_of, check_base, check_ops, check_own_faults};
+ghost use Rattle.input_defs.specs.PlanReading.{check_count};
 ghost use Rattle.nook_data.specs.Members.{IsValidCampaign, faults_at, ops_count};
-ghost use Rattle.input_defs.specs.Reading.{refuse_if};
+ghost use Rattle.input_defs.specs.Reading.{number_at, refuse_if, required};
+ghost use Rattle.input_defs.specs.ScenarioReading.{scenario_of};
 ghost use Rattle.nook_data.specs.declared.scenario.Fault.{Fault};
+ghost use Rattle.asm_defs.specs.declared.keys.Key.TheVariants as key;
 ghost use Rattle.input_defs.specs.declared.input.InputFault.TheVariants as fault;
 ghost use Rattle.scenario_read.specs.Gives.{Gives};
 
@@ -42,19 +45,33 @@ fn campaign_of(alloc: Global, value: &Value) -> Result<Campaign, ScenarioFault>
     ensures { Gives result (campaign_of (view value.now)) }
 {
     check_keys(alloc, value, &[Key::Base, Key::Part, Key::Faults])?;
-    let base = at(
-        Key::Base,
-        scenario_of(alloc, field(alloc, value, Key::Base)?),
-    )?;
-    let Ok(count) = u32::try_from(base.parts.len()) else {
-        return Err(ScenarioFault::NoMemory);
-    };
-    let last = count.saturating_sub(1);
-    let part = number_at(alloc, value, Key::Part, 0, u64::from(last))? as u32;
+    let base = base_of(alloc, value)?;
+    let part = struck_part(alloc, value, &base)?;
     let inside = field(alloc, value, Key::Faults)?;
     let faults = at(Key::Faults, member_faults_of(alloc, inside))?;
     check_base(alloc, &base, part)?;
     Ok(Campaign { base, part, faults })
+}
+
+/// The scenario of a campaign.
+pub fn base_of(alloc: Global, value: &Value) -> Result<Scenario, ScenarioFault>
+    ensures { Gives result (required key.Base scenario_of (view value.now)) }
+{
+    let inside = field(alloc, value, Key::Base)?;
+    at(Key::Base, scenario_of(alloc, inside))
+}
+
+/// The place of the struck part of a campaign's scenario.
+pub fn struck_part(alloc: Global, value: &Value, base: &Scenario) -> Result<u32, ScenarioFault>
+    ensures gives { Gives result (number_at key.Part 0 (length base.now.parts - 1) (view value.now)) }
+    ensures few_parts { IfOk result (λ _. length base.now.parts < 2 ^ 32) }
+{
+    let Ok(count) = u32::try_from(base.parts.len()) else {
+        return Err(ScenarioFault::NoMemory);
+    };
+    let last = count.saturating_sub(1);
+    let part = number_at(alloc, value, Key::Part, 0, u64::from(last))?;
+    Ok(part as u32)
 }
 
 /// The scenario has no more operations than a campaign runs, and its part at a place has room for one more fault.
@@ -63,21 +80,22 @@ fn check_base(alloc: Global, base: &Scenario, part: u32) -> Result<(), ScenarioF
 {
     check_ops(alloc, base.threads.as_slice())?;
     let own = own_fault_count(base.parts.as_slice(), part as usize);
-    check_own_faults(alloc, part, own >= MOST_FAULTS)
+    check_faults(alloc, part, own >= MOST_FAULTS)
 }
 
 /// The threads have at most 64 operations in all.
-fn check_ops(alloc: Global, threads: &[ThreadSpec]) -> Result<(), ScenarioFault>
+pub fn check_ops(alloc: Global, threads: &[ThreadSpec]) -> Result<(), ScenarioFault>
     ensures { Gives result (check_ops threads.now) }
 {
     let checked = refuse_if(alloc, has_many_ops(threads));
     at(Key::Base, at(Key::Threads, checked))
 }
 
-/// The part at a place is told whether it has too many faults of its own.
-fn check_own_faults(alloc: Global, part: u32, too_many: bool) -> Result<(), ScenarioFault>
-    ensures { (own : List Fault) → too_many ≡ nat_lt (MOST_FAULTS - 1) (length own)
+/// Too many faults of the part at a place are refused.
+pub fn check_faults(alloc: Global, part: u32, too_many: bool) -> Result<(), ScenarioFault>
+    ensures own { (own : List Fault) → too_many ≡ nat_lt (MOST_FAULTS - 1) (length own)
         → Gives result (check_own_faults part own) }
+    ensures count { (count : ℕ) → too_many ≡ nat_lt MOST_FAULTS count → Gives result (check_count part count) }
 {
     let checked = at(Key::Faults, refuse_if(alloc, too_many));
     at(
@@ -113,7 +131,7 @@ fn has_many_ops(threads: &[ThreadSpec]) -> bool
 }
 
 /// The number of faults that the part at a place has of its own, 0 where there is no such part.
-fn own_fault_count(parts: &[PartSpec], place: usize) -> usize
+pub fn own_fault_count(parts: &[PartSpec], place: usize) -> usize
     ensures { result ≡ length (faults_at parts.now place) }
 {
     match parts.get(place) {

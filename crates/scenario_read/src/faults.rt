@@ -35,7 +35,7 @@ pub fn member_faults_of(alloc: Global, value: &Value) -> Result<Faults, Scenario
 }
 
 /// Reads faults.
-struct FaultReader;
+pub struct FaultReader;
 
 impl ItemReader for FaultReader {
     type Item = Fault;
@@ -70,7 +70,7 @@ fn fault_of(alloc: Global, value: &Value) -> Result<Fault, ScenarioFault>
 }
 
 /// The name of a kind of fault.
-fn fault_name(alloc: Global, value: &Value) -> Result<FaultName, ScenarioFault>
+pub fn fault_name(alloc: Global, value: &Value) -> Result<FaultName, ScenarioFault>
     ensures { Gives result (named_of fault_named (view value.now)) }
 {
     match value.as_str().and_then(fault_named) {
@@ -81,7 +81,7 @@ fn fault_name(alloc: Global, value: &Value) -> Result<FaultName, ScenarioFault>
 
 /// What a fault of a kind does.
 #[tactic(auto, unfolding(input_defs::specs::PartReading::fault_kind))]
-fn fault_kind(alloc: Global, value: &Value, name: FaultName) -> Result<FaultKind, ScenarioFault>
+pub fn fault_kind(alloc: Global, value: &Value, name: FaultName) -> Result<FaultKind, ScenarioFault>
     ensures { Gives result (fault_kind name (view value.now)) }
 {
     match name {

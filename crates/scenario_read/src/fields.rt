@@ -6,7 +6,9 @@ ghost use Rattle.std.specs.BTreeMap.{keys};
 ghost use Rattle.serde_json.specs.Find.{as_object, get};
 ghost use Rattle.asm_defs.specs.Keys.{key_text};
 ghost use Rattle.input_defs.specs.Views.Readings.{is_key};
-ghost use Rattle.input_defs.specs.Reading.{all_known, bad, object_with, is_object, whole_number, number_at, text_of};
+ghost use Rattle.input_defs.specs.PlanReading.{flag_of, has_key};
+ghost use Rattle.input_defs.specs.Reading.{all_known, bad, object_with, is_object, optional};
+ghost use Rattle.input_defs.specs.Reading.{whole_number, number_at, text_of};
 ghost use Rattle.input_defs.specs.Views.Readings.{number_or};
 ghost use Rattle.scenario_read.specs.Gives.{Fails, Gives, IsMissing};
 
@@ -59,6 +61,13 @@ fn is_key(known: &[Key], name: &str) -> bool
     ensures { result ≡ is_key known.now name.now }
 {
     known.iter().any(|key| name == key_text(*key))
+}
+
+/// Whether an object has a key.
+pub fn has_key(value: &Value, key: Key) -> bool
+    ensures { result ≡ has_key key (view value.now) }
+{
+    value.get(key_text(key)).is_some()
 }
 
 /// The value under a key that must be there.
@@ -134,4 +143,24 @@ pub fn word_at(alloc: Global, value: &Value, key: Key) -> Result<u32, ScenarioFa
 {
     let number = number_at(alloc, value, key, 0, 4_294_967_295)?;
     Ok(number as u32)
+}
+
+/// True or false.
+fn flag_in(alloc: Global, value: &Value) -> Result<bool, ScenarioFault>
+    ensures { Gives result (flag_of (view value.now)) }
+{
+    match value.as_bool() {
+        None => bad_here(alloc, InputFault::WrongKind),
+        Some(flag) => Ok(flag),
+    }
+}
+
+/// Whether the value under a key is true, or `default` where the key is not there.
+pub fn flag_or(alloc: Global, value: &Value, key: Key, default: bool) -> Result<bool, ScenarioFault>
+    ensures { Gives result (optional key flag_of default (view value.now)) }
+{
+    match value.get(key_text(key)) {
+        None => Ok(default),
+        Some(inside) => at(key, flag_in(alloc, inside)),
+    }
 }

@@ -56,6 +56,17 @@ pub fn fault_keys(name: FaultName) -> &'static [Key]
     }
 }
 
+/// The keys of a fault of a kind that has no burst and no turns before it.
+pub fn kind_keys(name: FaultName) -> &'static [Key]
+    ensures { result.now ≡ key.Kind ∷ fault_keys name }
+{
+    match name {
+        FaultName::Trap | FaultName::Hang => &[Key::Kind],
+        FaultName::Poke | FaultName::Code => &[Key::Kind, Key::Address, Key::Value],
+        FaultName::Reg => &[Key::Kind, Key::Register, Key::Value],
+    }
+}
+
 /// The keys of a schedule of a kind.
 pub fn schedule_keys(name: ScheduleName) -> &'static [Key]
     ensures { result.now ≡ schedule_keys name }

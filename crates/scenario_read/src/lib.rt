@@ -15,13 +15,16 @@ mod lists;
 mod names;
 mod ops;
 mod parts;
+mod plan;
 mod scenario;
 mod schedule;
 mod stop;
+mod strikes;
 mod threads;
 
 pub use campaign::read_campaign;
 pub use image::read_image;
 pub use line::fault_line;
+pub use plan::read_plan;
 pub use scenario::read_scenario;
 pub use stop::ScenarioFault;

@@ -1,8 +1,8 @@
 use Rattle.std.specs.Prelude.{ℕ, suc, ◌≡◌, ◌+◌, ◌<◌, ◌≤◌, ◌==◌, max, All, List, [], ◌∷◌, ◌++◌, length, true}
 use Rattle.std.specs.Prelude.{Option, Some, None, if◌then◌else◌, slice_get, slice_set, ⊤}
-use Rattle.campaign_defs.specs.Types.{Plan, Strikes}
-use Rattle.campaign_defs.specs.declared.plan.Strikes.TheVariants as strikes
-use Rattle.campaign_defs.specs.declared.plan.TheConstants.{MOST_EVERY_KINDS, MOST_MEMBER_FAULTS}
+use Rattle.plan_defs.specs.Types.{Plan, Strikes}
+use Rattle.plan_defs.specs.declared.plan.Strikes.TheVariants as strikes
+use Rattle.plan_defs.specs.declared.plan.TheConstants.{MOST_EVERY_KINDS, MOST_MEMBER_FAULTS}
 use Rattle.nook_data.specs.Members.{faults_at, ops_count}
 use Rattle.nook_data.specs.Types.{Fault, PartSpec, Scenario}
 use Rattle.nook_data.specs.Valid.{IsValidFault, IsValidKind, IsValidScenario}

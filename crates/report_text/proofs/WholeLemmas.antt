@@ -35,7 +35,7 @@ use Rattle.report_text.specs.declared.whole_report.PartReport.{PartReport}
 use Rattle.report_text.specs.declared.whole_report.Report.{Report}
 use Rattle.report_text.specs.declared.whole_text.Kind.TheVariants as kind
 use Rattle.report_text.specs.Mirrored.{mirror_answer_line, mirror_report_rows, mirror_report_text, mirror_threads_text}
-use Rattle.report_text.specs.Whole.{HaveEnds, IsReport, ShowsState, device_rows, event_text, failures_in, final_rows, is_broken, is_gone, lists_of, objects_from, part_rows, parts_rows, report_rows, status_in, summaries, summary}
+use Rattle.report_text.specs.Whole.{HaveEnds, IsReport, ShowsState, device_rows, event_text, failures_in, final_rows, is_broken, is_gone, left_rows, lists_of, objects_from, part_rows, parts_rows, report_rows, status_in, summaries, summary}
 use Rattle.report_text.specs.Writing.{each_text}
 
 -- ---- one item and the others
@@ -98,6 +98,20 @@ final_same s events r p e h k =
     ap (λ count. each_text object_line 1 e.objects ++ (device_rows s.class events e.medium ++ (config_line e.config
     ++ (losses_lines s.class r.losses ++ (failures_line count ++ contract_line r.first_break))))) k
     ∙ final_text s s.class events r.losses r.first_break p e h
+
+join_three : (a b c x y z l : List ℕ) → a ≡ x → b ≡ y → c ≡ z → a ++ (b ++ (c ++ l)) ≡ x ++ (y ++ (z ++ l))
+join_three a b c x y z l p q r = rw (p, q, r) refl
+
+-- what a part is left with, by the state that it ends in
+pub left_same : (s : PartSpec) (c : Class) (events : List Event) (n : Losses) (p : PartState) (e : PartEnd) → ShowsState s p e
+    → left_rows c events n e
+    ≡ object_lines 1 12 p.domain.memory ++ (device_lines c events p ++ (config_line p.log.config ++ losses_lines c n))
+left_same s c events n p e h =
+    join_three (each_text object_line 1 e.objects) (device_rows c events e.medium) (config_line e.config)
+    (object_lines 1 12 p.domain.memory) (device_lines c events p) (config_line p.log.config) (losses_lines c n)
+    (ap (each_text object_line 1) h.objects ∙ objects_text 1 12 p.domain.memory)
+    (device_text c events p e.medium h.medium)
+    (ap (λ words. config_line words) h.config)
 
 part_same : (place : ℕ) (s : PartSpec) (events : List Event) (e : PartEnd) → ShowsState s (state_of s events) e
     → part_rows place s events (summary s events e) e ≡ part_text place s events

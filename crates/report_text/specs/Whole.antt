@@ -135,6 +135,11 @@ abbrev pub ending_rows : Class → PartReport → PartEnd → List ℕ
 ending_rows c r e = config_line e.config ++ (losses_lines c r.losses
     ++ (failures_line r.failures ++ contract_line r.first_break))
 
+-- the lines of what a part is left with
+abbrev pub left_rows : Class → List Event → Losses → PartEnd → List ℕ
+left_rows c events n e =
+    each_text object_line 1 e.objects ++ (device_rows c events e.medium ++ (config_line e.config ++ losses_lines c n))
+
 -- the lines behind a part's events
 abbrev pub final_rows : Class → List Event → PartReport → PartEnd → List ℕ
 final_rows c events r e =

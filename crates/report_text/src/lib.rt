@@ -1,6 +1,7 @@
 //! The report of a run: its lines, what it sums up, and its writing into a sink.
 #![tactic(auto)]
 
+mod left;
 mod line;
 mod pieces;
 mod report;
@@ -10,8 +11,9 @@ mod whole_report;
 mod whole_text;
 mod write;
 
+pub use left::{push_answers, push_left};
 pub use line::Line;
-pub use pieces::{push_acts_tail, push_number, push_outcome};
+pub use pieces::{push_acts_tail, push_cause, push_number, push_outcome};
 pub use report::{Journals, Run};
 pub use status::ReportStatus;
 pub use summary::{Summary, write_summary};

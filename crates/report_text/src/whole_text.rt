@@ -88,7 +88,7 @@ fn push_object(line: &mut Line, object: u64, words: &Words) -> Result<(), NoMemo
 }
 
 /// Kernel objects, the first of them number 1.
-fn push_objects(line: &mut Line, objects: &[Words]) -> Result<(), NoMemory>
+pub fn push_objects(line: &mut Line, objects: &[Words]) -> Result<(), NoMemory>
     ensures { OnOk result (line.new ≡ line.old ++ each_text object_line 1 objects.now) }
 {
     let mut object = 1_u64;
@@ -112,7 +112,7 @@ fn push_block(line: &mut Line, block: u64, words: &Words) -> Result<(), NoMemory
 }
 
 /// The blocks of a medium.
-fn push_blocks(line: &mut Line, medium: &[Words]) -> Result<(), NoMemory>
+pub fn push_blocks(line: &mut Line, medium: &[Words]) -> Result<(), NoMemory>
     ensures { OnOk result (line.new ≡ line.old ++ block_lines 0 medium.now) }
 {
     let mut block = 0_u64;
@@ -176,7 +176,7 @@ fn push_sample(line: &mut Line, act: &Act) -> Result<(), NoMemory>
 }
 
 /// The lines of an event's acts.
-fn push_acts(line: &mut Line, kind: Kind, event: &Event) -> Result<(), NoMemory>
+pub fn push_acts(line: &mut Line, kind: Kind, event: &Event) -> Result<(), NoMemory>
     ensures { OnOk result (line.new ≡ line.old ++ event_rows kind event.now) }
 {
     match event {
@@ -189,7 +189,7 @@ fn push_acts(line: &mut Line, kind: Kind, event: &Event) -> Result<(), NoMemory>
 }
 
 /// The configuration.
-fn push_config(line: &mut Line, config: &[u32; 4]) -> Result<(), NoMemory>
+pub fn push_config(line: &mut Line, config: &[u32; 4]) -> Result<(), NoMemory>
     ensures { OnOk result (line.new ≡ line.old ++ config_line config.now) }
 {
     line.push("config")?;
@@ -208,7 +208,7 @@ fn push_spaced(line: &mut Line, words: &[u32]) -> Result<(), NoMemory>
 }
 
 /// The numbers of losses that are told of a class.
-fn push_losses(line: &mut Line, class: Class, losses: &Losses) -> Result<(), NoMemory>
+pub fn push_losses(line: &mut Line, class: Class, losses: &Losses) -> Result<(), NoMemory>
     ensures { OnOk result (line.new ≡ line.old ++ losses_lines class losses.now) }
 {
     match class {

@@ -49,7 +49,7 @@ impl From<NoMemory> for WriteStop {
 }
 
 /// What has a line for each of its items.
-trait Lined {
+pub trait Lined {
     // the line of an item with this number
     ghost text: { ℕ → Self → List ℕ };
 

@@ -1,0 +1,5 @@
+pub mod Asked
+pub mod Counted
+pub mod Detailed
+pub mod Rows
+pub mod Showing

@@ -1,0 +1,5 @@
+pub mod Counting
+pub mod Reported
+pub mod Shown
+pub mod Sums
+pub mod Tallies

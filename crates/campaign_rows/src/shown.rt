@@ -1,0 +1,112 @@
+//! What a run showed its threads and left its parts with, as text.
+
+ghost use Rattle.std.specs.Prelude.{◌≡◌, ◌++◌, IfOk, OnOk};
+ghost use Rattle.campaign_defs.specs.Members.{Ran};
+ghost use Rattle.campaign_defs.specs.Rows.{answer_texts};
+ghost use Rattle.campaign_rows.specs.Reported.{left_parts};
+ghost use Rattle.campaign_rows.specs.Shown.{IsShown, Shows};
+ghost use Rattle.report_defs.specs.ReportText.{answer_lines};
+ghost use Rattle.report_text.specs.Whole.{left_rows};
+
+use nook_data::calls::{Answer, PartAnswers};
+use nook_data::journal::Journal;
+use nook_data::lists::{Items, Words8};
+use nook_data::memory::NoMemory;
+use nook_data::scenario::{PartSpec, Scenario};
+use report_text::{Line, PartEnd, PartReport, Report, push_answers, push_left};
+use std::alloc::Global;
+
+/// What a run showed its threads and left its parts with, as text: what a member's run is compared with.
+#[derive(Drop)]
+pub struct Shown {
+    /// The answers of each thread.
+    pub answers: Items<Words8>,
+    /// What each part was left with.
+    pub left: Items<Words8>,
+}
+
+/// What the run of a report showed and left.
+pub fn shown_of(alloc: Global, scenario: &Scenario, report: &Report) -> Result<Shown, NoMemory>
+    ensures { (ran : Ran) → Shows ran scenario.now report.now → IfOk result (IsShown ran) }
+{
+    let answers = answer_texts(alloc, report.run.answers.as_slice())?;
+    let mut left = Items::new(alloc);
+    push_parts(
+        alloc,
+        scenario.parts.as_slice(),
+        report.run.journals.as_slice(),
+        report.parts.as_slice(),
+        report.ends.as_slice(),
+        &mut left,
+    )?;
+    Ok(Shown { answers, left })
+}
+
+/// The answers of each thread.
+fn answer_texts(alloc: Global, answers: &[PartAnswers]) -> Result<Items<Words8>, NoMemory>
+    ensures { IfOk result (λ texts. texts ≡ answer_texts answers.now) }
+{
+    let mut texts = Items::new(alloc);
+    for own in answers {
+        texts.push(answer_text(alloc, own.as_slice())?)?;
+    }
+    Ok(texts)
+}
+
+/// The answers of a thread.
+fn answer_text(alloc: Global, answers: &[(u32, Answer)]) -> Result<Words8, NoMemory>
+    ensures { IfOk result (λ text. text ≡ answer_lines 1 answers.now) }
+{
+    let mut line = Line::new(alloc);
+    push_answers(&mut line, answers)?;
+    Ok(line.into_words())
+}
+
+/// Adds what each part was left with.
+fn push_parts(
+    alloc: Global,
+    specs: &[PartSpec],
+    journals: &[Journal],
+    parts: &[PartReport],
+    ends: &[PartEnd],
+    texts: &mut Items<Words8>,
+) -> Result<(), NoMemory>
+    ensures { OnOk result (texts.new ≡ texts.old ++ left_parts specs.now journals.now parts.now ends.now) }
+{
+    let Some((spec, more_specs)) = specs.split_first() else {
+        return Ok(());
+    };
+    let Some((journal, more_journals)) = journals.split_first() else {
+        return Ok(());
+    };
+    let Some((part, more_parts)) = parts.split_first() else {
+        return Ok(());
+    };
+    let Some((end, more_ends)) = ends.split_first() else {
+        return Ok(());
+    };
+    texts.push(left_text(alloc, spec, journal, part, end)?)?;
+    push_parts(
+        alloc,
+        more_specs,
+        more_journals,
+        more_parts,
+        more_ends,
+        texts,
+    )
+}
+
+/// What a part was left with.
+fn left_text(
+    alloc: Global,
+    spec: &PartSpec,
+    journal: &Journal,
+    part: &PartReport,
+    end: &PartEnd,
+) -> Result<Words8, NoMemory>
+    ensures { IfOk result (λ text. text ≡ left_rows spec.now.class journal.now.list part.now.losses end.now) }
+{
+    let mut line = Line::new(alloc);
+    push_left(&mut line, spec.class, journal.as_slice(), &part.losses, end)?;
+    Ok(line.into_words())
+}

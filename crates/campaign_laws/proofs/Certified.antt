@@ -16,9 +16,9 @@ use Rattle.front_laws.specs.GuardedPast.{IsUnreachedGuarded, inserted_at}
 use Rattle.front_laws.specs.Owned.{owned}
 use Rattle.guard_defs.specs.Every.{IsIn, every_fault, every_fault_guarded}
 use Rattle.guard_defs.specs.GuardedRuns.{IsGuardedSchedule, guarded_runs, guarded_scenario, spec_of, stops_found}
-use Rattle.campaign_defs.specs.Plans.{IsValidPlan, struck_by, with_struck_by}
-use Rattle.campaign_defs.specs.Types.{Plan, Strikes}
-use Rattle.campaign_defs.specs.declared.plan.Strikes.TheVariants as strikes
+use Rattle.plan_defs.specs.Plans.{IsValidPlan, struck_by, with_struck_by}
+use Rattle.plan_defs.specs.Types.{Plan, Strikes}
+use Rattle.plan_defs.specs.declared.plan.Strikes.TheVariants as strikes
 use Rattle.nook_data.specs.Members.{struck, with_struck}
 use Rattle.nook_data.specs.declared.campaign.MemberRow.{MemberRow}
 use Rattle.nook_data.specs.declared.scenario.Fault.{Fault}

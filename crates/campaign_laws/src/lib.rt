@@ -1,4 +1,7 @@
-//! Laws of campaigns: what a table says of faults that it has no row for. They are theorems over the definitions alone.
+//! Laws of campaigns: which members a campaign has, that each has one run and one row, and what a table says of faults
+//! that it has no row for. They are theorems over the definitions alone.
 #![tactic(auto)]
 
 pub mod every;
+pub mod members;
+pub mod tables;

@@ -6,7 +6,6 @@ ghost use Rattle.fault_places.specs.Places.{faults_at};
 ghost use Rattle.guard_defs.specs.Every.{every_fault, every_fault_guarded};
 ghost use Rattle.guard_defs.specs.Guard.{IsGuardedRun, traps_of};
 ghost use Rattle.machine_defs.specs.BurstFaults.{is_of_burst};
-ghost use Rattle.nook_data.specs.Valid.{IsValidPart};
 ghost use Rattle.nook_data.specs.declared.scenario.FaultKind.{FaultKind};
 ghost use Rattle.part_defs.specs.Runs.{IsRun};
 
@@ -38,7 +37,6 @@ pub fn places_of(
     journal: &[Event],
     traps: &[Fault],
 ) -> Result<Items<BurstPlaces>, NoMemory>
-    requires { IsValidPart spec.now }
     ensures free { IsRun spec.now journal.now → traps.now ≡ [] → (kinds : List FaultKind)
         → IfOk result (λ places. faults_at kinds places ≡ every_fault kinds spec.now journal.now) }
     ensures guarded { IsGuardedRun spec.now journal.now → traps.now ≡ traps_of spec.now journal.now

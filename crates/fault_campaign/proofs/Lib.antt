@@ -1,6 +1,8 @@
+pub mod Bases
+pub mod EveryFaults
+pub mod Given
+pub mod Outcomes
 pub mod Placings
-pub mod Rows
+pub mod PlainTables
 pub mod Struck
 pub mod Tables
-pub mod Tallied
-pub mod Written

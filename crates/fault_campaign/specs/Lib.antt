@@ -1,4 +1,6 @@
 pub mod Members
+pub mod Outcomes
 pub mod Placed
-pub mod Sums
-pub mod Tallies
+pub mod Given
+pub mod Bases
+pub mod Plain

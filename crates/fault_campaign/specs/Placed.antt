@@ -1,25 +1,35 @@
 use Rattle.std.specs.Prelude.{List, All, IfOk, IfSome, Option, Result, slice_get}
 use Rattle.std.specs.List.{AllZip}
-use Rattle.fault_campaign.specs.declared.placing.Told.{Told}
-use Rattle.report_defs.specs.Campaigns.{IsRowOf}
-use Rattle.nook_data.specs.Members.{member}
-use Rattle.nook_data.specs.declared.campaign.Campaign.{Campaign}
-use Rattle.nook_data.specs.declared.campaign.MemberRow.{MemberRow}
+use Rattle.campaign_defs.specs.Members.{Ran}
+use Rattle.campaign_defs.specs.Rows.{IsMemberRow}
+use Rattle.campaign_defs.specs.Types.{Row}
+use Rattle.campaign_rows.specs.Shown.{IsShown}
+use Rattle.campaign_rows.specs.declared.shown.Shown.{Shown}
+use Rattle.fault_campaign.specs.declared.placing.PlacedRow.{PlacedRow}
+use Rattle.nook_data.specs.Types.{Fault}
 use Rattle.nook_data.specs.declared.memory.NoMemory.{NoMemory}
-use Rattle.nook_data.specs.declared.scenario.Fault.{Fault}
+use Rattle.plan_defs.specs.Types.{Plan}
 
--- the row is that of the member with the fault at its place
-abbrev pub IsTold : Campaign → List Fault → Told → Type 0
-IsTold campaign faults told = IfSome (slice_get faults told.place) (λ fault. IsRowOf (member campaign fault) told.row)
+-- the row of the member with some faults, beside whatever run has these texts
+abbrev pub IsRowFor : Plan → Shown → List Fault → Row → Type 0
+IsRowFor plan shown faults row = (own : Ran) → IsShown own shown → IsMemberRow plan own faults row
 
--- so are all rows of a share, where there are any
-abbrev pub AreTold : Campaign → List Fault → Result (List Told) NoMemory → Type 0
-AreTold campaign faults share = IfOk share (All (IsTold campaign faults))
+-- one row for each member, in their order
+abbrev pub AreRowsFor : Plan → Shown → List (List Fault) → List Row → Type 0
+AreRowsFor plan shown lists rows = AllZip (IsRowFor plan shown) lists rows
 
--- the row of a fault, where there is one, is that of the member with it
-abbrev pub IsPlaced : Campaign → Fault → Option MemberRow → Type 0
-IsPlaced campaign fault slot = IfSome slot (IsRowOf (member campaign fault))
+-- the row is that of the member at its place
+abbrev pub IsRowOfPlace : Plan → Shown → List (List Fault) → PlacedRow → Type 0
+IsRowOfPlace plan shown lists placed = IfSome (slice_get lists placed.place) (λ faults. IsRowFor plan shown faults placed.row)
 
--- one slot for each of some faults, in their order
-abbrev pub ArePlaced : Campaign → List Fault → List (Option MemberRow) → Type 0
-ArePlaced campaign faults slots = AllZip (IsPlaced campaign) faults slots
+-- so are all rows of a share, if there are any
+abbrev pub IsShare : Plan → Shown → List (List Fault) → Result (List PlacedRow) NoMemory → Type 0
+IsShare plan shown lists share = IfOk share (All (IsRowOfPlace plan shown lists))
+
+-- the row in a slot, if there is one, is that of the member
+abbrev pub IsSlotOf : Plan → Shown → List Fault → Option Row → Type 0
+IsSlotOf plan shown faults slot = IfSome slot (IsRowFor plan shown faults)
+
+-- one slot for each member, in their order
+abbrev pub AreSlots : Plan → Shown → List (List Fault) → List (Option Row) → Type 0
+AreSlots plan shown lists slots = AllZip (IsSlotOf plan shown) lists slots

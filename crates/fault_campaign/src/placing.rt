@@ -1,33 +1,34 @@
-//! Rows that are told in any order, put at the places of their faults.
+//! Rows that are made in any order, put at the places of their members.
 
 ghost use Rattle.std.specs.Prelude.{◌≡◌, [], All, IfOk, List, length};
-ghost use Rattle.fault_campaign.specs.Placed.{ArePlaced, AreTold, IsTold};
-ghost use Rattle.nook_data.specs.declared.campaign.Campaign.{Campaign};
+ghost use Rattle.campaign_rows.specs.declared.shown.Shown.{Shown};
+ghost use Rattle.fault_campaign.specs.Placed.{AreSlots, IsRowOfPlace, IsShare};
 ghost use Rattle.nook_data.specs.declared.scenario.Fault.{Fault};
+ghost use Rattle.plan_defs.specs.declared.plan.Plan.{Plan};
 
-use nook_data::campaign::MemberRow;
+use campaign_defs::row::Row;
 use nook_data::lists::Items;
 use nook_data::memory::NoMemory;
 use std::alloc::Global;
 
-/// A member's row, told with the place of its fault.
+/// A member's row with its place.
 #[derive(Clone, Copy, Debug, PartialEq, Eq)]
-pub struct Told {
+pub struct PlacedRow {
     pub place: usize,
-    pub row: MemberRow,
+    pub row: Row,
 }
 
-/// What a worker tells: the rows of the members that it ran.
-pub type Share = Result<Items<Told>, NoMemory>;
+/// The rows of the members that a worker ran.
+pub type Share = Result<Items<PlacedRow>, NoMemory>;
 
-/// The rows of some shares, each at its place of `count`; `None` at a place that no share tells of.
+/// The rows of some shares, each at its place of `count`; `None` at a place that no share has.
 pub fn place_all(
     alloc: Global,
     count: usize,
     shares: &[Share],
-) -> Result<Vec<Option<MemberRow>>, NoMemory>
-    ensures { (campaign : Campaign) (faults : List Fault) → length faults ≡ count → All (AreTold campaign faults) shares.now
-        → IfOk result (λ slots. ArePlaced campaign faults slots.items) }
+) -> Result<Vec<Option<Row>>, NoMemory>
+    ensures { (plan : Plan) (shown : Shown) (lists : List (List Fault)) → length lists ≡ count
+        → All (IsShare plan shown lists) shares.now → IfOk result (λ slots. AreSlots plan shown lists slots.items) }
 {
     let mut slots = vec![in alloc; None; count]?;
     for share in shares {
@@ -40,13 +41,13 @@ pub fn place_all(
 }
 
 /// Puts the rows of one share at their places.
-fn place_share(slots: &mut [Option<MemberRow>], rows: &[Told])
-    ensures { (campaign : Campaign) (faults : List Fault) → All (IsTold campaign faults) rows.now → ArePlaced campaign faults slots.old
-        → ArePlaced campaign faults slots.new }
+fn place_share(slots: &mut [Option<Row>], rows: &[PlacedRow])
+    ensures { (plan : Plan) (shown : Shown) (lists : List (List Fault)) → All (IsRowOfPlace plan shown lists) rows.now
+        → AreSlots plan shown lists slots.old → AreSlots plan shown lists slots.new }
 {
-    for told in rows {
-        if told.place < slots.len() {
-            slots[told.place] = Some(told.row);
+    for placed in rows {
+        if placed.place < slots.len() {
+            slots[placed.place] = Some(placed.row);
         }
     }
 }

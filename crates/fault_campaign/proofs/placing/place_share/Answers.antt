@@ -1,14 +1,15 @@
 use Rattle.std.proofs.Common.{subst, sym}
-use Rattle.fault_campaign.specs.Placed.{ArePlaced}
-use Rattle.fault_campaign.proofs.Placings.{told_placed}
+use Rattle.fault_campaign.specs.Placed.{AreSlots}
+use Rattle.fault_campaign.proofs.Placings.{row_placed}
 use Rattle.fault_campaign.proofs.placing.place_share.Goals as goal
-use Rattle.fault_campaign.proofs.placing.place_share.Goals.{then-told-slots, else-told-slots}
+use Rattle.fault_campaign.proofs.placing.place_share.Goals.{then-placed-slots, else-placed-slots}
 
-pub loop-told-preserved : goal.loop-told-preserved
-loop-told-preserved c campaign faults told placed =
-    let before = c.loop-told.invariant campaign faults told placed in
-    let new = told c.loop-told.told-index _ c.loop-told-test.true in
-    elim c.if-told-slots.branch [
-      | then-told-slots w ↦ subst (ArePlaced campaign faults) (sym w.slots-is) (told_placed campaign faults c.loop-told.slots _ before new)
-      | else-told-slots w ↦ subst (ArePlaced campaign faults) (sym w.slots-is) before
+pub loop-placed-preserved : goal.loop-placed-preserved
+loop-placed-preserved c plan shown lists are slots =
+    let before = c.loop-placed.invariant plan shown lists are slots in
+    let new = are c.loop-placed.placed-index _ c.loop-placed-test.true in
+    elim c.if-placed-slots.branch [
+      | then-placed-slots w ↦ subst (AreSlots plan shown lists) (sym w.slots-is)
+          (row_placed plan shown lists c.loop-placed.slots _ before new)
+      | else-placed-slots w ↦ subst (AreSlots plan shown lists) (sym w.slots-is) before
     ]

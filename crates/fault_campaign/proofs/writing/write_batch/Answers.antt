@@ -1,29 +1,13 @@
-use Rattle.std.proofs.Common.{◌∙◌, ◌++◌, ap, subst, sym}
-use Rattle.std.proofs.lemmas.Result.{err_from_is_err_and}
-use Rattle.report_defs.specs.Campaigns.{AreRows}
-use Rattle.fault_campaign.specs.Tallies.{tally_of}
-use Rattle.fault_campaign.proofs.Tables.{rows_once}
-use Rattle.fault_campaign.proofs.Written.{batch_lines, batch_room, wrote_as}
+use Rattle.std.proofs.Common.{◌+◌, ◌++◌, ◌∙◌, ap}
+use Rattle.campaign_defs.specs.TableText.{plan_row_lines}
+use Rattle.campaign_rows.specs.Tallies.{tally_of}
+use Rattle.fault_campaign.proofs.Given.{gives_batch, rows_beside, wrote_as}
 use Rattle.fault_campaign.proofs.writing.write_batch.Goals as goal
 
-pub returns-in_err-write_rows-clause-written : goal.returns-in_err-write_rows-clause-written
-returns-in_err-write_rows-clause-written g c done rows e h =
-    let q = err_from_is_err_and c.from_residual-in_err-write_rows.result c.from_residual-in_err-write_rows.ensures.1 in
-    let made = subst (AreRows c.args.campaign.now c.args.faults.now) (sym c.as_slice.ensures) c.in_ok-rows.ensures in
-    rw (q.1, q.2) (wrote_as _ (batch_lines c.args.campaign.now c.args.faults.now c.args.tally.now done c.as_slice.result.now rows e made h) c.in_err-write_rows.ensures)
-
-pub count_all-requires : goal.count_all-requires
-count_all-requires g c =
-    batch_room _ c.args.campaign.now c.args.faults.now c.args.tally.now c.as_slice-2.result.now
-    (subst (AreRows c.args.campaign.now c.args.faults.now) (sym c.as_slice-2.ensures) c.in_ok-rows.ensures) c.requires.counted
-
-pub returns-clause-written : goal.returns-clause-written
-returns-clause-written g c done rows e h =
-    let made = subst (AreRows c.args.campaign.now c.args.faults.now) (sym c.as_slice.ensures) c.in_ok-rows.ensures in
-    wrote_as _ (batch_lines c.args.campaign.now c.args.faults.now c.args.tally.now done c.as_slice.result.now rows e made h) c.in_ok-write_rows.ensures
-
-pub returns-clause-counted : goal.returns-clause-counted
-returns-clause-counted g c done rows e h =
-    let made = subst (AreRows c.args.campaign.now c.args.faults.now) (sym c.as_slice-2.ensures) c.in_ok-rows.ensures in
-    c.count_all.ensures done e
-    ∙ ap (λ more. tally_of (done ++ more)) (rows_once c.args.campaign.now c.args.faults.now c.as_slice-2.result.now rows made h)
+pub returns : goal.returns
+returns g c own shown =
+    gives_batch c.args.run.now.plan.now own c.args.members.now _ _ _ _ c.args.tally.now _ c.write_rows.result c.in_ok-rows.rows
+    (rows_beside c.args.run.now.plan.now c.args.run.now.shown.now own c.args.members.now c.in_ok-rows.rows shown c.in_ok-rows.ensures)
+    (λ done e. c.in_ok-count_all.ensures.counted done e ∙ ap (λ rows. tally_of (done ++ rows)) c.as_slice.ensures)
+    (wrote_as (plan_row_lines (c.args.tally.now.members + 1) c.in_ok-rows.rows)
+    (ap (plan_row_lines (c.args.tally.now.members + 1)) c.as_slice-2.ensures) c.write_rows.ensures)

@@ -6,6 +6,7 @@ use Rattle.asm_defs.specs.ImageText.{image_text}
 use Rattle.audit_input.proofs.Once.{hands_or_not}
 use Rattle.audit_input.specs.Handed.{Hands}
 use Rattle.burst_trace.specs.Text.{trace_text}
+use Rattle.campaign_defs.specs.TableText.{plan_table_text}
 use Rattle.command_forms.specs.Forms.{AskAlone, Asks, IsForm, is_alone, is_reading, limit_of}
 use Rattle.command_forms.specs.declared.words.Form.{Form}
 use Rattle.command_forms.specs.declared.words.Form.TheVariants as form
@@ -13,20 +14,18 @@ use Rattle.guard_defs.specs.Guard.{HasRoom}
 use Rattle.guard_defs.specs.GuardText.{guard_lines}
 use Rattle.guarded_run.specs.Guarded.{IsGuarded}
 use Rattle.guarded_run.specs.declared.guarded.Guarded.{Guarded}
-use Rattle.input_defs.specs.CampaignReading.{campaign_from}
 use Rattle.input_defs.specs.Faults.{fault_line}
 use Rattle.input_defs.specs.ImageReading.{image_from, image_from_asm}
+use Rattle.input_defs.specs.PlanReading.{plan_from}
 use Rattle.input_defs.specs.ScenarioReading.{scenario_from}
 use Rattle.input_defs.specs.declared.input.InputFault.TheVariants as fault
 use Rattle.input_defs.specs.declared.input.Refusal.{Refusal}
-use Rattle.nook_data.specs.Members.{IsValidCampaign}
 use Rattle.nook_data.specs.Valid.{IsValidScenario}
-use Rattle.nook_data.specs.declared.campaign.Campaign.{Campaign}
 use Rattle.nook_data.specs.declared.scenario.Image.{Image}
 use Rattle.nook_data.specs.declared.scenario.Scenario.{Scenario}
 use Rattle.nook_io.specs.Listening.{Listening, tap_result}
 use Rattle.nooks.proofs.Audits.{sound_report}
-use Rattle.nooks.proofs.Campaigns.{has_members}
+use Rattle.nooks.proofs.Campaigns.{promised_table, table_of}
 use Rattle.nooks.proofs.Guards.{guard_reported, guardable_parts}
 use Rattle.nooks.proofs.Reports.{run_status}
 use Rattle.nooks.proofs.Safety.{all_safe}
@@ -39,9 +38,10 @@ use Rattle.nooks.specs.Streams.{Input, TooLong, Whole}
 use Rattle.nooks.specs.Texts.{at_root, bad_header_text, help_text, no_such_burst_text, usage_text, verdict_text, version_text}
 use Rattle.nooks.specs.declared.program.Status.{Status}
 use Rattle.nooks.specs.declared.program.Status.TheVariants as ended
-use Rattle.reading_laws.proofs.CampaignsRead.{campaign_is_valid}
+use Rattle.plan_defs.specs.Plans.{IsValidPlan}
+use Rattle.plan_defs.specs.Types.{Plan}
+use Rattle.reading_laws.proofs.PlansRead.{plan_is_valid}
 use Rattle.reading_laws.proofs.ScenariosRead.{scenario_is_valid}
-use Rattle.report_defs.specs.Campaigns.{table_text}
 use Rattle.report_defs.specs.ReportText.{report_text, status_of, summary_line}
 use Rattle.run_defs.specs.Generated.{generated}
 use Rattle.run_defs.specs.Simulation.{IsScheduledRun, Simulation, answer_table, begins, journals_of}
@@ -149,27 +149,14 @@ list_exists : (bytes : List ℕ) (hearing : List Listening) (r : Result (List �
 list_exists bytes hearing (Ok text) is = (text, (ended.Done, inr (is, refl)))
 list_exists bytes hearing (Err refusal) is = refused_by form.List bytes hearing (List ℕ) (listing_from bytes) refusal is (λ text line. line)
 
-campaign_exists : (bytes : List ℕ) (hearing : List Listening) (r : Result Campaign Refusal) → campaign_from bytes ≡ r → IfOk r IsValidCampaign
+campaign_exists : (bytes : List ℕ) (hearing : List Listening) (r : Result Plan Refusal) → plan_from bytes ≡ r → IfOk r IsValidPlan
     → HasAnswer (AnswersInput form.Campaign (Whole bytes) hearing)
-campaign_exists bytes hearing (Ok campaign) is valid =
-    let table = has_members campaign valid in (
-      table_text table.0,
-      (
-        ended.Done,
-        inr (
-          record {
-            campaign = campaign;
-            reading = is;
-            rows = table.0;
-            members = table.1.1;
-            text_is = refl;
-          },
-          refl,
-        ),
-      ),
-    )
+campaign_exists bytes hearing (Ok plan) is valid =
+    let there = promised_table plan valid in
+    let text : List ℕ = plan_table_text plan there.0 there.1.0 in
+    (text, (ended.Done, inr (table_of bytes plan there.0 there.1.0 text is there.1.1 refl, refl)))
 campaign_exists bytes hearing (Err refusal) is valid =
-    refused_by form.Campaign bytes hearing Campaign (campaign_from bytes) refusal is (λ text line. line)
+    refused_by form.Campaign bytes hearing Plan (plan_from bytes) refusal is (λ text line. line)
 
 -- ---- traces
 
@@ -349,7 +336,7 @@ input_exists guarded (form.Gen number) (Whole bytes) hearing alone reading = abs
 input_exists guarded (form.GenScenario number) (Whole bytes) hearing alone reading = absurd (true≢false (sym reading))
 input_exists guarded form.Audit (Whole bytes) hearing alone reading = audit_exists bytes hearing
 input_exists guarded form.Campaign (Whole bytes) hearing alone reading =
-    campaign_exists bytes hearing (campaign_from bytes) refl (campaign_is_valid bytes)
+    campaign_exists bytes hearing (plan_from bytes) refl (plan_is_valid bytes)
 input_exists guarded form.Mirror (Whole bytes) hearing alone reading = absurd (true≢false (sym alone))
 input_exists guarded form.List (Whole bytes) hearing alone reading = list_exists bytes hearing (listing_from bytes) refl
 input_exists guarded (form.Trace part burst) (Whole bytes) hearing alone reading =

@@ -6,27 +6,28 @@ use Rattle.asm_defs.specs.ImageText.{image_text}
 use Rattle.audit_input.proofs.Once.{hands_once}
 use Rattle.audited_runs.proofs.Texts.{results_same}
 use Rattle.burst_trace.specs.Text.{IsTraceText, trace_text}
+use Rattle.campaign_defs.specs.Members.{Ran, members}
+use Rattle.campaign_defs.specs.Rows.{AreMemberRows, IsPlanTable}
+use Rattle.campaign_defs.specs.TableText.{plan_table_text}
+use Rattle.campaign_defs.specs.Types.{Row}
+use Rattle.campaign_laws.proofs.PlanTables.{plan_table_once}
 use Rattle.command_forms.proofs.OneForm.{one_form}
 use Rattle.command_forms.specs.Forms.{AskAlone, Asks, is_alone, limit_of}
 use Rattle.command_forms.specs.declared.words.Form.{Form}
 use Rattle.command_forms.specs.declared.words.Form.TheVariants as form
-use Rattle.fault_campaign.proofs.Tables.{table_once}
 use Rattle.guard_defs.specs.GuardText.{guard_lines}
-use Rattle.input_defs.specs.CampaignReading.{campaign_from}
 use Rattle.input_defs.specs.Faults.{fault_line}
 use Rattle.input_defs.specs.ImageReading.{image_from, image_from_asm}
+use Rattle.input_defs.specs.PlanReading.{plan_from}
 use Rattle.input_defs.specs.ScenarioReading.{scenario_from}
 use Rattle.input_defs.specs.declared.input.Refusal.{Refusal}
-use Rattle.nook_data.specs.Members.{member}
-use Rattle.nook_data.specs.declared.campaign.Campaign.{Campaign}
-use Rattle.nook_data.specs.declared.campaign.MemberRow.{MemberRow}
 use Rattle.nook_data.specs.declared.scenario.Fault.{Fault}
 use Rattle.nook_data.specs.declared.scenario.PartSpec.{PartSpec}
 use Rattle.nook_data.specs.declared.scenario.Scenario.{Scenario}
 use Rattle.nook_data.specs.declared.steps.Event.{Event}
 use Rattle.nook_io.specs.Listening.{Listening, heard_events, tap_result}
 use Rattle.answer_laws.proofs.Stops.{guarded_once, stops_once}
-use Rattle.nooks.specs.Answers.{Answers, AnswersInput, AreMembers, IsAsmOf, IsAuditOf, IsFaultOf, IsGuardOf, IsGuardReport, IsGuardedLine, IsGuardedOf}
+use Rattle.nooks.specs.Answers.{Answers, AnswersInput, IsAsmOf, IsAuditOf, IsFaultOf, IsGuardOf, IsGuardReport, IsGuardedLine, IsGuardedOf}
 use Rattle.nooks.specs.Answers.{IsImageOf, IsMember, IsRefusalLine, IsReportOf}
 use Rattle.nooks.specs.Answers.{IsReportStatus, IsReported, IsScenarioFault, IsScheduled, IsSummary, IsTableOf, IsTraceOf, IsVerdict, Left, listing_from}
 use Rattle.nooks.specs.Endings.{AnswersBytes, input_for}
@@ -35,7 +36,7 @@ use Rattle.nooks.specs.Streams.{Input, TooLong, Whole}
 use Rattle.nooks.specs.Texts.{help_text, usage_text, version_text}
 use Rattle.nooks.specs.declared.program.Status.{Status}
 use Rattle.nooks.specs.declared.program.Status.TheVariants as ended
-use Rattle.report_defs.specs.Campaigns.{IsRowOf, table_text}
+use Rattle.plan_defs.specs.Types.{Plan}
 use Rattle.report_defs.specs.ReportText.{report_text, status_of, summary_line}
 use Rattle.run_defs.specs.Generated.{generated}
 use Rattle.run_defs.specs.Simulation.{IsScheduledRun, Simulation, answer_table, begins, journals_of}
@@ -189,25 +190,32 @@ asm_once : (bytes text other : List ℕ) → IsAsmOf bytes text → IsAsmOf byte
 asm_once bytes text other a b =
     a.text_is ∙ (ap disassembled (ok_once (image_from bytes) a.image b.image a.reading b.reading) ∙ sym b.text_is)
 
-rows_of : (campaign : Campaign) (faults : List Fault) (rows : List MemberRow)
-    → AllZip (λ fault row. IsMember (member campaign fault) row) faults rows → AllZip (λ fault row. IsRowOf (member campaign fault) row) faults rows
-rows_of campaign [] [] are = tt
-rows_of campaign [] (row ∷ rows) are = absurd are
-rows_of campaign (fault ∷ faults) [] are = absurd are
-rows_of campaign (fault ∷ faults) (row ∷ rows) are = (
-  record { simulation = are.0.simulation; scheduled = are.0.scheduled; same = are.0.row_is },
-  rows_of campaign faults rows are.1,
+member_rows : (plan : Plan) (base : Ran) (lists : List (List Fault)) (rows : List Row) → AllZip (IsMember plan base) lists rows
+    → AreMemberRows plan base lists rows
+member_rows plan base [] [] are = tt
+member_rows plan base [] (row ∷ rows) are = absurd are
+member_rows plan base (faults ∷ lists) [] are = absurd are
+member_rows plan base (faults ∷ lists) (row ∷ rows) are = (
+  record { ran = are.0.ran; is_run = are.0.promised.is_run; same = are.0.row_is },
+  member_rows plan base lists rows are.1,
 )
 
-members_once : (one other : Campaign) (rows others : List MemberRow) → one ≡ other → AreMembers one rows → AreMembers other others → rows ≡ others
-members_once one other rows others e a b =
-    table_once other rows others (rows_of other other.faults rows (subst (λ c. AreMembers c rows) e a)) (rows_of other other.faults others b)
+plan_table : (bytes text : List ℕ) (is : IsTableOf bytes text) → IsPlanTable is.plan is.base is.rows
+plan_table bytes text is =
+    record { is_base = is.promised.is_run; members = member_rows is.plan is.base (members is.plan is.base) is.rows is.members }
+
+tables_once : (one other : Plan) (base again : Ran) (rows others : List Row) → one ≡ other → IsPlanTable one base rows
+    → IsPlanTable other again others → plan_table_text one base rows ≡ plan_table_text other again others
+tables_once one other base again rows others e a b =
+    let same = plan_table_once other base again rows others (subst (λ (p : Plan). IsPlanTable p base rows) e a) b in
+    ap (λ (p : Plan). plan_table_text p base rows) e
+    ∙ (ap (λ (ran : Ran). plan_table_text other ran rows) same.0 ∙ ap (plan_table_text other again) same.1)
 
 table_is_one : (bytes text other : List ℕ) → IsTableOf bytes text → IsTableOf bytes other → text ≡ other
 table_is_one bytes text other a b =
     a.text_is
-    ∙ (ap table_text (members_once a.campaign b.campaign a.rows b.rows
-    (ok_once (campaign_from bytes) a.campaign b.campaign a.reading b.reading) a.members b.members) ∙ sym b.text_is)
+    ∙ (tables_once a.plan b.plan a.base b.base a.rows b.rows (ok_once (plan_from bytes) a.plan b.plan a.reading b.reading)
+    (plan_table bytes text a) (plan_table bytes other b) ∙ sym b.text_is)
 
 verdict_once : (scenario : Scenario) (report text other : List ℕ) (status end : Status) → IsVerdict scenario report text status
     → IsVerdict scenario report other end → (text ≡ other) × (status ≡ end)
@@ -334,9 +342,9 @@ input_once form.Audit (Whole bytes) hearing text other status end alone a b =
     either_once (IsFaultOf form.Audit bytes) (IsAuditOf bytes) (audit_fault_once bytes) (audit_once bytes)
     (λ t u s r f. audit_has_no_fault bytes t u s r f) text other status end a b
 input_once form.Campaign (Whole bytes) hearing text other status end alone a b =
-    either_once (IsFaultOf form.Campaign bytes) (λ t s. IsTableOf bytes t × (s ≡ ended.Done)) (refusal_once (campaign_from bytes))
+    either_once (IsFaultOf form.Campaign bytes) (λ t s. IsTableOf bytes t × (s ≡ ended.Done)) (refusal_once (plan_from bytes))
     (done_once (IsTableOf bytes) (table_is_one bytes))
-    (λ t u s r f. not_both (campaign_from bytes) r.0.campaign f.refusal r.0.reading f.is) text other status end a b
+    (λ t u s r f. not_both (plan_from bytes) r.0.plan f.refusal r.0.reading f.is) text other status end a b
 input_once form.Mirror (Whole bytes) hearing text other status end alone a b = absurd (true≢false (sym alone))
 input_once form.List (Whole bytes) hearing text other status end alone a b =
     either_once (IsFaultOf form.List bytes) (λ t s. (listing_from bytes ≡ Ok t) × (s ≡ ended.Done)) (refusal_once (listing_from bytes))

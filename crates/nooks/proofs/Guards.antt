@@ -3,9 +3,10 @@ use Rattle.std.proofs.Common.{◌≡◌, ℕ, suc, ◌+◌, ◌-◌, ◌<◌, �
 use Rattle.std.proofs.lemmas.Bool.{le-leb, leb-true, lt-leb, ltb-false, ltb-true}
 use Rattle.std.proofs.lemmas.List.Elements.{All-from_recursion}
 use Rattle.std.specs.List.{AllByRecursion}
+use Rattle.guard_defs.specs.FirstBreaks.{NoneBreaks}
 use Rattle.guard_defs.specs.Guard.{HasRoom}
 use Rattle.guard_defs.specs.GuardText.{guard_lines}
-use Rattle.guard_defs.specs.GuardedRuns.{spec_of}
+use Rattle.guard_defs.specs.GuardedRuns.{guarded_scenario, spec_of}
 use Rattle.guarded_run.specs.Guarded.{IsGuarded}
 use Rattle.guarded_run.specs.declared.guarded.Guarded.{Guarded}
 use Rattle.headline_laws.specs.Headline.{AreSafe, IsSafe}
@@ -20,7 +21,7 @@ use Rattle.nook_io.specs.Listening.{Listening}
 use Rattle.promise_defs.specs.Contract.{first_break}
 use Rattle.report_defs.specs.ReportText.{has_break, has_given_up, report_text, status_of}
 use Rattle.report_text.specs.declared.whole_report.Report.{Report}
-use Rattle.run_defs.specs.Simulation.{RunningPart, journal_of, journals_of}
+use Rattle.run_defs.specs.Simulation.{RunningPart, Simulation, journal_of, journals_of}
 use Rattle.run_ends.specs.Journals.{events_in}
 use Rattle.scenario_read.specs.Gives.{Fails}
 use Rattle.scenario_read.specs.declared.stop.ScenarioFault.{ScenarioFault}
@@ -117,17 +118,22 @@ each_kept (seat ∷ seats) none safe = (
   each_kept seats (λ place s at. none (suc place) s at) safe.1,
 )
 
--- each part of the guarded scenario's run is kept
+-- each part of a guarded scenario's run is kept
+pub run_kept : (scenario guarded : Scenario) (s : Simulation) → guarded ≡ guarded_scenario scenario s → NoneBreaks s
+    → AreSafe guarded.parts (journals_of s) → AreKept guarded.parts (journals_of s)
+run_kept scenario guarded s same none safe =
+    let parts : guarded.parts ≡ map spec_of s.parts = ap (λ (x : Scenario). x.parts) same in
+    subst (λ (ps : List PartSpec). AreKept ps (journals_of s)) (sym parts)
+    (each_kept s.parts none (subst (λ (ps : List PartSpec). AreSafe ps (journals_of s)) parts safe))
+
 guarded_kept : (scenario : Scenario) (hearing : List Listening) (made : Guarded) (left : Left) → IsGuarded scenario made
     → IsScheduled made.scenario hearing left → IsWhole made.scenario left → AreKept made.scenario.parts left.journals
 guarded_kept scenario hearing made left is run whole =
-    let parts : made.scenario.parts ≡ map spec_of is.simulation.parts = ap (λ (s : Scenario). s.parts) is.same in
     let journals : left.journals ≡ journals_of is.simulation =
     run.same_journals ∙ ap journals_of (scheduled_once made.scenario run.simulation is.simulation run.scheduled is.scheduled) in
-    let safe : AreSafe (map spec_of is.simulation.parts) (journals_of is.simulation) =
-    subst (λ ps. AreSafe ps (journals_of is.simulation)) parts (subst (λ js. AreSafe made.scenario.parts js) journals whole.safe) in
-    subst (λ ps. AreKept ps left.journals) (sym parts)
-    (subst (λ js. AreKept (map spec_of is.simulation.parts) js) (sym journals) (each_kept is.simulation.parts is.none_breaks safe))
+    subst (λ js. AreKept made.scenario.parts js) (sym journals)
+    (run_kept scenario made.scenario is.simulation is.same is.none_breaks
+    (subst (λ js. AreSafe made.scenario.parts js) journals whole.safe))
 
 none_broken : (specs : List PartSpec) (journals : List (List Event)) → AreKept specs journals → has_break specs journals ≡ false
 unfolding has_break

@@ -3,10 +3,11 @@
 use Rattle.std.specs.Prelude.{◌≡◌, ℕ, ◌<◌, ◌≤◌, List, [], ◌∷◌, ◌++◌, ◌⊎◌, All, length, map, Bool, true, false, Option, Some}
 use Rattle.std.specs.Prelude.{None, Result, Ok, Err}
 use Rattle.std.specs.List.{AllZip}
-use Rattle.input_defs.specs.CampaignReading.{campaign_from}
-use Rattle.nook_data.specs.Members.{member}
-use Rattle.report_defs.specs.Campaigns.{row_of, table_text}
 use Rattle.asm_defs.specs.Disassembler.{disassembled}
+use Rattle.campaign_defs.specs.Members.{IsRunUnder, Ran, members}
+use Rattle.campaign_defs.specs.Rows.{plan_row}
+use Rattle.campaign_defs.specs.TableText.{plan_table_text}
+use Rattle.campaign_defs.specs.Types.{Row}
 use Rattle.input_defs.specs.Faults.{fault_line}
 use Rattle.guard_defs.specs.FirstBreaks.{AreNeeded}
 use Rattle.guard_defs.specs.Guard.{HasRoom}
@@ -16,6 +17,7 @@ use Rattle.guard_defs.specs.declared.stop.Stop.{Stop}
 use Rattle.run_defs.specs.Generated.{generated}
 use Rattle.input_defs.specs.ImageReading.{image_from, image_from_asm}
 use Rattle.asm_defs.specs.ImageText.{image_text}
+use Rattle.input_defs.specs.PlanReading.{plan_from}
 use Rattle.nook_io.specs.Listening.{Listening}
 use Rattle.report_defs.specs.ReportText.{report_text, status_of, summary_line}
 use Rattle.input_defs.specs.ScenarioReading.{scenario_from}
@@ -23,15 +25,16 @@ use Rattle.run_defs.specs.Simulation.{IsScheduledRun, Simulation, answer_table, 
 use Rattle.nook_io.specs.Listening.{tap_result}
 use Rattle.asm_defs.specs.declared.assembler.AsmFault.{AsmFault}
 use Rattle.nook_data.specs.declared.calls.Answer.{Answer}
-use Rattle.nook_data.specs.declared.campaign.Campaign.{Campaign}
 use Rattle.nook_data.specs.declared.steps.Event.{Event}
+use Rattle.nook_data.specs.declared.scenario.Fault.{Fault}
 use Rattle.nook_data.specs.declared.scenario.Image.{Image}
-use Rattle.nook_data.specs.declared.campaign.MemberRow.{MemberRow}
 use Rattle.nook_data.specs.declared.mirror.MirrorAnswer.{MirrorAnswer}
 use Rattle.nook_data.specs.declared.scenario.PartSpec.{PartSpec}
 use Rattle.nook_data.specs.declared.scenario.Scenario.{Scenario}
 use Rattle.input_defs.specs.declared.input.InputFault.TheVariants as fault
 use Rattle.input_defs.specs.declared.input.Refusal.{Refusal}
+use Rattle.plan_defs.specs.Plans.{struck_by}
+use Rattle.plan_defs.specs.Types.{Plan}
 use Rattle.mirrored_run.specs.Mirrors.{IsMirrorRun, is_mirror, mirror_status}
 use Rattle.report_text.specs.Mirrored.{mirror_report_text}
 use Rattle.sim_run.specs.Published.{published}
@@ -98,23 +101,6 @@ pub record IsWhole (scenario : Scenario) (left : Left) : Type 0 where
   pub safe : AreSafe scenario.parts left.journals
   pub answered : AreAnswered scenario left.answers
 
--- ---- campaigns
-
--- the row of the scheduled run of a member's scenario, of which all that is promised of runs holds
-pub record IsMember (scenario : Scenario) (row : MemberRow) : Type 0 where
-  pub simulation : Simulation
-  pub scheduled : IsScheduledRun scenario simulation
-  pub row_is : row ≡ row_of scenario.parts (journals_of simulation) (answer_table simulation)
-  pub whole : IsWhole scenario (record {
-    journals = journals_of simulation;
-    answers = answer_table simulation;
-    taps = [];
-  })
-
--- one row for each fault, in their order
-abbrev pub AreMembers : Campaign → List MemberRow → Type 0
-AreMembers campaign rows = AllZip (λ fault row. IsMember (member campaign fault) row) campaign.faults rows
-
 -- ---- texts
 
 -- the report of a scenario's run, and the run's status
@@ -162,14 +148,6 @@ or_bad_text (Err asm) = Err (at_root (fault.BadAsm asm))
 -- the listing of the assembler text that some bytes are, or its first fault
 abbrev pub listing_from : List ℕ → Result (List ℕ) Refusal
 listing_from bytes = or_bad_text (list_text bytes)
-
--- the table of the campaign that some bytes are
-pub record IsTableOf (bytes text : List ℕ) : Type 0 where
-  pub campaign : Campaign
-  pub reading : campaign_from bytes ≡ Ok campaign
-  pub rows : List MemberRow
-  pub members : AreMembers campaign rows
-  pub text_is : text ≡ table_text rows
 
 -- ---- audits
 
@@ -290,6 +268,41 @@ pub record IsGuardedOf (bytes text : List ℕ) : Type 0 where
   pub room : All HasRoom scenario.parts
   pub line : IsGuardedLine scenario text
 
+-- ---- campaigns
+
+-- a campaign's run of a scenario, of which all that is promised of runs holds; with a guard every part kept its contract,
+-- with no premise
+pub record IsPromised (guard : Bool) (scenario : Scenario) (ran : Ran) : Type 0 where
+  pub is_run : IsRunUnder guard scenario ran
+  pub whole : IsWhole ran.scenario (record {
+    journals = journals_of ran.simulation;
+    answers = answer_table ran.simulation;
+    taps = [];
+  })
+  pub kept : guard ≡ true → AreKept ran.scenario.parts (journals_of ran.simulation)
+
+-- the row of the run of the member with some faults
+pub record IsMember (plan : Plan) (base : Ran) (faults : List Fault) (row : Row) : Type 0 where
+  pub ran : Ran
+  pub promised : IsPromised plan.guard (struck_by plan.base plan.part faults) ran
+  pub row_is : row ≡ plan_row plan base ran
+
+-- one row for each member, in their order
+abbrev pub AreMembers : Plan → Ran → List Row → Type 0
+AreMembers plan base rows = AllZip (IsMember plan base) (members plan base) rows
+
+-- the table of the campaign that some bytes are
+pub record IsTableOf (bytes text : List ℕ) : Type 0 where
+  pub plan : Plan
+  pub reading : plan_from bytes ≡ Ok plan
+  pub base : Ran
+  pub promised : IsPromised plan.guard plan.base base
+  pub rows : List Row
+  pub members : AreMembers plan base rows
+  pub text_is : text ≡ plan_table_text plan base rows
+
+-- ---- what the program does
+
 -- a text and a status are these two
 abbrev pub Says : List ℕ → Status → List ℕ → Status → Type 0
 Says line end text status = (text ≡ line) × (status ≡ end)
@@ -351,7 +364,7 @@ IsFaultOf form.RunThreads bytes text = IsRefusalLine (scenario_from bytes) text
 IsFaultOf form.Asm bytes text = IsRefusalLine (image_from_asm bytes) text
 IsFaultOf form.Dis bytes text = IsRefusalLine (image_from bytes) text
 IsFaultOf form.Audit bytes text = (HandsNothing bytes × (text ≡ bad_header_text)) ⊎ HandsFault bytes text
-IsFaultOf form.Campaign bytes text = IsRefusalLine (campaign_from bytes) text
+IsFaultOf form.Campaign bytes text = IsRefusalLine (plan_from bytes) text
 IsFaultOf form.Mirror bytes text = IsRefusalLine (scenario_from bytes) text ⊎ IsUnserved bytes text
 IsFaultOf form.List bytes text = IsRefusalLine (listing_from bytes) text
 IsFaultOf (form.Trace part burst) bytes text =

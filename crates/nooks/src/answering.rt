@@ -2,15 +2,17 @@
 //! first fault.
 
 ghost use Rattle.std.specs.Prelude.{◌≡◌, ℕ, ◌+◌, ◌≤◌, List, Some, Ok, Err, map, IfOk, IsTrue};
-ghost use Rattle.report_defs.specs.Campaigns.{IsTable, table_text};
-ghost use Rattle.nook_data.specs.Members.{IsValidCampaign};
+ghost use Rattle.campaign_defs.specs.Members.{Ran};
+ghost use Rattle.campaign_defs.specs.Rows.{IsPlanTable};
+ghost use Rattle.campaign_defs.specs.TableText.{plan_table_text};
+ghost use Rattle.campaign_defs.specs.Types.{Row};
+ghost use Rattle.plan_defs.specs.Plans.{IsValidPlan};
 ghost use Rattle.asm_defs.specs.Disassembler.{disassembled};
 ghost use Rattle.input_defs.specs.Faults.{fault_line as line_of};
 ghost use Rattle.input_defs.specs.ImageReading.{image_from_asm};
 ghost use Rattle.asm_defs.specs.ImageText.{image_text};
 ghost use Rattle.nook_io.specs.Listening.{Listening};
 ghost use Rattle.nook_io.specs.Causes.{TakesAtMost};
-ghost use Rattle.nook_data.specs.declared.campaign.MemberRow.{MemberRow};
 ghost use Rattle.nook_data.specs.Valid.{IsValidScenario};
 ghost use Rattle.nooks.specs.Answers.{AnswersInput, IsReported, Says};
 ghost use Rattle.nooks.specs.Endings.{Ends, ReadStopWrites, StopWrites, Writes};
@@ -32,14 +34,14 @@ use command_forms::Form;
 use driver_asm::{AsmError, assemble, disassemble, write_image};
 use fault_campaign::write_campaign;
 use input_defs::input::{InputFault, Path, Refusal};
-use nook_data::campaign::Campaign;
 use nook_data::memory::NoMemory;
 use nook_data::scenario::{Image, Scenario};
 use nook_io::outside::{Listener, Sink, Source};
 use nook_io::whole::{ReadStop, read_all};
+use plan_defs::plan::Plan;
 use report_text::WriteStop;
 use request_taps::Bus;
-use scenario_read::{ScenarioFault, fault_line, read_campaign, read_image, read_scenario};
+use scenario_read::{ScenarioFault, fault_line, read_image, read_plan, read_scenario};
 use std::alloc::Global;
 use std::thread::Threads;
 
@@ -226,8 +228,8 @@ fn run_campaign<R: Threads + Sync, K: Sink>(
     ensures later { K.count sink.old ≤ K.count sink.new }
     ensures kept { (result ≡ Status.WriteFault → ⊥) → K.count sink.new ≡ K.count sink.old }
 {
-    match read_campaign(alloc, bytes) {
-        Ok(campaign) => give_table(rt, alloc, &campaign, sink),
+    match read_plan(alloc, bytes) {
+        Ok(plan) => give_table(rt, alloc, &plan, sink),
         Err(stop) => refuse_for(alloc, sink, &stop),
     }
 }
@@ -236,16 +238,17 @@ fn run_campaign<R: Threads + Sync, K: Sink>(
 fn give_table<R: Threads + Sync, K: Sink>(
     rt: &R,
     alloc: Global,
-    campaign: &Campaign,
+    plan: &Plan,
     sink: &mut K,
 ) -> Status
-    requires { IsValidCampaign campaign.now }
-    ensures ends { (rows : List MemberRow) → IsTable campaign.now rows
-        → Writes (Says (table_text rows) Status.Done) (change K.held K.count sink.old sink.new) result }
+    requires { IsValidPlan plan.now }
+    ensures ends { (base : Ran) (rows : List Row) → IsPlanTable plan.now base rows
+        → Writes (Says (plan_table_text plan.now base rows) Status.Done)
+        (change K.held K.count sink.old sink.new) result }
     ensures later { K.count sink.old ≤ K.count sink.new }
     ensures kept { (result ≡ Status.WriteFault → ⊥) → K.count sink.new ≡ K.count sink.old }
 {
-    match write_campaign(rt, alloc, campaign, sink) {
+    match write_campaign(rt, alloc, plan, sink) {
         Ok(()) => Status::Done,
         Err(WriteStop::Fault) => Status::WriteFault,
         Err(WriteStop::NoMemory) => Status::NoMemory,

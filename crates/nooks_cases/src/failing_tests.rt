@@ -1,7 +1,7 @@
 //! Each form that reads, over a source and a sink that fail at each of their calls in turn; and listeners that are
 //! dropped in the middle of a run.
 
-use crate::inputs::{CAMPAIGN, IMAGE, MIRROR, REPORT, SCENARIO, TEXT};
+use crate::inputs::{CAMPAIGN, EVERY, IMAGE, MEMBERS, MIRROR, REPORT, SCENARIO, TEXT};
 use crate::running::{Failing, PER_READ, outcome};
 use nook_io::listeners::CountListener;
 use nook_io::outside::Listener;
@@ -16,11 +16,13 @@ use std::thread::Threads;
 const MOST: u32 = 100;
 
 /// The forms that read, each with an input that it serves.
-const FORMS: [(&str, &str); 11] = [
+const FORMS: [(&str, &str); 13] = [
     ("run", SCENARIO),
     ("run threads", SCENARIO),
     ("trace 0 1", SCENARIO),
     ("campaign", CAMPAIGN),
+    ("campaign", EVERY),
+    ("campaign", MEMBERS),
     ("audit", REPORT),
     ("mirror", MIRROR),
     ("guard", SCENARIO),

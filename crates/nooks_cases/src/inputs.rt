@@ -34,6 +34,14 @@ status 0
 pub const CAMPAIGN: &str =
     r#"{"base":{"version":1,"parts":[{"name":"d0","class":"block","blocks":1,"driver":{"asm":".class block\n.entry init 0\n.entry read 1\n.entry write 1\n.entry get 1\n.entry set 1\nKCALL 3\nRET r0\n"}}],"threads":[{"name":"t0","ops":[{"part":0,"op":"get","key":0}]}]},"part":0,"faults":[{"burst":3,"after":0,"kind":"trap"}]}"#;
 
+/// A campaign over the scenario with every trap, a guard and details; its table begins with the row of the base.
+pub const EVERY: &str =
+    r#"{"base":{"version":1,"parts":[{"name":"d0","class":"block","blocks":1,"driver":{"asm":".class block\n.entry init 0\n.entry read 1\n.entry write 1\n.entry get 1\n.entry set 1\nKCALL 3\nRET r0\n"}}],"threads":[{"name":"t0","ops":[{"part":0,"op":"get","key":0}]}]},"part":0,"every":[{"kind":"trap"}],"guard":true,"detail":true}"#;
+
+/// One with two faults in its first member and one in its second, and details.
+pub const MEMBERS: &str =
+    r#"{"base":{"version":1,"parts":[{"name":"d0","class":"block","blocks":1,"driver":{"asm":".class block\n.entry init 0\n.entry read 1\n.entry write 1\n.entry get 1\n.entry set 1\nKCALL 3\nRET r0\n"}}],"threads":[{"name":"t0","ops":[{"part":0,"op":"get","key":0}]}]},"part":0,"members":[[{"burst":3,"after":0,"kind":"trap"},{"burst":4,"after":0,"kind":"trap"}],[{"burst":9,"after":0,"kind":"trap"}]],"detail":true}"#;
+
 /// A mirror of two such disks, and a thread that reads it.
 pub const MIRROR: &str =
     r#"{"version":1,"parts":[{"name":"d0","class":"block","blocks":1,"driver":{"asm":".class block\n.entry init 0\n.entry read 1\n.entry write 1\n.entry get 1\n.entry set 1\nKCALL 3\nRET r0\n"}},{"name":"d1","class":"block","blocks":1,"driver":{"asm":".class block\n.entry init 0\n.entry read 1\n.entry write 1\n.entry get 1\n.entry set 1\nKCALL 3\nRET r0\n"}}],"threads":[{"name":"t0","ops":[{"part":0,"op":"read","first":0,"count":1}]}]}"#;

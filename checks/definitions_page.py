@@ -66,7 +66,7 @@ CHAPTERS = (
         "Assembler texts, images, scenarios and campaigns from their bytes, or their first fault.",
         ("asm_defs/Types", "asm_defs/Results", "asm_defs/Keys", "asm_defs/AsmTokens", "asm_defs/AsmLines", "asm_defs/Assembler",
          "asm_defs/Disassembler", "asm_defs/ImageText", "input_defs/Types", "input_defs/Reading", "input_defs/ImageReading",
-         "input_defs/PartReading", "input_defs/ScenarioReading", "input_defs/CampaignReading", "input_defs/Faults"),
+         "input_defs/PartReading", "input_defs/ScenarioReading", "input_defs/CampaignReading", "input_defs/PlanReading", "input_defs/Faults"),
     ),
     Chapter(
         "Texts that are written",
@@ -76,7 +76,8 @@ CHAPTERS = (
     Chapter(
         "Campaigns with every fault",
         "What campaigns with several faults a member, every fault, a guard and detail come to.",
-        ("campaign_defs/Types", "campaign_defs/Plans", "campaign_defs/Members", "campaign_defs/Rows", "campaign_laws/Certificates"),
+        ("plan_defs/Types", "plan_defs/Plans", "campaign_defs/Types", "campaign_defs/Members", "campaign_defs/Rows",
+         "campaign_defs/TableText", "campaign_laws/Certificates"),
     ),
     Chapter(
         "Every order of steps",
@@ -110,7 +111,7 @@ APART = {"Lib", "Views", "Making"}
 
 # The crates of which each file stands in a chapter.
 CRATES = ("nook_data", "nook_io", "machine_defs", "part_defs", "run_defs", "promise_defs", "headline_laws", "guard_defs", "asm_defs",
-          "input_defs", "report_defs", "campaign_defs", "explore_defs", "command_forms", "nooks")
+          "input_defs", "report_defs", "plan_defs", "campaign_defs", "explore_defs", "command_forms", "nooks")
 
 HEAD = """# The definitions
 

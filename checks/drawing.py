@@ -64,6 +64,11 @@ MNEMONICS = "LI LUI MOV ADD SUB AND OR XOR SHL SHR ADDI LD ST JMP BEQ BNE BLT JA
 EDGES = [0, 1, 2, 3, 4, 7, 8, 11, 12, 13, 15, 16, 17, 31, 63, 64, 65, 127, 255, 256, 257, 2047, 2048, 2049, 4095, 4096]
 EDGES += [4160, 5183, 5184, 5248, 7359, 7360, 7424, 8191, 8192, 65535, 65536, 4294967295]
 
+# What a part and the base of a campaign have at most, and the keys of a campaign by which it has members.
+MOST_FAULTS = 64
+MOST_OPERATIONS = 64
+STRIKES = ["faults", "members", "every"]
+
 # Values that are wrong nearly everywhere. A text that begins with `raw:` is written without its quotes.
 ODD_VALUES = [None, True, False, "", "block", "x" * 17, [], {}, [0], {"a": 1}, -1, 2**32, 2**64 - 1, 2**64]
 ODD_VALUES += ["raw:-0", "raw:1.0", "raw:1e2", "raw:01", "raw:18446744073709551616", "raw:NaN", "raw:tru", "raw:"]
@@ -315,12 +320,62 @@ def scenario(random):
     return given
 
 
-def campaign(random):
-    """A campaign over a scenario, of few faults; now and then of none, or of a part that is not there."""
-    base = scenario(random)
-    count = random.choice([1, 3, 3, 10, 40, 0])
-    place = random.randrange(len(base["parts"]) + (random.random() < 0.1))
-    return {"base": base, "part": place, "faults": [fault(random) for _ in range(count)]}
+def unreliable(random):
+    """A scenario half of whose drivers have a habit that their class does not allow, and of which a part has now and then as
+    many faults as it may have, or nearly."""
+    given = scenario(random)
+    for each in given["parts"]:
+        if random.random() < 0.5:
+            text = text_of(random.choice(SOUND_DRIVERS[each["class"]]))
+            each["driver"] = {"asm": text.replace(*random.choice(HABITS[each["class"]] + HABITS_OF_ALL))}
+        if random.random() < 0.06:
+            fewer = random.choice([0, 1, 2, 3, 4, random.randint(0, 24)])
+            each["faults"] = [fault(random) for _ in range(MOST_FAULTS - fewer)]
+    return given
+
+
+def base(random, given, is_long):
+    """The scenario as the base of a campaign. Nearly always it gets no more operations than there may be; where runs are
+    many, a part is recovered once at most: a driver that hangs takes 4,096 turns each time."""
+    left = MOST_OPERATIONS if random.random() < 0.95 else 10**6
+    for thread in given["threads"]:
+        del thread["ops"][left:]
+        left -= len(thread["ops"])
+    for each in given["parts"] if is_long else []:
+        each["limit"] = min(each.get("limit", 0), 1)
+    return given
+
+
+def strikes(random, key, count):
+    """What strikes in a campaign with one of the three keys: so many faults, lists of faults, or faults without a place."""
+    if key == "members":
+        return [[fault(random) for _ in range(random.randint(1, 4))] for _ in range(count)]
+    faults = [fault(random) for _ in range(count)]
+    if key == "every":
+        return [{name: value for name, value in each.items() if name not in ["burst", "after"]} for each in faults[:2]]
+    return faults
+
+
+def campaign(random, given, count):
+    """A campaign over a scenario: what strikes one of its parts, and whether there is a guard and detail."""
+    key = random.choice(STRIKES)
+    asked = {"base": base(random, given, key == "every"), "part": random.randrange(len(given["parts"]))}
+    asked[key] = strikes(random, key, count)
+    return {**asked, **{key: random.random() < 0.7 for key in ["guard", "detail"] if random.random() < 0.7}}
+
+
+def nearly_valid_campaign(random):
+    """A campaign of few faults; now and then of none, with two keys that strike, with odd options, or of a part that is not
+    there."""
+    asked = campaign(random, random.choice([scenario, unreliable])(random), random.choice([1, 3, 3, 3, 10, 10, 40, 0]))
+    if random.random() < 0.05:
+        key = random.choice(STRIKES)
+        asked[key] = strikes(random, key, 1)
+    if random.random() < 0.05:
+        asked["part"] += 1
+    if random.random() < 0.05:
+        asked["guard"], asked["detail"] = (random.choice([True, False, 0, 1, "true", None]) for _ in range(2))
+    return asked
 
 
 def disk(random, place, version):

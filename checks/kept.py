@@ -2,12 +2,15 @@
 
 runs/README.md says what the files are. Each scenario and each text has at least one file beside it, and each of those
 has its scenario or text. An audit of each report by its scenario has to be a yes. Besides, inputs that are cut off are
-refused, the generated scenario is the one of bench/run, and campaigns of up to 4,096 faults have their tables.
+refused, the generated scenario is the one of bench/run, and campaigns of up to 4,096 faults, of as many members and of
+every trap have their tables.
 """
 
 import json
 import os
 import re
+from collections.abc import Iterator
+from typing import Any
 
 import inputs
 import running
@@ -137,26 +140,45 @@ def check_generated(tally: Tally, whose: str, program: str) -> None:
 STRUCK = [(3, "status 1 events 10 failures 1 gone 1 lost 0"), (1, "status 1 events 6 failures 1 gone 1 lost 0")]
 UNSTRUCK = (4_294_967_295, "status 0 events 8 failures 0 gone 0 lost 0")
 
+# The rows of a trap at every turn of it: of the two turns in each of the two bursts of the start, and of the 90 in the burst
+# of the write, which makes three registers ready, asks for a block, moves its 16 words by five instructions each, stores
+# it, ends the loop and replies. The row of the second burst has one event more than that of the first.
+EVERY = [STRUCK[1][1]] * 2 + [STRUCK[1][1].replace("events 6", "events 7")] * 2 + [STRUCK[0][1]] * 90
 
-def campaign(count: int) -> tuple[bytes, bytes]:
-    """The campaign of so many such faults over a disk that is given up at its first failure, and its table."""
+
+def base_of_campaigns() -> dict[str, Any]:
+    """One write to a disk that is given up at its first failure."""
     driver = {"image": json.loads(running.example("block.image"))}
     part = {"name": "d0", "class": "block", "blocks": 4, "driver": driver}
     write = {"part": 0, "op": "write", "first": 1, "data": [1] * 16}
-    base = {"version": 1, "parts": [part], "threads": [{"name": "t0", "ops": [write]}]}
+    return {"version": 1, "parts": [part], "threads": [{"name": "t0", "ops": [write]}]}
+
+
+def campaign(count: int) -> tuple[list[dict[str, Any]], str]:
+    """So many such faults, and the table of their campaign."""
     members = [(STRUCK + [UNSTRUCK])[place % 3] for place in range(count)]
     faults = [{"burst": burst, "after": 0, "kind": "trap"} for burst, _ in members]
     table = "".join(f"{place} {row}\n" for place, (_, row) in enumerate(members, 1))
-    last = f"campaign {count} kept {count // 3} given_up {count - count // 3} broken 0\n"
-    return json.dumps({"base": base, "part": 0, "faults": faults}).encode(), (table + last).encode()
+    return faults, table + f"campaign {count} kept {count // 3} given_up {count - count // 3} broken 0\n"
+
+
+def campaigns() -> Iterator[tuple[str, dict[str, Any], str]]:
+    """Campaigns by their names, what strikes in them, and their tables."""
+    for count in (1, 1024, 1025, 4096):
+        faults, table = campaign(count)
+        yield f"{count} faults", {"faults": faults}, table
+        yield f"{count} members", {"members": [[fault] for fault in faults]}, table
+        yield f"{count} faults with a guard", {"faults": faults, "guard": True}, table.replace("\n", " traps 0\n")
+    rows = "".join(f"{place} {row}\n" for place, row in enumerate([UNSTRUCK[1], *EVERY]))
+    yield "every trap", {"every": [{"kind": "trap"}]}, rows + f"campaign {len(EVERY)} kept 0 given_up {len(EVERY)} broken 0\n"
 
 
 def check_campaigns(tally: Tally, whose: str, program: str) -> None:
-    """Tables of one row, of as many as are run at a time and one more, and of the most."""
-    for count in (1, 1024, 1025, 4096):
-        given, wanted = campaign(count)
+    """Tables of one row, of as many as are run at a time and one more, and of the most; and that of every trap."""
+    for name, strikes, wanted in campaigns():
+        given = json.dumps({"base": base_of_campaigns(), "part": 0, **strikes}).encode()
         ended = run(program, ["campaign"], given)
-        tally.same(f"a campaign of {count} faults of {whose}", (ended.status, ended.out), (0, wanted))
+        tally.same(f"a campaign of {name} of {whose}", (ended.status, ended.out), (0, wanted.encode()))
 
 
 def shown(given: bytes) -> str:

@@ -29,6 +29,8 @@ SCENARIO = "crates/input_defs/specs/ScenarioReading.antt"
 PART = "crates/input_defs/specs/PartReading.antt"
 IMAGE = "crates/input_defs/specs/ImageReading.antt"
 CAMPAIGN = "crates/input_defs/specs/CampaignReading.antt"
+PLAN = "crates/input_defs/specs/PlanReading.antt"
+PLAN_LIMITS = "crates/plan_defs/src/plan.rt"
 FAULTS = "crates/input_defs/specs/Faults.antt"
 LINES = "crates/report_defs/specs/ReportLines.antt"
 FORMS = "crates/command_forms/specs/Forms.antt"
@@ -74,7 +76,7 @@ def memory_map() -> dict[str, int]:
 
 def numbers() -> dict[str, int]:
     """The constants that a definition may name; a place among parts or blocks is below the most that there may be."""
-    known = {**limits(), **memory_map()}
+    known = {**limits(), **constants(PLAN_LIMITS), **memory_map()}
     return {**known, "parts": known["MOST_PARTS"], "blocks": known["MOST_DISK_BLOCKS"]}
 
 
@@ -99,12 +101,13 @@ def number(least: str, most: str, file: str) -> Row:
 
 
 def listed(body: str, file: str) -> Row | None:
-    """A list, as `numbers_of` and `list_of` read one: how many items it may have, and what each may be if it is a number."""
+    """A list, as `numbers_of` and `list_of` read one: how many items it may have, and what each may be if it is a number or
+    a list again."""
     if found := re.match(rf"numbers_of ({ATOM}) ({ATOM}) ({ATOM})", body):
         return {"items": list(number(found[1], found[2], file).values()), "each": number("0", found[3], file)}
     if found := re.match(rf"list_of ({ATOM}) ({ATOM}) ({ATOM})", body):
-        inner = re.search(r"numbers_of .*", found[1].strip("()"))
-        each = listed(inner[0], file) if inner else None
+        inner = found[1].strip("()").partition(". ")[2]
+        each = listed(read_by(inner, file) if inner.isidentifier() else inner, file)
         return {"items": list(number(found[2], found[3], file).values()), **({"each": each} if each else {})}
     return None
 
@@ -130,9 +133,14 @@ def ranges_of(body: str, file: str) -> dict[str, Row]:
         elif bounds := re.fullmatch(rf"\(whole_number ({ATOM}) ({ATOM})\)", words[0]):
             made = number(bounds[1], bounds[2], file)
         else:
-            made = listed(read_by(words[0], file), file) or {}
+            made = read_as(read_by(words[0], file), file)
         found[known[key]] = {**made, **({"optional": True} if way == "optional" else {})}
     return found
+
+
+def read_as(body: str, file: str) -> Row:
+    """What a right side reads: a list, or true or false; nothing if it is an object or a name."""
+    return {"truth": True} if "as_bool d" in body else listed(body, file) or {}
 
 
 def read_by(reader: str, file: str) -> str:
@@ -142,6 +150,19 @@ def read_by(reader: str, file: str) -> str:
     is_here = re.search(rf"(?m)^(?:abbrev|unfoldable) pub {reader} :", text_of(file))
     found = equations(file, reader) if is_here else ()
     return found[0].body if len(found) == 1 else ""
+
+
+def campaign() -> dict[str, Row]:
+    """What may stand at the keys of a campaign. Of those that `strikes_of` reads just one is there."""
+    found = ranges(PLAN, "plan_of")
+    known = key_texts()
+    for equation in equations(PLAN, "strikes_of"):
+        key, reader = matched(r"key\.(\w+)\)? \(?(\w+)", equation.body, PLAN, "a key of what strikes").groups()
+        found[known[key]] = read_as(read_by(reader, PLAN) or read_by(reader, CAMPAIGN), PLAN)
+    order = keys_of(matched(r"object_with \((.*?)\)", body_of(PLAN, "plan_of"), PLAN, "the keys of a campaign")[1])
+    if set(order) != set(found):
+        raise UnknownShape(f"{PLAN}: a campaign has the keys {order}, and {list(found)} are read")
+    return {key: found[key] for key in order}
 
 
 def inputs() -> dict[str, dict[str, Row]]:
@@ -155,7 +176,7 @@ def inputs() -> dict[str, dict[str, Row]]:
         "thread": ranges(SCENARIO, "thread_of"),
         "operation": ranges(SCENARIO, "op_of"),
         "image": {**ranges(IMAGE, "image_of"), "entry": number(entry[1], entry[2], IMAGE)},
-        "campaign": ranges(CAMPAIGN, "campaign_of"),
+        "campaign": campaign(),
     }
 
 
@@ -394,7 +415,7 @@ TABLES = (
     Table("operations", (SCENARIO, CLASSES), operations),
     Table("fault_kinds", (PART,), fault_kinds),
     Table("schedules", (SCENARIO,), schedules),
-    Table("inputs", (SCENARIO, PART, IMAGE, CAMPAIGN), inputs),
+    Table("inputs", (SCENARIO, PART, IMAGE, CAMPAIGN, PLAN), inputs),
     Table("clauses", (CLAUSES, REPORT_PAGE), clauses),
     Table("report", (LINES, CLASSES), report),
     Table("fault_lines", (FAULTS, TEXTS), fault_lines),

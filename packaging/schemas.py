@@ -17,8 +17,8 @@ GENERATED = "This file is generated: checks/tables"
 ABOUT_SCENARIO = "What a schema cannot say docs/SCENARIO.md does: that names differ, the class of an assembler text, " \
     f"places below the number of parts. Numbers are digits alone. {GENERATED}"
 ABOUT_CAMPAIGN = "What a schema cannot say docs/CAMPAIGN.md does: that the part is one of the base, which has at " \
-    f"most {LIMITS['MOST_FAULTS'] - 1} faults of its own, and that the base has at most " \
-    f"{LIMITS['MOST_CAMPAIGN_OPS']} operations. {GENERATED}"
+    f"most {LIMITS['MOST_FAULTS']} faults with those of a member and the guard's traps, and that the base has at " \
+    f"most {LIMITS['MOST_CAMPAIGN_OPS']} operations. {GENERATED}"
 
 # What is said of a value beside its range, by the kind of object and the key.
 NOTES = {
@@ -34,6 +34,10 @@ NOTES = {
     ("operation", "part"): "a place below the number of parts",
     ("campaign", "part"): "the part that is struck: a place below the number of the base's parts",
     ("campaign", "faults"): "one for each member",
+    ("campaign", "members"): "the faults of each member",
+    ("campaign", "every"): "a member for each, before each instruction of the struck part",
+    ("campaign", "guard"): "whether each run is the guarded one; false if it is left out",
+    ("campaign", "detail"): "whether rows have more words; false if it is left out",
 }
 
 # What stands in the lists of objects.
@@ -46,7 +50,12 @@ ITEMS = {
     ("image", "data"): "image_word",
     ("image", "text"): "image_word",
     ("campaign", "faults"): "scenario.schema.json#/$defs/fault",
+    ("campaign", "members"): "scenario.schema.json#/$defs/fault",
+    ("campaign", "every"): "scenario.schema.json#/$defs/everywhere",
 }
+
+# The keys of a campaign of which just one is there, and of which the last is needed if there is none.
+STRIKING = ("every", "members", "faults")
 
 # The keys of parts whose schemas stand by themselves.
 SHARED = ("limit", "faults")
@@ -68,12 +77,14 @@ def many(ends: tuple[int, int], items: Schema) -> Schema:
 
 
 def of_value(allowed: Allowed, items: str = "") -> Schema:
-    """The schema of a value: a number or a list."""
+    """The schema of a value: a number, true or false, or a list."""
     if allowed == OPERATIONS["write"]["data"]:
         return ref("words")
     if allowed.items is not None:
-        inner = of_value(allowed.each) if allowed.each else ref(items)
+        inner = of_value(allowed.each, items) if allowed.each else ref(items)
         return many(allowed.items, inner)
+    if allowed.truth:
+        return {"type": "boolean"}
     return ref("word") if allowed.ends == (0, MOST_WORD) else whole(*allowed.ends)
 
 
@@ -90,6 +101,15 @@ def closed(properties: Schema, optional: tuple[str, ...] = ()) -> Schema:
     """An object with just these keys, of which some may be left out."""
     required = [key for key in properties if key not in optional]
     return {"properties": properties, "required": required, "additionalProperties": False}
+
+
+def only_one(keys: tuple[str, ...]) -> Schema:
+    """An object with just one of some keys. Of `oneOf`, which says the same, an editor says only that none fits."""
+    first, *others = keys
+    if not others:
+        return {"required": [first]}
+    other = {"properties": {key: False for key in others}}
+    return {"if": {"required": [first]}, "then": other, "else": only_one(tuple(others))}
 
 
 def chosen(key: str, names: list[str], schemas: list[str]) -> Schema:
@@ -185,12 +205,14 @@ def part_schemas() -> dict[str, Schema]:
 
 
 def fault_schemas() -> dict[str, Schema]:
-    """Faults."""
+    """Faults, and those that strike everywhere."""
     places = ("burst", "after")
     return {
         "fault": chosen("kind", list(FAULT_KINDS), [f"{name}_fault" for name in FAULT_KINDS]),
         **{key: noted("fault", key) for key in places},
         **by_name("kind", FAULT_KINDS, {key: ref(key) for key in places}, "_fault"),
+        "everywhere": chosen("kind", list(FAULT_KINDS), [f"{name}_everywhere" for name in FAULT_KINDS]),
+        **by_name("kind", FAULT_KINDS, {}, "_everywhere"),
     }
 
 
@@ -228,10 +250,12 @@ def scenario_schema() -> Schema:
 
 def campaign_schema() -> Schema:
     """The schema of a campaign."""
+    keys = INPUTS["campaign"]
     base = {"$ref": "scenario.schema.json"}
-    properties = {"base": base, **{key: noted("campaign", key) for key in ("part", "faults")}}
+    properties = {key: base if key == "base" else noted("campaign", key) for key in keys}
+    optional = tuple(key for key, allowed in keys.items() if allowed.optional or key in STRIKING)
     head = {"$schema": DRAFT, "title": "A campaign of nooks", "$comment": ABOUT_CAMPAIGN, "type": "object"}
-    return {**head, **closed(properties)}
+    return {**head, **closed(properties, optional), **only_one(STRIKING)}
 
 
 def scenario_text() -> str:

@@ -1,8 +1,7 @@
 //! Which form the words are of.
 //!
-//! `explore`, and the keys `guard`, `every`, `members` and `detail` of a campaign, are ahead of the proved program: until it has
-//! them it answers the word with the usage line and refuses the keys as unknown ones. The usage line and `--help` do not name
-//! them.
+//! `explore` is ahead of the proved program: until it has it, it answers the word with the usage line. The usage line and
+//! `--help` do not name it.
 
 use std::ops::RangeInclusive;
 

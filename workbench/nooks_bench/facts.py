@@ -22,13 +22,15 @@ TABLES = read_tables()
 
 @dataclass(frozen=True)
 class Allowed:
-    """What may stand at a key of an input: a number of a range, or a list of so many items, of which `each` says what
-    one may be if it is a number or a list again. All of it is None if an object or a name stands there."""
+    """What may stand at a key of an input: a number of a range, true or false, or a list of so many items, of which
+    `each` says what one may be if it is a number or a list again. All of it is None if an object or a name stands
+    there."""
 
     least: int | None = None
     most: int | None = None
     items: tuple[int, int] | None = None
     each: Allowed | None = None
+    truth: bool = False
     optional: bool = False
 
     @property
@@ -50,7 +52,7 @@ def allowed_of(row: dict[str, Any]) -> Allowed:
     """What may stand at a key, by its row."""
     items = (row["items"][0], row["items"][1]) if "items" in row else None
     each = allowed_of(row["each"]) if "each" in row else None
-    return Allowed(row.get("least"), row.get("most"), items, each, row.get("optional", False))
+    return Allowed(row.get("least"), row.get("most"), items, each, row.get("truth", False), row.get("optional", False))
 
 
 Keys = dict[str, Allowed]

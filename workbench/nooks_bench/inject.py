@@ -34,9 +34,8 @@ GUARDS = {"no": (False,), "yes": (True,), "both": (False, True)}
 
 ABOUT = """Changes instructions of the driver of the scenario FILE as programmers get them wrong, runs each such driver,
 and counts what the system saw, and what the driver's contract saw before that. The faults are live, written at the
-first burst of a drawn call and mended by the next load, or latent, in the image from the beginning. The program has to
-have campaigns with `members` and `detail`: ./nooks-plain builds one. FILE is exact JSON, or a scenario as `build` takes
-it; without faults its run has to end with status 0."""
+first burst of a drawn call and mended by the next load, or latent, in the image from the beginning. FILE is exact JSON,
+or a scenario as `build` takes it; without faults its run has to end with status 0."""
 
 
 @dataclass(frozen=True)

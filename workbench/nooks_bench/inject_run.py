@@ -19,9 +19,6 @@ from .program import REPORTED, Ended, Mistake, Program
 from .report import Report, parse_report
 from .scenario import Scenario, operations, with_limit
 
-# The program that has what the proved one does not have yet.
-PLAIN = "./nooks-plain has them (--program out/plain/nooks, once it is built)"
-
 MOST_OPERATIONS = LIMITS["MOST_CAMPAIGN_OPS"]
 
 # A fault that strikes nothing: no burst has this number.
@@ -64,17 +61,13 @@ class Batch:
 Results = list[dict[int, Found]]
 
 
-def too_old(program: Program, what: str) -> Mistake:
-    return Mistake(f"{program.path} is too old for this: it has no {what} yet; {PLAIN}")
-
-
 def campaign_rows(program: Program, setting: Setting, members: list[list[dict[str, Any]]]) -> list[Row]:
     """The rows with detail of the members' runs."""
     keys = {"guard": True} if setting.guard else {}
     campaign = {"base": setting.base, "part": setting.part, "members": members, **keys, "detail": True}
     ended = program.ask(["campaign"], json.dumps(campaign))
     if ended.out.startswith("fault 2 unknown_key /\n") or ended.out.startswith("fault 3 missing_key /faults\n"):
-        raise too_old(program, "campaigns with `members`, `guard` and `detail`")
+        raise program.too_old("campaigns with `members`, `guard` and `detail`")
     if ended.status:
         raise Mistake(f"the program refuses a campaign of the trials: {ended.out.strip() or ended.err.strip()}")
     rows = [parse_detail(line) for line in ended.out.split("\n") if line and not line.startswith("campaign")]
@@ -88,7 +81,7 @@ def report_of(program: Program, setting: Setting, scenario: Scenario) -> str:
     word = "guard" if setting.guard else "run"
     ended: Ended = program.ask([word], json.dumps(scenario))
     if ended.status == STATUSES["usage"]:
-        raise too_old(program, f"`{word}`")
+        raise program.too_old(f"`{word}`")
     if ended.status not in REPORTED:
         raise Mistake(f"`{word}` ended with status {ended.status}: {(ended.out or ended.err).strip()[:200]}")
     return ended.out

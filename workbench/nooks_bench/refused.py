@@ -6,7 +6,7 @@ import difflib
 import json
 import re
 from dataclasses import dataclass
-from typing import Any
+from typing import Any, Sequence
 
 from .asm_faults import asm_fault, named_class
 from .facts import LIMITS
@@ -84,6 +84,10 @@ class Refused:
         return found if isinstance(found, dict) else {}
 
     @property
+    def is_campaign(self) -> bool:
+        return isinstance(self.whole.value, dict) and "base" in self.whole.value
+
+    @property
     def node(self) -> Node:
         """The deepest value of the path that is there."""
         return deepest(self.whole, self.path)[0]
@@ -138,8 +142,27 @@ def kind_of_object(path: str, value: Any) -> str:
     return "this object"
 
 
-# Keys of a campaign that the schema does not have until the proved program has them.
+# The keys of a campaign of which just one is there, and those that the first programs with campaigns did not have.
+STRIKING = ("faults", "members", "every")
 NEWER_KEYS = ("members", "every", "guard", "detail")
+
+
+def quoted_keys(keys: Sequence[str]) -> str:
+    return ", ".join(map(json.dumps, keys))
+
+
+def campaign_key(refused: Refused) -> Explained:
+    """A key that the schema has: the second that says what strikes, or one that the program is too old for."""
+    named = refused.path[1:]
+    if named in STRIKING:
+        about = f"a campaign has one of {quoted_keys(STRIKING)}, and this one has more"
+        return Explained(refused.whole.keys.get(named, refused.whole.place), about, "")
+    newer = [key for key in NEWER_KEYS if refused.path == "/" and key in refused.node.value]
+    if not newer:
+        return refused.told("unknown key")
+    about = f"the program is too old for {quoted_keys(newer)} in a campaign"
+    told = f"{about}; the program that ./nooks-plain builds has it"
+    return refused.told(told, "", refused.node.keys.get(newer[0]))
 
 
 def unknown_key(refused: Refused) -> Explained:
@@ -149,22 +172,20 @@ def unknown_key(refused: Refused) -> Explained:
         second = max((node.keys.get(key, node.place) for key in ("asm", "image")), key=lambda at: (at.line, at.column))
         return refused.told('a driver has either "asm" or "image", and this one has both', "", second)
     unknown = unknown_keys(refused.path, refused.value)
+    if refused.is_campaign and refused.path.count("/") == 1:
+        unknown = [key for key in unknown if key not in STRIKING]
+    if not unknown and refused.is_campaign:
+        return campaign_key(refused)
     if not unknown:
         return refused.told("unknown key")
     place = node.keys.get(unknown[0], node.place)
-    newer = [key for key in unknown if key in NEWER_KEYS] if refused.path == "/" and "base" in node.value else []
-    if newer == unknown:
-        named = ", ".join(json.dumps(key) for key in newer)
-        about = f"the program is too old for {named} in a campaign; the program that ./nooks-plain builds has it"
-        return refused.told(about, "", place)
-    unknown = [key for key in unknown if key not in newer]
     if unknown == ["bad"] and refused.scenario.get("version") == 1:
         about = '"bad" needs version 2, and this scenario has version 1: write "version": 2'
         return refused.told(about, "", place)
-    named = ", ".join(json.dumps(key) for key in unknown)
     hint = close_to(unknown[0], known_keys(refused.schemas))
     keys = "unknown key" if len(unknown) == 1 else "unknown keys"
-    return refused.told(f"{keys} {named} of {kind_of_object(refused.path, node.plain())}{hint}", None, place)
+    of_object = kind_of_object(refused.path, node.plain())
+    return refused.told(f"{keys} {quoted_keys(unknown)} of {of_object}{hint}", None, place)
 
 
 def missing_key(refused: Refused) -> Explained:
@@ -173,6 +194,8 @@ def missing_key(refused: Refused) -> Explained:
     above = refused.path.split("/")[:-1]
     if missing == ["image"] and above[-1:] == ["driver"]:
         return Explained(node.place, 'a driver has either "asm" or "image", and this one has neither', "")
+    if refused.is_campaign and refused.path == "/faults":
+        return Explained(node.place, f"a campaign has one of {quoted_keys(STRIKING)}, and this one has none", "")
     about = allowed_at(refused.path, refused.value)
     named = missing[0] if missing else refused.path
     return Explained(node.place, f"missing key {json.dumps(named)}", about)
@@ -223,10 +246,20 @@ def too_many(refused: Refused) -> Explained:
         return refused.told(
             f"the threads have {count} operations together; a campaign's base has at most {MOST_MEMBER_OPS}", ""
         )
-    if "parts" in steps and steps[-1] == "faults" and isinstance(value, list) and len(value) == MOST_FAULTS:
-        about = f"the struck part has {MOST_FAULTS} faults of its own; in a campaign it has at most {MOST_FAULTS - 1}"
-        return refused.told(about, "")
+    if "parts" in steps and steps[-1] == "faults" and isinstance(value, list) and len(value) <= MOST_FAULTS:
+        return no_room(refused, len(value))
     return refused.told(f"the list is too long: {len(value):,} items")
+
+
+def no_room(refused: Refused, own: int) -> Explained:
+    """The faults of a part are not too many, but with those of a member and the traps of a guard they are."""
+    asked, part = refused.value, refused.above(1)
+    counts = [f"{own} of its own"]
+    if refused.is_campaign and str(asked["part"]) == refused.path.split("/")[-2]:
+        counts.append(f"{max(map(len, asked.get('members', [[None]])))} of a member")
+    if asked.get("guard", not refused.is_campaign):
+        counts.append(f"up to {part.get('limit', 0) + 1} traps of a guard")
+    return refused.told(f"a part has at most {MOST_FAULTS} faults, and this one has {', '.join(counts)}", "")
 
 
 def bad_image(refused: Refused) -> Explained:

@@ -1,6 +1,7 @@
 """What a scenario or a campaign may have at a path, as the schemas say it.
 
-Of JSON Schema this reads what the two schemas use: references, `allOf`, and if/then over keys with one value."""
+Of JSON Schema this reads what the two schemas use: references, `allOf`, and if/then/else over keys that are there, or
+that have one value."""
 
 from __future__ import annotations
 
@@ -47,14 +48,17 @@ def referred(reference: str) -> Schema:
 
 
 def holds(condition: Schema, value: Any) -> bool:
-    """Whether the condition of an if/then, keys with one value each, holds of a value."""
+    """Whether the condition of an if/then, keys that are there or have one value each, holds of a value."""
     if not isinstance(value, dict):
         return False
-    return all(key in value and value[key] == each["const"] for key, each in condition["properties"].items())
+    has_keys = all(key in value for key in condition.get("required", []))
+    constants = condition.get("properties", {}).items()
+    return has_keys and all(key in value and value[key] == each["const"] for key, each in constants)
 
 
 def applying(schema: AnySchema, value: Any) -> list[AnySchema]:
-    """The schemas that a value must meet together: this one, what it refers to, and each `then` whose `if` holds."""
+    """The schemas that a value must meet together: this one, what it refers to, and each `then` whose `if` holds, or
+    its `else`."""
     if isinstance(schema, bool):
         return [schema]
     found: list[AnySchema] = [schema]
@@ -62,8 +66,8 @@ def applying(schema: AnySchema, value: Any) -> list[AnySchema]:
         found += applying(referred(schema["$ref"]), value)
     for each in schema.get("allOf", []):
         found += applying(each, value)
-    if "if" in schema and holds(schema["if"], value):
-        found += applying(schema["then"], value)
+    if "if" in schema:
+        found += applying(schema.get("then" if holds(schema["if"], value) else "else", True), value)
     return found
 
 
@@ -153,6 +157,8 @@ def allowed(schemas: Sequence[AnySchema]) -> str:
         return f"a list of {counted(of_key(schemas, 'minItems') or 0, of_key(schemas, 'maxItems'))} items{note}"
     if kind == "object":
         return allowed_keys(schemas)
+    if kind == "boolean":
+        return f"true or false{note}"
     return f"a text{note}" if kind == "string" else ""
 
 

@@ -85,6 +85,18 @@ def keywords(schema):
         yield from keywords(each)
 
 
+def campaigns():
+    """Small campaigns, as many as the program has ways to say what strikes."""
+    whole = example("campaign-sound.json")
+    faults = whole.pop("faults")[:9]
+    places = ("burst", "after")
+    strikes = [{"faults": faults}]
+    if program().has_campaign_key("every"):
+        strikes.append({"members": [faults[:2], faults[2:5]], "guard": True})
+        strikes.append({"every": [{key: fault[key] for key in fault if key not in places} for fault in faults[:1]], "detail": False})
+    return [{**whole, **each} for each in strikes]
+
+
 class Schema(unittest.TestCase):
     def test_examples_and_drawn_scenarios_are_valid(self):
         for path in glob.glob(os.path.join(EXAMPLES, "*.json")):
@@ -106,8 +118,8 @@ class Schema(unittest.TestCase):
     def test_damaged_campaigns_are_as_the_program_says(self):
         draw = random.Random(6)
         refused = 0
-        for _ in range(60):
-            made = damaged(draw, {**example("campaign-sound.json"), "faults": example("campaign-sound.json")["faults"][:9]})
+        for number in range(60 * len(campaigns())):
+            made = damaged(draw, campaigns()[number % len(campaigns())])
             ended = program().ask(["campaign"], json.dumps(made))
             is_beyond = ended.status == 3 and (ended.out.split(" ")[2] in BEYOND or re.search(r"/part$", ended.out))
             refused += ended.status == 3

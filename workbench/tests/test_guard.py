@@ -9,7 +9,7 @@ import unittest
 import xml.etree.ElementTree as ElementTree
 from unittest import mock
 
-from common import TOP, bench, example, example_path, example_text, file_of, program, schema_file
+from common import TOP, bench, example, example_path, example_text, file_of, program
 from test_map import cells, drawn_words
 from test_sweep import expected, lost_kinds
 
@@ -392,8 +392,7 @@ class Old(unittest.TestCase):
         with file_of(campaign) as path, file_of("fault 2 unknown_key /\n", ".line") as line:
             status, out, _ = bench("explain", line, "--input", path)
         self.assertEqual(status, 0)
-        if "guard" not in schema_file("campaign.schema.json")["properties"]:
-            self.assertIn('the program is too old for "every", "guard" in a campaign; the program that ./nooks-plain builds has it', out)
+        self.assertIn('the program is too old for "every", "guard" in a campaign; the program that ./nooks-plain builds has it', out)
 
 
 if __name__ == "__main__":

@@ -310,7 +310,7 @@ class Mistakes(unittest.TestCase):
                 file.write(f"#!/bin/sh\nif [ \"$1\" = campaign ]; then echo 'fault 2 unknown_key /'; exit {REFUSED}; fi\n")
                 file.write(f"exec {program().path} \"$@\"\n")
             os.chmod(path, 0o755)
-            about = "too old for this: it has no campaigns with `members`.*; ./nooks-plain has them"
+            about = "is too old: it has no campaigns with `members`.*; the program that ./nooks-plain builds has it"
             self.mistaken(about, "--kind", "nop", "--program", path)
 
     def test_too_many_operations(self):

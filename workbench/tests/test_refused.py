@@ -32,7 +32,7 @@ def told(name: str, *changes) -> str:
     """What is told of an example with some changes, without the file: by the program's line and explain, and by build."""
     given = example(name)
     for path, new in changes:
-        set_at(given, path, new)
+        set_at(given, path, json.loads(json.dumps(new)))
     is_campaign = "base" in given
     text = json.dumps(given)
     if is_campaign:
@@ -87,13 +87,39 @@ SENTENCES = [
     ("campaign-block.json", [(("base", *OP[:3]), [{"part": 0, "op": "get", "key": 1}] * 70)],
      "/base/threads: the threads have 70 operations together; a campaign's base has at most 64"),
     ("campaign-block.json", [(("base", "parts", 0, "faults"), [{"burst": 1, "after": 0, "kind": "trap"}] * 64)],
-     "/base/parts/0/faults: the struck part has 64 faults of its own; in a campaign it has at most 63"),
+     "/base/parts/0/faults: a part has at most 64 faults, and this one has 64 of its own, 1 of a member"),
     ("campaign-block.json", [(("faults", 0), {"burst": 1, "after": 0, "kind": "trap", "value": 3})],
      '/faults/0: unknown key "value" of a fault of kind trap; expected an object with burst, after, kind'),
     ("campaign-block.json", [(("base", "version"), 1), (("base", "parts", 0, "bad"), [])],
      '/base/parts/0: "bad" needs version 2, and this scenario has version 1: write "version": 2'),
     ("campaign-block.json", [(("part",), 1)], "/part: 1 is out of range; expected 0, since there is 1 part"),
+    ("campaign-block.json", [(("faults",), None)], 'a campaign has one of "faults", "members", "every", and this one has none'),
 ]
+
+TRAP = {"burst": 1, "after": 0, "kind": "trap"}
+EVERY = [(("faults",), None), (("every",), [{"kind": "trap"}])]
+MEMBERS = [(("faults",), None), (("members",), [[TRAP], [TRAP] * 16])]
+OWN_FAULTS = ("base", "parts", 0, "faults")
+
+# What only a program says whose campaigns have `members`, `every`, `guard` and `detail`.
+NEWER_SENTENCES = [
+    ("campaign-block.json", [(("members",), [])], 'a campaign has one of "faults", "members", "every", and this one has more'),
+    ("campaign-block.json", [*EVERY, (("members",), [])], 'a campaign has one of "faults", "members", "every", and this one has more'),
+    ("campaign-block.json", [(("members",), []), (("gard",), True)], 'unknown key "gard" of this object (did you mean "guard"?); expected'),
+    ("campaign-block.json", [(("guard",), 1)], "/guard: wrong kind of value: 1; expected true or false: whether each run is the guarded one"),
+    ("campaign-block.json", [*EVERY, (("every", 0), TRAP)],
+     '/every/0: unknown keys "burst", "after" of a fault of kind trap; expected an object with kind'),
+    ("campaign-block.json", [*EVERY, (("every", 0), {"kind": "reg", "value": 1})], 'missing key "register"; expected a whole number from 0 to 15'),
+    ("campaign-block.json", [*EVERY, (("every",), [{"kind": "trap"}] * 65)], "/every: the list is too long: 65 items; expected a list of 1 to 64 items"),
+    ("campaign-block.json", [*MEMBERS, (("members", 0), [])], "/members/0: the list is too short: 0 items; expected a list of 1 to 16 items"),
+    ("campaign-block.json", [*MEMBERS, (("members", 1, 3, "kind"), "trp")], '/members/1/3/kind: unknown name "trp" (did you mean "trap"?)'),
+    ("campaign-block.json", [*MEMBERS, (OWN_FAULTS, [TRAP] * 49)],
+     "/base/parts/0/faults: a part has at most 64 faults, and this one has 49 of its own, 16 of a member"),
+    ("campaign-block.json", [(("guard",), True), (("base", "parts", 0, "limit"), 9), (OWN_FAULTS, [TRAP] * 54)],
+     "/base/parts/0/faults: a part has at most 64 faults, and this one has 54 of its own, 1 of a member, up to 10 traps of a guard"),
+]
+if program().has_campaign_key("guard"):
+    SENTENCES += NEWER_SENTENCES
 
 
 class Sentences(unittest.TestCase):

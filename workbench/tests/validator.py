@@ -12,7 +12,7 @@ KNOWN = {
     "minItems", "maxItems", "items", "properties", "required", "additionalProperties", "minProperties", "maxProperties",
     "allOf", "pattern", "if", "then", "else",
 }
-TYPES = {"object": dict, "array": list, "string": str}
+TYPES = {"object": dict, "array": list, "string": str, "boolean": bool}
 
 
 def is_type(value: Any, name: str) -> bool:

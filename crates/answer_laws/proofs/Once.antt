@@ -26,7 +26,8 @@ use Rattle.nook_data.specs.declared.scenario.PartSpec.{PartSpec}
 use Rattle.nook_data.specs.declared.scenario.Scenario.{Scenario}
 use Rattle.nook_data.specs.declared.steps.Event.{Event}
 use Rattle.nook_io.specs.Listening.{Listening, heard_events, tap_result}
-use Rattle.answer_laws.proofs.Stops.{guarded_once, stops_once}
+use Rattle.answer_laws.proofs.Stops.{guarded_once}
+use Rattle.campaign_laws.proofs.Traps.{traps_once}
 use Rattle.nooks.specs.Answers.{Answers, AnswersInput, IsAsmOf, IsAuditOf, IsFaultOf, IsGuardOf, IsGuardReport, IsGuardedLine, IsGuardedOf}
 use Rattle.nooks.specs.Answers.{IsImageOf, IsMember, IsRefusalLine, IsReportOf}
 use Rattle.nooks.specs.Answers.{IsReportStatus, IsReported, IsScenarioFault, IsScheduled, IsSummary, IsTableOf, IsTraceOf, IsVerdict, Left, listing_from}
@@ -161,7 +162,7 @@ guard_report_once scenario hearing text other status end a b =
     let same = reports_once a.guarded b.guarded hearing a.left b.left guarded a.run b.run in
     let stops : a.stops ≡ b.stops =
     a.found
-    ∙ (stops_once scenario a.is_guarded.simulation b.is_guarded.simulation a.is_guarded.run b.is_guarded.run ∙ sym b.found) in (
+    ∙ (traps_once scenario a.is_guarded.simulation b.is_guarded.simulation a.is_guarded.run b.is_guarded.run ∙ sym b.found) in (
       a.text_is
           ∙ (ap (λ ls. guard_lines ls
           ++ report_text a.guarded a.left.journals a.left.answers a.left.taps (status_of a.guarded.parts a.left.journals)) stops

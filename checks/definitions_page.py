@@ -87,13 +87,13 @@ CHAPTERS = (
     Chapter(
         "Threads",
         "The lock, the desk of a part, and the workers.",
-        ("shares/Shares", "turn_lock/Views", "turn_lock/Seats", "turn_lock/Turns", "desk_like/Desks", "app_threads/Works",
-         "app_threads/Ends", "order_defs/OneClock", "order_defs/Taking"),
+        ("shares/Shares", "turn_lock/Views", "turn_lock/Seats", "turn_lock/Turns", "clocks/Clocks", "desk_like/Desks",
+         "desk_like/Stamps", "app_threads/Works", "app_threads/Ends", "app_threads/Order", "order_defs/OneClock", "order_defs/Taking"),
     ),
     Chapter(
         "Other runs and texts",
         "Runs by threads, mirrors, audits, traces and listings.",
-        ("run_laws/Fitting", "run_laws/Audit", "threaded_run/Threaded", "mirrored_run/Mirrors", "report_text/Mirrored",
+        ("run_laws/Fitting", "run_laws/Audit", "order_defs/OutOfOrder", "threaded_run/Threaded", "mirrored_run/Mirrors", "report_text/Mirrored",
          "audit_input/Handed", "sim_run/Published", "burst_trace/Retold", "burst_trace/Text", "image_list/ListText",
          "scenario_write/ScenarioText"),
     ),

@@ -5,10 +5,9 @@
 //!
 //! `rustc --edition 2021 -O bench/plain/main.rs` builds it, with the standard library alone.
 //!
-//! It is known to differ in four ways. `--version` says that nothing is proved. It has a form and keys that are still to
-//! come there (form.rs names them). An audit asks for one order of the
-//! events of all parts, and the proved program for an order in each part. Standard input or output that is closed from
-//! the start is an empty file here, as in every Rust program, and cannot be read or written there.
+//! It is known to differ in three ways. `--version` says that nothing is proved. It has a form and keys that are still to
+//! come there (form.rs names them). Standard input or output that is closed from the start is an empty file here, as in
+//! every Rust program, and cannot be read or written there.
 
 mod allocator;
 mod assembler;

@@ -1,4 +1,5 @@
-"""replay: from a report, the listed schedule under which `run` gives the same journals and answers."""
+"""replay: from a report, the listed schedule under which `run` gives the same journals and answers. A run by threads
+has one, since it is a scheduled run (docs/PROOFS.md, "One run of several parts")."""
 
 from __future__ import annotations
 
@@ -18,9 +19,13 @@ from .source import read_text
 # The most picks of a listed schedule.
 MOST_PICKS = SCHEDULES["listed"]["picks"].length[1]
 
-ABOUT = """From a scenario and a report of it, of `run threads` or of `run`, the scenario with a listed schedule
-of which `run` gives the same journals and answers. The program is asked for both: that the report is one of the
-scenario's, and that the new one gives the same."""
+ABOUT = f"""From a scenario and a report of it, of `run threads` or of `run`, the scenario with a listed schedule
+of which `run` gives the same journals and answers. Each run of at most {MOST_PICKS:,} events has one. The program is
+asked for both: that the report is one of the scenario's, and that the new one gives the same."""
+
+
+class NoOrder(Mistake):
+    """The journals of a report have no common order. It names events that wait for one another."""
 
 
 def actor_of(event: Event, part: int, threads: int) -> int:
@@ -30,6 +35,42 @@ def actor_of(event: Event, part: int, threads: int) -> int:
     if event.kind == "stage" or event.context == SHADOW:
         return threads + 2 * part
     return event.context
+
+
+@dataclass(frozen=True)
+class Wait:
+    """An invocation, and the event with the answer that it waits for: that of the operation before in its thread's
+    script."""
+
+    event: int
+    part: int
+    thread: int
+    operation: int
+    answer: int
+    answering: int
+
+    @property
+    def name(self) -> str:
+        return f"event {self.event} of part {self.part} (t{self.thread}'s operation {self.operation})"
+
+    @property
+    def cause(self) -> str:
+        return (f"waits for the answer to t{self.thread}'s operation {self.operation - 1}, "
+                f"event {self.answer} of part {self.answering}")
+
+
+def cycle_text(waits: list[Wait]) -> str:
+    """Invocations that wait for one another, in words: each for an answer that does not come before the next one, the
+    last for one that does not come before the first. An operation that is answered at once has one event for both."""
+    start = next(at for at, wait in enumerate(waits) if waits[at - 1].answer != wait.event)
+    first, *rest = waits[start:] + waits[:start]
+    text = f"{first.name} {first.cause}"
+    last = first
+    for wait in rest:
+        text += ", " if last.answer == wait.event else f"; that comes after {wait.name}, "
+        text += f"which {wait.cause}"
+        last = wait
+    return f"{text}; that comes after event {first.event} of part {first.part}"
 
 
 @dataclass
@@ -71,14 +112,44 @@ class Merge:
         """The picks of all events."""
         while any([self.advance(part) for part in range(len(self.done))]):
             pass
-        if any(done < len(part.events) for done, part in zip(self.done, self.report.parts)):
-            raise Mistake("the journals of this report have no common order")
+        left = [index for index, part in enumerate(self.report.parts) if self.done[index] < len(part.events)]
+        if left:
+            raise NoOrder(f"the journals of this report have no common order: {cycle_text(self.cycle(left[0]))}")
         return self.picks
+
+    def wait_of(self, part: int) -> Wait:
+        """What the next event of a part waits for, if it may not come next."""
+        event = self.report.parts[part].event(self.done[part] + 1)
+        calls = self.calls[event.context]
+        before = next(at for at, call in enumerate(calls[1:]) if (call.part, call.number) == (part, event.call))
+        if not calls[before].answered:
+            raise Mistake("an operation of this report has no answer")
+        return Wait(event.number, part, event.context, before + 2, calls[before].answered, calls[before].part)
+
+    def cycle(self, part: int) -> list[Wait]:
+        """Invocations that wait for one another, found from a part of which events are left: the answer that its next
+        one waits for comes after the next one of another such part."""
+        waits: dict[int, Wait] = {}
+        while part not in waits:
+            waits[part] = self.wait_of(part)
+            part = waits[part].answering
+        return list(waits.values())[list(waits).index(part):]
 
 
 def journals_and_answers(report: str) -> list[str]:
     """A report without the lines of its listeners."""
     return [line for line in report.split("\n") if not line.startswith("tap ")]
+
+
+def no_order_of(report: str) -> NoOrder | None:
+    """That the journals of a report have no common order, if they have none. It may be no report at all."""
+    try:
+        Merge(parse_report(report)).whole()
+    except NoOrder as found:
+        return found
+    except (Mistake, LookupError, StopIteration, ValueError):
+        pass
+    return None
 
 
 def replayed(program: Program, scenario: Scenario, report: str) -> Scenario:
@@ -88,7 +159,7 @@ def replayed(program: Program, scenario: Scenario, report: str) -> Scenario:
     if refused:
         raise Mistake(f"the program refuses the scenario: {refused}")
     if not program.fits(text, report):
-        raise Mistake("the report is none of this scenario's: the program's audit says no")
+        raise no_order_of(report) or Mistake("the report is none of this scenario's: the program's audit says no")
     picks = Merge(parse_report(report)).whole()
     made = with_schedule(scenario, {"kind": "listed", "picks": picks[:MOST_PICKS]})
     if journals_and_answers(program.report(made)) != journals_and_answers(report):

@@ -1,6 +1,8 @@
-"""replay: forty reports by threads come again under the schedules that are made from them."""
+"""replay: forty reports by threads come again under the schedules that are made from them; reports of no one run are
+refused, with the events that wait for one another."""
 
 import json
+import re
 import unittest
 from concurrent.futures import ThreadPoolExecutor
 from unittest import mock
@@ -8,10 +10,38 @@ from unittest import mock
 import drawn
 from common import bench, example_path, example_text, file_of, program
 
-from nooks_bench.program import Mistake
-from nooks_bench.replay import journals_and_answers, replayed
+from nooks_bench.program import Mistake, Program
+from nooks_bench.replay import NoOrder, journals_and_answers, replayed
 
 REPORTS = 40
+
+# What an operation does on a disk: a read is answered by the driver, one of too many blocks at once.
+READ = {"op": "read", "first": 0, "count": 1}
+AT_ONCE = {"op": "read", "first": 9, "count": 1}
+
+
+def of_disks(scripts):
+    """A scenario of disks, from the part and the operation of each of a thread's operations."""
+    count = 1 + max(part for script in scripts for part, _ in script)
+    parts = [{"name": f"d{part}", "class": "block", "blocks": 4, "driver": drawn.driver("block")} for part in range(count)]
+    threads = [
+        {"name": f"t{number}", "ops": [{"part": part, **op} for part, op in script]} for number, script in enumerate(scripts)
+    ]
+    return {"version": 1, "parts": parts, "threads": threads}
+
+
+def sections_of(given, order):
+    """The sections of the run in which threads come one after another, after every part has booted."""
+    boots = [len(given["threads"]) + 2 * part for part in range(len(given["parts"])) for _ in range(5)]
+    picks = boots + [thread for thread in order for _ in range(50)]
+    report = program().report({**given, "schedule": {"kind": "listed", "picks": picks}})
+    return re.split(r"(?m)^(?=part |thread 0 )", report)[1:]
+
+
+def mixed(given, orders):
+    """The report with each part's section of the run in one order. All runs have the same answers."""
+    runs = [sections_of(given, order) for order in orders]
+    return "".join(run[part] for part, run in enumerate(runs)) + runs[0][-1]
 
 
 def replay_one(seed: int) -> tuple[str, str, bool]:
@@ -40,6 +70,66 @@ class Replays(unittest.TestCase):
         status, out, err = bench("replay", example_path("block.json"), example_path("net.report"))
         self.assertEqual((status, out), (2, ""))
         self.assertIn("none of this scenario's", err)
+
+    def test_lines_that_are_no_report_are_refused(self):
+        given, report = drawn.scenario(3), program().report(drawn.scenario(3))
+        for text in ("", "part\n", report[:-9], re.sub(r"(?m)^\d+ invoke .*\n", "", report), report.replace("t0", "t77")):
+            with self.assertRaisesRegex(Mistake, "none of this scenario's"):
+                replayed(program(), given, text)
+
+    def test_crossed_scripts_have_no_order(self):
+        given = of_disks([[(0, READ), (1, READ)], [(1, READ), (0, READ)]])
+        self.assert_no_order(
+            given, mixed(given, [[1, 0], [0, 1]]),
+            "event 6 of part 0 (t1's operation 2) waits for the answer to t1's operation 1, event 11 of part 1; "
+            "that comes after event 6 of part 1 (t0's operation 2), "
+            "which waits for the answer to t0's operation 1, event 11 of part 0; that comes after event 6 of part 0",
+        )
+
+    def test_a_ring_has_no_order(self):
+        given = of_disks([[(0, READ), (1, READ)], [(1, READ), (2, READ)], [(2, READ), (0, READ)]])
+        self.assert_no_order(
+            given, mixed(given, [[2, 0, 1], [0, 1, 2], [1, 2, 0]]),
+            "event 6 of part 0 (t2's operation 2) waits for the answer to t2's operation 1, event 11 of part 2; "
+            "that comes after event 6 of part 2 (t1's operation 2), "
+            "which waits for the answer to t1's operation 1, event 11 of part 1; "
+            "that comes after event 6 of part 1 (t0's operation 2), "
+            "which waits for the answer to t0's operation 1, event 11 of part 0; that comes after event 6 of part 0",
+        )
+
+    def test_an_operation_that_is_answered_at_once_waits_too(self):
+        given = of_disks([[(0, READ), (1, READ)], [(1, READ), (2, AT_ONCE), (0, READ)]])
+        self.assert_no_order(
+            given, mixed(given, [[1, 0], [0, 1], [0, 1]]),
+            "event 6 of part 0 (t1's operation 3) waits for the answer to t1's operation 2, event 6 of part 2, "
+            "which waits for the answer to t1's operation 1, event 11 of part 1; "
+            "that comes after event 6 of part 1 (t0's operation 2), "
+            "which waits for the answer to t0's operation 1, event 11 of part 0; that comes after event 6 of part 0",
+        )
+
+    def test_only_the_events_of_the_cycle_are_named(self):
+        given = of_disks([[(0, READ), (1, READ), (2, READ), (0, READ)], [(2, READ), (1, READ)]])
+        self.assert_no_order(
+            given, mixed(given, [[0, 1], [1, 0], [0, 1]]),
+            "event 6 of part 2 (t0's operation 3) waits for the answer to t0's operation 2, event 11 of part 1; "
+            "that comes after event 6 of part 1 (t1's operation 2), "
+            "which waits for the answer to t1's operation 1, event 11 of part 2; that comes after event 6 of part 2",
+        )
+
+    def assert_no_order(self, given, report, why):
+        """The report is refused with these events, also if the program's audit does not ask for one order."""
+        self.assertFalse(program().fits(json.dumps(given), report))
+        for fits in (False, True):
+            with mock.patch.object(Program, "fits", lambda *_: fits):
+                with self.assertRaises(NoOrder) as found:
+                    replayed(program(), given, report)
+            self.assertEqual(str(found.exception), f"the journals of this report have no common order: {why}")
+
+    def test_sections_of_two_runs_have_an_order_of_their_own(self):
+        given = of_disks([[(0, READ), (1, READ)], [(0, READ), (1, READ)]])
+        report = mixed(given, [[0, 1], [1, 0]])
+        again = program().report(replayed(program(), given, report))
+        self.assertEqual(journals_and_answers(again), journals_and_answers(report))
 
     def test_too_few_picks_are_refused(self):
         given = drawn.scenario(3)

@@ -38,6 +38,7 @@ use Rattle.nooks.specs.Streams.{Input, TooLong, Whole}
 use Rattle.nooks.specs.Texts.{at_root, bad_header_text, help_text, no_such_burst_text, usage_text, verdict_text, version_text}
 use Rattle.nooks.specs.declared.program.Status.{Status}
 use Rattle.nooks.specs.declared.program.Status.TheVariants as ended
+use Rattle.order_laws.proofs.ReadOnce.{finds_exists}
 use Rattle.plan_defs.specs.Plans.{IsValidPlan}
 use Rattle.plan_defs.specs.Types.{Plan}
 use Rattle.reading_laws.proofs.PlansRead.{plan_is_valid}
@@ -46,7 +47,6 @@ use Rattle.report_defs.specs.ReportText.{report_text, status_of, summary_line}
 use Rattle.run_defs.specs.Generated.{generated}
 use Rattle.run_defs.specs.Simulation.{IsScheduledRun, Simulation, answer_table, begins, journals_of}
 use Rattle.run_laws.proofs.Reached.{parts_answered}
-use Rattle.run_laws.specs.Audit.{audited}
 use Rattle.scenario_gen.proofs.Limits.{generated_is_valid}
 use Rattle.scenario_write.specs.ScenarioText.{scenario_line}
 use Rattle.sim_run.proofs.Ending.{runs_scheduled, scheduled_ends}
@@ -263,21 +263,28 @@ guarded_exists guarded bytes hearing (Err refusal) is =
 verdict_exists : (bytes handed report : List ℕ) (hearing : List Listening) (r : Result Scenario Refusal) → Hands bytes handed report
     → length handed ≤ limit_of form.Run → scenario_from handed ≡ r → IfOk r IsValidScenario
     → HasAnswer (AnswersInput form.Audit (Whole bytes) hearing)
-verdict_exists bytes handed report hearing (Ok scenario) hands short is valid = (
-  verdict_text (audited scenario report),
-  (
-    verdict_status (audited scenario report),
-    inr (record {
-      handed = handed;
-      report = report;
-      hands = hands;
-      short = short;
-      scenario = scenario;
-      reading = is;
-      verdict = record { text_is = refl; status_is = refl; sound = sound_report scenario report valid };
-    }),
-  ),
-)
+verdict_exists bytes handed report hearing (Ok scenario) hands short is valid =
+    let f = finds_exists scenario report in (
+      verdict_text f.0,
+      (
+        verdict_status f.0,
+        inr (record {
+          handed = handed;
+          report = report;
+          hands = hands;
+          short = short;
+          scenario = scenario;
+          reading = is;
+          verdict = record {
+            found = f.0;
+            finds = f.1;
+            text_is = refl;
+            status_is = refl;
+            sound = sound_report scenario report f.0 valid f.1;
+          };
+        }),
+      ),
+    )
 verdict_exists bytes handed report hearing (Err refusal) hands short is valid = (
   fault_line refusal,
   (

@@ -1,5 +1,5 @@
 -- What waits for nobody has at most one answer.
-use Rattle.std.proofs.Common.{◌≡◌, ℕ, ◌==◌, ◌<◌, ◌≤◌, if◌then◌else◌, true, List, [], ◌∷◌, ◌++◌, ◌⊎◌, inl, inr, length, map, Option, Some, None, Result, Ok, Err, refl, sym, ap, ◌∙◌, subst, true≢false, arith}
+use Rattle.std.proofs.Common.{◌≡◌, ℕ, ◌==◌, ◌<◌, ◌≤◌, if◌then◌else◌, true, List, [], ◌∷◌, ◌++◌, ◌⊎◌, inl, inr, length, map, Option, Some, None, Result, Ok, Err, IfOk, refl, sym, ap, ◌∙◌, subst, true≢false, arith}
 use Rattle.std.specs.List.{AllZip}
 use Rattle.asm_defs.specs.Disassembler.{disassembled}
 use Rattle.asm_defs.specs.ImageText.{image_text}
@@ -23,6 +23,7 @@ use Rattle.input_defs.specs.ScenarioReading.{scenario_from}
 use Rattle.input_defs.specs.declared.input.Refusal.{Refusal}
 use Rattle.nook_data.specs.declared.scenario.Fault.{Fault}
 use Rattle.nook_data.specs.declared.scenario.PartSpec.{PartSpec}
+use Rattle.nook_data.specs.Valid.{IsValidScenario}
 use Rattle.nook_data.specs.declared.scenario.Scenario.{Scenario}
 use Rattle.nook_data.specs.declared.steps.Event.{Event}
 use Rattle.nook_io.specs.Listening.{Listening, heard_events, tap_result}
@@ -30,14 +31,16 @@ use Rattle.answer_laws.proofs.Stops.{guarded_once}
 use Rattle.campaign_laws.proofs.Traps.{traps_once}
 use Rattle.nooks.specs.Answers.{Answers, AnswersInput, IsAsmOf, IsAuditOf, IsFaultOf, IsGuardOf, IsGuardReport, IsGuardedLine, IsGuardedOf}
 use Rattle.nooks.specs.Answers.{IsImageOf, IsMember, IsRefusalLine, IsReportOf}
-use Rattle.nooks.specs.Answers.{IsReportStatus, IsReported, IsScenarioFault, IsScheduled, IsSummary, IsTableOf, IsTraceOf, IsVerdict, Left, listing_from}
+use Rattle.nooks.specs.Answers.{IsReportStatus, IsReported, IsScenarioFault, IsScheduled, IsSummary, IsTableOf, IsTraceOf, IsVerdict, Left, listing_from, verdict_status}
 use Rattle.nooks.specs.Endings.{AnswersBytes, input_for}
 use Rattle.nooks.specs.Guardable.{guardable_from}
 use Rattle.nooks.specs.Streams.{Input, TooLong, Whole}
-use Rattle.nooks.specs.Texts.{help_text, usage_text, version_text}
+use Rattle.nooks.specs.Texts.{help_text, usage_text, verdict_text, version_text}
 use Rattle.nooks.specs.declared.program.Status.{Status}
 use Rattle.nooks.specs.declared.program.Status.TheVariants as ended
+use Rattle.order_laws.proofs.ReadOnce.{finds_once}
 use Rattle.plan_defs.specs.Types.{Plan}
+use Rattle.reading_laws.proofs.ScenariosRead.{scenario_is_valid}
 use Rattle.report_defs.specs.ReportText.{report_text, status_of, summary_line}
 use Rattle.run_defs.specs.Generated.{generated}
 use Rattle.run_defs.specs.Simulation.{IsScheduledRun, Simulation, answer_table, begins, journals_of}
@@ -218,16 +221,20 @@ table_is_one bytes text other a b =
     ∙ (tables_once a.plan b.plan a.base b.base a.rows b.rows (ok_once (plan_from bytes) a.plan b.plan a.reading b.reading)
     (plan_table bytes text a) (plan_table bytes other b) ∙ sym b.text_is)
 
-verdict_once : (scenario : Scenario) (report text other : List ℕ) (status end : Status) → IsVerdict scenario report text status
-    → IsVerdict scenario report other end → (text ≡ other) × (status ≡ end)
-verdict_once scenario report text other status end a b = (a.text_is ∙ sym b.text_is, a.status_is ∙ sym b.status_is)
+verdict_once : (scenario : Scenario) (report text other : List ℕ) (status end : Status) → IsValidScenario scenario
+    → IsVerdict scenario report text status → IsVerdict scenario report other end → (text ≡ other) × (status ≡ end)
+verdict_once scenario report text other status end valid a b =
+    let same = finds_once scenario report a.found b.found valid a.finds b.finds in (
+      a.text_is ∙ (ap (λ r. verdict_text r) same ∙ sym b.text_is),
+      a.status_is ∙ (ap (λ r. verdict_status r) same ∙ sym b.status_is),
+    )
 
 audit_once : (bytes text other : List ℕ) (status end : Status) → IsAuditOf bytes text status → IsAuditOf bytes other end
     → (text ≡ other) × (status ≡ end)
 audit_once bytes text other status end a b =
     let same = hands_once bytes a.handed a.report b.handed b.report a.hands b.hands in
     let scenario = ok_once (scenario_from b.handed) a.scenario b.scenario (subst (λ h. scenario_from h ≡ Ok a.scenario) same.0 a.reading) b.reading in
-    verdict_once b.scenario b.report text other status end
+    verdict_once b.scenario b.report text other status end (subst (λ r. IfOk r IsValidScenario) b.reading (scenario_is_valid b.handed))
     (subst (λ r. IsVerdict b.scenario r text status) same.1 (subst (λ s. IsVerdict s a.report text status) scenario a.verdict)) b.verdict
 
 trace_at : (scenario : Scenario) (part burst : ℕ) (one other : Option (List ℕ)) → IsTraceText scenario part burst one

@@ -14,7 +14,8 @@ ghost use Rattle.nooks.specs.Answers.{Answers, IsReported};
 ghost use Rattle.nooks.specs.Endings.{AnswersBytes};
 ghost use Rattle.nooks.specs.Streams.{Input};
 ghost use Rattle.nooks.specs.declared.program.Status.{Status};
-ghost use Rattle.run_laws.specs.Audit.{audited, own_listeners};
+ghost use Rattle.order_defs.specs.OutOfOrder.{Finds};
+ghost use Rattle.run_laws.specs.Audit.{own_listeners};
 
 /// What waits for nobody is a function: over the same input, heard by the same listeners, it has at most one answer,
 /// one text with one status. So it is of words over the same bytes, since words are of at most one form.
@@ -34,12 +35,12 @@ pub fn every_form_has_an_answer()
         → (text : List ℕ) × ((status : Status) × AnswersBytes words hearing bytes text status) }
 {}
 
-/// An audit finds no line that does not fit exactly where the text is a report that `run threads` may write of the
-/// scenario, heard by the program's own listeners.
+/// An audit finds nothing exactly if the text is a report that `run threads` may write of the scenario, heard by the
+/// program's own listeners.
 pub fn an_audit_passes_threaded_reports()
     ensures passed { (scenario : Scenario) (report : List ℕ) → IsValidScenario scenario
-        → audited scenario report ≡ None
+        → Finds scenario report None
         → (status : Status) × IsReported RunThreads scenario own_listeners report status }
     ensures reports { (scenario : Scenario) (report : List ℕ) (status : Status) → IsValidScenario scenario
-        → IsReported RunThreads scenario own_listeners report status → audited scenario report ≡ None }
+        → IsReported RunThreads scenario own_listeners report status → Finds scenario report None }
 {}

@@ -25,7 +25,8 @@ use Rattle.app_threads.specs.declared.work.Worker.{Worker}
 use Rattle.app_threads.specs.declared.work.Done.{Done}
 use Rattle.app_threads.specs.Ends.{AreFinished, AtMost, HasArrived, HasRow, IsPartRefused, IsRefused, IsThreadRefused, WorkersEnd}
 use Rattle.app_threads.specs.Hired.{Each, IsDone, IsHired, IsReady, RowsEnd}
-use Rattle.app_threads.specs.Steps.{Same, Spread, TakeAllIn, TakesIn, TakesInOne}
+use Rattle.app_threads.specs.Order.{AllFollow, Follows, KeepClocked, KeepsClocked, all_stamps}
+use Rattle.app_threads.specs.Steps.{KeepsStamps, Same, Spread, TakeAllIn, TakesIn, TakesInOne}
 use Rattle.app_threads.specs.Workers.{AreReceipts, AreRising, AreRuns, AreSeats, ArriveCause, AtDesks, CallCause, Does, Gains, GainsAtMost, GrewBy, HasReplyIn, IsBy, IsNoInvoke, IsNotOwn, IsOpenFor, IsRefusedAt, KeepAccounts, KeepShares, KeepsAccounts, KnowsOpen, MadeBy, StayAlone, count_on, invokes_at, invokes_of, invokes_of_all}
 use Rattle.app_threads.specs.Works.{IsWork, WorkEnds, all_works, arrival_works, frames_for, ops_for, ops_of, script_works, thread_of}
 use Rattle.app_threads.proofs.Counted.{Counts, at_most_weaker, counts_more, counts_none, counts_same, gains_at_most, invokes_few, joins_counts, only_of}
@@ -33,7 +34,8 @@ use Rattle.app_threads.proofs.Grown.{at_grows, frames_grow, gains_more, gains_no
 use Rattle.app_threads.proofs.Listed.{get_map, get_append, if_same, map_get, prefix_refl, prefix_trans, same_at, same_or_other, some_at, take_get}
 use Rattle.app_threads.proofs.Points.{all_back_alone, spread_done}
 use Rattle.app_threads.proofs.Scripts.{SeesMore, all_by_grow, at_desks_both, at_desks_more, at_desks_refl, at_desks_weaker, is_at_weaker, receipts_grow}
-use Rattle.app_threads.proofs.Splitting.{accounts_twice}
+use Rattle.app_threads.proofs.Splitting.{accounts_twice, clocked_twice}
+use Rattle.app_threads.proofs.Stamped.{follows_grow, rows_follow}
 use Rattle.app_threads.proofs.Starting.{gains_same, start_same, start_view, work_same}
 use Rattle.app_threads.proofs.WorkPlaces.{calls_are, calls_by, calls_by_are, calls_in, arrivals_are, arrivals_before, arrivals_behind, arrivals_there, behind_scripts, frames_are, invokes_are, script_is, script_there, works_frames, works_invokes, works_long}
 
@@ -55,31 +57,49 @@ pub accounts_joined : (specs : List PartSpec) (olds mids others news : List Desk
 accounts_joined specs olds mids others news h t =
     accounts_twice olds mids news h (takes_each (λ d v w. KeepsAccounts v w) specs mids others news (λ d spec v o w a b k. record { still = λ a. k.2 }) t)
 
-take_sees : (specs : List PartSpec) (olds others news : List DeskView) → TakesIn specs olds others news → AtDesks SeesMore olds news
-take_sees specs olds others news t = takes_each SeesMore specs olds others news (λ d spec v o w a b k. k.0.seen) t
+-- seats that took others in have their events stamped
+pub clocked_joined : (specs : List PartSpec) (olds mids others news : List DeskView) → KeepClocked olds mids → TakesIn specs mids others news → KeepClocked olds news
+clocked_joined specs olds mids others news h t =
+    clocked_twice olds mids news h (takes_each (λ d v w. KeepsClocked v w) specs mids others news (λ d spec v o w a b k. record { still = λ a. k.3 }) t)
 
-other_sees : (specs : List PartSpec) (olds others news : List DeskView) → TakesIn specs olds others news → AtDesks SeesMore others news
-other_sees specs olds others news t = (
-  let n = t.0 in let m = t.2 in omega arith,
-  λ d o w i j.
-      let l = slice_get_within others d o i in
-      let s = some_at specs d (let n = t.0 in let m = t.1 in omega arith) in
-      let v = some_at olds d (let n = t.0 in omega arith) in
-      (t.3 d s.0 v.0 o w s.1 v.1 i j).0.other_seen,
-)
+-- what a seat that took another in has of both
+module _ (R : ℕ → DeskView → DeskView → Type 0) (stays : (d : ℕ) (v : DeskView) → R d v v) (goes : (d : ℕ) (u v w : DeskView) → R d u v → R d v w → R d u w)
+    (own : (d : ℕ) (spec : PartSpec) (v o w : DeskView) → TakesInOne spec v o w → R d v w) (other : (d : ℕ) (spec : PartSpec) (v o w : DeskView) → TakesInOne spec v o w → R d o w) where
+  own_each : (specs : List PartSpec) (olds others news : List DeskView) → TakesIn specs olds others news → AtDesks R olds news
+  own_each specs olds others news t = takes_each R specs olds others news (λ d spec v o w a b k. own d spec v o w k) t
+
+  other_each : (specs : List PartSpec) (olds others news : List DeskView) → TakesIn specs olds others news → AtDesks R others news
+  other_each specs olds others news t = (
+    let n = t.0 in let m = t.2 in omega arith,
+    λ d o w i j.
+        let l = slice_get_within others d o i in
+        let s = some_at specs d (let n = t.0 in let m = t.1 in omega arith) in
+        let v = some_at olds d (let n = t.0 in omega arith) in
+        other d s.0 v.0 o w (t.3 d s.0 v.0 o w s.1 v.1 i j),
+  )
+
+  own_all : (specs : List PartSpec) (olds : List DeskView) (workers : List (List DeskView)) (news : List DeskView) → TakeAllIn specs olds workers news → AtDesks R olds news
+  own_all specs olds [] news t = subst (λ (l : List DeskView). AtDesks R olds l) (sym t) (at_desks_refl R olds stays)
+  own_all specs olds (others ∷ workers) news t = at_desks_more R R R olds t.0 news goes (own_each specs olds others t.0 t.1) (own_all specs t.0 workers news t.2)
+
+  other_all : (specs : List PartSpec) (olds : List DeskView) (workers : List (List DeskView)) (news : List DeskView) (i : ℕ) (others : List DeskView) → TakeAllIn specs olds workers news → slice_get workers i ≡ Some others → AtDesks R others news
+  other_all specs olds [] news i others t h = absurd cc
+  other_all specs olds (first ∷ workers) news zero others t h =
+      let is : first ≡ others = same_at (first ∷ workers) 0 first others refl h in
+      subst (λ (l : List DeskView). AtDesks R l news) is (at_desks_more R R R first t.0 news goes (other_each specs olds first t.0 t.1) (own_all specs t.0 workers news t.2))
+  other_all specs olds (first ∷ workers) news (suc i) others t h = other_all specs t.0 workers news i others t.2 h
 
 all_see : (specs : List PartSpec) (olds : List DeskView) (workers : List (List DeskView)) (news : List DeskView) → TakeAllIn specs olds workers news → AtDesks SeesMore olds news
-all_see specs olds [] news t = subst (λ (l : List DeskView). AtDesks SeesMore olds l) (sym t) (at_desks_refl SeesMore olds (λ d v. prefix_refl v.seen))
-all_see specs olds (others ∷ workers) news t =
-    at_desks_more SeesMore SeesMore SeesMore olds t.0 news (λ d u v w p q. prefix_trans u.seen v.seen w.seen p q) (take_sees specs olds others t.0 t.1) (all_see specs t.0 workers news t.2)
+all_see specs olds workers news t =
+    own_all SeesMore (λ d v. prefix_refl v.seen) (λ d u v w p q. prefix_trans u.seen v.seen w.seen p q) (λ d spec v o w k. k.0.seen) (λ d spec v o w k. k.0.other_seen) specs olds workers news t
 
 pub worker_sees : (specs : List PartSpec) (olds : List DeskView) (workers : List (List DeskView)) (news : List DeskView) (i : ℕ) (others : List DeskView) → TakeAllIn specs olds workers news → slice_get workers i ≡ Some others → AtDesks SeesMore others news
-worker_sees specs olds [] news i others t h = absurd cc
-worker_sees specs olds (first ∷ workers) news zero others t h =
-    let is : first ≡ others = same_at (first ∷ workers) 0 first others refl h in
-    subst (λ (l : List DeskView). AtDesks SeesMore l news) is
-    (at_desks_more SeesMore SeesMore SeesMore first t.0 news (λ d u v w p q. prefix_trans u.seen v.seen w.seen p q) (other_sees specs olds first t.0 t.1) (all_see specs t.0 workers news t.2))
-worker_sees specs olds (first ∷ workers) news (suc i) others t h = worker_sees specs t.0 workers news i others t.2 h
+worker_sees specs olds workers news i others t h =
+    other_all SeesMore (λ d v. prefix_refl v.seen) (λ d u v w p q. prefix_trans u.seen v.seen w.seen p q) (λ d spec v o w k. k.0.seen) (λ d spec v o w k. k.0.other_seen) specs olds workers news i others t h
+
+worker_stamps : (specs : List PartSpec) (olds : List DeskView) (workers : List (List DeskView)) (news : List DeskView) (i : ℕ) (others : List DeskView) → TakeAllIn specs olds workers news → slice_get workers i ≡ Some others → AtDesks KeepsStamps others news
+worker_stamps specs olds workers news i others t h =
+    other_all KeepsStamps (λ d v. prefix_refl v.stamps) (λ d u v w p q. prefix_trans u.stamps v.stamps w.stamps p q) (λ d spec v o w k. k.4.stamps) (λ d spec v o w k. k.4.other_stamps) specs olds workers news i others t h
 
 pub all_runs : (specs : List PartSpec) (olds : List DeskView) (workers : List (List DeskView)) (news : List DeskView) → TakeAllIn specs olds workers news → 0 < length workers → AreRuns specs news
 all_runs specs olds [] news t l = absurd (omega arith)
@@ -337,6 +357,19 @@ module _ (specs : List PartSpec) (scripts : List ThreadSpec) (arrivals : List (L
           λ d v w b c. arrived_of rows is count d (slice_index_or arrivals d []) v w refl b c,
         );
       }
+
+  -- a thread's operations are in the order of its script
+  follows_there : (t : ℕ) (s : ThreadSpec) (row : List Receipt) → slice_get scripts t ≡ Some s → slice_get ends t ≡ Some (Ok row) → Follows (all_stamps news) 0 s.ops row
+  follows_there t s row a b =
+      let e = ended_at specs scripts arrivals (map start_view olds) (all_works scripts arrivals) others ends t (work.Script t) (Ok row) ended (script_there scripts (arrival_works 0 arrivals) t s a) b in
+      let stamps = worker_stamps specs mids others news t e.0 taken e.1 in
+      let ops : ops_of (slice_get scripts t) ≡ s.ops = ap ops_of a in
+      subst (λ o. Follows (all_stamps news) 0 o row) ops (follows_grow e.0 news (ops_of (slice_get scripts t)) row stamps e.2.3)
+
+  pub all_follow : (rows : List (List Receipt)) → ends ≡ map (λ row. Ok row) rows → AllFollow (all_stamps news) scripts (take (length scripts) rows)
+  all_follow rows is =
+      rows_follow (all_stamps news) scripts (take (length scripts) rows) (all_finished rows is).rows.0
+      (λ t s row a b. follows_there t s row a (ap (λ (l : List (Result (List Receipt) WorkerStop)). slice_get l t) is ∙ get_map (λ r. Ok r) rows t row (take_get rows t (length scripts) row b)))
 
   pub all_grown : AtDesks (λ d v w. AtMost scripts (slice_index_or arrivals d []) d v w) olds news
   all_grown =

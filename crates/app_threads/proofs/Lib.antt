@@ -7,6 +7,7 @@ pub mod Points
 pub mod Scripts
 pub mod SeatLists
 pub mod Splitting
+pub mod Stamped
 pub mod Starting
 pub mod WorkPlaces
 pub mod Working

@@ -15,7 +15,7 @@ use Rattle.nook_data.specs.declared.desks.Receipt.{Receipt}
 use Rattle.part_defs.specs.Runs.{state_of}
 use Rattle.part_defs.specs.State.{PartState}
 use Rattle.desk_like.specs.Desks.{AddsNothing, IsReply, ArriveEnds, CallEnds, DeskView, Invokes, IsAt, IsInvoke, IsOther, IsReceipt}
-use Rattle.app_threads.specs.Steps.{IsStepAt, NextArrivalEnds, NextCallEnds}
+use Rattle.app_threads.specs.Steps.{IsStepAt, KeepsStamps, NextArrivalEnds, NextCallEnds}
 use Rattle.app_threads.specs.declared.stop.WorkerStop.{WorkerStop}
 use Rattle.app_threads.specs.declared.stop.WorkerStop.TheVariants as stop
 use Rattle.app_threads.specs.Workers.{AreReceipts, ArrivalsEnd, ArriveCause, AtDesks, CallCause, Does, DoesFrames, DoesOps, GainsAtMost, GrewBy, HasReply, HasReplyIn, IsArrivalRefused, IsBy, IsCallRefused, IsReceiptAt, IsRefusedAt, KeepShares, KeepsShare, KnowsOpen, MadeBy, Owns, ScriptEnds, count_on, invokes_of, is_invoke}
@@ -61,13 +61,22 @@ step_more P Q specs olds mids news part Ends s other same h =
 abbrev pub SeesMore : ℕ → DeskView → DeskView → Type 0
 SeesMore d v w = IsPrefix v.seen w.seen
 
+-- what is so of each seat that a step left as it was, and of the one that it changed
+pub step_each : (R : ℕ → DeskView → DeskView → Type 0) (specs : List PartSpec) (mids news : List DeskView) (part : ℕ) (Ends : PartSpec → DeskView → DeskView → Type 0) (s : IsStepAt specs mids news part Ends)
+    → ((d : ℕ) (v : DeskView) → R d v v) → R part s.old s.new → AtDesks R mids news
+step_each R specs mids news part Ends s stays changed =
+    step_more (λ d u v. u ≡ v) R specs mids mids news part Ends s
+    (λ d u v n e. subst (R d u) e (stays d u)) (λ u e. subst (λ (v : DeskView). R part v s.new) (sym e) changed)
+    (at_desks_refl (λ d u v. u ≡ v) mids (λ d v. refl))
+
 -- what a step lets each seat see
 pub step_sees : (specs : List PartSpec) (mids news : List DeskView) (part : ℕ) (Ends : PartSpec → DeskView → DeskView → Type 0) (s : IsStepAt specs mids news part Ends)
     → IsPrefix s.old.seen s.new.seen → AtDesks SeesMore mids news
-step_sees specs mids news part Ends s p =
-    step_more (λ d u v. u ≡ v) SeesMore specs mids mids news part Ends s
-    (λ d u v n e. subst (SeesMore d u) e (prefix_refl u.seen)) (λ u e. subst (λ (v : DeskView). IsPrefix v.seen s.new.seen) (sym e) p)
-    (at_desks_refl (λ d u v. u ≡ v) mids (λ d v. refl))
+step_sees specs mids news part Ends s p = step_each SeesMore specs mids news part Ends s (λ d v. prefix_refl v.seen) p
+
+-- a step that only adds to a seat's stamps
+pub step_stamps : (specs : List PartSpec) (mids news : List DeskView) (part : ℕ) → IsStepAt specs mids news part (λ spec v w. IsPrefix v.stamps w.stamps) → AtDesks KeepsStamps mids news
+step_stamps specs mids news part s = step_each KeepsStamps specs mids news part (λ spec v w. IsPrefix v.stamps w.stamps) s (λ d v. prefix_refl v.stamps) s.ends
 
 pub step_there : (specs : List PartSpec) (mids news : List DeskView) (part : ℕ) (Ends : PartSpec → DeskView → DeskView → Type 0) (s : IsStepAt specs mids news part Ends) → slice_get news part ≡ Some s.new
 step_there specs mids news part Ends s = ap (λ (l : List DeskView). slice_get l part) s.news_are ∙ get_set_same mids part s.old s.new s.old_there

@@ -5,6 +5,7 @@ use Rattle.nook_data.specs.declared.scenario.ThreadSpec.{ThreadSpec}
 use Rattle.desk_like.specs.Desks.{DeskView}
 use Rattle.app_threads.specs.declared.work.Work.{Work}
 use Rattle.app_threads.specs.declared.work.Work.TheVariants as work
+use Rattle.app_threads.specs.Order.{KeepClocked, KeepsClocked}
 use Rattle.app_threads.specs.Steps.{IsStepAt, Same, Splits, Starts}
 use Rattle.app_threads.specs.Workers.{AtDesks, KeepAccounts, KeepsAccounts}
 use Rattle.app_threads.specs.Works.{script_works}
@@ -26,6 +27,14 @@ accounts_twice olds mids news h k =
 pub accounts_more : (specs : List PartSpec) (olds mids news : List DeskView) (at : ℕ) (made : DeskView) → IsStepAt specs mids news at (λ spec v w. Splits v w made) → KeepAccounts olds mids → KeepAccounts olds news
 accounts_more specs olds mids news at made s h =
     step_more (λ d v w. KeepsAccounts v w) (λ d v w. KeepsAccounts v w) specs olds mids news at _ s (λ d u v n k. k) (λ u k. record { still = λ a. s.ends.2 }) h
+
+pub clocked_twice : (olds mids news : List DeskView) → KeepClocked olds mids → KeepClocked mids news → KeepClocked olds news
+clocked_twice olds mids news h k =
+    at_desks_more (λ d v w. KeepsClocked v w) (λ d v w. KeepsClocked v w) (λ d v w. KeepsClocked v w) olds mids news (λ d u v w a b. record { still = λ x. b.still (a.still x) }) h k
+
+pub clocked_more : (specs : List PartSpec) (olds mids news : List DeskView) (at : ℕ) (made : DeskView) → IsStepAt specs mids news at (λ spec v w. Splits v w made) → KeepClocked olds mids → KeepClocked olds news
+clocked_more specs olds mids news at made s h =
+    step_more (λ d v w. KeepsClocked v w) (λ d v w. KeepsClocked v w) specs olds mids news at _ s (λ d u v n k. k) (λ u k. record { still = λ a. s.ends.3 }) h
 
 -- the first so many seats have new ones beside them
 abbrev pub StartSoFar : ℕ → List DeskView → List DeskView → Type 0

@@ -22,9 +22,9 @@ use Rattle.app_threads.proofs.Counted.{at_most_same}
 use Rattle.app_threads.proofs.Listed.{map_get, some_at}
 use Rattle.app_threads.proofs.Scripts.{at_desks_more}
 
--- a new seat's view, whatever its share
+-- a new seat's view, whatever its share, its stamps and its clock
 abbrev pub start_view : DeskView → DeskView
-start_view v = record { seen = v.seen; made = []; share = [] }
+start_view v = record { seen = v.seen; made = []; share = []; stamps = []; clock = 0 }
 
 -- seats that were made beside these start so
 pub start_same : (olds made : List DeskView) → AtDesks Starts olds made → AtDesks Same (map start_view olds) made
@@ -114,6 +114,7 @@ work_same specs scripts arrivals olds mids news k (Ok row) same h =
       h.0,
       at_desks_more Same P P olds mids news (λ d v u w s g. does_same v u w (invokes_of d (ops_for scripts k) row) (frames_for d arrivals k) s g) same h.1,
       at_desks_more Same Q Q olds mids news (λ d v u w s g. made_same (thread_of k) v u w s g) same h.2,
+      h.3,
     )
 work_same specs scripts arrivals olds mids news k (Err (stop.Refused thread place part refusal)) same h = (
   grew_same (thread_of k) (λ d. count_on d (ops_for scripts k)) (λ d. length (frames_for d arrivals k)) olds mids news same h.0,

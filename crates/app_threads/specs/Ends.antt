@@ -1,5 +1,5 @@
 -- How all workers end.
-use Rattle.std.specs.Prelude.{◌≡◌, ℕ, ◌+◌, ◌<◌, ◌≤◌, ◌⊎◌, List, [], ◌∷◌, length, slice_get, slice_index_or, Some}
+use Rattle.std.specs.Prelude.{◌≡◌, ℕ, ◌+◌, ◌<◌, ◌≤◌, List, [], ◌∷◌, length, slice_get, slice_index_or, Some}
 use Rattle.std.specs.Prelude.{Result, Ok, Err}
 use Rattle.nook_data.specs.declared.desks.DeskRefused.{DeskRefused}
 use Rattle.nook_data.specs.declared.desks.DeskRefused.TheVariants as refused

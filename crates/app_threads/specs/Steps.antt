@@ -1,11 +1,13 @@
 -- One step of a worker, as its seats' views show it.
-use Rattle.std.specs.Prelude.{◌≡◌, ℕ, ◌⊎◌, Bool, true, List, [], ◌∷◌, length, slice_get, slice_set, Some, Result, Ok}
-use Rattle.std.specs.Prelude.{Err}
+use Rattle.std.specs.Prelude.{◌≡◌, ℕ, ◌<◌, ◌≤◌, ◌⊎◌, Bool, true, List, [], ◌∷◌, length, slice_get, slice_set, Some, Result}
+use Rattle.std.specs.Prelude.{Ok, Err}
+use mathlib.Core.List.{IsPrefix}
 use Rattle.nook_data.specs.declared.calls.Op.{Op}
 use Rattle.nook_data.specs.declared.scenario.PartSpec.{PartSpec}
 use Rattle.nook_data.specs.declared.desks.Receipt.{Receipt}
 use Rattle.part_defs.specs.Runs.{IsRun}
 use Rattle.desk_like.specs.Desks.{Accounts, ArriveEnds, CallEnds, DeskView, Joins, halved_view, new_view}
+use Rattle.desk_like.specs.Stamps.{Clocked, JoinsClocks, stamp_of}
 use Rattle.shares.specs.Shares.{owns}
 use Rattle.app_threads.specs.declared.stop.WorkerStop.{WorkerStop}
 use Rattle.app_threads.specs.declared.stop.WorkerStop.TheVariants as stop
@@ -36,6 +38,20 @@ NextArrivalEnds spec old new place part frame (Err (stop.Refused t k p refusal))
     (t ≡ work.Arrivals part) × (k ≡ place) × (p ≡ part) × ArriveEnds spec old new frame (Err refusal)
 NextArrivalEnds spec old new place part frame (Err stop.NoMemory) = ⊥
 
+-- ---- stamps
+
+-- by the stamps of its desk, an operation was invoked later than `before`; it was answered no earlier than it was
+-- invoked, and no later than `after`
+abbrev pub IsTimely : List ℕ → Receipt → ℕ → ℕ → Type 0
+IsTimely stamps receipt before after =
+    (before < stamp_of stamps receipt.at_invoke)
+    × (stamp_of stamps receipt.at_invoke ≤ stamp_of stamps receipt.at_reply)
+    × (stamp_of stamps receipt.at_reply ≤ after)
+
+-- the stamps that a desk's seat had seen begin those that it has seen now
+abbrev pub KeepsStamps : ℕ → DeskView → DeskView → Type 0
+KeepsStamps d old new = IsPrefix old.stamps new.stamps
+
 -- ---- seats that are made and taken in
 
 -- a seat knows the same as before
@@ -48,11 +64,12 @@ Starts d old made = (made.seen ≡ old.seen) × (made.made ≡ [])
 
 -- a seat was made beside another
 abbrev pub Splits : DeskView → DeskView → DeskView → Type 0
-Splits old new made = (new ≡ halved_view old) × (made ≡ new_view old) × Accounts new
+Splits old new made = (new ≡ halved_view old) × (made ≡ new_view old) × Accounts new × Clocked new
 
 -- a seat took another in
 abbrev pub TakesInOne : PartSpec → DeskView → DeskView → DeskView → Type 0
-TakesInOne spec old other new = Joins old other new × IsRun spec new.seen × Accounts new
+TakesInOne spec old other new =
+    Joins old other new × IsRun spec new.seen × Accounts new × Clocked new × JoinsClocks old other new
 
 -- each seat took another in
 abbrev pub TakesIn : List PartSpec → List DeskView → List DeskView → List DeskView → Type 0

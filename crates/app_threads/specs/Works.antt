@@ -11,6 +11,7 @@ use Rattle.app_threads.specs.declared.stop.WorkerStop.{WorkerStop}
 use Rattle.app_threads.specs.declared.stop.WorkerStop.TheVariants as stop
 use Rattle.app_threads.specs.declared.work.Work.{Work}
 use Rattle.app_threads.specs.declared.work.Work.TheVariants as work
+use Rattle.app_threads.specs.Order.{Follows, all_stamps}
 use Rattle.app_threads.specs.Workers.{AreReceipts, AtDesks, Does, GrewBy, IsArrivalRefused, IsCallRefused, KnowsOpen}
 use Rattle.app_threads.specs.Workers.{MadeBy, count_on, invokes_of, no_thread}
 
@@ -70,6 +71,7 @@ WorkEnds specs scripts arrivals olds k news (Ok receipts) =
     AreReceipts news (thread_of k) (ops_for scripts k) receipts
     × AtDesks (λ d v w. Does v w (invokes_of d (ops_for scripts k) receipts) (frames_for d arrivals k)) olds news
     × AtDesks (λ d v w. MadeBy (thread_of k) v w) olds news
+    × Follows (all_stamps news) 0 (ops_for scripts k) receipts
 WorkEnds specs scripts arrivals olds k news (Err (stop.Refused own place part refusal)) =
     AtDesks (λ d v w. GrewBy (thread_of k) (count_on d (ops_for scripts k)) (length (frames_for d arrivals k)) v w) olds
     news

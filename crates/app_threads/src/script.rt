@@ -1,12 +1,15 @@
 //! The worker of a thread's script.
 
-ghost use Rattle.std.specs.Prelude.{◌≡◌, ◌<◌, ◌≤◌, length, map};
-ghost use Rattle.app_threads.specs.Steps.{IsStepAt, NextCallEnds};
-ghost use Rattle.app_threads.specs.Workers.{AreSeats, KeepShares, NameDesks, ScriptEnds};
+ghost use Rattle.std.specs.Prelude.{◌≡◌, ◌<◌, ◌≤◌, length, map, IfOk};
+ghost use Rattle.desk_like.specs.Stamps.{stamps_on};
+ghost use Rattle.app_threads.specs.Order.{Follows, all_stamps};
+ghost use Rattle.app_threads.specs.Steps.{IsStepAt, IsTimely, KeepsStamps, NextCallEnds};
+ghost use Rattle.app_threads.specs.Workers.{AreSeats, AtDesks, KeepShares, NameDesks, ScriptEnds};
 
 use crate::seats::call_at;
 use crate::stop::WorkerStop;
 use crate::work::Work;
+use clocks::Clock;
 use desk_like::DeskLike;
 use nook_data::calls::{Op, PartOps};
 use nook_data::desks::{Receipt, Receipts};
@@ -15,12 +18,13 @@ use nook_io::outside::Gate;
 use std::alloc::Global;
 use std::sync::Wait;
 
-// Calls for the operation at this place of a script.
+// Calls for the operation with this number in a script, by the worker's clock.
 fn call_next<R: Wait, D: DeskLike>(
     rt: &R,
     alloc: Global,
     desks: &[D],
     seats: &mut [D::Seat],
+    clock: &mut Clock,
     thread: u8,
     place: u32,
     part: u32,
@@ -32,8 +36,11 @@ fn call_next<R: Wait, D: DeskLike>(
     ensures seats { AreSeats D.is_seat desks.now seats.new }
     ensures ends { IsStepAt (map D.spec desks.now) (map D.view seats.old) (map D.view seats.new) part
         (λ spec old new. NextCallEnds spec old new thread place part op.now result) }
+    ensures stamps { AtDesks KeepsStamps (map D.view seats.old) (map D.view seats.new) }
+    ensures timely { IfOk result (λ receipt. IsTimely (stamps_on (all_stamps (map D.view seats.new)) part) receipt
+        clock.old clock.new) }
 {
-    match call_at(rt, alloc, desks, seats, thread, part, op) {
+    match call_at(rt, alloc, desks, seats, clock, thread, part, op) {
         Ok(receipt) => Ok(receipt),
         Err(refusal) => Err(WorkerStop::Refused {
             work: Work::Script { thread },
@@ -44,7 +51,8 @@ fn call_next<R: Wait, D: DeskLike>(
     }
 }
 
-/// Runs a thread's script from first to last, up to the first refusal.
+/// Runs a thread's script from first to last, up to the first refusal. The thread's clock goes with it from desk to
+/// desk: each operation is stamped later than the answer of the one before.
 pub fn run_script<R: Wait, D: DeskLike, G: Gate>(
     rt: &R,
     alloc: Global,
@@ -62,12 +70,24 @@ pub fn run_script<R: Wait, D: DeskLike, G: Gate>(
     ensures ends { ScriptEnds (map D.spec desks.now) (map D.view seats.old)
         (map D.view seats.new) thread ops.now result }
     ensures shares { KeepShares (map D.view seats.old) (map D.view seats.new) }
+    ensures order { IfOk result (λ receipts. Follows (all_stamps (map D.view seats.new)) 0 ops.now receipts) }
 {
+    let mut clock = Clock::start();
     let mut receipts = Receipts::new(alloc);
     for place in 0..ops.len() {
         gate.pass(thread, place as u32);
         let (part, op) = ops.get(place);
-        let receipt = call_next(rt, alloc, desks, seats, thread, place as u32, *part, op)?;
+        let receipt = call_next(
+            rt,
+            alloc,
+            desks,
+            seats,
+            &mut clock,
+            thread,
+            place as u32,
+            *part,
+            op,
+        )?;
         receipts.push(receipt)?;
     }
     Ok(receipts)

@@ -2,9 +2,14 @@
 
 ghost use Rattle.std.specs.Prelude.{◌≡◌, ◌<◌, ◌≤◌, length, map, true, ℕ, slice_get, Some, slice_index_or, IfOk};
 ghost use Rattle.desk_like.specs.Desks.{ArriveEnds, CallEnds};
+ghost use Rattle.desk_like.specs.Stamps.{stamps_on};
+ghost use Rattle.app_threads.specs.Order.{KeepClocked, all_stamps};
 ghost use Rattle.app_threads.specs.Workers.{AreSeats, AtDesks, IsNetAt, IsSeatAt, KeepAccounts};
-ghost use Rattle.app_threads.specs.Steps.{Halve, IsStepAt, Same, Splits, Starts, TakesIn, TakesInOne};
+ghost use Rattle.app_threads.specs.Steps.{Halve, IsStepAt, IsTimely, KeepsStamps, Same, Splits, Starts, TakesIn};
+ghost use Rattle.app_threads.specs.Steps.{TakesInOne};
+ghost use mathlib.Core.List.{IsPrefix};
 
+use clocks::Clock;
 use desk_like::DeskLike;
 use nook_data::calls::Op;
 use nook_data::desks::{DeskRefused, Receipt};
@@ -14,12 +19,38 @@ use nook_data::memory::NoMemory;
 use std::alloc::Global;
 use std::sync::Wait;
 
-/// Calls the desk at this place.
+// Calls a desk through a seat. Before the call and after it, the seat's clock and the worker's are set to the later of
+// the two.
+fn call_in_time<R: Wait, D: DeskLike>(
+    rt: &R,
+    alloc: Global,
+    desk: &D,
+    seat: &mut D::Seat,
+    clock: &mut Clock,
+    thread: u8,
+    op: &Op,
+) -> Result<Receipt, DeskRefused>
+    requires seat { D.is_seat desk.now seat.old }
+    requires thread { thread < MOST_THREADS }
+    ensures seat { D.is_seat desk.now seat.new }
+    ensures ends { CallEnds (D.spec desk.now) (D.view seat.old) (D.view seat.new) thread op.now result }
+    ensures stamps { IsPrefix (D.view seat.old).stamps (D.view seat.new).stamps }
+    ensures timely { IfOk result (λ receipt. IsTimely (D.view seat.new).stamps receipt clock.old clock.new) }
+{
+    desk.synchronize(seat, clock);
+    let end = desk.call(rt, alloc, seat, thread, op);
+    desk.synchronize(seat, clock);
+    end
+}
+
+/// Calls the desk with this number by a worker's clock: the call is stamped later than the clock's time, and the clock
+/// is not behind the answer afterwards.
 pub fn call_at<R: Wait, D: DeskLike>(
     rt: &R,
     alloc: Global,
     desks: &[D],
     seats: &mut [D::Seat],
+    clock: &mut Clock,
     thread: u8,
     part: u32,
     op: &Op,
@@ -30,9 +61,12 @@ pub fn call_at<R: Wait, D: DeskLike>(
     ensures seats { AreSeats D.is_seat desks.now seats.new }
     ensures ends { IsStepAt (map D.spec desks.now) (map D.view seats.old) (map D.view seats.new) part
         (λ spec old new. CallEnds spec old new thread op.now result) }
+    ensures stamps { AtDesks KeepsStamps (map D.view seats.old) (map D.view seats.new) }
+    ensures timely { IfOk result (λ receipt. IsTimely (stamps_on (all_stamps (map D.view seats.new)) part) receipt
+        clock.old clock.new) }
 {
     let at = part as usize;
-    desks[at].call(rt, alloc, &mut seats[at], thread, op)
+    call_in_time(rt, alloc, &desks[at], &mut seats[at], clock, thread, op)
 }
 
 /// Hands a frame to the network part at this place.
@@ -79,6 +113,7 @@ pub fn split_all<D: DeskLike>(
     ensures seats { AreSeats D.is_seat desks.now seats.new }
     ensures same { AtDesks Same (map D.view seats.old) (map D.view seats.new) }
     ensures accounts { KeepAccounts (map D.view seats.old) (map D.view seats.new) }
+    ensures clocked { KeepClocked (map D.view seats.old) (map D.view seats.new) }
     ensures made { IfOk result (λ made. AreSeats D.is_seat desks.now made.items) }
     ensures starts { IfOk result (λ made. AtDesks Starts (map D.view seats.old) (map D.view made.items)) }
     ensures halves { IfOk result (λ made. Halve (map D.view seats.old) (map D.view seats.new) (map D.view made.items)) }

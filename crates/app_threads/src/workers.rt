@@ -3,6 +3,7 @@
 ghost use Rattle.std.specs.Prelude.{◌≡◌, ◌<◌, ◌≤◌, length, map, All, IfOk, OnOk};
 ghost use Rattle.app_threads.specs.Ends.{WorkersEnd};
 ghost use Rattle.app_threads.specs.Hired.{Each, IsDone, IsHired, IsReady, RowsEnd};
+ghost use Rattle.app_threads.specs.Order.{AllFollow, KeepClocked, all_stamps};
 ghost use Rattle.app_threads.specs.Steps.{Same, Spread, TakeAllIn};
 ghost use Rattle.app_threads.specs.Workers.{AreArrivals, AreScripts, AreSeats, AtDesks, KeepAccounts, KeepShares};
 ghost use Rattle.app_threads.specs.Works.{IsWork, WorkEnds};
@@ -35,6 +36,7 @@ fn hire<D: DeskLike>(
     ensures seats { AreSeats D.is_seat desks.now seats.new }
     ensures same { AtDesks Same (map D.view seats.old) (map D.view seats.new) }
     ensures accounts { KeepAccounts (map D.view seats.old) (map D.view seats.new) }
+    ensures clocked { KeepClocked (map D.view seats.old) (map D.view seats.new) }
     ensures hired { IfOk result (λ workers. Each
         (IsHired D.is_seat D.spec D.view desks.now (map D.view seats.old)) works.now workers.items) }
     ensures spread { IfOk result (λ workers. Spread (map D.view seats.old) (map D.view seats.new)
@@ -147,6 +149,7 @@ fn take_in<D: DeskLike>(
         (map (λ done. map D.view done.seats.items) workers.items) (map D.view seats.new)) }
     ensures ends { IfOk result (λ ends. ends.items ≡ map (λ done. done.end) workers.items) }
     ensures accounts { KeepAccounts (map D.view seats.old) (map D.view seats.new) }
+    ensures clocked { KeepClocked (map D.view seats.old) (map D.view seats.new) }
 {
     let mut ends = Vec::new(alloc);
     for done in workers {
@@ -181,6 +184,9 @@ fn rows_of(
 /// has on that desk, nor more arrivals than the desk's list. After `NoMemory` some workers may not have run, and what
 /// was added through the seats of those that did may not be known. Whatever the answer, a seat that accounted for all
 /// that was added through it (`Accounts`) does so still.
+///
+/// A thread's clock goes with it from desk to desk: each of its operations is stamped later than the answer of the one
+/// before, whatever the desks of the two.
 pub fn run_workers<R: Threads + Wait + Sync, D: DeskLike, G: Gate>(
     rt: &R,
     alloc: Global,
@@ -198,6 +204,8 @@ pub fn run_workers<R: Threads + Wait + Sync, D: DeskLike, G: Gate>(
     ensures ends { WorkersEnd (map D.spec desks.now) scripts.now arrivals.now (map D.view seats.old)
         (map D.view seats.new) result }
     ensures accounts { KeepAccounts (map D.view seats.old) (map D.view seats.new) }
+    ensures clocked { KeepClocked (map D.view seats.old) (map D.view seats.new) }
+    ensures order { IfOk result (λ table. AllFollow (all_stamps (map D.view seats.new)) scripts.now table) }
 {
     let works = works_of(alloc, scripts, arrivals)?;
     let workers = hire(alloc, desks, seats, works.as_slice())?;

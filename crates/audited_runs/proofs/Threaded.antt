@@ -1,4 +1,4 @@
--- Journals that fit are what a run by threads leaves.
+-- Journals that fit, and are one run, are what a run by threads leaves.
 use Rattle.std.proofs.Common.{◌≡◌, ℕ, suc, ◌+◌, is_none, Bool, true, Option, Some, None, List, [], ◌∷◌, length, slice_get, refl, sym, ap, ◌∙◌, subst, arith, true≢false}
 use Rattle.std.proofs.lemmas.Bool.{and_parts}
 use Rattle.std.proofs.lemmas.List.Elements.{recursion_from_All}
@@ -14,6 +14,7 @@ use Rattle.nook_data.specs.declared.scenario.PartSpec.{PartSpec}
 use Rattle.nook_data.specs.declared.scenario.Scenario.{Scenario}
 use Rattle.nook_data.specs.declared.steps.Step.TheVariants as step
 use Rattle.nook_data.specs.declared.scenario.ThreadSpec.{ThreadSpec}
+use Rattle.order_defs.specs.OneClock.{AreOneRun}
 use Rattle.threaded_run.specs.Threaded.{AreServed, AreSettled, ArriveAt, HasArrivals, HaveArrivals, IsThreaded}
 use Rattle.run_laws.proofs.Leading.{section_led}
 use Rattle.nook_data.proofs.Options.{none_is_some}
@@ -122,7 +123,7 @@ all_arrivals threads place (spec ∷ parts) (journal ∷ journals) h =
 
 -- ---- threads
 
-same_count : (threads : List ThreadSpec) (place : ℕ) (parts : List PartSpec) (journals : List (List Event)) → AllFit threads place parts journals → length journals ≡ length parts
+pub same_count : (threads : List ThreadSpec) (place : ℕ) (parts : List PartSpec) (journals : List (List Event)) → AllFit threads place parts journals → length journals ≡ length parts
 unfolding AllFit
 same_count threads place [] [] h = refl
 same_count threads place [] (journal ∷ journals) h = absurd h
@@ -146,8 +147,8 @@ all_served n whole (t ∷ threads) parts journals same v valid h = (
     next n k = omega arith
 
 pub fitting_is_threaded : (scenario : Scenario) (journals : List (List Event)) → IsValidScenario scenario → AllFit scenario.threads 0 scenario.parts journals
-    → IsThreaded scenario journals (answers_in_order 0 scenario.threads (sections_of scenario.threads 0 scenario.parts journals))
-fitting_is_threaded scenario journals v h =
+    → AreOneRun scenario.threads journals → IsThreaded scenario journals (answers_in_order 0 scenario.threads (sections_of scenario.threads 0 scenario.parts journals))
+fitting_is_threaded scenario journals v h one =
     let parts : AllByRecursion IsValidPart scenario.parts = recursion_from_All IsValidPart scenario.parts v.parts in
     let threads : AllByRecursion (IsValidThread (length journals)) scenario.threads =
     subst (λ (n : ℕ). AllByRecursion (IsValidThread n) scenario.threads) (sym (same_count scenario.threads 0 scenario.parts journals h))
@@ -157,6 +158,7 @@ fitting_is_threaded scenario journals v h =
       served = all_served 0 scenario.threads scenario.threads scenario.parts journals (λ k. ap (slice_get scenario.threads) (none k)) parts threads h;
       arrived = all_arrivals scenario.threads 0 scenario.parts journals h;
       no_others = have_no_others scenario.threads 0 scenario.parts journals h;
+      one_run = one;
     }
   where
     none : (n : ℕ) → n ≡ 0 + n

@@ -47,7 +47,8 @@ unfolding fitting_text last_lines report_text
 threaded_text scenario journals answers v runs threaded =
     let fit : AllFit scenario.threads 0 scenario.parts journals = threaded_fits scenario journals answers v runs threaded in
     let sections : List Done = sections_of scenario.threads 0 scenario.parts journals in
-    let again : IsThreaded scenario journals (answers_in_order 0 scenario.threads sections) = fitting_is_threaded scenario journals v fit in
+    let again : IsThreaded scenario journals (answers_in_order 0 scenario.threads sections) =
+    fitting_is_threaded scenario journals v fit threaded.one_run in
     let same : answers_in_order 0 scenario.threads sections ≡ answers =
     answers_unique scenario.threads scenario.parts journals (answers_in_order 0 scenario.threads sections) answers
     (recursion_from_All IsValidPart scenario.parts v.parts) runs threaded.no_others again.served threaded.served in

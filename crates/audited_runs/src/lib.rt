@@ -7,6 +7,7 @@
 ghost use Rattle.std.specs.Prelude.{◌≡◌, List, map, ℕ};
 ghost use Rattle.run_laws.specs.Audit.{answers_in_order, own_listeners};
 ghost use Rattle.run_laws.specs.Fitting.{AllFit, fitting_text, sections_of};
+ghost use Rattle.order_defs.specs.OneClock.{AreOneRun};
 ghost use Rattle.report_defs.specs.ReportText.{report_text, status_of};
 ghost use Rattle.run_defs.specs.Simulation.{IsScheduledRun, Simulation, answer_table, begins, journals_of};
 ghost use Rattle.nook_io.specs.Listening.{tap_result};
@@ -29,12 +30,13 @@ pub fn every_scheduled_run_fits()
         (status_of scenario.parts (journals_of s)) }
 {}
 
-/// Journals that fit a valid scenario are what a run by threads leaves, with the answers that they give each script in
-/// its order. In a scenario that is not valid an operation may be on a part that is not there: it has no answer. So
-/// what is promised of a run by threads holds of every scheduled run too.
+/// Journals that fit a valid scenario, and are one run, are what a run by threads leaves, with the answers that they
+/// give each script in its order. In a scenario that is not valid an operation may be on a part that is not there: it
+/// has no answer. The journals of a scheduled run are one run, so what is promised of a run by threads holds of every
+/// scheduled run too.
 pub fn every_fitting_run_is_threaded()
     ensures { (scenario : Scenario) (journals : List (List Event)) → IsValidScenario scenario
-        → AllFit scenario.threads 0 scenario.parts journals
+        → AllFit scenario.threads 0 scenario.parts journals → AreOneRun scenario.threads journals
         → IsThreaded scenario journals
         (answers_in_order 0 scenario.threads (sections_of scenario.threads 0 scenario.parts journals)) }
 {}

@@ -20,11 +20,14 @@ use Rattle.part_defs.specs.State.{PartState}
 use Rattle.shares.specs.Shares.{IsWhole, Share, half}
 
 -- What a seat knows: a beginning of its part's journal, the places in the journal of the events that were added through
--- it (counted from 1), and its share of the desk: the first seat has the whole, and no two seats share a point.
+-- it (counted from 1), its share of the desk (the first seat has the whole, and no two seats share a point), the stamps
+-- of the events that it has seen, by one clock over all desks, and the time of its own clock.
 pub record DeskView : Type 0 where
   pub seen : List Event
   pub made : List ℕ
   pub share : Share
+  pub stamps : List ℕ
+  pub clock : ℕ
 
 -- the seat is the only one
 abbrev pub IsAlone : DeskView → Type 0
@@ -164,9 +167,10 @@ ArriveEnds spec old new frame (Err _) = ⊥
 abbrev pub halved_view : DeskView → DeskView
 halved_view v = record v { share = half false v.share }
 
--- a new seat beside another: it has seen the same, nothing was added through it, and it has the other half of the share
+-- a new seat, split from another: it has seen the same at the same time, nothing was added through it, and it has the
+-- other half of the share
 abbrev pub new_view : DeskView → DeskView
-new_view v = record { seen = v.seen; made = []; share = half true v.share }
+new_view v = record { seen = v.seen; made = []; share = half true v.share; stamps = v.stamps; clock = v.clock }
 
 -- a seat took another in: it has seen the longer of the two lists, which both begin, and the places and shares are
 -- those of both

@@ -1,16 +1,19 @@
 //! What a desk promises its callers: the trait over which workers run.
 //!
 //! A desk is where threads call a part. Each caller has a seat, and contracts see what the seat knows: a beginning of
-//! the part's journal, the places of the events that were added through the seat, and its share of the desk.
+//! the part's journal, the places of the events that were added through the seat, its share of the desk, and a clock
+//! by which the events of all desks can be put into one order.
 #![tactic(auto)]
 
 ghost use Rattle.desk_like.specs.Desks.{Accounts, ArriveEnds, CallEnds, DeskView, Joins, halved_view, new_view};
+ghost use Rattle.desk_like.specs.Stamps.{Clocked, JoinsClocks, Ticks, raised_view};
 ghost use Rattle.nook_data.specs.Classes.{same_class};
 ghost use Rattle.part_defs.specs.Runs.{IsRun};
 ghost use Rattle.nook_data.specs.declared.classes.Class.TheVariants as class;
 ghost use Rattle.nook_data.specs.declared.scenario.PartSpec.{PartSpec};
 ghost use Rattle.std.specs.Prelude.{length, true, ◌<◌, ◌≡◌, ◌≤◌};
 
+use clocks::Clock;
 use nook_data::calls::Op;
 use nook_data::desks::{DeskRefused, Receipt};
 use nook_data::limits::{MOST_FRAME_WORDS, MOST_THREADS};
@@ -51,7 +54,9 @@ pub trait DeskLike: Sync {
         ensures seat { is_seat self.now seat.new }
         ensures run { IsRun (spec self.now) (view seat.new).seen }
         ensures accounts { Accounts (view seat.new) }
-        ensures ends { CallEnds (spec self.now) (view seat.old) (view seat.new) thread op.now result };
+        ensures ends { CallEnds (spec self.now) (view seat.old) (view seat.new) thread op.now result }
+        ensures clocked { Clocked (view seat.new) }
+        ensures ticks { Ticks (view seat.old) (view seat.new) };
 
     /// Hands a frame of 1 to 64 words to a network part. Tells whether the device's ring kept it.
     ///
@@ -70,7 +75,9 @@ pub trait DeskLike: Sync {
         ensures seat { is_seat self.now seat.new }
         ensures run { IsRun (spec self.now) (view seat.new).seen }
         ensures accounts { Accounts (view seat.new) }
-        ensures ends { ArriveEnds (spec self.now) (view seat.old) (view seat.new) frame.now result };
+        ensures ends { ArriveEnds (spec self.now) (view seat.old) (view seat.new) frame.now result }
+        ensures clocked { Clocked (view seat.new) }
+        ensures ticks { Ticks (view seat.old) (view seat.new) };
 
     /// Makes another seat, which has seen the same and has half of this one's share. It takes no memory.
     fn split(&self, seat: &mut Self::Seat) -> Self::Seat
@@ -80,7 +87,8 @@ pub trait DeskLike: Sync {
         ensures view { view seat.new ≡ halved_view (view seat.old) }
         ensures other_view { view result ≡ new_view (view seat.old) }
         ensures run { IsRun (spec self.now) (view seat.new).seen }
-        ensures accounts { Accounts (view seat.new) };
+        ensures accounts { Accounts (view seat.new) }
+        ensures clocked { Clocked (view seat.new) };
 
     /// Takes another seat in: the seat has then seen the longer of the two lists, and the places and shares of both are
     /// its own. A seat into which all that was split from it came back is alone again.
@@ -90,5 +98,16 @@ pub trait DeskLike: Sync {
         ensures seat { is_seat self.now seat.new }
         ensures joins { Joins (view seat.old) (view other) (view seat.new) }
         ensures run { IsRun (spec self.now) (view seat.new).seen }
-        ensures accounts { Accounts (view seat.new) };
+        ensures accounts { Accounts (view seat.new) }
+        ensures clocked { Clocked (view seat.new) }
+        ensures joins_clocks { JoinsClocks (view seat.old) (view other) (view seat.new) };
+
+    /// Sets a seat's clock and another to the later of the two. A worker that goes from desk to desk carries its clock
+    /// along so: what it does at a desk is stamped later than all that it did before.
+    fn synchronize(&self, seat: &mut Self::Seat, clock: &mut Clock)
+        requires { is_seat self.now seat.old }
+        ensures seat { is_seat self.now seat.new }
+        ensures view { view seat.new ≡ raised_view (view seat.old) clock.old }
+        ensures clock { clock.new ≡ (view seat.new).clock }
+        ensures clocked { Clocked (view seat.new) };
 }

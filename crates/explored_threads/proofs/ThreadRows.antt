@@ -1,4 +1,4 @@
--- A run by threads with one clock is a scheduled run, so that its outcome is a row.
+-- A run by threads is a scheduled run, so that its outcome is a row.
 use Rattle.std.proofs.Common.{◌≡◌, ℕ, false, None, List, is_some, refl, sym, ap, ◌∙◌, subst}
 use Rattle.std.proofs.lemmas.List.Elements.{All-contains}
 use Rattle.std.specs.List.{list_any}
@@ -10,7 +10,6 @@ use Rattle.explore_laws.proofs.Counted.{breaks_left, outcome_left, scheduled_lef
 use Rattle.nook_data.specs.Types.{Answer, Event, Scenario}
 use Rattle.nook_data.specs.Valid.{IsValidScenario}
 use Rattle.nook_data.specs.declared.scenario.ScheduleSpec.TheVariants as schedule
-use Rattle.order_defs.specs.OneClock.{AreOneRun}
 use Rattle.order_laws.proofs.OneRun.{threaded_listed}
 use Rattle.order_laws.specs.Listed.{IsListedRun}
 use Rattle.report_defs.specs.ReportText.{has_break}
@@ -21,10 +20,9 @@ use Rattle.threaded_run.specs.Threaded.{IsThreaded}
 
 pub threads_row : (scenario : Scenario) (firsts : List Path) (journals : List (List Event)) (answers : List (List (ℕ × Answer)))
     → AreOutcomes scenario None firsts → IsValidScenario scenario → AreRuns scenario.parts journals
-    → IsThreaded scenario journals answers → AreOneRun scenario.threads journals
-    → HasOutcome firsts (outcome_by scenario.parts journals answers)
-threads_row scenario firsts journals answers a v runs threaded one =
-    let l : IsListedRun scenario journals answers = threaded_listed scenario journals answers v runs threaded one in
+    → IsThreaded scenario journals answers → HasOutcome firsts (outcome_by scenario.parts journals answers)
+threads_row scenario firsts journals answers a v runs threaded =
+    let l : IsListedRun scenario journals answers = threaded_listed scenario journals answers v runs threaded in
     subst (HasOutcome firsts)
     (scheduled_left scenario (schedule.Listed l.picks) l.end l.run
     ∙ ap (λ js. outcome_by scenario.parts js (answer_table l.end)) l.journals_same
@@ -33,11 +31,11 @@ threads_row scenario firsts journals answers a v runs threaded one =
 
 pub threads_kept : (scenario : Scenario) (firsts : List Path) (journals : List (List Event)) (answers : List (List (ℕ × Answer)))
     → AreOutcomes scenario None firsts → rows_of_status 7 (all_numbers scenario firsts) ≡ 0 → IsValidScenario scenario
-    → AreRuns scenario.parts journals → IsThreaded scenario journals answers → AreOneRun scenario.threads journals
+    → AreRuns scenario.parts journals → IsThreaded scenario journals answers
     → has_break scenario.parts journals ≡ false
-threads_kept scenario firsts journals answers a none v runs threaded one =
+threads_kept scenario firsts journals answers a none v runs threaded =
     let row : HasOutcome firsts (outcome_by scenario.parts journals answers) =
-    threads_row scenario firsts journals answers a v runs threaded one in
+    threads_row scenario firsts journals answers a v runs threaded in
     let first : IsFirst scenario row.first = All-contains (IsFirst scenario) firsts row.first a.first row.listed in
     let level : IsOfLevel scenario (length row.first.picks) row.first = record { led = first.whole.led; count = refl } in
     breaks_left scenario.parts journals

@@ -8,26 +8,24 @@ ghost use Rattle.nook_data.specs.Valid.{IsValidScenario};
 ghost use Rattle.nook_data.specs.declared.calls.Answer.{Answer};
 ghost use Rattle.nook_data.specs.declared.scenario.Scenario.{Scenario};
 ghost use Rattle.nook_data.specs.declared.steps.Event.{Event};
-ghost use Rattle.order_defs.specs.OneClock.{AreOneRun};
 ghost use Rattle.report_defs.specs.ReportText.{has_break};
 ghost use Rattle.run_ends.specs.Journals.{AreRuns};
 ghost use Rattle.std.specs.Prelude.{false, ◌≡◌, List, None, ℕ};
 ghost use Rattle.threaded_run.specs.Threaded.{IsThreaded};
 
-/// A run by threads whose journals have one clock has an outcome that is a row: threads find no outcome that no order
-/// of steps has.
+/// A run by threads has an outcome that is a row: threads find no outcome that no order of steps has.
 pub fn the_outcome_of_a_run_by_threads_is_a_row()
     ensures { (scenario : Scenario) (firsts : List Path) (journals : List (List Event))
         (answers : List (List (ℕ × Answer))) → AreOutcomes scenario None firsts → IsValidScenario scenario
         → AreRuns scenario.parts journals → IsThreaded scenario journals answers
-        → AreOneRun scenario.threads journals → HasOutcome firsts (outcome_by scenario.parts journals answers) }
+        → HasOutcome firsts (outcome_by scenario.parts journals answers) }
 {}
 
-/// If no row is broken, no such run breaks a contract.
+/// If no row is broken, no run by threads breaks a contract.
 pub fn where_no_row_is_broken_threads_break_no_contract()
     ensures { (scenario : Scenario) (firsts : List Path) (journals : List (List Event))
         (answers : List (List (ℕ × Answer))) → AreOutcomes scenario None firsts
         → rows_of_status 7 (all_numbers scenario firsts) ≡ 0 → IsValidScenario scenario
         → AreRuns scenario.parts journals → IsThreaded scenario journals answers
-        → AreOneRun scenario.threads journals → has_break scenario.parts journals ≡ false }
+        → has_break scenario.parts journals ≡ false }
 {}

@@ -23,7 +23,7 @@ use Rattle.journal_audit.specs.Placed.{Departs, Follows, IsEnding, Place}
 use Rattle.journal_audit.specs.Stopping.{Checks, OnUnfit}
 use Rattle.journal_audit.specs.declared.stop.Stop.{Stop}
 use Rattle.journal_audit.specs.declared.stop.Stop.TheVariants as stops
-use Rattle.journal_audit.specs.Tallies.{SumsUp, Tallied, judged_in}
+use Rattle.journal_audit.specs.PastSections.{SumsUp, Past, judged_in}
 use Rattle.journal_audit.proofs.Taken.{Held}
 use Rattle.journal_audit.proofs.Lines.{due_departed, due_followed, owing}
 
@@ -100,7 +100,7 @@ pub last_due : (scenario : Scenario) (sections : List Done) (p : Place) → is_e
 last_due scenario sections p h = last_from scenario sections (last_lines scenario sections) p.number (lines_of p.rest) refl h
 
 -- what was summed up makes these lines
-last_of : (scenario : Scenario) (sections : List Done) (t : Tallied) → SumsUp scenario.parts sections t
+last_of : (scenario : Scenario) (sections : List Done) (t : Past) → SumsUp scenario.parts sections t
     → threads_text 0 scenario.threads (answers_in_order 0 scenario.threads sections)
     ++ (taps_text 0 (map result_of t.taps) ++ status_line (if t.broken then 7 else if t.given_up then 1 else 0))
     ≡ last_lines scenario sections
@@ -108,7 +108,7 @@ unfolding last_lines
 last_of scenario sections t sums =
     rw (sums.broken, sums.given_up, sums.taps, all_totals own_listeners (published_in 0 sections)) refl
 
-pub last_text : (scenario : Scenario) (sections : List Done) (t : Tallied) (threads : List ThreadSpec) (answers : List (List (ℕ × Answer)))
+pub last_text : (scenario : Scenario) (sections : List Done) (t : Past) (threads : List ThreadSpec) (answers : List (List (ℕ × Answer)))
     (taps : List (ℕ × Bool)) (status : ℕ) → SumsUp scenario.parts sections t → scenario.threads ≡ threads
     → answers ≡ answers_in_order 0 threads sections → taps ≡ map result_of t.taps
     → status ≡ (if t.broken then 7 else if t.given_up then 1 else 0)

@@ -143,42 +143,9 @@ pub passed : (T U : Type 0) (stop : Stop) (before found : Option ℕ) (held hold
 passed T U (stops.Unfit line) before found held holds h e = e ∙ h
 passed T U stops.NoMemory before found held holds h e = tt
 
--- ---- lines of events one after another
+-- ---- a line of an event
 
--- a section and a place behind the lines of some events
-pub record Reads (s t : Section) (p q : Place) : Type 0 where
-  pub same : (scenario : Scenario) (sections : List Done) (coming : List PartSpec)
-      → found_from scenario (inside sections s coming) p ≡ found_from scenario (inside sections t coming) q
-  pub place : t.place ≡ s.place
-  pub spec : t.spec ≡ s.spec
-
-pub reads_none : (s : Section) (p : Place) → Reads s s p p
-reads_none s p = record { same = λ scenario sections coming. refl; place = refl; spec = refl }
-
-pub reads_more : (s t u : Section) (p q r : Place) → Reads s t p q → Reads t u q r → Reads s u p r
-reads_more s t u p q r a b = record {
-  same = λ scenario sections coming. a.same scenario sections coming ∙ b.same scenario sections coming;
-  place = b.place ∙ a.place;
-  spec = b.spec ∙ a.spec;
-}
-
-pub reads_line : (s t : Section) (p : Place) (line : List ℕ) → IsNextLine p line → is_numbered line ≡ true → after_event s line ≡ Some t
-    → Reads s t p (past (length line) p)
-reads_line s t p line n numbered e =
-    let part : OfPart s t = event_same_part s t line e in
-    record {
-      same = λ scenario sections coming.
-          line_fits scenario (inside sections s coming) (inside sections t coming) p line n (event_fits scenario sections s t coming line n.ended numbered e);
-      place = part.place;
-      spec = part.spec;
-    }
-
--- a line of an event was taken
-pub reads_taken : (s t : Section) (p : Place) (line : List ℕ) (fits : Bool) → IsNextLine p line → is_numbered line ≡ true → fits ≡ true
-    → IsAfter fits (after_event s line) t → Reads s t p (past (length line) p)
-reads_taken s t p line fits n numbered e h = reads_line s t p line n numbered (subst (λ f. IsAfter f (after_event s line) t) e h)
-
--- it was not taken
+-- it does not fit
 pub event_refused : (scenario : Scenario) (sections : List Done) (coming : List PartSpec) (s t : Section) (p : Place) (line : List ℕ) (fits : Bool)
     → IsNextLine p line → is_numbered line ≡ true → fits ≡ false → IsAfter fits (after_event s line) t
     → found_from scenario (inside sections s coming) p ≡ Some p.number

@@ -1,4 +1,4 @@
--- What is kept of the sections that are over, when one more is over.
+-- What an audit has of the sections that are over, when one more is over.
 use Rattle.std.proofs.Common.{◌≡◌, ◌<◌, ◌≤◌, ℕ, suc, ◌+◌, ◌||◌, Bool, true, false, is_some, List, [], ◌∷◌, ◌++◌, length, drop, get_or, map, refl, sym, ap, ◌∙◌, add-one, add-zero, append-nil, append_assoc, length-append, arith}
 use Rattle.std.proofs.Math.Bool.{or-false}
 use Rattle.std.proofs.Math.ListN.{drop_of_length-le}
@@ -15,7 +15,7 @@ use Rattle.nook_data.specs.declared.steps.Event.{Event}
 use Rattle.nook_data.specs.declared.scenario.PartSpec.{PartSpec}
 use Rattle.request_taps.specs.Bus.{settled, told, told_all}
 use Rattle.request_taps.specs.declared.tap.Tap.{Tap}
-use Rattle.journal_audit.specs.Tallies.{SumsUp, Tallied, answers_in}
+use Rattle.journal_audit.specs.PastSections.{SumsUp, Past, answers_in}
 
 -- ---- listeners
 
@@ -83,14 +83,15 @@ given_up_back (r ∷ specs) s (x ∷ sections) d h =
 
 -- ---- one more section
 
--- what is kept after a section more
-pub record Adds (s : Section) (old new : Tallied) : Type 0 where
+-- what there is after a section more
+pub record Adds (s : Section) (old new : Past) : Type 0 where
   pub answers : new.answers ≡ old.answers ++ map answers_of_thread s.threads ∷ []
+  pub journals : new.journals ≡ old.journals ++ s.seat.run.journal ∷ []
   pub taps : new.taps ≡ told_all (each_of_part s.place s.seat.run.journal) old.taps
   pub broken : new.broken ≡ old.broken || is_some (first_break s.spec.class s.spec.blocks s.seat.run.journal)
   pub given_up : new.given_up ≡ old.given_up || is_given_up (state_of s.spec s.seat.run.journal)
 
-pub kept : (specs : List PartSpec) (sections : List Done) (s : Section) (old new : Tallied) → length specs ≡ s.place
+pub kept : (specs : List PartSpec) (sections : List Done) (s : Section) (old new : Past) → length specs ≡ s.place
     → SumsUp specs sections old → Adds s old new → SumsUp (specs ++ s.spec ∷ []) (sections ++ done_of s ∷ []) new
 kept specs sections s old new place sums adds =
     let part : length sections ≡ s.place = sums.many ∙ place in
@@ -98,6 +99,7 @@ kept specs sections s old new place sums adds =
     record {
       many = omega (arith, length-append sections (done_of s ∷ []), length-append specs (s.spec ∷ []));
       answers = adds.answers ∙ ap (λ l. l ++ map answers_of_thread s.threads ∷ []) sums.answers ∙ sym (map-append answers_in sections (done_of s ∷ []));
+      journals = adds.journals ∙ ap (λ l. l ++ s.seat.run.journal ∷ []) sums.journals ∙ sym (map-append journal_in sections (done_of s ∷ []));
       taps = adds.taps ∙ heard_back sections (done_of s) s.place old.taps from_zero sums.taps;
       broken = adds.broken ∙ ap (λ b. b || is_some (first_break s.spec.class s.spec.blocks s.seat.run.journal)) sums.broken
           ∙ sym (break_back specs s.spec sections (done_of s) sums.many);

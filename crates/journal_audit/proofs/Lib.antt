@@ -3,6 +3,10 @@ pub mod Placing
 pub mod Compared
 pub mod Taken
 pub mod Finding
+pub mod Following
+pub mod Reading
+pub mod Backs
+pub mod LinesFound
 pub mod Sections
 pub mod Kept
 pub mod Endings

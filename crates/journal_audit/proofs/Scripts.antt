@@ -7,7 +7,7 @@ use Rattle.run_laws.specs.Audit.{Done, answers_in_order, answers_to, in_script_o
 use Rattle.nook_data.specs.declared.calls.Answer.{Answer}
 use Rattle.nook_data.specs.declared.calls.Op.{Op}
 use Rattle.nook_data.specs.declared.scenario.ThreadSpec.{ThreadSpec}
-use Rattle.journal_audit.specs.Tallies.{answers_in}
+use Rattle.journal_audit.specs.PastSections.{answers_in}
 
 -- ---- one script
 

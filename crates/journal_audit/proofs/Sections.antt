@@ -1,79 +1,232 @@
 -- The sections of a report, one after another.
-use Rattle.std.proofs.Common.{◌≡◌, ℕ, ◌+◌, ◌<◌, ◌≤◌, Result, Ok, Err, OnOk, Option, List, [], ◌∷◌, ◌++◌, length, take, drop, get_or, sym, ap, ◌∙◌, subst, arith}
-use Rattle.std.proofs.lemmas.List.{drop_all, drop_more, length-take-le, take_all, take_more}
+use Rattle.std.proofs.Common.{◌≡◌, ℕ, suc, ◌+◌, ◌<◌, ◌≤◌, true, Result, Ok, Err, OnOk, IfOk, None, Option, Some, List, [], ◌∷◌, ◌++◌, length, map, take, drop, get_or, refl, sym, ap, ◌∙◌, subst, append-nil, append_assoc, arith}
+use Rattle.std.proofs.lemmas.List.{drop_all, drop_more, length-take-le, map-append, take_all, take_more}
+use Rattle.event_order.proofs.Shorter.{as_many_left, shorter_left}
+use Rattle.nook_data.specs.declared.memory.NoMemory.{NoMemory}
 use Rattle.nook_data.specs.declared.scenario.PartSpec.{PartSpec}
 use Rattle.nook_data.specs.declared.scenario.Scenario.{Scenario}
-use Rattle.run_laws.specs.Audit.{Done, Section, audited, done_of, opening_audit}
-use Rattle.journal_audit.specs.Found.{ArePast, between, found_from, inside}
-use Rattle.journal_audit.specs.Placed.{Place}
+use Rattle.nook_data.specs.declared.scenario.ThreadSpec.{ThreadSpec}
+use Rattle.nook_data.specs.declared.steps.Event.{Event}
+use Rattle.order_defs.specs.OutOfOrder.{Finds, FindsBehind, first_left}
+use Rattle.order_defs.specs.Taking.{opening_taking}
+use Rattle.report_defs.specs.ReportLines.{event_lines}
+use Rattle.report_defs.specs.ReportText.{part_line, part_text, parts_text}
+use Rattle.run_laws.proofs.Leading.{section_end_is}
+use Rattle.run_laws.specs.Audit.{Done, Section, audited, done_of, is_complete, journal_in, last_lines, opening_audit, opening_section, section_end}
+use Rattle.run_laws.specs.Fitting.{AllFit, Fits, FitsFrom, fitting_text, section_from, sections_of}
+use Rattle.journal_audit.proofs.Backs.{ends_back, fit_back, parts_back, sections_back}
+use Rattle.journal_audit.proofs.Following.{follows_both, follows_none}
+use Rattle.journal_audit.proofs.LinesFound.{ends_many, lines_same}
+use Rattle.journal_audit.specs.Found.{ArePast, FitsByItself, at_last, between, found_from, inside}
+use Rattle.journal_audit.specs.LinesLeft.{FirstLeftIs, event_ends, left_line}
+use Rattle.journal_audit.specs.PastSections.{Past, SumsUp}
+use Rattle.journal_audit.specs.Placed.{Follows, PassesLine, Place, feeds}
+use Rattle.journal_audit.specs.Readings.{Reads}
 use Rattle.journal_audit.specs.Stopping.{Checks, Leads}
-use Rattle.journal_audit.specs.Tallies.{SumsUp, Tallied}
 use Rattle.journal_audit.specs.declared.stop.Stop.{Stop}
 use Rattle.journal_audit.specs.declared.stop.Stop.TheVariants as stops
 
--- what was to be found before a check is what it was to find
-pub checks_from : {T : Type 0} (result : Result T Stop) (before found after : Option ℕ) → before ≡ found → Checks result found after
-    → Checks result before after
-checks_from (Ok value) before found after e h = e ∙ h
-checks_from (Err (stops.Unfit line)) before found after e h = e ∙ h
-checks_from (Err stops.NoMemory) before found after e h = tt
-
 -- ---- one section
 
+-- the section of a part stands whole between two places, and this is the number of the line after its events
+pub record IsRead (threads : List ThreadSpec) (place : ℕ) (spec : PartSpec) (s : Section) (p q : Place) (end : ℕ) : Type 0 where
+  pub fits : Fits threads place spec s.seat.run.journal
+  pub leads : section_from (opening_section threads place spec) s.seat.run.journal ≡ s
+  pub text : Follows (part_text place spec s.seat.run.journal) p q
+  pub end_is : end ≡ p.number + suc (length s.seat.run.journal)
+
+module _ (threads : List ThreadSpec) (place : ℕ) (spec : PartSpec) (s : Section) where
+  fits_whole : (p q : Place) (r : Reads (opening_section threads place spec) s p q) → is_complete s ≡ true
+      → FitsFrom (opening_section threads place spec) r.events
+  unfolding FitsFrom
+  fits_whole p q r complete =
+      subst (FitsFrom (opening_section threads place spec)) (append-nil r.events) (r.fits [] complete)
+
+  text_whole : (p q : Place) (r : Reads (opening_section threads place spec) s p q)
+      → FitsFrom (opening_section threads place spec) r.events
+      → part_line place spec ++ (event_lines 1 r.events ++ section_end s) ≡ part_text place spec r.events
+  unfolding part_text
+  text_whole p q r fits =
+      ap (λ text. part_line place spec ++ (event_lines 1 r.events ++ text))
+      (ap section_end (sym r.leads) ∙ section_end_is threads place spec r.events fits)
+
+  pub read_whole : (p q u v : Place) → PassesLine (part_line place spec) p q → Reads (opening_section threads place spec) s q u
+      → is_complete s ≡ true → Follows (section_end s) u v → IsRead threads place spec s p v u.number
+  read_whole p q u v line r complete ended =
+      let same : s.seat.run.journal ≡ r.events = r.journal in
+      let fits : FitsFrom (opening_section threads place spec) r.events = fits_whole q u r complete in
+      let many : length s.seat.run.journal ≡ length r.events = ap length same in
+      let next : q.number ≡ suc p.number = line.next in
+      let lines : u.number ≡ q.number + length r.events = r.lines in
+      record {
+        fits = subst (Fits threads place spec) (sym same) fits;
+        leads = ap (section_from (opening_section threads place spec)) same ∙ r.leads;
+        text =
+            subst (λ text. Follows text p v) (text_whole q u r fits ∙ ap (part_text place spec) (sym same))
+            (follows_both (part_line place spec) (event_lines 1 r.events ++ section_end s) p q v line.follows
+            (follows_both (event_lines 1 r.events) (section_end s) q u v r.follows ended));
+        end_is = omega arith;
+      }
+
+-- one more section is past
+past_more : (scenario : Scenario) (first : Place) (specs coming : List PartSpec) (spec : PartSpec) (place : ℕ) (s : Section) (p q : Place) (t u : Past)
+    (end : ℕ) (past : ArePast scenario first specs (spec ∷ coming) p t) → length specs ≡ place → s.spec ≡ spec
+    → IsRead scenario.threads place spec s p q end
+    → found_from scenario (opening_audit scenario) first ≡ found_from scenario (between (past.sections ++ done_of s ∷ []) coming) q
+    → SumsUp (specs ++ s.spec ∷ []) (past.sections ++ done_of s ∷ []) u → u.ends ≡ t.ends ++ end ∷ []
+    → ArePast scenario first (specs ++ spec ∷ []) coming q u
+past_more scenario first specs coming spec place s p q t u end past at same read found sums ended =
+    record {
+      sections = past.sections ++ done_of s ∷ [];
+      sums = subst (λ (x : PartSpec). SumsUp (specs ++ x ∷ []) (past.sections ++ done_of s ∷ []) u) same sums;
+      same = found;
+      fit =
+          subst (AllFit scenario.threads 0 (specs ++ spec ∷ [])) (sym journals)
+          (fit_back scenario.threads spec journal 0 specs t.journals past.fit (subst (λ (n : ℕ). Fits scenario.threads n spec journal) (sym number) read.fits));
+      are =
+          ap (λ l. l ++ done_of s ∷ []) past.are
+          ∙ (ap (λ (x : Section). done ++ done_of x ∷ []) (sym read.leads)
+          ∙ (ap (λ (n : ℕ). done ++ done_of (section_from (opening_section scenario.threads n spec) journal) ∷ []) (sym number)
+          ∙ (sym (sections_back scenario.threads spec journal 0 specs t.journals past.fit)
+          ∙ ap (sections_of scenario.threads 0 (specs ++ spec ∷ [])) (sym journals))));
+      text =
+          subst (λ text. Follows text first q)
+          (ap (λ (n : ℕ). parts_text 0 specs t.journals ++ part_text n spec journal) (sym number)
+          ∙ (sym (parts_back scenario.threads spec journal 0 specs t.journals past.fit) ∙ ap (parts_text 0 (specs ++ spec ∷ [])) (sym journals)))
+          (follows_both (parts_text 0 specs t.journals) (part_text place spec journal) first p q past.text read.text);
+      ends =
+          ended
+          ∙ (ap (λ l. l ++ end ∷ []) past.ends
+          ∙ (ap (λ (n : ℕ). event_ends first.number 0 specs t.journals ++ n ∷ []) (read.end_is ∙ ap (λ (n : ℕ). n + suc (length journal)) past.text.number)
+          ∙ (sym (ends_back scenario.threads spec journal first.number 0 specs t.journals past.fit)
+          ∙ ap (event_ends first.number 0 (specs ++ spec ∷ [])) (sym journals))));
+    }
+  where
+    journal : List Event
+    journal = s.seat.run.journal
+
+    done : List Done
+    done = sections_of scenario.threads 0 specs t.journals
+
+    number : 0 + length specs ≡ place
+    number = omega arith
+
+    journals : u.journals ≡ t.journals ++ journal ∷ []
+    journals =
+        sums.journals
+        ∙ (map-append journal_in past.sections (done_of s ∷ []) ∙ ap (λ l. l ++ journal ∷ []) (sym past.sums.journals))
+
 -- the lines behind the events were checked
-pub past_more : (scenario : Scenario) (specs coming : List PartSpec) (spec : PartSpec) (found : Option ℕ) (sections : List Done)
-    (result : Result (Unit {0}) Stop) (s : Section) (p q : Place) (t : Tallied) → s.spec ≡ spec
-    → found ≡ found_from scenario (inside sections s coming) p
-    → Checks result (found_from scenario (inside sections s coming) p) (found_from scenario (between (sections ++ done_of s ∷ []) coming) q)
-    → OnOk result (SumsUp (specs ++ s.spec ∷ []) (sections ++ done_of s ∷ []) t)
-    → Leads result found (ArePast scenario (specs ++ spec ∷ []) coming found q t)
-past_more scenario specs coming spec found sections (Ok done) s p q t same e h sums = record {
-  sections = sections ++ done_of s ∷ [];
-  sums = subst (λ x. SumsUp (specs ++ x ∷ []) (sections ++ done_of s ∷ []) t) same sums;
-  same = e ∙ h;
-}
-past_more scenario specs coming spec found sections (Err (stops.Unfit line)) s p q t same e h sums = e ∙ h
-past_more scenario specs coming spec found sections (Err stops.NoMemory) s p q t same e h sums = tt
+pub section_ends : (r : Result (Unit {0}) Stop) (scenario : Scenario) (first : Place) (specs coming : List PartSpec) (spec : PartSpec) (place : ℕ)
+    (s : Section) (p q u v : Place) (t w : Past) (past : ArePast scenario first specs (spec ∷ coming) p t) → length specs ≡ place → s.spec ≡ spec
+    → PassesLine (part_line place spec) p q → Reads (opening_section scenario.threads place spec) s q u
+    → found_from scenario (opening_audit scenario) first ≡ found_from scenario (inside past.sections s coming) u
+    → Checks r (found_from scenario (inside past.sections s coming) u) (found_from scenario (between (past.sections ++ done_of s ∷ []) coming) v)
+    → OnOk r (is_complete s ≡ true) → OnOk r (Follows (section_end s) u v) → OnOk r (w.ends ≡ t.ends ++ u.number ∷ [])
+    → OnOk r (SumsUp (specs ++ s.spec ∷ []) (past.sections ++ done_of s ∷ []) w)
+    → Leads r (found_from scenario (opening_audit scenario) first) (ArePast scenario first (specs ++ spec ∷ []) coming v w)
+section_ends (Ok done) scenario first specs coming spec place s p q u v t w past at same line reads found checks complete ended ends sums =
+    past_more scenario first specs coming spec place s p v t w u.number past at same
+    (read_whole scenario.threads place spec s p q u v line reads complete ended) (found ∙ checks) sums ends
+section_ends (Err (stops.Unfit number)) scenario first specs coming spec place s p q u v t w past at same line reads found checks complete ended ends sums =
+    found ∙ checks
+section_ends (Err stops.NoMemory) scenario first specs coming spec place s p q u v t w past at same line reads found checks complete ended ends sums = tt
 
 -- ---- all sections
 
-pub parts_begun : (scenario : Scenario) (specs : List PartSpec) (p : Place) (t : Tallied) → specs ≡ scenario.parts → SumsUp [] [] t
-    → ArePast scenario [] specs (found_from scenario (opening_audit scenario) p) p t
-unfolding opening_audit
-parts_begun scenario specs p t e sums = record {
+pub parts_begun : (scenario : Scenario) (specs : List PartSpec) (p : Place) (t : Past) → specs ≡ scenario.parts → SumsUp [] [] t → t.ends ≡ []
+    → ArePast scenario p [] specs p t
+unfolding opening_audit AllFit sections_of parts_text
+parts_begun scenario specs p t e sums ends = record {
   sections = [];
   sums = sums;
   same = ap (λ coming. found_from scenario (between [] coming) p) (sym e);
+  fit = subst (AllFit scenario.threads 0 []) (sym sums.journals) tt;
+  are = refl;
+  text = follows_none p;
+  ends = ends;
 }
 
-module _ (scenario : Scenario) (specs : List PartSpec) (i : ℕ) (found : Option ℕ) (p : Place) (t : Tallied) where
+module _ (scenario : Scenario) (specs : List PartSpec) (i : ℕ) (first p : Place) (t : Past) where
   pub parts_before : i < length specs → length (take i specs) ≡ i
   parts_before h = let within : i ≤ length specs = omega arith in length-take-le i specs within
 
   -- the next part is still to come
-  pub part_coming : (spec : PartSpec) → i < length specs → spec ≡ get_or specs i spec → ArePast scenario (take i specs) (drop i specs) found p t
-      → ArePast scenario (take i specs) (spec ∷ drop (i + 1) specs) found p t
+  pub part_coming : (spec : PartSpec) → i < length specs → spec ≡ get_or specs i spec → ArePast scenario first (take i specs) (drop i specs) p t
+      → ArePast scenario first (take i specs) (spec ∷ drop (i + 1) specs) p t
   part_coming spec h e a =
-      subst (λ coming. ArePast scenario (take i specs) coming found p t)
+      subst (λ coming. ArePast scenario first (take i specs) coming p t)
       (drop_more specs i spec h ∙ ap {B = List PartSpec} (λ (s : PartSpec). s ∷ drop (i + 1) specs) (sym e)) a
 
   -- its section is past
   pub part_past : (spec : PartSpec) → i < length specs → spec ≡ get_or specs i spec
-      → ArePast scenario (take i specs ++ spec ∷ []) (drop (i + 1) specs) found p t
-      → ArePast scenario (take (i + 1) specs) (drop (i + 1) specs) found p t
+      → ArePast scenario first (take i specs ++ spec ∷ []) (drop (i + 1) specs) p t
+      → ArePast scenario first (take (i + 1) specs) (drop (i + 1) specs) p t
   part_past spec h e a =
-      subst (λ past. ArePast scenario past (drop (i + 1) specs) found p t)
+      subst (λ past. ArePast scenario first past (drop (i + 1) specs) p t)
       (ap {B = List PartSpec} (λ (s : PartSpec). take i specs ++ s ∷ []) e ∙ sym (take_more specs i spec h)) a
 
-  pub parts_past : (parts : List PartSpec) → specs ≡ parts → length specs ≤ i → ArePast scenario (take i specs) (drop i specs) found p t
-      → ArePast scenario parts [] found p t
+  pub parts_past : (parts : List PartSpec) → specs ≡ parts → length specs ≤ i → ArePast scenario first (take i specs) (drop i specs) p t
+      → ArePast scenario first parts [] p t
   parts_past parts e h a =
-      subst (λ past. ArePast scenario past [] found p t) (take_all i specs h ∙ e)
-      (subst (λ coming. ArePast scenario (take i specs) coming found p t) (drop_all i specs h) a)
+      subst (λ past. ArePast scenario first past [] p t) (take_all i specs h ∙ e)
+      (subst (λ coming. ArePast scenario first (take i specs) coming p t) (drop_all i specs h) a)
 
 -- ---- the whole report
 
-pub audited_from : (scenario : Scenario) (report : List ℕ) (p : Place) → p ≡ record { rest = report; number = 1 }
+-- the lines behind the sections were checked, and that nothing follows
+pub report_ends : (r : Result (Unit {0}) Stop) (scenario : Scenario) (first p q : Place) (t : Past) (past : ArePast scenario first scenario.parts [] p t)
+    → found_from scenario (between past.sections []) p ≡ found_from scenario (at_last past.sections []) q
+    → Follows (last_lines scenario past.sections) p q → Checks r (found_from scenario (at_last past.sections []) q) None → OnOk r (q.rest ≡ [])
+    → Leads r (found_from scenario (opening_audit scenario) first) (FitsByItself scenario first t)
+unfolding fitting_text
+report_ends (Ok done) scenario first p q t past same last checks over = record {
+  none = past.same ∙ (same ∙ checks);
+  fit = past.fit;
+  text = past.text.rest
+      ∙ ap (λ text. parts_text 0 scenario.parts t.journals ++ text)
+      (last.rest
+      ∙ (ap (λ rest. last_lines scenario past.sections ++ rest) over
+      ∙ (append-nil (last_lines scenario past.sections) ∙ ap (last_lines scenario) past.are)));
+  ends = past.ends;
+}
+report_ends (Err (stops.Unfit number)) scenario first p q t past same last checks over = past.same ∙ (same ∙ checks)
+report_ends (Err stops.NoMemory) scenario first p q t past same last checks over = tt
+
+audited_from : (scenario : Scenario) (report : List ℕ) (p : Place) → p ≡ record { rest = report; number = 1 }
     → found_from scenario (opening_audit scenario) p ≡ audited scenario report
 unfolding audited
 audited_from scenario report p e = ap (found_from scenario (opening_audit scenario)) e
+
+-- each section has a number of the line after its events
+pub as_many_ends : (scenario : Scenario) (first : Place) (t : Past) → FitsByItself scenario first t → length t.ends ≡ length t.journals
+as_many_ends scenario first t h = ap length h.ends ∙ ends_many scenario.threads first.number 0 scenario.parts t.journals h.fit
+
+-- a line does not fit by itself
+pub finds_unfit : (scenario : Scenario) (report : List ℕ) (p : Place) (line : ℕ) → p ≡ record { rest = report; number = 1 }
+    → found_from scenario (opening_audit scenario) p ≡ Some line → Finds scenario report (Some line)
+finds_unfit scenario report p line e h =
+    subst (λ found. FindsBehind scenario report found (Some line)) (sym h ∙ audited_from scenario report p e) refl
+
+-- each line fits by itself, and this is the line of the first event that is left
+pub finds_left : (r : Result (Option ℕ) NoMemory) (scenario : Scenario) (report : List ℕ) (p : Place) (t : Past) → p ≡ record { rest = report; number = 1 }
+    → FitsByItself scenario p t → IfOk r (FirstLeftIs scenario.threads t) → IfOk r (Finds scenario report)
+finds_left (Ok line) scenario report p t e h left =
+    subst (λ found. FindsBehind scenario report found line) (sym h.none ∙ audited_from scenario report p e)
+    (record {
+      journals = t.journals;
+      fit = h.fit;
+      text_is = ap (λ (x : Place). x.rest) (sym e) ∙ h.text;
+      out_of_order = record {
+        order = left.order;
+        end = left.end;
+        leads = left.leads;
+        stuck = left.stuck;
+        line_is = left.line_is
+            ∙ (ap (λ ends. left_line ends left.end.left) (h.ends ∙ ap (λ (n : ℕ). event_ends n 0 scenario.parts t.journals) (ap (λ (x : Place). x.number) e))
+            ∙ lines_same scenario.threads 1 0 scenario.parts t.journals left.end.left h.fit
+            (as_many_left (opening_taking scenario.threads t.journals) left.end left.order left.leads)
+            (shorter_left (opening_taking scenario.threads t.journals) left.end left.order left.leads));
+      };
+    })
+finds_left (Err stop) scenario report p t e h left = tt

@@ -1,10 +1,13 @@
 -- What an audit finds from a place on.
 use Rattle.std.specs.Prelude.{◌≡◌, ℕ, true, false, List, [], Option, Some, None}
-use Rattle.run_laws.specs.Audit.{Auditing, Done, Section, first_unfit, lines_of}
+use Rattle.report_defs.specs.ReportText.{parts_text}
+use Rattle.run_laws.specs.Audit.{Auditing, Done, Section, first_unfit, lines_of, opening_audit}
+use Rattle.run_laws.specs.Fitting.{AllFit, fitting_text, sections_of}
 use Rattle.nook_data.specs.declared.scenario.PartSpec.{PartSpec}
 use Rattle.nook_data.specs.declared.scenario.Scenario.{Scenario}
-use Rattle.journal_audit.specs.Placed.{Place}
-use Rattle.journal_audit.specs.Tallies.{SumsUp, Tallied}
+use Rattle.journal_audit.specs.LinesLeft.{event_ends}
+use Rattle.journal_audit.specs.Placed.{Follows, Place}
+use Rattle.journal_audit.specs.PastSections.{SumsUp, Past}
 
 -- what is found by an auditor who knows this, from a place on
 abbrev pub found_from : Scenario → Auditing → Place → Option ℕ
@@ -22,10 +25,21 @@ inside sections s coming = record { sections = sections; standing = Some s; due 
 abbrev pub at_last : List Done → List ℕ → Auditing
 at_last sections due = record { sections = sections; standing = None; due = due; coming = []; last = true }
 
--- the sections of these parts are past: what is kept sums them up, and from a place on, where these parts are still to
--- come, an auditor finds what was to be found
-pub record ArePast (scenario : Scenario) (specs coming : List PartSpec) (found : Option ℕ) (p : Place)
-    (t : Tallied) : Type 0 where
+-- The sections of these parts stand whole between two places, and are those of journals that fit. What the audit has of
+-- them sums them up, and from the second place on, where these parts are still to come, an auditor finds what was to be
+-- found from the first.
+pub record ArePast (scenario : Scenario) (first : Place) (specs coming : List PartSpec) (p : Place) (t : Past) : Type 0 where
   pub sections : List Done
   pub sums : SumsUp specs sections t
-  pub same : found ≡ found_from scenario (between sections coming) p
+  pub same : found_from scenario (opening_audit scenario) first ≡ found_from scenario (between sections coming) p
+  pub fit : AllFit scenario.threads 0 specs t.journals
+  pub are : sections ≡ sections_of scenario.threads 0 specs t.journals
+  pub text : Follows (parts_text 0 specs t.journals) first p
+  pub ends : t.ends ≡ event_ends first.number 0 specs t.journals
+
+-- every line of a report that begins at a place fits by itself: it is the report of journals that fit
+pub record FitsByItself (scenario : Scenario) (first : Place) (t : Past) : Type 0 where
+  pub none : found_from scenario (opening_audit scenario) first ≡ None
+  pub fit : AllFit scenario.threads 0 scenario.parts t.journals
+  pub text : first.rest ≡ fitting_text scenario t.journals
+  pub ends : t.ends ≡ event_ends first.number 0 scenario.parts t.journals

@@ -2,5 +2,7 @@ pub mod Placed
 pub mod Comparisons
 pub mod Stopping
 pub mod Sections
-pub mod Tallies
+pub mod PastSections
+pub mod LinesLeft
 pub mod Found
+pub mod Readings

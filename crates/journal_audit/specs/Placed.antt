@@ -27,6 +27,11 @@ pub record Follows (text : List ℕ) (p q : Place) : Type 0 where
   pub rest : p.rest ≡ text ++ q.rest
   pub number : q.number ≡ p.number + feeds text
 
+-- a line stands whole at the first place, and the second is that after it, in the next line
+pub record PassesLine (line : List ℕ) (p q : Place) : Type 0 where
+  pub follows : Follows line p q
+  pub next : q.number ≡ suc p.number
+
 -- a text does not stand whole at a place, and the line is that of the first byte that differs or is missing
 pub record Departs (text : List ℕ) (p : Place) (line : ℕ) : Type 0 where
   pub front : List ℕ

@@ -2,11 +2,13 @@
 
 ghost use Rattle.std.specs.Prelude.{◌≡◌, ◌<◌, ◌++◌, ◌∷◌, [], ℕ, List, None, Option, true, false, IfOk, OnOk, bytes_eq};
 ghost use Rattle.std.specs.Prelude.{length};
-ghost use Rattle.run_laws.specs.Audit.{Done, audited, is_numbered, opening_audit, opening_section};
-ghost use Rattle.journal_audit.specs.Found.{ArePast, at_last, between, found_from, inside};
-ghost use Rattle.journal_audit.specs.Placed.{IsEnding};
+ghost use Rattle.order_defs.specs.OutOfOrder.{Finds};
+ghost use Rattle.run_laws.specs.Audit.{Done, is_numbered, opening_audit, opening_section};
+ghost use Rattle.journal_audit.specs.Found.{ArePast, FitsByItself, at_last, between, found_from, inside};
+ghost use Rattle.journal_audit.specs.Placed.{IsEnding, PassesLine, Place};
+ghost use Rattle.journal_audit.specs.Readings.{Reads};
 ghost use Rattle.journal_audit.specs.Stopping.{Checks, Leads};
-ghost use Rattle.journal_audit.specs.Tallies.{SumsUp};
+ghost use Rattle.journal_audit.specs.PastSections.{SumsUp};
 ghost use Rattle.report_defs.specs.ReportText.{part_line};
 ghost use Rattle.nook_data.specs.Valid.{IsValidPart, IsValidScenario};
 ghost use Rattle.nook_data.specs.declared.scenario.PartSpec.{PartSpec as Spec};
@@ -16,39 +18,48 @@ use crate::comparing::Comparing;
 use crate::cursor::Cursor;
 use crate::ending::check_ending;
 use crate::last::check_last;
+use crate::past::PastSections;
 use crate::section::Section;
 use crate::stop::Stop;
-use crate::tally::Tally;
 use nook_data::memory::NoMemory;
 use nook_data::scenario::{PartSpec, Scenario};
 use report_text::{WriteStop, write_part_line};
 use std::alloc::Global;
 
 /// Checks a printed report line by line, along the steps that its lines name, with no trust in the run that printed it.
-/// None where every line fits and none is missing; else the number of the first line that does not fit, from 1, or one
-/// more than there are lines where lines are missing. A line fits where it is that of a step which its part may take,
-/// or one of those that stand behind the events; a rest without a line feed does not. The part whose section is read is
-/// kept in memory with its journal; of those before it the threads' answers stay, and no text.
+/// None if every line fits and none is missing; else the number of the first line that does not fit, from 1, or one
+/// more than there are lines if lines are missing. A line fits if it is that of a step which its part may take, or one
+/// of those after the events; a rest without a line feed does not. If each line fits by itself, and the parts' journals
+/// are not one run, it is the line of the first event that no order of steps reaches. The journals stay in memory, and
+/// no text.
 pub fn audit(alloc: Global, scenario: &Scenario, report: &[u8]) -> Result<Option<u64>, NoMemory>
     requires { IsValidScenario scenario.now }
-    ensures exact { IfOk result (λ found. found ≡ audited scenario.now report.now) }
+    ensures exact { IfOk result (Finds scenario.now report.now) }
 {
     let mut cursor = Cursor::new(report);
-    match check(alloc, scenario, &mut cursor) {
-        Ok(()) => Ok(None),
+    let mut past = PastSections::new(alloc)?;
+    match check(alloc, scenario, &mut cursor, &mut past) {
+        Ok(()) => past.first_left(alloc, scenario.threads.as_slice()),
         Err(Stop::Unfit { line }) => Ok(Some(line)),
         Err(Stop::NoMemory) => Err(NoMemory),
     }
 }
 
-/// Checks a whole report.
-fn check(alloc: Global, scenario: &Scenario, cursor: &mut Cursor) -> Result<(), Stop>
-    requires { IsValidScenario scenario.now }
-    ensures { Checks result (found_from scenario.now (opening_audit scenario.now) cursor.old) None }
+/// Checks a whole report, each line by itself.
+fn check(
+    alloc: Global,
+    scenario: &Scenario,
+    cursor: &mut Cursor,
+    past: &mut PastSections,
+) -> Result<(), Stop>
+    requires valid { IsValidScenario scenario.now }
+    requires none { SumsUp [] [] past.old }
+    requires no_ends { past.old.ends ≡ [] }
+    ensures { Leads result (found_from scenario.now (opening_audit scenario.now) cursor.old)
+        (FitsByItself scenario.now cursor.old past.new) }
 {
-    let mut tally = Tally::new(alloc)?;
-    check_parts(alloc, scenario, cursor, &mut tally)?;
-    check_last(alloc, cursor, scenario.threads.as_slice(), &tally)?;
+    check_parts(alloc, scenario, cursor, past)?;
+    check_last(alloc, cursor, scenario.threads.as_slice(), past)?;
     check_end(cursor)
 }
 
@@ -57,17 +68,17 @@ fn check_parts(
     alloc: Global,
     scenario: &Scenario,
     cursor: &mut Cursor,
-    tally: &mut Tally,
+    past: &mut PastSections,
 ) -> Result<(), Stop>
     requires valid { IsValidScenario scenario.now }
-    requires none { SumsUp [] [] tally.old }
+    requires none { SumsUp [] [] past.old }
+    requires no_ends { past.old.ends ≡ [] }
     ensures { Leads result (found_from scenario.now (opening_audit scenario.now) cursor.old)
-        (ArePast scenario.now scenario.now.parts []
-        (found_from scenario.now (opening_audit scenario.now) cursor.old) cursor.new tally.new) }
+        (ArePast scenario.now cursor.old scenario.now.parts [] cursor.new past.new) }
 {
     let specs = scenario.parts.as_slice();
     for place in 0..specs.len() {
-        check_part(alloc, scenario, place as u32, &specs[place], cursor, tally)?;
+        check_part(alloc, scenario, place as u32, &specs[place], cursor, past)?;
     }
     Ok(())
 }
@@ -79,19 +90,20 @@ fn check_part(
     place: u32,
     spec: &PartSpec,
     cursor: &mut Cursor,
-    tally: &mut Tally,
+    past: &mut PastSections,
 ) -> Result<(), Stop>
     requires place { place < 256 }
     requires scenario { IsValidScenario scenario.now }
     requires spec { IsValidPart spec.now }
-    ensures { (specs coming : List Spec) (found : Option ℕ) → length specs ≡ place
-        → ArePast scenario.now specs (spec.now ∷ coming) found cursor.old tally.old
-        → Leads result found (ArePast scenario.now (specs ++ spec.now ∷ []) coming found cursor.new tally.new) }
+    ensures { (first : Place) (specs coming : List Spec) → length specs ≡ place
+        → ArePast scenario.now first specs (spec.now ∷ coming) cursor.old past.old
+        → Leads result (found_from scenario.now (opening_audit scenario.now) first)
+        (ArePast scenario.now first (specs ++ spec.now ∷ []) coming cursor.new past.new) }
 {
     check_part_line(alloc, place, spec, cursor)?;
     let mut section = Section::new(alloc, scenario.threads.as_slice(), place, spec)?;
     check_events(alloc, cursor, &mut section)?;
-    check_ending(alloc, cursor, section, tally)
+    check_ending(alloc, cursor, section, past)
 }
 
 /// Checks the first line of a section.
@@ -101,9 +113,10 @@ fn check_part_line(
     spec: &PartSpec,
     cursor: &mut Cursor,
 ) -> Result<(), Stop>
-    ensures { (scenario : Given) (sections : List Done) (coming : List Spec) → length sections ≡ place
+    ensures checks { (scenario : Given) (sections : List Done) (coming : List Spec) → length sections ≡ place
         → Checks result (found_from scenario (between sections (spec.now ∷ coming)) cursor.old)
         (found_from scenario (inside sections (opening_section scenario.threads place spec.now) coming) cursor.new) }
+    ensures text { OnOk result (PassesLine (part_line place spec.now) cursor.old cursor.new) }
 {
     let line = cursor.line()?;
     if !is_part_line(alloc, place, spec, line)? {
@@ -133,8 +146,7 @@ fn check_events(alloc: Global, cursor: &mut Cursor, section: &mut Section) -> Re
         → Checks result (found_from scenario (inside sections section.old coming) cursor.old)
         (found_from scenario (inside sections section.new coming) cursor.new) }
     ensures ending { OnOk result (IsEnding cursor.new) }
-    ensures place { OnOk result (section.new.place ≡ section.old.place) }
-    ensures spec { OnOk result (section.new.spec ≡ section.old.spec) }
+    ensures reads { OnOk result (Reads section.old section.new cursor.old cursor.new) }
 {
     'events: while check_event(alloc, cursor, section)? {}
     Ok(())
@@ -147,8 +159,7 @@ fn check_event(alloc: Global, cursor: &mut Cursor, section: &mut Section) -> Res
         (found_from scenario (inside sections section.new coming) cursor.new) }
     ensures more { IfOk result (λ more. more ≡ true → length cursor.new.rest < length cursor.old.rest) }
     ensures ending { IfOk result (λ more. more ≡ false → IsEnding cursor.new) }
-    ensures place { OnOk result (section.new.place ≡ section.old.place) }
-    ensures spec { OnOk result (section.new.spec ≡ section.old.spec) }
+    ensures reads { OnOk result (Reads section.old section.new cursor.old cursor.new) }
 {
     let line = cursor.line()?;
     if !is_numbered(line) {
@@ -173,10 +184,11 @@ fn is_numbered(line: &[u8]) -> bool
     }
 }
 
-/// Checks that nothing stands behind the last line.
+/// Checks that nothing stands after the last line.
 fn check_end(cursor: &Cursor) -> Result<(), Stop>
-    ensures { (scenario : Given) (sections : List Done)
+    ensures checks { (scenario : Given) (sections : List Done)
         → Checks result (found_from scenario (at_last sections []) cursor.now) None }
+    ensures over { OnOk result (cursor.now.rest ≡ []) }
 {
     if cursor.rest().is_empty() {
         return Ok(());

@@ -1,19 +1,19 @@
 //! The lines behind a section's events.
 
-ghost use Rattle.std.specs.Prelude.{◌≡◌, ◌<◌, ◌++◌, ◌∷◌, [], List, IfOk, OnOk, length};
-ghost use Rattle.run_laws.specs.Audit.{Done, done_of, section_end};
+ghost use Rattle.std.specs.Prelude.{◌≡◌, ◌<◌, ◌++◌, ◌∷◌, [], List, true, IfOk, OnOk, length};
+ghost use Rattle.run_laws.specs.Audit.{Done, done_of, is_complete, section_end};
 ghost use Rattle.journal_audit.specs.Found.{between, found_from, inside};
 ghost use Rattle.journal_audit.specs.Placed.{Departs, Follows, IsEnding};
 ghost use Rattle.journal_audit.specs.Stopping.{Checks, OnUnfit};
-ghost use Rattle.journal_audit.specs.Tallies.{SumsUp, judged_in};
+ghost use Rattle.journal_audit.specs.PastSections.{SumsUp, judged_in};
 ghost use Rattle.nook_data.specs.declared.scenario.PartSpec.{PartSpec as Spec};
 ghost use Rattle.nook_data.specs.declared.scenario.Scenario.{Scenario};
 
 use crate::comparing::Comparing;
 use crate::cursor::Cursor;
+use crate::past::PastSections;
 use crate::section::Section;
 use crate::stop::Stop;
-use crate::tally::Tally;
 use contract_monitor::Monitor;
 use nook_data::memory::NoMemory;
 use report_text::{PartReport, write_final};
@@ -25,18 +25,22 @@ pub fn check_ending(
     alloc: Global,
     cursor: &mut Cursor,
     section: Section,
-    tally: &mut Tally,
+    past: &mut PastSections,
 ) -> Result<(), Stop>
     requires { section.place < 256 }
     ensures checks { (scenario : Scenario) (sections : List Done) (coming : List Spec) → IsEnding cursor.old
         → Checks result (found_from scenario (inside sections section.entry coming) cursor.old)
         (found_from scenario (between (sections ++ done_of section.entry ∷ []) coming) cursor.new) }
+    ensures complete { OnOk result (is_complete section.entry ≡ true) }
+    ensures text { OnOk result (Follows (section_end section.entry) cursor.old cursor.new) }
+    ensures ends { OnOk result (past.new.ends ≡ past.old.ends ++ cursor.old.number ∷ []) }
     ensures sums { (specs : List Spec) (sections : List Done) → length specs ≡ section.entry.place
-        → SumsUp specs sections tally.old
-        → OnOk result (SumsUp (specs ++ section.entry.spec ∷ []) (sections ++ done_of section.entry ∷ []) tally.new) }
+        → SumsUp specs sections past.old
+        → OnOk result (SumsUp (specs ++ section.entry.spec ∷ []) (sections ++ done_of section.entry ∷ []) past.new) }
 {
+    let end = cursor.number();
     let judged = judge_ending(alloc, cursor, &section)?;
-    tally.add(alloc, section, &judged)?;
+    past.add(alloc, section, &judged, end)?;
     Ok(())
 }
 
@@ -45,6 +49,8 @@ fn judge_ending(alloc: Global, cursor: &mut Cursor, section: &Section) -> Result
     ensures checks { (scenario : Scenario) (sections : List Done) (coming : List Spec) → IsEnding cursor.old
         → Checks result (found_from scenario (inside sections section.now coming) cursor.old)
         (found_from scenario (between (sections ++ done_of section.now ∷ []) coming) cursor.new) }
+    ensures complete { OnOk result (is_complete section.now ≡ true) }
+    ensures text { OnOk result (Follows (section_end section.now) cursor.old cursor.new) }
     ensures judged { IfOk result (λ judged. judged ≡ judged_in section.now) }
 {
     if !section.is_complete() {

@@ -1,11 +1,12 @@
 //! The lines behind the sections: the threads with their answers, the program's own listeners, the status.
 
-ghost use Rattle.std.specs.Prelude.{◌≡◌, ◌≤◌, ◌++◌, [], ◌∷◌, ℕ, List, IfOk, MatchOption, if◌then◌else◌, length, map};
-ghost use Rattle.std.specs.Prelude.{slice_index_or, slice_set};
-ghost use Rattle.run_laws.specs.Audit.{Done, answers_in_order, in_script_order};
+ghost use Rattle.std.specs.Prelude.{◌≡◌, ◌≤◌, ◌++◌, [], ◌∷◌, ℕ, List, IfOk, MatchOption, OnOk, if◌then◌else◌, length};
+ghost use Rattle.std.specs.Prelude.{map, slice_index_or, slice_set};
+ghost use Rattle.run_laws.specs.Audit.{Done, answers_in_order, in_script_order, last_lines};
 ghost use Rattle.journal_audit.specs.Found.{at_last, between, found_from};
+ghost use Rattle.journal_audit.specs.Placed.{Follows};
 ghost use Rattle.journal_audit.specs.Stopping.{Checks};
-ghost use Rattle.journal_audit.specs.Tallies.{SumsUp, answers_in};
+ghost use Rattle.journal_audit.specs.PastSections.{SumsUp, answers_in};
 ghost use Rattle.report_defs.specs.ReportText.{status_line, taps_text, threads_text};
 ghost use Rattle.nook_data.specs.declared.calls.Answer.{Answer};
 ghost use Rattle.nook_data.specs.declared.scenario.Scenario.{Scenario};
@@ -14,8 +15,8 @@ ghost use Rattle.report_text.specs.Writing.{Wrote};
 
 use crate::comparing::Comparing;
 use crate::cursor::Cursor;
+use crate::past::PastSections;
 use crate::stop::Stop;
-use crate::tally::Tally;
 use nook_data::calls::{Answer, AnswerTable, Op, PartAnswers};
 use nook_data::limits::MOST_THREADS;
 use nook_data::lists::{Items, TryCopy};
@@ -32,16 +33,19 @@ pub fn check_last(
     alloc: Global,
     cursor: &mut Cursor,
     threads: &[ThreadSpec],
-    tally: &Tally,
+    past: &PastSections,
 ) -> Result<(), Stop>
     requires { length threads.now ≤ MOST_THREADS }
-    ensures { (scenario : Scenario) (sections : List Done) → scenario.threads ≡ threads.now
-        → SumsUp scenario.parts sections tally.now
+    ensures checks { (scenario : Scenario) (sections : List Done) → scenario.threads ≡ threads.now
+        → SumsUp scenario.parts sections past.now
         → Checks result (found_from scenario (between sections []) cursor.old)
         (found_from scenario (at_last sections []) cursor.new) }
+    ensures text { (scenario : Scenario) (sections : List Done) → scenario.threads ≡ threads.now
+        → SumsUp scenario.parts sections past.now
+        → OnOk result (Follows (last_lines scenario sections) cursor.old cursor.new) }
 {
-    let answers = answers_in_order(alloc, threads, tally.answers())?;
-    let taps = tally.taps(alloc)?;
+    let answers = answers_in_order(alloc, threads, past.answers())?;
+    let taps = past.taps(alloc)?;
     let mut compared = Comparing::new(cursor.rest());
     let written = write_last(
         alloc,
@@ -49,7 +53,7 @@ pub fn check_last(
         threads,
         answers.as_slice(),
         &taps,
-        tally.status(),
+        past.status(),
     );
     cursor.settle(&compared, written)
 }

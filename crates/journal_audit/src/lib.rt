@@ -1,7 +1,8 @@
 //! The audit of a printed report: whether each of its lines fits a scenario, with no trust in the run that printed it.
 //!
 //! Each part is run anew along the steps that the lines of its section name, one part at a time. What the lines behind
-//! a section's events have to be is written into a sink that compares and keeps nothing.
+//! a section's events have to be is written into a sink that compares and keeps nothing. After the last line the events
+//! of all parts are taken one by one, as long as one may be.
 #![tactic(auto)]
 
 mod auditing;
@@ -10,10 +11,10 @@ mod cursor;
 mod ending;
 mod last;
 mod own;
+mod past;
 mod script;
 mod section;
 mod stop;
-mod tally;
 mod words;
 
 pub use auditing::audit;

@@ -13,6 +13,7 @@ ghost use Rattle.journal_audit.specs.Sections.{AreOn, IsAfter, IsTaken, newest_i
 use crate::script::Script;
 use crate::words::{context_in, word_at};
 use nook_data::calls::AnswerTable;
+use nook_data::journal::Journal;
 use nook_data::limits::MOST_THREADS;
 use nook_data::lists::{Items, TryCopy, Words};
 use nook_data::memory::NoMemory;
@@ -22,6 +23,13 @@ use part_core::{Part, StepRefused};
 use report_text::event_line;
 use std::alloc::Global;
 use std::marker::Model;
+
+/// What a section leaves that is over: what its part answered each thread, and its journal.
+#[derive(Drop)]
+pub struct SectionDone {
+    pub answers: AnswerTable,
+    pub journal: Journal,
+}
 
 /// A part as the lines of its section so far leave it, with the frames that have not arrived and what each thread asks
 /// of it.
@@ -219,11 +227,15 @@ impl<'a> Section<'a> {
         self.place
     }
 
-    /// What the part answered each thread. The part is dropped.
-    pub fn into_answers(self, alloc: Global) -> Result<AnswerTable, NoMemory>
-        ensures { IfOk result (λ made. made ≡ map answers_of_thread self.entry.threads) }
+    /// What the part answered each thread, and its journal.
+    pub fn into_done(self, alloc: Global) -> Result<SectionDone, NoMemory>
+        ensures answers { IfOk result (λ done. done.answers ≡ map answers_of_thread self.entry.threads) }
+        ensures journal { IfOk result (λ done. done.journal.list ≡ self.entry.seat.run.journal) }
     {
-        answers_of_each(alloc, self.threads)
+        Ok(SectionDone {
+            answers: answers_of_each(alloc, self.threads)?,
+            journal: self.part.into_journal(),
+        })
     }
 }
 

@@ -95,7 +95,7 @@ module _ (spec : PartSpec) (old new : DeskView) (o : Op) (side : IsSide spec spe
   why_refused refused.TooManyCalls ends = inr refl
   why_refused (refused.OpenCall call) ends =
       let same = nothing_added old new side.alone ends.0 in
-      let pending : (state_of spec new.seen).log.pending ≡ [] = ap (λ (v : DeskView). (state_of spec v.seen).log.pending) same ∙ none in
+      let pending : (state_of spec new.seen).log.pending ≡ [] = ap (λ (seen : List Event). (state_of spec seen).log.pending) same.seen ∙ none in
       absurd (none_has (state_of spec new.seen) 0 call pending ends.1)
   why_refused refused.NoOpenCall ends = absurd ends
   why_refused refused.TooManyArrivals ends = absurd ends
@@ -104,5 +104,5 @@ module _ (spec : PartSpec) (old new : DeskView) (o : Op) (side : IsSide spec spe
   full ends =
       let same = nothing_added old new side.alone ends.0 in (
         same,
-        sym (calls_counted spec old.seen side.run) ∙ ap (λ (v : DeskView). (state_of spec v.seen).log.count) (sym same) ∙ ends.2,
+        sym (calls_counted spec old.seen side.run) ∙ ap (λ (seen : List Event). (state_of spec seen).log.count) (sym same.seen) ∙ ends.2,
       )

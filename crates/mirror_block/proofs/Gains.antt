@@ -1,5 +1,5 @@
 -- What a call adds to what the one seat of a side has seen.
-use Rattle.std.proofs.Common.{◌≡◌, ℕ, zero, suc, ◌+◌, ◌<◌, ◌≤◌, Option, Some, List, [], ◌∷◌, ◌++◌, length, drop, slice_get, subst, sym, refl, ap, ◌∙◌, arith, append-nil, length-append}
+use Rattle.std.proofs.Common.{◌≡◌, ℕ, zero, suc, ◌+◌, ◌<◌, ◌≤◌, Bool, Option, Some, List, [], ◌∷◌, ◌++◌, length, drop, slice_get, subst, sym, refl, ap, ◌∙◌, arith, append-nil, length-append}
 use Rattle.std.proofs.Math.Seq.{drop-append_seam}
 use Rattle.std.proofs.lemmas.List.Elements.{All-contains, All-from_recursion}
 use Rattle.std.proofs.lemmas.Map.Made.{Contains-tail}
@@ -9,23 +9,47 @@ use Rattle.nook_data.specs.declared.calls.Answer.{Answer}
 use Rattle.nook_data.specs.declared.steps.Event.{Event}
 use Rattle.nook_data.specs.declared.steps.Event.TheVariants as event
 use Rattle.nook_data.specs.declared.calls.Op.{Op}
+use Rattle.nook_data.specs.declared.scenario.PartSpec.{PartSpec}
 use Rattle.nook_data.specs.Places.{at_number}
 use Rattle.part_laws.proofs.Places.{get_mid, some_same}
 use Rattle.shares.specs.Shares.{Share}
 use Rattle.desk_like.specs.Desks.{AddsNothing, DeskView, Invokes, IsAlone, IsAt, IsInvoke, IsOther, IsRisingFrom}
-use Rattle.mirror_block.specs.Sides.{gained}
+use Rattle.mirror_block.specs.Sides.{IsSide, KnowsSame, gained}
 
 pub gained_is : (old new : DeskView) (more : List Event) → old.seen ++ more ≡ new.seen → gained old new ≡ more
 gained_is old new more e = ap (drop (length old.seen)) (sym e) ∙ drop-append_seam old.seen more
 
-abbrev view : List Event → List ℕ → Share → DeskView
-view seen made share = record { seen = seen; made = made; share = share }
+-- ---- seats that know the same
 
-same_view : (v w : DeskView) → v.seen ≡ w.seen → v.made ≡ w.made → v.share ≡ w.share → v ≡ w
-same_view v w e f g =
-    ap (λ (s : List Event). view s v.made v.share) e
-    ∙ ap (λ (m : List ℕ). view w.seen m v.share) f
-    ∙ ap (λ (s : Share). view w.seen w.made s) g
+pub same_as : (old new : DeskView) → new ≡ old → KnowsSame old new
+same_as old new e = record {
+  seen = ap (λ (v : DeskView). v.seen) e;
+  made = ap (λ (v : DeskView). v.made) e;
+  share = ap (λ (v : DeskView). v.share) e;
+}
+
+-- what a seat would know at its own time
+abbrev view : DeskView → List Event → List ℕ → Share → DeskView
+view v seen made share = record v { seen = seen; made = made; share = share }
+
+same_view : (old new : DeskView) → KnowsSame old new → view old new.seen new.made new.share ≡ old
+same_view old new k =
+    ap (λ (s : List Event). view old s new.made new.share) k.seen
+    ∙ ap (λ (m : List ℕ). view old old.seen m new.share) k.made
+    ∙ ap (λ (s : Share). view old old.seen old.made s) k.share
+
+pub same_side : (spec : PartSpec) (n : ℕ) (b : Bool) (old new : DeskView) → KnowsSame old new → IsSide spec n b old → IsSide spec n b new
+same_side spec n b old new k s =
+    let t : IsSide spec n b (view old new.seen new.made new.share) = subst (IsSide spec n b) (sym (same_view old new k)) s in
+    record {
+      class = t.class;
+      size = t.size;
+      alone = t.alone;
+      accounts = record { within = t.accounts.within; all = t.accounts.all };
+      run = t.run;
+      none_open = t.none_open;
+      idle = t.idle;
+    }
 
 -- ---- places
 
@@ -58,8 +82,8 @@ none_contained : (place : ℕ) → Contains [] place → ⊥
 none_contained place c = let l = c.1 in absurd (omega arith)
 
 -- where nothing was added through the only seat, it knows the same
-pub nothing_added : (old new : DeskView) → IsAlone old → AddsNothing old new → new ≡ old
-nothing_added old new alone a = same_view new old (seen a.seen.0 a.seen.1) (a.made ∙ append-nil old.made) a.share
+pub nothing_added : (old new : DeskView) → IsAlone old → AddsNothing old new → KnowsSame old new
+nothing_added old new alone a = record { seen = seen a.seen.0 a.seen.1; made = a.made ∙ append-nil old.made; share = a.share }
   where
     seen : (more : List Event) → old.seen ++ more ≡ new.seen → new.seen ≡ old.seen
     seen [] e = sym e ∙ append-nil old.seen

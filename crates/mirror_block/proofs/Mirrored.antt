@@ -1,5 +1,5 @@
 -- An operation of a mirror, by how asking its sides ends.
-use Rattle.std.proofs.Common.{◌≡◌, ℕ, ◌||◌, Bool, true, false, Option, Some, None, Ok, Err, is_some, List, [], ◌∷◌, length, subst, sym, refl, ap, ◌∙◌, inl, inr, arith, true≢false}
+use Rattle.std.proofs.Common.{◌≡◌, ℕ, ◌||◌, Bool, true, false, Option, Some, None, Ok, Err, is_some, List, [], ◌∷◌, drop, length, subst, sym, refl, ap, ◌∙◌, inl, inr, arith, true≢false}
 use Rattle.std.specs.Prelude.{if◌then◌else◌, option_and_then}
 use Rattle.std.proofs.lemmas.Bool.{and_parts}
 use Rattle.std.proofs.lemmas.List.{drop_all}
@@ -21,7 +21,8 @@ use Rattle.mirror_block.specs.declared.stop.MirrorStop.TheVariants as stop
 use Rattle.mirror_block.specs.Disk.{IsShown, MayAnswer, Serves, ServesBy, ServesSaid, ShowsDevice, ShowsDisk}
 use Rattle.mirror_block.specs.Mirrors.{AreClassRuns, Ends, IsMirrorAnswer, IsDisk, IsMirror, MirrorView, SameSides, StopsAt}
 use Rattle.mirror_block.specs.Rule.{Outcome, Presence, Said, MirrorStep, after_asking, asked_next, asked_of_two, asked_unless, asks_right, first_said, is_disk_op, lacks_answer, mirror_step, says, step_asking, step_checked, mirror_step_of}
-use Rattle.mirror_block.specs.Sides.{AskBothEnds, IsAskedFor, IsCut, IsFull, IsLeftCut, IsSaid, IsServed, IsSide, SaysGone, Sides, WantsMemory, answers_gained, answers_given}
+use Rattle.mirror_block.specs.Sides.{AskBothEnds, IsAskedFor, IsCut, IsFull, IsLeftCut, IsSaid, IsServed, IsSide, KnowsSame, SaysGone, Sides, WantsMemory, answers_gained, answers_given}
+use Rattle.mirror_block.proofs.Gains.{same_as, same_side}
 use Rattle.mirror_block.proofs.Outcomes.{Changes, both_gone, both_same, outcome_serves, stayed}
 use Rattle.mirror_block.proofs.Plain.{same_device}
 
@@ -30,22 +31,22 @@ Disk = List (List ℕ)
 
 -- ---- one side
 
-pub nothing_gained : (old new : DeskView) → new ≡ old → answers_gained old new ≡ []
-nothing_gained old new e =
-    ap (λ (v : DeskView). answers_gained old v) e ∙ ap answers_given (drop_all (length old.seen) old.seen (omega arith))
+nothing_gained : (old new : DeskView) → KnowsSame old new → answers_gained old new ≡ []
+nothing_gained old new k =
+    ap (λ (seen : List Event). answers_given (drop (length old.seen) seen)) k.seen ∙ ap answers_given (drop_all (length old.seen) old.seen (omega arith))
 
 -- a side that was asked, or not, says what the rule takes from its answers, and leaves none
 says_so : (spec : PartSpec) (old new : DeskView) (asked : Bool) (o : Op) (l : Option Answer) → IsSaid spec old new asked o l
     → says asked (answers_gained old new) ≡ Some (record { said = l; rest = [] })
-says_so spec old new asked o None h = ap (λ (b : Bool). says b (answers_gained old new)) h.0 ∙ ap (says false) (nothing_gained old new h.1)
+says_so spec old new asked o None h = ap (λ (b : Bool). says b (answers_gained old new)) h.0 ∙ ap (says false) (nothing_gained old new (same_as old new h.1))
 says_so spec old new asked o (Some a) h = ap (λ (b : Bool). says b (answers_gained old new)) h.0 ∙ ap (says true) h.2
 
-served_so : (spec : PartSpec) (old new : DeskView) (asked : Bool) (o : Op) (l : Option Answer) → IsSaid spec old new asked o l → IsServed old new o
-served_so spec old new asked o None h = subst (IsAskedFor old new o) (sym (nothing_gained old new h.1)) h.1
-served_so spec old new asked o (Some a) h = subst (IsAskedFor old new o) (sym h.2) h.1
-
 unchanged_served : (old new : DeskView) (o : Op) → new ≡ old → IsServed old new o
-unchanged_served old new o e = subst (IsAskedFor old new o) (sym (nothing_gained old new e)) e
+unchanged_served old new o e = let k = same_as old new e in subst (IsAskedFor old new o) (sym (nothing_gained old new k)) k
+
+served_so : (spec : PartSpec) (old new : DeskView) (asked : Bool) (o : Op) (l : Option Answer) → IsSaid spec old new asked o l → IsServed old new o
+served_so spec old new asked o None h = unchanged_served old new o h.1
+served_so spec old new asked o (Some a) h = subst (IsAskedFor old new o) (sym h.2) h.1
 
 said_asked : (spec : PartSpec) (old new : DeskView) (asked : Bool) (o : Op) (l : Option Answer) → IsSaid spec old new asked o l → (a : Answer) → l ≡ Some a → asked ≡ true
 said_asked spec old new asked o None h a e = absurd cc
@@ -329,7 +330,7 @@ module _ {D : Type 0} (spec : D → PartSpec) (m : MirrorView D) (o : Op) (ln rn
   left_cut (stop.TooManyCalls side) h = (
     subst (λ (s : ℕ). StopsAt m (after m.present true) o s IsFull) (sym h.0.1)
         (stops_left IsFull h.0.0 (nothing_gained m.left ln h.0.2.0) h.0.2 h.1),
-    keeps_stopped (subst (IsSide (spec m.left_desk) m.blocks true) (sym h.0.2.0) left_kept)
+    keeps_stopped (same_side (spec m.left_desk) m.blocks true m.left ln h.0.2.0 left_kept)
         (subst (IsSide (spec m.right_desk) m.blocks true) (sym h.1) right_kept),
   )
   left_cut stop.Stopped h = absurd h.0
@@ -348,7 +349,7 @@ module _ {D : Type 0} (spec : D → PartSpec) (m : MirrorView D) (o : Op) (ln rn
   right_cut (stop.TooManyCalls side) l h cut = (
     subst (λ (s : ℕ). StopsAt m (after m.present true) o s IsFull) (sym cut.1)
         (stops_right IsFull l h cut.0 (nothing_gained m.right rn cut.2.0) cut.2),
-    keeps_stopped (left_behind l h) (subst (IsSide (spec m.right_desk) m.blocks true) (sym cut.2.0) right_kept),
+    keeps_stopped (left_behind l h) (same_side (spec m.right_desk) m.blocks true m.right rn cut.2.0 right_kept),
   )
   right_cut stop.Stopped l h cut = absurd cut
 

@@ -24,6 +24,12 @@ use Rattle.mirror_block.specs.Rule.{Presence, asks_right}
 abbrev pub gained : DeskView → DeskView → List Event
 gained old new = drop (length old.seen) new.seen
 
+-- a seat knows the same as before, whatever its clock
+pub record KnowsSame (old new : DeskView) : Type 0 where
+  pub seen : new.seen ≡ old.seen
+  pub made : new.made ≡ old.made
+  pub share : new.share ≡ old.share
+
 -- a call with its number, its thread and its operation
 pub record Invocation : Type 0 where
   pub call : ℕ
@@ -90,7 +96,7 @@ pub record IsAsked (old new : DeskView) (o : Op) : Type 0 where
 
 -- The side was asked once where it gave these answers, and its seat knows nothing more where it gave none
 abbrev pub IsAskedFor : DeskView → DeskView → Op → List Answer → Type 0
-IsAskedFor old new o [] = new ≡ old
+IsAskedFor old new o [] = KnowsSame old new
 IsAskedFor old new o (a ∷ answers) = IsAsked old new o
 
 -- the answers that the seat saw to calls of the operation
@@ -102,11 +108,11 @@ IsServed old new o = IsAskedFor old new o (answers_gained old new)
 
 -- the side's memory was wanting: before the call was invoked, or while it was open
 abbrev pub WantsMemory : DeskView → DeskView → Op → Type 0
-WantsMemory old new o = (new ≡ old) ⊎ (IsAsked old new o × (answers_gained old new ≡ []))
+WantsMemory old new o = KnowsSame old new ⊎ (IsAsked old new o × (answers_gained old new ≡ []))
 
 -- the side has all the calls that a part may have, and nothing was invoked
 abbrev pub IsFull : DeskView → DeskView → Op → Type 0
-IsFull old new o = (new ≡ old) × (length (invocations old.seen) ≡ 100000)
+IsFull old new o = KnowsSame old new × (length (invocations old.seen) ≡ 100000)
 
 -- where the side was present, it was asked and answered Gone
 abbrev pub SaysGone : Bool → List Answer → Type 0

@@ -96,7 +96,7 @@ pub grows : (old new : DeskView) (o : Op) → IsServed old new o → (more : Lis
 grows old new o h = by_answers (answers_gained old new) refl h
   where
     by_answers : (answers : List Answer) → answers_gained old new ≡ answers → IsAskedFor old new o answers → (more : List Event) × Grows old new o more
-    by_answers [] e h = ([], record { seen = append-nil old.seen ∙ ap (λ (v : DeskView). v.seen) (sym h); given = sym e; all = refl; asked = refl })
+    by_answers [] e h = ([], record { seen = append-nil old.seen ∙ sym h.seen; given = sym e; all = refl; asked = refl })
     by_answers (a ∷ answers) e h =
         let more : List Event = h.seen.0 in
         let is : gained old new ≡ more = gained_is old new more h.seen.1 in

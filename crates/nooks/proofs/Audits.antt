@@ -1,9 +1,10 @@
 -- The verdict on a report, and what it means that every line fits.
 use Rattle.std.proofs.Common.{◌≡◌, ℕ, ◌<◌, ◌≤◌, suc, List, [], ◌∷◌, Option, None, Ok, inl, inr, length, ap, subst, ◌∙◌}
 use Rattle.audit_input.specs.Handed.{Hands, HandsNothing}
-use Rattle.run_laws.specs.Audit.{Section, audited, opening_section, section_after}
+use Rattle.run_laws.specs.Audit.{Section, opening_section, section_after}
 use Rattle.run_laws.specs.Fitting.{AllFit, FitsFrom}
-use Rattle.run_laws.proofs.Reading.{report_read}
+use Rattle.order_defs.specs.OutOfOrder.{Finds}
+use Rattle.order_laws.proofs.OutOfOrder.{passed_one_run}
 use Rattle.input_defs.specs.Faults.{fault_line}
 use Rattle.nook_io.specs.Listening.{Listening}
 use Rattle.part_defs.specs.Runs.{IsRunFrom}
@@ -45,26 +46,32 @@ fitting_runs threads place (spec ∷ specs) [] h = absurd h
 fitting_runs threads place (spec ∷ specs) (journal ∷ journals) h =
     (fitting_run (opening_section threads place spec) journal h.0, fitting_runs threads (suc place) specs journals h.1)
 
-pub sound_report : (scenario : Scenario) (report : List ℕ) → IsValidScenario scenario → audited scenario report ≡ None → IsSound scenario report
-sound_report scenario report valid fits =
-    let told = report_read scenario report fits in record {
-      journals = told.0;
-      fit = told.1;
-      safe = all_safe scenario told.0 valid (fitting_runs scenario.threads 0 scenario.parts told.0 told.1);
-      text_is = told.2;
+-- a report in which an audit finds nothing is sound
+pub sound_report : (scenario : Scenario) (report : List ℕ) (found : Option ℕ) → IsValidScenario scenario → Finds scenario report found → found ≡ None
+    → IsSound scenario report
+sound_report scenario report found valid finds none =
+    let passed = passed_one_run scenario report valid (subst (Finds scenario report) none finds) in
+    record {
+      journals = passed.0;
+      fit = passed.1;
+      one_run = passed.2;
+      safe = all_safe scenario passed.0 valid (fitting_runs scenario.threads 0 scenario.parts passed.0 passed.1);
+      text_is = passed.3;
     }
 
 -- ---- the verdict
 
 pub verdict_told : (scenario : Scenario) (report : List ℕ) (found : Option ℕ) (sink : Change) (status : Status) → IsValidScenario scenario
-    → found ≡ audited scenario report → Writes (Says (verdict_text found) (verdict_status found)) sink status
+    → Finds scenario report found → Writes (Says (verdict_text found) (verdict_status found)) sink status
     → Writes (IsVerdict scenario report) sink status
-verdict_told scenario report found sink status valid is ends =
+verdict_told scenario report found sink status valid finds ends =
     writes_more (Says (verdict_text found) (verdict_status found)) (IsVerdict scenario report) sink status
     (λ text s said. record {
-      text_is = said.0 ∙ ap (λ r. verdict_text r) is;
-      status_is = said.1 ∙ ap (λ r. verdict_status r) is;
-      sound = sound_report scenario report valid;
+      found = found;
+      finds = finds;
+      text_is = said.0;
+      status_is = said.1;
+      sound = sound_report scenario report found valid finds;
     }) ends
 
 -- the same text by another name

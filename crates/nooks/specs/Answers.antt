@@ -48,7 +48,8 @@ use Rattle.burst_trace.specs.Retold.{TellsBurst}
 use Rattle.burst_trace.specs.Text.{IsTraceText}
 use Rattle.scenario_write.specs.ScenarioText.{scenario_line}
 use Rattle.audit_input.specs.Handed.{Hands, HandsNothing}
-use Rattle.run_laws.specs.Audit.{audited}
+use Rattle.order_defs.specs.OneClock.{AreOneRun}
+use Rattle.order_defs.specs.OutOfOrder.{Finds}
 use Rattle.run_laws.specs.Fitting.{AllFit, fitting_text}
 use Rattle.nooks.specs.Guardable.{guardable_from}
 use Rattle.nooks.specs.Streams.{Input, TooLong, Whole}
@@ -152,10 +153,11 @@ listing_from bytes = or_bad_text (list_text bytes)
 -- ---- audits
 
 -- a report is that of runs of which all that is promised of runs holds, of which each has just the scripts' invocations
--- and the scenario's arrivals
+-- and the scenario's arrivals, and which are one run
 pub record IsSound (scenario : Scenario) (report : List ℕ) : Type 0 where
   pub journals : List (List Event)
   pub fit : AllFit scenario.threads 0 scenario.parts journals
+  pub one_run : AreOneRun scenario.threads journals
   pub safe : AreSafe scenario.parts journals
   pub text_is : report ≡ fitting_text scenario journals
 
@@ -164,11 +166,13 @@ abbrev pub verdict_status : Option ℕ → Status
 verdict_status None = ended.Done
 verdict_status (Some number) = ended.AuditNo
 
--- the verdict on a report of a scenario; where every line fits, the report is sound
+-- the verdict on a report of a scenario; if every line fits, the report is sound
 pub record IsVerdict (scenario : Scenario) (report text : List ℕ) (status : Status) : Type 0 where
-  pub text_is : text ≡ verdict_text (audited scenario report)
-  pub status_is : status ≡ verdict_status (audited scenario report)
-  pub sound : audited scenario report ≡ None → IsSound scenario report
+  pub found : Option ℕ
+  pub finds : Finds scenario report found
+  pub text_is : text ≡ verdict_text found
+  pub status_is : status ≡ verdict_status found
+  pub sound : found ≡ None → IsSound scenario report
 
 -- the verdict on the report that some bytes hand in behind its scenario
 pub record IsAuditOf (bytes text : List ℕ) (status : Status) : Type 0 where

@@ -1,2 +1,3 @@
 pub mod OneClock
+pub mod OutOfOrder
 pub mod Taking

@@ -1,6 +1,7 @@
 -- When the journals of several parts are those of one run: there is one clock over all parts.
-use Rattle.std.specs.Prelude.{◌≡◌, ℕ, suc, ◌<◌, List, [], ◌∷◌, length, slice_index_or}
-use Rattle.desk_like.specs.Desks.{IsReceipt, IsRisingFrom}
+use Rattle.std.specs.Prelude.{ℕ, suc, ◌<◌, List, [], ◌∷◌, slice_index_or}
+use Rattle.desk_like.specs.Desks.{IsReceipt}
+use Rattle.desk_like.specs.Stamps.{IsStamped, stamp_at}
 use Rattle.nook_data.specs.declared.calls.Op.{Op}
 use Rattle.nook_data.specs.declared.desks.Receipt.{Receipt}
 use Rattle.nook_data.specs.declared.scenario.ThreadSpec.{ThreadSpec}
@@ -12,20 +13,7 @@ use Rattle.nook_data.specs.declared.steps.Event.{Event}
 abbrev pub journal_on : List (List Event) → ℕ → List Event
 journal_on journals part = slice_index_or journals part []
 
--- the stamps of a part's events, in the order of its journal
-abbrev pub stamps_on : List (List ℕ) → ℕ → List ℕ
-stamps_on stamps part = slice_index_or stamps part []
-
--- the stamp of the event at a place of a part's journal, counted from 1; 0, below every stamp, is that of place 0
-abbrev pub stamp_at : List (List ℕ) → ℕ → ℕ → ℕ
-stamp_at stamps part place = slice_index_or (0 ∷ stamps_on stamps part) place 0
-
--- each event of a journal has a stamp, and the stamps rise
-pub record IsStamped (journal : List Event) (stamps : List ℕ) : Type 0 where
-  pub count : length stamps ≡ length journal
-  pub rising : IsRisingFrom 0 stamps
-
--- so it is with each journal
+-- each event of each journal has a stamp, and the stamps rise in each journal
 abbrev pub AreStamped : List (List Event) → List (List ℕ) → Type 0
 AreStamped [] [] = Unit {0}
 AreStamped [] (own ∷ stamps) = ⊥

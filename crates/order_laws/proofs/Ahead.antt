@@ -14,7 +14,8 @@ use Rattle.part_laws.proofs.Places.{split}
 use Rattle.run_defs.specs.Simulation.{ThreadState, Waiting, started, thread_after}
 use Rattle.run_defs.proofs.RunChanges.{settled, settled_by}
 use Rattle.threaded_run.specs.Others.{is_invocation_by}
-use Rattle.order_defs.specs.OneClock.{AreStamped, Follow, journal_on, stamp_at}
+use Rattle.desk_like.specs.Stamps.{stamp_at}
+use Rattle.order_defs.specs.OneClock.{AreStamped, Follow, journal_on}
 use Rattle.order_laws.proofs.Stamps.{answered_later}
 
 -- how many events of each part were taken, with one more of a part

@@ -20,7 +20,8 @@ use Rattle.threaded_run.specs.Threaded.{answers_by}
 use Rattle.threaded_run.proofs.Counted.{if_false, if_true}
 use Rattle.threaded_run.proofs.Placed.{AreBehind, all_behind, first_behind, rest_behind}
 use Rattle.audited_runs.proofs.Shares.{AllMay, MayStart}
-use Rattle.order_defs.specs.OneClock.{AreInOrder, AreOneRun, AreStamped, Follow, journal_on, stamp_at, stamps_on}
+use Rattle.desk_like.specs.Stamps.{stamp_at, stamps_on}
+use Rattle.order_defs.specs.OneClock.{AreInOrder, AreOneRun, AreStamped, Follow, journal_on}
 use Rattle.order_defs.specs.Taking.{IsAllTaken, IsThrough, Leads, MayTake, Taking, after_taking, opening_taking}
 use Rattle.order_laws.proofs.Ahead.{one_more, one_more_here, one_more_there}
 use Rattle.order_laws.proofs.Own.{all_timely}

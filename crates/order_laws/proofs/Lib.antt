@@ -11,3 +11,6 @@ pub mod Scheduled
 pub mod OneRun
 pub mod Worked
 pub mod PartAlone
+pub mod Emptied
+pub mod OutOfOrder
+pub mod ReadOnce

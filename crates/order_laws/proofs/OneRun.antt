@@ -1,5 +1,5 @@
--- Journals of a run by threads that have one clock are those of a scheduled run, with its answers; and the journals of
--- every scheduled run have one.
+-- The journals of a run by threads are those of a scheduled run, with its answers; and the journals of every scheduled
+-- run have one clock.
 use Rattle.std.proofs.Common.{◌≡◌, ℕ, suc, List, [], ◌∷◌, map, ap, ◌∙◌, arith}
 use Rattle.std.proofs.lemmas.List.Elements.{recursion_from_All}
 use Rattle.std.specs.List.{AllByRecursion}
@@ -60,10 +60,10 @@ fitting_listed scenario journals v fits one =
     (l.0, (l.1.0, l.1.1, l.1.2))
 
 pub threaded_listed : (scenario : Scenario) (journals : List (List Event)) (answers : List (List (ℕ × Answer))) → IsValidScenario scenario
-    → AreRuns scenario.parts journals → IsThreaded scenario journals answers → AreOneRun scenario.threads journals → IsListedRun scenario journals answers
-threaded_listed scenario journals answers v runs threaded one =
+    → AreRuns scenario.parts journals → IsThreaded scenario journals answers → IsListedRun scenario journals answers
+threaded_listed scenario journals answers v runs threaded =
     let fits : AllFit scenario.threads 0 scenario.parts journals = threaded_fits scenario journals answers v runs threaded in
-    let o = one_run_ordered scenario.threads scenario.parts journals threaded.no_others one in
+    let o = one_run_ordered scenario.threads scenario.parts journals threaded.no_others threaded.one_run in
     let l = begins_listed scenario journals o.0 o.1.0 v fits o.1.1.0 o.1.1.1 in
     let c : IsClocked scenario.threads journals (map answers_of_thread o.1.0.threads) = order_clocked scenario.threads journals o.0 o.1.0 o.1.1.0 o.1.1.1 in
     let served : AreServed journals 0 scenario.threads (map answers_of_thread o.1.0.threads) =

@@ -22,7 +22,8 @@ use Rattle.run_laws.specs.Audit.{is_on}
 use Rattle.audited_runs.proofs.Asked.{invoked_are, placed_are}
 use Rattle.audited_runs.proofs.Placed.{AreAll, passes_first, passes_not}
 use Rattle.audited_runs.proofs.Shares.{filter_none, filter_same}
-use Rattle.order_defs.specs.OneClock.{AreInOrder, AreOneRun, AreStamped, Follow, IsInOrder, journal_on, stamp_at}
+use Rattle.desk_like.specs.Stamps.{stamp_at}
+use Rattle.order_defs.specs.OneClock.{AreInOrder, AreOneRun, AreStamped, Follow, IsInOrder, journal_on}
 use Rattle.order_defs.specs.Taking.{IsAllTaken, IsNextOf, IsThrough, IsTimely, Leads, MayTake, Taking, after_taking, opening_taking}
 use Rattle.order_laws.proofs.Ahead.{AreToCome, HasReplyIfOpen, IsAhead, IsInvocationBy, IsInvokedIn, IsNextEvent, ahead_after, invokes_first, invokes_free, one_more, one_more_here, one_more_there}
 use Rattle.order_laws.proofs.Stamps.{answered_later, later_place, place_within, stamps_keep}
@@ -87,7 +88,7 @@ left_is (y ∷ left) (suc k) x h =
     let low : k < length left = more.1 in
     (more.0, omega arith)
 
-one_fewer : (left : List (List Event)) (k : ℕ) (e : Event) (rest : List Event) → slice_get left k ≡ Some (e ∷ rest)
+pub one_fewer : (left : List (List Event)) (k : ℕ) (e : Event) (rest : List Event) → slice_get left k ≡ Some (e ∷ rest)
     → events_count left ≡ suc (events_count (slice_set left k rest))
 one_fewer [] k e rest h = none_is_some h
 one_fewer (y ∷ left) zero e rest h =

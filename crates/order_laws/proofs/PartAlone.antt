@@ -1,5 +1,5 @@
 -- Where journals fit, an invocation that is its thread's next by its part is its next operation.
-use Rattle.std.proofs.Common.{◌≡◌, ℕ, zero, suc, ◌+◌, ◌<◌, ◌==◌, Bool, true, false, Option, Some, None, List, [], ◌∷◌, filter, length, map, slice_get, slice_index_or, slice_set, refl, sym, ap, ◌∙◌, subst, arith, eqb-true, eq-eqb, ne_eqb}
+use Rattle.std.proofs.Common.{◌≡◌, ℕ, zero, suc, ◌+◌, ◌<◌, ◌==◌, false, Option, Some, None, List, [], ◌∷◌, filter, length, map, slice_get, slice_index_or, slice_set, refl, sym, ap, ◌∙◌, subst, arith, eqb-true, eq-eqb}
 use Rattle.std.proofs.lemmas.Bool.{eqb-false}
 use Rattle.std.proofs.lemmas.List.{get_or-set_other, get_or-set_same}
 use Rattle.std.proofs.lemmas.Option.{slice_get-map}
@@ -12,26 +12,26 @@ use Rattle.nook_data.specs.declared.steps.Event.{Event}
 use Rattle.nook_data.specs.declared.steps.Event.TheVariants as event
 use Rattle.nook_data.specs.declared.steps.Step.{Step}
 use Rattle.nook_data.specs.declared.steps.Step.TheVariants as step
-use Rattle.nook_data.proofs.Options.{none_is_some, same_inside}
-use Rattle.part_defs.specs.Runs.{event_of, step_of}
+use Rattle.nook_data.proofs.Options.{same_inside}
+use Rattle.part_defs.specs.Runs.{step_of}
 use Rattle.part_laws.proofs.Places.{split}
 use Rattle.run_defs.specs.Simulation.{RunningPart, ThreadState, opening_part, opening_thread, part_after, threads_after}
-use Rattle.run_laws.specs.Audit.{Section, invocation_by, is_on, opening_section, section_after, thread_on}
+use Rattle.run_laws.specs.Audit.{Section, invocation_by, is_on, section_after, thread_on}
 use Rattle.run_laws.specs.Fitting.{AllFit, FitsFrom}
 use Rattle.audited_runs.proofs.Shares.{AllMay, all_other, all_own, filter_same, share_of}
-use Rattle.order_defs.specs.Taking.{IsNextOf, IsTimely, Leads, MayTake, Taking, after_taking, opening_taking}
+use Rattle.order_defs.specs.Taking.{IsTimely, Leads, MayTake, Taking, after_taking, opening_taking}
 use Rattle.order_laws.proofs.Ordered.{left_is}
 use Rattle.order_laws.proofs.Own.{all_timely}
 
 -- a part's section, by its share of the threads
-abbrev section_at : ℕ → PartSpec → RunningPart → List ThreadState → Section
+abbrev pub section_at : ℕ → PartSpec → RunningPart → List ThreadState → Section
 section_at k spec seat threads = record { place = k; spec = spec; seat = seat; threads = threads }
 
 -- what is left of a part fits the part, and what the threads have left
-record FitsLeft (k : ℕ) (left : List Event) (threads : List ThreadState) : Type 0 where
-  spec : PartSpec
-  seat : RunningPart
-  fits : FitsFrom (section_at k spec seat (map (share_of k) threads)) left
+pub record FitsLeft (k : ℕ) (left : List Event) (threads : List ThreadState) : Type 0 where
+  pub spec : PartSpec
+  pub seat : RunningPart
+  pub fits : FitsFrom (section_at k spec seat (map (share_of k) threads)) left
 
 -- ---- one event
 
@@ -56,10 +56,10 @@ other_left k j e left threads apart may h = record {
 -- ---- an order
 
 -- what is left of each part fits
-abbrev AllFitLeft : ℕ → Taking → Type 0
+abbrev pub AllFitLeft : ℕ → Taking → Type 0
 AllFitLeft n s = (j : ℕ) → j < n → FitsLeft j (slice_index_or s.left j []) s.threads
 
-fit_after : (n : ℕ) (s : Taking) (k : ℕ) (may : MayTake s k) → AllFitLeft n s → AllFitLeft n (after_taking s k may.event may.rest)
+pub fit_after : (n : ℕ) (s : Taking) (k : ℕ) (may : MayTake s k) → AllFitLeft n s → AllFitLeft n (after_taking s k may.event may.rest)
 fit_after n s k may h j low =
     let is = left_is s.left k (may.event ∷ may.rest) may.at in
     let all : AllMay 0 k may.event s.threads = all_timely s.threads k may.event may.timely in
@@ -105,6 +105,17 @@ fit_first threads first (spec ∷ parts) (j ∷ journals) h (suc k) low =
     next : (n k : ℕ) → suc n + k ≡ n + suc k
     next n k = omega arith
 
+-- journals that fit do so still, as far as they are left
+pub all_fit_left : (threads : List ThreadSpec) (parts : List PartSpec) (journals : List (List Event)) (order : List ℕ) (s : Taking) → AllFit threads 0 parts journals
+    → Leads (opening_taking threads journals) order s → AllFitLeft (length journals) s
+all_fit_left threads parts journals order s fits leads =
+    let first : AllFitLeft (length journals) (opening_taking threads journals) = λ j l.
+    subst (λ (n : ℕ). FitsLeft n (slice_index_or journals j []) (map opening_thread threads)) (none j) (fit_first threads 0 parts journals fits j l) in
+    fit_along (length journals) order (opening_taking threads journals) s leads first
+  where
+    none : (n : ℕ) → 0 + n ≡ n
+    none n = omega arith
+
 -- ---- the next operation on a part
 
 invoked_by : (thread k : ℕ) (op : Op) (more : List (ℕ × Op)) (t : ThreadState) → t.rest ≡ (k, op) ∷ more → invocation_by thread (Some t) ≡ Some (step.Invoke thread op)
@@ -120,7 +131,7 @@ same_op thread o op h = ap (op_of op) (same_inside h)
     op_of d step.Stage = d
     op_of d (step.Arrive f) = d
 
-next_op : (k call thread : ℕ) (o op : Op) (a : Option Answer) (rest : List Event) (threads : List ThreadState) (t : ThreadState) (more : List (ℕ × Op))
+pub next_op : (k call thread : ℕ) (o op : Op) (a : Option Answer) (rest : List Event) (threads : List ThreadState) (t : ThreadState) (more : List (ℕ × Op))
     → FitsLeft k (event.Invoke call thread o a ∷ rest) threads → slice_get threads thread ≡ Some t → t.rest ≡ (k, op) ∷ more → op ≡ o
 unfolding FitsFrom
 next_op k call thread o op a rest threads t more h at next =
@@ -136,12 +147,7 @@ pub part_decides : (threads : List ThreadSpec) (parts : List PartSpec) (journals
     → part < length journals → slice_get s.left part ≡ Some (event.Invoke call thread o a ∷ rest) → slice_get s.threads thread ≡ Some t → t.waiting ≡ None
     → t.rest ≡ (part, op) ∷ more → IsTimely s.threads part (event.Invoke call thread o a)
 part_decides threads parts journals order s part call thread o op a rest t more fits leads low head at free next =
-    let first : AllFitLeft (length journals) (opening_taking threads journals) = λ j l.
-    subst (λ (n : ℕ). FitsLeft n (slice_index_or journals j []) (map opening_thread threads)) (none j) (fit_first threads 0 parts journals fits j l) in
-    let h : FitsLeft part (slice_index_or s.left part []) s.threads = fit_along (length journals) order (opening_taking threads journals) s leads first part low in
+    let h : FitsLeft part (slice_index_or s.left part []) s.threads = all_fit_left threads parts journals order s fits leads part low in
     let same : op ≡ o = next_op part call thread o op a rest s.threads t more
     (subst (λ l. FitsLeft part l s.threads) (left_is s.left part (event.Invoke call thread o a ∷ rest) head).0 h) at next in
     record { t = t; more = more; at = at; free = free; next = next ∙ ap {B = List (ℕ × Op)} (λ (x : Op). (part, x) ∷ more) same }
-  where
-    none : (n : ℕ) → 0 + n ≡ n
-    none n = omega arith

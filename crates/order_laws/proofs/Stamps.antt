@@ -8,7 +8,8 @@ use Rattle.nook_data.specs.declared.desks.Receipt.{Receipt}
 use Rattle.nook_data.specs.declared.steps.Event.{Event}
 use Rattle.nook_data.proofs.Options.{none_is_some}
 use Rattle.part_laws.proofs.Places.{split}
-use Rattle.order_defs.specs.OneClock.{AreStamped, IsStamped, journal_on, stamp_at, stamps_on}
+use Rattle.desk_like.specs.Stamps.{IsStamped, stamp_at, stamps_on}
+use Rattle.order_defs.specs.OneClock.{AreStamped, journal_on}
 
 -- ---- numbers that rise
 

@@ -7,7 +7,8 @@ use Rattle.nook_data.specs.declared.desks.Receipt.{Receipt}
 use Rattle.nook_data.specs.declared.steps.Event.{Event}
 use Rattle.nook_data.specs.declared.steps.Event.TheVariants as event
 use Rattle.nook_data.proofs.Options.{none_is_some, same_inside}
-use Rattle.order_defs.specs.OneClock.{AreOneRun, AreStamped, Follow, journal_on, stamp_at}
+use Rattle.desk_like.specs.Stamps.{stamp_at}
+use Rattle.order_defs.specs.OneClock.{AreOneRun, AreStamped, Follow, journal_on}
 use Rattle.order_laws.specs.Cases.{calls_of, crossed_journals, crossed_threads, ring_journals, ring_threads, to_and_fro, woven_journals}
 use Rattle.order_laws.proofs.Stamps.{answered_later, later_place, place_within, stamps_rise}
 

@@ -2,7 +2,8 @@
 
 ghost use Rattle.nook_data.specs.declared.calls.Answer.{Answer};
 ghost use Rattle.nook_data.specs.declared.calls.Op.{Op};
-ghost use Rattle.order_defs.specs.OneClock.{AreOneRun, stamp_at};
+ghost use Rattle.desk_like.specs.Stamps.{stamp_at};
+ghost use Rattle.order_defs.specs.OneClock.{AreOneRun};
 ghost use Rattle.order_laws.specs.Cases.{crossed_journals, crossed_threads, ring_journals, ring_threads};
 ghost use Rattle.order_laws.specs.Cases.{to_and_fro, woven_journals};
 ghost use Rattle.std.specs.Prelude.{◌<◌, List, ℕ};

@@ -4,6 +4,7 @@
 //! whoever made them.
 #![tactic(auto)]
 
+pub mod audits;
 pub mod cases;
 pub mod orders;
 pub mod schedules;

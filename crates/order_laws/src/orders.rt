@@ -1,8 +1,10 @@
 //! In which order the events of several journals can be taken.
 
+ghost use Rattle.nook_data.specs.Valid.{IsValidScenario};
 ghost use Rattle.nook_data.specs.declared.calls.Answer.{Answer};
 ghost use Rattle.nook_data.specs.declared.calls.Op.{Op};
 ghost use Rattle.nook_data.specs.declared.scenario.PartSpec.{PartSpec};
+ghost use Rattle.nook_data.specs.declared.scenario.Scenario.{Scenario};
 ghost use Rattle.nook_data.specs.declared.scenario.ThreadSpec.{ThreadSpec};
 ghost use Rattle.nook_data.specs.declared.steps.Event.{Event};
 ghost use Rattle.nook_data.specs.declared.steps.Event.TheVariants as event;
@@ -10,7 +12,7 @@ ghost use Rattle.order_defs.specs.OneClock.{AreOneRun};
 ghost use Rattle.order_defs.specs.Taking.{IsAllTaken, IsStuck, IsTimely, Leads, Taking, opening_taking};
 ghost use Rattle.run_defs.specs.Simulation.{ThreadState};
 ghost use Rattle.run_laws.specs.Fitting.{AllFit};
-ghost use Rattle.std.specs.Prelude.{◌<◌, ◌≡◌, ◌∷◌, length, slice_get, List, None, Option, Some, ℕ};
+ghost use Rattle.std.specs.Prelude.{◌<◌, ◌≡◌, [], ◌∷◌, length, slice_get, slice_index_or, List, None, Option, Some, ℕ};
 ghost use Rattle.threaded_run.specs.Others.{HaveNoOthers};
 
 /// Journals that have one clock, and no other invocations than the scripts', can be taken event by event until nothing
@@ -53,4 +55,17 @@ pub fn where_journals_fit_the_part_decides()
         → part < length journals → slice_get s.left part ≡ Some (event.Invoke call thread o a ∷ rest)
         → slice_get s.threads thread ≡ Some t → t.waiting ≡ None → t.rest ≡ (part, op) ∷ more
         → IsTimely s.threads part (event.Invoke call thread o a) }
+{}
+
+/// If nothing is left of journals that fit a valid scenario, each operation was invoked and answered, and the journals
+/// have one clock. So an auditor who has taken every event need not ask what the threads have left.
+pub fn where_journals_fit_nothing_left_is_all_taken()
+    ensures taken { (scenario : Scenario) (journals : List (List Event)) (order : List ℕ) (end : Taking)
+        → IsValidScenario scenario → AllFit scenario.threads 0 scenario.parts journals
+        → Leads (opening_taking scenario.threads journals) order end
+        → ((part : ℕ) → slice_index_or end.left part [] ≡ []) → IsAllTaken end }
+    ensures clock { (scenario : Scenario) (journals : List (List Event)) (order : List ℕ) (end : Taking)
+        → IsValidScenario scenario → AllFit scenario.threads 0 scenario.parts journals
+        → Leads (opening_taking scenario.threads journals) order end
+        → ((part : ℕ) → slice_index_or end.left part [] ≡ []) → AreOneRun scenario.threads journals }
 {}

@@ -12,13 +12,13 @@ ghost use Rattle.run_laws.specs.Fitting.{AllFit};
 ghost use Rattle.std.specs.Prelude.{◌≡◌, List, ℕ};
 ghost use Rattle.threaded_run.specs.Threaded.{IsThreaded};
 
-/// A run by threads whose journals have one clock is a scheduled run: there are picks with which the scenario, under
-/// the schedule that lists them, has exactly these journals and answers. So what is promised of scheduled runs holds of
-/// it. The picks may be more than a valid scenario lists.
-pub fn a_run_by_threads_with_one_clock_is_a_scheduled_run()
+/// A run by threads is a scheduled run: there are picks with which the scenario, under the schedule that lists them, has
+/// exactly these journals and answers. So what is promised of scheduled runs holds of it. The picks may be more than a
+/// valid scenario lists.
+pub fn a_run_by_threads_is_a_scheduled_run()
     ensures { (scenario : Scenario) (journals : List (List Event)) (answers : List (List (ℕ × Answer)))
         → IsValidScenario scenario → AreRuns scenario.parts journals → IsThreaded scenario journals answers
-        → AreOneRun scenario.threads journals → IsListedRun scenario journals answers }
+        → IsListedRun scenario journals answers }
 {}
 
 /// Journals that fit a valid scenario, and have one clock, are those of a scheduled run.

@@ -6,12 +6,13 @@ use Rattle.shares.specs.Shares.{Share, half, IsWhole}
 use Rattle.shares.proofs.Shares.{half_in, half_has, halves_apart}
 use Rattle.turn_lock.specs.Seats.{Tally}
 use Rattle.turn_lock.specs.Views.{took, halved, newcomer}
-use Rattle.part_server.specs.Turns.{ended, seen_view}
+use Rattle.part_server.specs.Entries.{TurnView}
+use Rattle.part_server.specs.Turns.{ended, seen_view, timed_view}
 use Rattle.part_server.proofs.Ends.{Vw}
 
 -- a desk's list begins empty
-pub accounts_of : (v : Vw) → v.start ≡ 0 → Tally v → Accounts (seen_view v)
-accounts_of v none t = record {
+pub accounts_of : (v : Vw) (stamps : List ℕ) (clock : ℕ) → v.start ≡ 0 → Tally v → Accounts (seen_view v stamps clock)
+accounts_of v stamps clock none t = record {
   within = subst (λ (n : ℕ). All (λ place. (n < place) × (place ≤ length v.seen)) v.made) none t.within;
   all = λ alone place past low. t.all alone place (let begun = none in omega arith) low;
 }
@@ -21,11 +22,11 @@ ended_start true z more = refl
 ended_start false z more = refl
 
 -- a seat that ended its turn
-pub ended_accounts : (v z w : Vw) (b : Bool) (all more : List Event) → v.start ≡ 0 → z ≡ took v all → w ≡ ended b z more → Tally w
-    → (w.start ≡ 0) × Accounts (seen_view w)
-ended_accounts v z w b all more none taken given t =
+pub ended_accounts : (v z w : Vw) (stamps : List ℕ) (clock : ℕ) (b : Bool) (all more : List Event) → v.start ≡ 0 → z ≡ took v all → w ≡ ended b z more → Tally w
+    → (w.start ≡ 0) × Accounts (seen_view w stamps clock)
+ended_accounts v z w stamps clock b all more none taken given t =
     let start : w.start ≡ 0 = ap (λ (x : Vw). x.start) given ∙ (ended_start b z more ∙ (ap (λ (x : Vw). x.start) taken ∙ none)) in
-    (start, accounts_of w start t)
+    (start, accounts_of w stamps clock start t)
 
 left_not_whole : (s : Share) → IsWhole (half false s) → ⊥
 left_not_whole s all =
@@ -40,14 +41,18 @@ right_not_whole s all =
     halves_apart s other.0 other.1 (all other.0)
 
 -- a seat that was split, and the one that was split from it: neither is alone
-pub halved_accounts : (v w : Vw) → w ≡ halved v → Accounts (seen_view v) → Accounts (seen_view w)
-halved_accounts v w same a = subst (λ (z : Vw). Accounts (seen_view z)) (sym same) record {
+pub halved_accounts : (v w : TurnView) (m n : ℕ) → w ≡ halved v → Accounts (timed_view v m) → Accounts (timed_view w n)
+halved_accounts v w m n same a = subst (λ (z : TurnView). Accounts (timed_view z n)) (sym same) record {
   within = a.within;
   all = λ alone. absurd (left_not_whole v.share alone);
 }
 
-pub newcomer_accounts : (v w : Vw) → w ≡ newcomer v → Accounts (seen_view w)
-newcomer_accounts v w same = subst (λ (z : Vw). Accounts (seen_view z)) (sym same) record {
+pub newcomer_accounts : (v w : TurnView) (n : ℕ) → w ≡ newcomer v → Accounts (timed_view w n)
+newcomer_accounts v w n same = subst (λ (z : TurnView). Accounts (timed_view z n)) (sym same) record {
   within = λ k d lt. absurd (omega arith);
   all = λ alone. absurd (right_not_whole v.share alone);
 }
+
+-- a seat whose clock was raised
+pub raised_accounts : (v : TurnView) (m n : ℕ) → Accounts (timed_view v m) → Accounts (timed_view v n)
+raised_accounts v m n a = record { within = a.within; all = a.all }

@@ -58,12 +58,12 @@ grown_at r q Is g = record {
 
 -- ---- a turn that commits
 
-module _ (spec : PartSpec) (v : Vw) (r q : PartRun) (pre : IsPrefix v.seen r.journal) (alone : IsAlone v → r.journal ≡ v.seen)
+module _ (stamps stamps' : List ℕ) (clock clock' : ℕ) (spec : PartSpec) (v : Vw) (r q : PartRun) (pre : IsPrefix v.seen r.journal) (alone : IsAlone v → r.journal ≡ v.seen)
     (home : r.state.spec ≡ spec) (at : q.state ≡ state_of q.state.spec q.journal) where
   abbrev given : Vw
   given = gave (committed (took v r.journal) q.journal)
 
-  grown_adds : (Is : Event → Type 0) → Grows r q Is → Adds (seen_view v) (seen_view given) (length q.journal ∷ [])
+  grown_adds : (Is : Event → Type 0) → Grows r q Is → Adds (seen_view v stamps clock) (seen_view given stamps' clock') (length q.journal ∷ [])
   grown_adds Is g =
       let long : length q.journal ≡ length r.journal + 1 = ap length g.journal ∙ length-append r.journal (g.event ∷ []) in
       let low : length v.seen ≤ length r.journal = prefix_length v.seen r.journal pre in
@@ -83,14 +83,14 @@ module _ (spec : PartSpec) (v : Vw) (r q : PartRun) (pre : IsPrefix v.seen r.jou
   home_after : (Is : Event → Type 0) → Grows r q Is → q.state ≡ state_of spec q.journal
   home_after Is g = state_is spec q (g.spec ∙ home) at
 
-  pub invoke_ends_ok : (thread : ℕ) (o : Op) (p : Progress) → InvokeGives r q thread o (Ok p) → InvokeEnds spec (seen_view v) (seen_view given) thread o (Ok p)
+  pub invoke_ends_ok : (thread : ℕ) (o : Op) (p : Progress) → InvokeGives r q thread o (Ok p) → InvokeEnds spec (seen_view v stamps clock) (seen_view given stamps' clock') thread o (Ok p)
   invoke_ends_ok thread o (progress.Answered receipt) h =
       let Is : Event → Type 0 = λ e. IsInvoke receipt.call thread o e × IsReply receipt.call receipt.answer e in
       let there : IsAt q.journal (length q.journal) Is = grown_at r q Is h.0 in
       let invoked : IsAt q.journal receipt.at_invoke (IsInvoke receipt.call thread o) =
       subst (λ (n : ℕ). IsAt q.journal n (IsInvoke receipt.call thread o)) (sym h.1) (record { event = there.event; there = there.there; is = there.is.0 }) in (
-        invokes_once (seen_view v) (seen_view given) receipt.call thread o receipt.at_invoke
-            (subst (λ (n : ℕ). Adds (seen_view v) (seen_view given) (n ∷ [])) (sym h.1) (grown_adds Is h.0)) invoked,
+        invokes_once (seen_view v stamps clock) (seen_view given stamps' clock') receipt.call thread o receipt.at_invoke
+            (subst (λ (n : ℕ). Adds (seen_view v stamps clock) (seen_view given stamps' clock') (n ∷ [])) (sym h.1) (grown_adds Is h.0)) invoked,
         record {
           invoked = invoked;
           answered = subst (λ (n : ℕ). IsAt q.journal n (IsReply receipt.call receipt.answer)) (sym h.2) (record { event = there.event; there = there.there; is = there.is.1 });
@@ -99,43 +99,43 @@ module _ (spec : PartSpec) (v : Vw) (r q : PartRun) (pre : IsPrefix v.seen r.jou
       )
   invoke_ends_ok thread o (progress.Open w) h =
       let there : IsAt q.journal (length q.journal) (IsInvoke w.call thread o) = grown_at r q (IsInvoke w.call thread o) h.0 in (
-        subst (λ (n : ℕ). Adds (seen_view v) (seen_view given) (n ∷ [])) (sym h.1) (grown_adds (IsInvoke w.call thread o) h.0),
+        subst (λ (n : ℕ). Adds (seen_view v stamps clock) (seen_view given stamps' clock') (n ∷ [])) (sym h.1) (grown_adds (IsInvoke w.call thread o) h.0),
         subst (λ (n : ℕ). IsAt q.journal n (IsInvoke w.call thread o)) (sym h.1) there,
         h.2,
         (subst (λ (p : PartState). HasOpen p w.thread w.call) (home_after (IsInvoke w.call thread o) h.0) h.3.0, h.3.1, h.3.2),
       )
 
-  pub advance_ends_ok : (w : Waiting) (p : Progress) → GoOnGives r q w (Ok p) → AdvanceEnds spec (seen_view v) (seen_view given) w (Ok p)
+  pub advance_ends_ok : (w : Waiting) (p : Progress) → GoOnGives r q w (Ok p) → AdvanceEnds spec (seen_view v stamps clock) (seen_view given stamps' clock') w (Ok p)
   advance_ends_ok w (progress.Answered receipt) h =
       let Is : Event → Type 0 = λ e. IsOther e × IsReply w.call receipt.answer e in
       let there : IsAt q.journal (length q.journal) Is = grown_at r q Is h.0 in
-      let adds : Adds (seen_view v) (seen_view given) (length q.journal ∷ []) = grown_adds Is h.0 in (
-        waits_one (seen_view v) (seen_view given) (length q.journal) adds (record { event = there.event; there = there.there; is = there.is.0 }),
+      let adds : Adds (seen_view v stamps clock) (seen_view given stamps' clock') (length q.journal ∷ []) = grown_adds Is h.0 in (
+        waits_one (seen_view v stamps clock) (seen_view given stamps' clock') (length q.journal) adds (record { event = there.event; there = there.there; is = there.is.0 }),
         h.1,
         h.2,
         subst (λ (n : ℕ). IsAt q.journal n (IsReply w.call receipt.answer)) (sym h.3) (record { event = there.event; there = there.there; is = there.is.1 }),
         subst (λ (n : ℕ). length v.seen < n) (sym h.3) adds.rising.0,
       )
   advance_ends_ok w (progress.Open next) h = (
-    waits_one (seen_view v) (seen_view given) (length q.journal) (grown_adds IsOther h.0) (grown_at r q IsOther h.0),
+    waits_one (seen_view v stamps clock) (seen_view given stamps' clock') (length q.journal) (grown_adds IsOther h.0) (grown_at r q IsOther h.0),
     h.1,
     (subst (λ (p : PartState). HasOpen p next.thread next.call) (home_after IsOther h.0) h.2.0, h.2.1, h.2.2),
   )
 
-  pub arrive_ends_ok : (frame : List ℕ) (kept : Bool) → ArriveGives r q frame (Ok kept) → ArriveEnds spec (seen_view v) (seen_view given) frame (Ok kept)
+  pub arrive_ends_ok : (frame : List ℕ) (kept : Bool) → ArriveGives r q frame (Ok kept) → ArriveEnds spec (seen_view v stamps clock) (seen_view given stamps' clock') frame (Ok kept)
   arrive_ends_ok frame kept h = (length q.journal, grown_adds (IsArrive frame kept) h, grown_at r q (IsArrive frame kept) h)
 
-  pub settle_ends_ok : SettleGives r q (Ok true) → SettlesOnce spec (seen_view v) (seen_view given) (Ok true)
-  settle_ends_ok h = waits_one (seen_view v) (seen_view given) (length q.journal) (grown_adds IsOther h) (grown_at r q IsOther h)
+  pub settle_ends_ok : SettleGives r q (Ok true) → SettlesOnce spec (seen_view v stamps clock) (seen_view given stamps' clock') (Ok true)
+  settle_ends_ok h = waits_one (seen_view v stamps clock) (seen_view given stamps' clock') (length q.journal) (grown_adds IsOther h) (grown_at r q IsOther h)
 
 -- ---- a turn that gives back what it took
 
-module _ (spec : PartSpec) (v : Vw) (r : PartRun) (pre : IsPrefix v.seen r.journal) (alone : IsAlone v → r.journal ≡ v.seen)
+module _ (stamps stamps' : List ℕ) (clock clock' : ℕ) (spec : PartSpec) (v : Vw) (r : PartRun) (pre : IsPrefix v.seen r.journal) (alone : IsAlone v → r.journal ≡ v.seen)
     (home : r.state.spec ≡ spec) (at : r.state ≡ state_of r.state.spec r.journal) where
   abbrev returned : Vw
   returned = gave (took v r.journal)
 
-  kept_adds : AddsNothing (seen_view v) (seen_view returned)
+  kept_adds : AddsNothing (seen_view v stamps clock) (seen_view returned stamps' clock')
   kept_adds = record {
     seen = pre;
     made = sym (append-nil v.made);
@@ -159,7 +159,7 @@ module _ (spec : PartSpec) (v : Vw) (r : PartRun) (pre : IsPrefix v.seen r.journ
   none_here thread h = subst (λ (p : PartState). HasNoneOpen p thread) state_here h
 
   pub invoke_ends_err : (q : PartRun) (thread : ℕ) (o : Op) (e : DeskRefused) → InvokeGives r q thread o (Err e)
-      → InvokeEnds spec (seen_view v) (seen_view returned) thread o (Err e)
+      → InvokeEnds spec (seen_view v stamps clock) (seen_view returned stamps' clock') thread o (Err e)
   invoke_ends_err q thread o (refused.NoMemory None) h = kept_adds
   invoke_ends_err q thread o (refused.NoMemory (Some call)) h = absurd h
   invoke_ends_err q thread o refused.TooManyCalls h =
@@ -169,10 +169,10 @@ module _ (spec : PartSpec) (v : Vw) (r : PartRun) (pre : IsPrefix v.seen r.journ
   invoke_ends_err q thread o refused.TooManyArrivals h = absurd h
 
   pub advance_ends_err : (q : PartRun) (w : Waiting) (e : DeskRefused) → HasOpen r.state w.thread w.call → GoOnGives r q w (Err e)
-      → AdvanceEnds spec (seen_view v) (seen_view returned) w (Err e)
+      → AdvanceEnds spec (seen_view v stamps clock) (seen_view returned stamps' clock') w (Err e)
   advance_ends_err q w (refused.NoMemory None) waits h = absurd h
   advance_ends_err q w (refused.NoMemory (Some call)) waits h =
-      (waits_nothing (seen_view v) (seen_view returned) kept_adds, open_here w.thread w.call waits, h.1)
+      (waits_nothing (seen_view v stamps clock) (seen_view returned stamps' clock') kept_adds, open_here w.thread w.call waits, h.1)
   advance_ends_err q w refused.TooManyCalls waits h = absurd h
   advance_ends_err q w (refused.OpenCall call) waits h = absurd h
   advance_ends_err q w refused.NoOpenCall waits h = absurd h
@@ -180,16 +180,16 @@ module _ (spec : PartSpec) (v : Vw) (r : PartRun) (pre : IsPrefix v.seen r.journ
 
   pub found_ends : (w : Waiting) (receipt : Receipt) (place : ℕ) (e : Event) → at_number place r.journal ≡ Some e → length v.seen < place
       → receipt.call ≡ w.call → receipt.at_invoke ≡ w.at_invoke → receipt.at_reply ≡ place → answer_at w.call e ≡ Some receipt.answer
-      → AdvanceEnds spec (seen_view v) (seen_view returned) w (Ok (progress.Answered receipt))
+      → AdvanceEnds spec (seen_view v stamps clock) (seen_view returned stamps' clock') w (Ok (progress.Answered receipt))
   found_ends w receipt place e there past call invoke reply answer' = (
-    waits_nothing (seen_view v) (seen_view returned) kept_adds,
+    waits_nothing (seen_view v stamps clock) (seen_view returned stamps' clock') kept_adds,
     call,
     invoke,
     subst (λ (n : ℕ). IsAt r.journal n (IsReply w.call receipt.answer)) (sym reply) (record { event = e; there = there; is = answer' }),
     subst (λ (n : ℕ). length v.seen < n) (sym reply) past,
   )
 
-  pub find_ends : (thread : ℕ) (x : Result Waiting DeskRefused) → FindGives r thread x → FindEnds spec (seen_view v) (seen_view returned) thread x
+  pub find_ends : (thread : ℕ) (x : Result Waiting DeskRefused) → FindGives r thread x → FindEnds spec (seen_view v stamps clock) (seen_view returned stamps' clock') thread x
   find_ends thread (Ok w) h = (kept_adds, h.0, (open_here w.thread w.call h.1.0, h.1.1, h.1.2), h.2)
   find_ends thread (Err (refused.NoMemory call)) h = absurd h
   find_ends thread (Err refused.TooManyCalls) h = absurd h
@@ -198,7 +198,7 @@ module _ (spec : PartSpec) (v : Vw) (r : PartRun) (pre : IsPrefix v.seen r.journ
   find_ends thread (Err refused.TooManyArrivals) h = absurd h
 
   pub arrive_ends_err : (q : PartRun) (frame : List ℕ) (e : DeskRefused) → ArriveGives r q frame (Err e)
-      → ArriveEnds spec (seen_view v) (seen_view returned) frame (Err e)
+      → ArriveEnds spec (seen_view v stamps clock) (seen_view returned stamps' clock') frame (Err e)
   arrive_ends_err q frame (refused.NoMemory None) h = kept_adds
   arrive_ends_err q frame (refused.NoMemory (Some call)) h = absurd h
   arrive_ends_err q frame refused.TooManyCalls h = absurd h
@@ -206,10 +206,10 @@ module _ (spec : PartSpec) (v : Vw) (r : PartRun) (pre : IsPrefix v.seen r.journ
   arrive_ends_err q frame refused.NoOpenCall h = absurd h
   arrive_ends_err q frame refused.TooManyArrivals h = (kept_adds, ap (λ (p : PartState). p.arrived) (sym state_here) ∙ h.1)
 
-  pub settle_ends_none : (q : PartRun) → SettleGives r q (Ok false) → SettlesOnce spec (seen_view v) (seen_view returned) (Ok false)
+  pub settle_ends_none : (q : PartRun) → SettleGives r q (Ok false) → SettlesOnce spec (seen_view v stamps clock) (seen_view returned stamps' clock') (Ok false)
   settle_ends_none q h = (kept_adds, ap next_any (sym state_here) ∙ h.1)
 
-  pub settle_ends_err : (e : NoMemory) → SettlesOnce spec (seen_view v) (seen_view returned) (Err e)
+  pub settle_ends_err : (e : NoMemory) → SettlesOnce spec (seen_view v stamps clock) (seen_view returned stamps' clock') (Err e)
   settle_ends_err e = kept_adds
 
 -- ---- what a refusal leaves of the part

@@ -1,8 +1,11 @@
 pub mod Alone
 pub mod Calls
 pub mod Ends
+pub mod Entries
+pub mod Joining
 pub mod Opens
 pub mod Seats
 pub mod Short
 pub mod Steps
+pub mod Ticking
 pub mod Views

@@ -3,7 +3,7 @@ use Rattle.nook_data.specs.declared.scenario.PartSpec.{PartSpec}
 use Rattle.desk_like.specs.Desks.{DeskView}
 use Rattle.turn_lock.specs.Seats.{IsSeatOf}
 use Rattle.part_server.specs.declared.desk.PartDesk.{PartDesk}
-use Rattle.part_server.specs.Turns.{SeatValue, seen_view}
+use Rattle.part_server.specs.Turns.{SeatValue, timed_view}
 
 -- what the desk's part is made from
 abbrev pub desk_spec : PartDesk → PartSpec
@@ -11,8 +11,8 @@ desk_spec desk = desk.turn.home
 
 -- the seat is one of the desk's
 abbrev pub IsDeskSeat : PartDesk → SeatValue → Type 0
-IsDeskSeat desk seat = IsSeatOf desk.turn seat
+IsDeskSeat desk seat = IsSeatOf desk.turn seat.seat
 
 -- what the seat knows
 abbrev pub desk_view : SeatValue → DeskView
-desk_view seat = seen_view seat.me.0
+desk_view seat = timed_view seat.seat.me.0 seat.clock

@@ -1,3 +1,4 @@
 pub mod Answers
 pub mod Desk
+pub mod Entries
 pub mod Turns

@@ -1,6 +1,7 @@
 -- What one turn does to a part, and to what a seat of its desk knows.
 use Rattle.std.specs.Prelude.{◌≡◌, ℕ, ◌+◌, ◌<◌, ◌≤◌, Bool, true, false, Option, Some, None, Result, Ok, Err, List, []}
 use Rattle.std.specs.Prelude.{◌∷◌, ◌++◌, drop, length}
+use mathlib.Core.List.{IsPrefix}
 use Rattle.atomic_table.specs.declared.shared.Seat.{Seat}
 use Rattle.nook_data.specs.declared.desks.DeskRefused.{DeskRefused}
 use Rattle.nook_data.specs.declared.desks.DeskRefused.TheVariants as refused
@@ -17,10 +18,13 @@ use Rattle.nook_data.specs.Answers.{answer_at}
 use Rattle.part_defs.specs.Views.CallLogs.{answered_from}
 use Rattle.desk_like.specs.Desks.{DeskView, IsAt, IsInvoke, IsArrive, IsOther, IsReply, Adds, AddsNothing, Waits}
 use Rattle.desk_like.specs.Desks.{HasOpen, HasNoneOpen, CallEnds, ResumeEnds, state_seen}
+use Rattle.desk_like.specs.Stamps.{IsStamped, stamp_of}
+use Rattle.clocks.specs.Clocks.{last_of}
 use Rattle.shares.specs.Shares.{whole}
 use Rattle.turn_lock.specs.Views.{committed, gave}
 use Rattle.turn_lock.specs.declared.view.View.{View}
 use Rattle.part_server.specs.Answers.{InvokesCall, Numbers}
+use Rattle.part_server.specs.Entries.{DatedRun, TurnView, journal_view, stamps_of}
 use Rattle.part_server.specs.declared.waiting.Progress.{Progress}
 use Rattle.part_server.specs.declared.waiting.Progress.TheVariants as progress
 use Rattle.part_server.specs.declared.waiting.Waiting.{Waiting}
@@ -140,17 +144,26 @@ IsGrown false taken journal = journal ≡ taken
 -- ---- what a seat knows
 
 -- a seat of the turn that keeps the part
-abbrev pub SeatValue : Type 0
-SeatValue = Seat (Option PartRun) (View Event PartSpec)
+abbrev pub TurnValue : Type 0
+TurnValue = Seat (Option DatedRun) TurnView
+
+-- a seat of the desk: one of its turn, and the time of its clock
+pub record SeatValue : Type 0 where
+  pub seat : TurnValue
+  pub clock : ℕ
 
 -- a seat ended its turn, with which the journal is this: it committed an event, or gave the part back
 abbrev pub ended : Bool → View Event PartSpec → List Event → View Event PartSpec
 ended true v journal = gave (committed v journal)
 ended false v journal = gave v
 
--- of what a seat of a turn knows, what callers of a desk see
-abbrev pub seen_view : View Event PartSpec → DeskView
-seen_view v = record { seen = v.seen; made = v.made; share = v.share }
+-- of what a seat knows, what callers of a desk see
+abbrev pub seen_view : View Event PartSpec → List ℕ → ℕ → DeskView
+seen_view v stamps clock = record { seen = v.seen; made = v.made; share = v.share; stamps = stamps; clock = clock }
+
+-- of what a seat of the turn knows, that and the time of the seat's clock
+abbrev pub timed_view : TurnView → ℕ → DeskView
+timed_view v clock = seen_view (journal_view v) (stamps_of v.seen) clock
 
 -- what was seen is a run of the part that the seat knows of
 abbrev pub IsSeen : Option PartSpec → List Event → Type 0
@@ -162,6 +175,16 @@ IsWaitingIn spec v w =
     HasOpen (state_seen spec v) w.thread w.call × (w.looked ≡ length v.seen) × (MOST_ANSWER_WORDS ≤ w.room)
 
 -- ---- what a turn does to what a seat knows
+
+-- what the end of a turn does to the stamps that were taken and to the seat's clock: an event that was added is stamped
+-- later than the clock was, and the clock is no earlier than any stamp
+pub record EndsStamped (is_added : Bool) (taken : List ℕ) (clock : ℕ) (journal : List Event) (stamps : List ℕ)
+    (now : ℕ) : Type 0 where
+  pub begins : IsPrefix taken stamps
+  pub stamped : IsStamped journal stamps
+  pub last : last_of stamps ≤ now
+  pub risen : clock ≤ now
+  pub added : is_added ≡ true → clock < stamp_of stamps (length journal)
 
 -- an operation of a thread is invoked
 abbrev pub InvokeEnds : PartSpec → DeskView → DeskView → ℕ → Op → Result Progress DeskRefused → Type 0
@@ -201,4 +224,4 @@ SettlesOnce spec old new (Err e) = AddsNothing old new
 
 -- the seat of a new desk is the only one, with the whole share, and has seen and made nothing
 abbrev pub opening_view : DeskView
-opening_view = record { seen = []; made = []; share = whole }
+opening_view = record { seen = []; made = []; share = whole; stamps = []; clock = 0 }

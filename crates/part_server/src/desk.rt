@@ -3,19 +3,25 @@
 ghost use Rattle.std.specs.Prelude.{◌≡◌, ◌<◌, ◌≤◌, None, [], length, true, false, IfOk, OnOk};
 ghost use mathlib.Core.List.{IsPrefix};
 ghost use Rattle.desk_like.specs.Desks.{Accounts, ArriveEnds, CallEnds, IsAlone, Joins, ResumeEnds, Waits, halved_view};
-ghost use Rattle.desk_like.specs.Desks.{new_view, state_seen};
+ghost use Rattle.desk_like.specs.Desks.{IsRisingFrom, new_view, state_seen};
+ghost use Rattle.desk_like.specs.Stamps.{Clocked, IsStampedFrom, Ticks};
 ghost use Rattle.nook_data.specs.Classes.{same_class};
 ghost use Rattle.part_defs.specs.Runs.{IsRun, next_any};
 ghost use Rattle.nook_data.specs.declared.classes.Class.TheVariants as class;
 ghost use Rattle.part_core.specs.Kept.{IsKept};
+ghost use Rattle.shares.specs.Shares.{IsWhole};
 ghost use Rattle.part_server.specs.Desk.{IsDeskSeat, desk_spec, desk_view};
-ghost use Rattle.part_server.specs.Turns.{AdvanceEnds, FindEnds, FinishEnds, InvokeEnds, IsGrown, IsWaitingIn};
-ghost use Rattle.part_server.specs.Turns.{SettlesOnce, ended, opening_view, took_step};
+ghost use Rattle.part_server.specs.Entries.{events_of, journal_view, stamps_of};
+ghost use Rattle.part_server.specs.Turns.{AdvanceEnds, EndsStamped, FindEnds, FinishEnds, InvokeEnds, IsGrown};
+ghost use Rattle.part_server.specs.Turns.{IsWaitingIn, SettlesOnce, ended, opening_view, took_step};
 ghost use Rattle.turn_lock.specs.Seats.{IsSeatOf, Tally, seat_view};
+ghost use Rattle.turn_lock.specs.Views.{took};
 
+use crate::dated::Dated;
 use crate::held::Held;
 use crate::seat::DeskSeat;
 use crate::waiting::{Progress, Waiting};
+use clocks::{Clock, Stamps};
 use desk_like::DeskLike;
 use nook_data::calls::Op;
 use nook_data::desks::{DeskRefused, Receipt};
@@ -32,7 +38,7 @@ use turn_lock::{Turn, TurnSeat};
 /// No contract says that a call which waits ever returns, or in which order callers get their turn.
 #[derive(Drop)]
 pub struct PartDesk {
-    turn: Turn<Held>,
+    turn: Turn<Dated>,
 }
 
 impl PartDesk {
@@ -46,8 +52,9 @@ impl PartDesk {
         ensures seat { IfOk result (λ made. IsDeskSeat made.0 made.1) }
         ensures view { IfOk result (λ made. desk_view made.1 ≡ opening_view) }
     {
-        let (turn, seat) = Turn::new(alloc, Held::new(part))?;
-        Ok((PartDesk { turn }, DeskSeat { seat }))
+        let (turn, seat) = Turn::new(alloc, Dated::new(Held::new(part), Stamps::new()))?;
+        let clock = Clock::start();
+        Ok((PartDesk { turn }, DeskSeat { seat, clock }))
     }
 
     /// Goes on with the open call of a thread until it is answered, by this call or by another caller.
@@ -66,6 +73,8 @@ impl PartDesk {
         ensures run { IsRun (desk_spec self.now) (desk_view seat.new).seen }
         ensures accounts { Accounts (desk_view seat.new) }
         ensures ends { ResumeEnds (desk_spec self.now) (desk_view seat.old) (desk_view seat.new) thread result }
+        ensures clocked { Clocked (desk_view seat.new) }
+        ensures ticks { Ticks (desk_view seat.old) (desk_view seat.new) }
     {
         // What is so of a seat between two calls is so also where nothing is done.
         let _ = &seat.seat;
@@ -83,6 +92,8 @@ impl PartDesk {
         ensures run { IsRun (desk_spec self.now) (desk_view seat.new).seen }
         ensures accounts { Accounts (desk_view seat.new) }
         ensures waits { Waits (desk_view seat.old) (desk_view seat.new) }
+        ensures clocked { Clocked (desk_view seat.new) }
+        ensures ticks { Ticks (desk_view seat.old) (desk_view seat.new) }
         ensures settled { OnOk result (next_any (state_seen (desk_spec self.now) (desk_view seat.new)) ≡ None) }
     {
         for _ in rt.forever() {
@@ -104,28 +115,63 @@ impl PartDesk {
         ensures alone { IsAlone (desk_view seat) → result.journal ≡ (desk_view seat).seen }
         ensures accounts { Accounts (desk_view seat) }
         ensures kept { IsKept result }
+        ensures stamped { IsStampedFrom (desk_view seat).stamps result.journal }
     {
-        self.turn.close(rt, seat.seat).into_part()
+        let (held, _stamps) = self.turn.close(rt, seat.seat).open();
+        held.into_part()
     }
 
-    /// Ends a turn: commits the event that was added in it, or gives the part back as it was taken.
-    #[tactic(auto, using(crate::proofs::Seats::short_of))]
-    fn end_turn(&self, seat: &mut TurnSeat<Held>, held: Held, is_added: bool)
+    /// Begins a turn: waits for it, and takes the part with the stamps of its events.
+    fn begin_turn<R: Wait>(&self, rt: &R, seat: &mut TurnSeat<Dated>) -> (Held, Stamps)
+        requires seat { IsSeatOf self.now.turn seat.old }
+        requires free { (seat_view seat.old).has ≡ false }
+        ensures seat { IsSeatOf self.now.turn seat.new }
+        ensures turn { (seat_view seat.new).has ≡ true }
+        ensures view { journal_view (seat_view seat.new) ≡ took (journal_view (seat_view seat.old)) result.0.journal }
+        ensures taken { result.1 ≡ stamps_of (seat_view seat.new).taken }
+        ensures begins { IsPrefix (events_of (seat_view seat.old).seen) result.0.journal }
+        ensures begun { IsPrefix (stamps_of (seat_view seat.old).seen) result.1 }
+        ensures origin { result.0.state.spec ≡ desk_spec self.now }
+        ensures alone { IsWhole (seat_view seat.old).share
+            → result.0.journal ≡ events_of (seat_view seat.old).seen }
+        ensures rising { IsRisingFrom 0 result.1 }
+    {
+        self.turn.take(rt, seat).open()
+    }
+
+    /// Ends a turn: commits the event that was added in it, with a stamp, or gives the part back as it was taken. The
+    /// seat's clock is then no earlier than any stamp.
+    fn end_turn(
+        &self,
+        seat: &mut TurnSeat<Dated>,
+        clock: &mut Clock,
+        held: Held,
+        mut stamps: Stamps,
+        is_added: bool,
+    )
         requires seat { IsSeatOf self.now.turn seat.old }
         requires turn { (seat_view seat.old).has ≡ true }
-        requires grown { IsGrown is_added (seat_view seat.old).taken held.journal }
+        requires grown { IsGrown is_added (events_of (seat_view seat.old).taken) held.journal }
+        requires taken { stamps ≡ stamps_of (seat_view seat.old).taken }
+        requires rising { IsRisingFrom 0 stamps }
         requires home { held.state.spec ≡ desk_spec self.now }
         requires kept { IsKept held }
         ensures seat { IsSeatOf self.now.turn seat.new }
-        ensures view { seat_view seat.new ≡ ended is_added (seat_view seat.old) held.journal }
+        ensures view { journal_view (seat_view seat.new)
+            ≡ ended is_added (journal_view (seat_view seat.old)) held.journal }
         ensures free { (seat_view seat.new).has ≡ false }
-        ensures seen { (seat_view seat.new).seen ≡ held.journal }
-        ensures made { Tally (seat_view seat.new) }
+        ensures seen { events_of (seat_view seat.new).seen ≡ held.journal }
+        ensures made { Tally (journal_view (seat_view seat.new)) }
+        ensures stamped { EndsStamped is_added stamps clock.old held.journal
+            (stamps_of (seat_view seat.new).seen) clock.new }
     {
         if is_added {
-            self.turn.commit_and_give(seat, held);
+            stamps.push(clock);
+            self.turn.commit_and_give(seat, Dated::new(held, stamps));
         } else {
-            self.turn.give_back(seat, held);
+            // Another seat may have added what was awaited.
+            clock.raise(&stamps.last());
+            self.turn.give_back(seat, Dated::new(held, stamps));
         }
     }
 
@@ -145,10 +191,18 @@ impl PartDesk {
         ensures run { IsRun (desk_spec self.now) (desk_view seat.new).seen }
         ensures accounts { Accounts (desk_view seat.new) }
         ensures ends { InvokeEnds (desk_spec self.now) (desk_view seat.old) (desk_view seat.new) thread op result }
+        ensures clocked { Clocked (desk_view seat.new) }
+        ensures ticks { Ticks (desk_view seat.old) (desk_view seat.new) }
     {
-        let mut held = self.turn.take(rt, &mut seat.seat);
+        let (mut held, stamps) = self.begin_turn(rt, &mut seat.seat);
         let invoked = held.invoke(thread, op, room);
-        self.end_turn(&mut seat.seat, held, invoked.is_ok());
+        self.end_turn(
+            &mut seat.seat,
+            &mut seat.clock,
+            held,
+            stamps,
+            invoked.is_ok(),
+        );
         invoked
     }
 
@@ -165,17 +219,25 @@ impl PartDesk {
         ensures run { IsRun (desk_spec self.now) (desk_view seat.new).seen }
         ensures accounts { Accounts (desk_view seat.new) }
         ensures ends { AdvanceEnds (desk_spec self.now) (desk_view seat.old) (desk_view seat.new) waiting result }
+        ensures clocked { Clocked (desk_view seat.new) }
+        ensures ticks { Ticks (desk_view seat.old) (desk_view seat.new) }
     {
-        let mut held = self.turn.take(rt, &mut seat.seat);
+        let (mut held, stamps) = self.begin_turn(rt, &mut seat.seat);
         let waiting = match held.look(waiting) {
             Ok(receipt) => {
-                self.end_turn(&mut seat.seat, held, false);
+                self.end_turn(&mut seat.seat, &mut seat.clock, held, stamps, false);
                 return Ok(Progress::Answered(receipt));
             }
             Err(waiting) => waiting,
         };
         let went_on = held.go_on(waiting);
-        self.end_turn(&mut seat.seat, held, went_on.is_ok());
+        self.end_turn(
+            &mut seat.seat,
+            &mut seat.clock,
+            held,
+            stamps,
+            went_on.is_ok(),
+        );
         went_on
     }
 
@@ -192,6 +254,8 @@ impl PartDesk {
         ensures run { IsRun (desk_spec self.now) (desk_view seat.new).seen }
         ensures accounts { Accounts (desk_view seat.new) }
         ensures ends { FinishEnds (desk_spec self.now) (desk_view seat.old) (desk_view seat.new) waiting result }
+        ensures clocked { Clocked (desk_view seat.new) }
+        ensures ticks { Ticks (desk_view seat.old) (desk_view seat.new) }
     {
         for _ in rt.forever() {
             match self.advance(rt, seat, waiting) {
@@ -217,10 +281,12 @@ impl PartDesk {
         ensures run { IsRun (desk_spec self.now) (desk_view seat.new).seen }
         ensures accounts { Accounts (desk_view seat.new) }
         ensures ends { FindEnds (desk_spec self.now) (desk_view seat.old) (desk_view seat.new) thread result }
+        ensures clocked { Clocked (desk_view seat.new) }
+        ensures ticks { Ticks (desk_view seat.old) (desk_view seat.new) }
     {
-        let held = self.turn.take(rt, &mut seat.seat);
+        let (held, stamps) = self.begin_turn(rt, &mut seat.seat);
         let found = held.find(thread, room);
-        self.end_turn(&mut seat.seat, held, false);
+        self.end_turn(&mut seat.seat, &mut seat.clock, held, stamps, false);
         found
     }
 
@@ -231,10 +297,18 @@ impl PartDesk {
         ensures run { IsRun (desk_spec self.now) (desk_view seat.new).seen }
         ensures accounts { Accounts (desk_view seat.new) }
         ensures ends { SettlesOnce (desk_spec self.now) (desk_view seat.old) (desk_view seat.new) result }
+        ensures clocked { Clocked (desk_view seat.new) }
+        ensures ticks { Ticks (desk_view seat.old) (desk_view seat.new) }
     {
-        let mut held = self.turn.take(rt, &mut seat.seat);
+        let (mut held, stamps) = self.begin_turn(rt, &mut seat.seat);
         let settled = held.settle();
-        self.end_turn(&mut seat.seat, held, took_step(settled));
+        self.end_turn(
+            &mut seat.seat,
+            &mut seat.clock,
+            held,
+            stamps,
+            took_step(settled),
+        );
         settled
     }
 
@@ -253,10 +327,18 @@ impl PartDesk {
         ensures run { IsRun (desk_spec self.now) (desk_view seat.new).seen }
         ensures accounts { Accounts (desk_view seat.new) }
         ensures ends { ArriveEnds (desk_spec self.now) (desk_view seat.old) (desk_view seat.new) frame result }
+        ensures clocked { Clocked (desk_view seat.new) }
+        ensures ticks { Ticks (desk_view seat.old) (desk_view seat.new) }
     {
-        let mut held = self.turn.take(rt, &mut seat.seat);
+        let (mut held, stamps) = self.begin_turn(rt, &mut seat.seat);
         let arrived = held.arrive(frame);
-        self.end_turn(&mut seat.seat, held, arrived.is_ok());
+        self.end_turn(
+            &mut seat.seat,
+            &mut seat.clock,
+            held,
+            stamps,
+            arrived.is_ok(),
+        );
         arrived
     }
 }
@@ -319,10 +401,19 @@ impl DeskLike for PartDesk {
 
     fn split(&self, seat: &mut DeskSeat) -> DeskSeat {
         let other = self.turn.split(&mut seat.seat);
-        DeskSeat { seat: other }
+        DeskSeat {
+            seat: other,
+            clock: seat.clock.copy(),
+        }
     }
 
     fn join(&self, seat: &mut DeskSeat, other: DeskSeat) {
+        seat.clock.raise(&other.clock);
         self.turn.join(&mut seat.seat, other.seat);
+    }
+
+    fn synchronize(&self, seat: &mut DeskSeat, clock: &mut Clock) {
+        seat.clock.raise(clock);
+        *clock = seat.clock.copy();
     }
 }

@@ -20,13 +20,11 @@ use nook_data::desks::{DeskRefused, Receipt};
 use nook_data::limits::{MOST_ANSWER_WORDS, MOST_FRAME_WORDS};
 use nook_data::lists::Words;
 use nook_data::memory::{NoMemory, Room};
-use nook_data::scenario::PartSpec;
 use nook_data::steps::{Event, Step};
 use part_core::{Part, StepDone, StepRefused};
 use std::marker::Model;
-use turn_lock::Kept;
 
-/// A part, which stands for its journal. Its origin is what it is made from.
+/// A part, which its run stands for.
 #[derive(Drop)]
 pub struct Held {
     part: Part,
@@ -41,20 +39,6 @@ impl Model for Held {
     ghost view = { λ s. s.part };
 
     ghost invariant = { λ s. IsKept s.part };
-}
-
-impl Kept for Held {
-    type Entry = Event;
-
-    type Origin = PartSpec;
-
-    ghost list = { λ held. held.journal };
-
-    ghost origin = { λ held. held.state.spec };
-
-    fn count(&self) -> u64 {
-        self.part.journal().len() as u64
-    }
 }
 
 impl Held {
@@ -74,6 +58,13 @@ impl Held {
         ensures kept { IsKept result }
     {
         self.part
+    }
+
+    /// The number of events.
+    pub fn count(&self) -> u64
+        ensures { result ≡ length self.now.journal }
+    {
+        self.part.journal().len() as u64
     }
 
     /// Takes one step, as `Part::step`.

@@ -1,26 +1,32 @@
 //! A caller's place at a desk.
 
-use crate::held::Held;
+use crate::dated::Dated;
+use clocks::Clock;
 use std::marker::Model;
 use turn_lock::TurnSeat;
 
-/// A caller's place at a `PartDesk`, which one thread has at a time. It has no bytes: what it knows exists in contracts
-/// alone. Between two calls it has not the turn, what it has seen is a run of the desk's part, and the seat accounts
-/// for the events that were added through it.
+/// A caller's place at a `PartDesk`, which one thread has at a time. It has a clock, and no other bytes: what it knows
+/// exists in contracts alone. Between two calls it has not the turn, what it has seen is a run of the desk's part with
+/// the stamps of its events, its clock is no earlier than any of them, and the seat accounts for the events that were
+/// added through it.
 #[derive(Drop)]
 pub struct DeskSeat {
-    pub(crate) seat: TurnSeat<Held>,
+    pub(crate) seat: TurnSeat<Dated>,
+    pub(crate) clock: Clock,
 }
 
 impl Model for DeskSeat {
     ghost use Rattle.std.specs.Prelude.{◌≡◌, false};
     ghost use Rattle.desk_like.specs.Desks.{Accounts};
-    ghost use Rattle.part_server.specs.Turns.{IsSeen, SeatValue, seen_view};
+    ghost use Rattle.desk_like.specs.Stamps.{Clocked};
+    ghost use Rattle.part_server.specs.Entries.{events_of};
+    ghost use Rattle.part_server.specs.Turns.{IsSeen, SeatValue, timed_view};
 
     ghost Value = { SeatValue };
 
-    ghost view = { λ s. s.seat };
+    ghost view = { λ s. record { seat = s.seat; clock = s.clock } };
 
-    ghost invariant = { λ s. (s.seat.me.0.has ≡ false) × IsSeen s.seat.me.0.origin s.seat.me.0.seen
-        × (s.seat.me.0.start ≡ 0) × Accounts (seen_view s.seat.me.0) };
+    ghost invariant = { λ s. (s.seat.me.0.has ≡ false) × IsSeen s.seat.me.0.origin (events_of s.seat.me.0.seen)
+        × (s.seat.me.0.start ≡ 0) × Accounts (timed_view s.seat.me.0 s.clock)
+        × Clocked (timed_view s.seat.me.0 s.clock) };
 }

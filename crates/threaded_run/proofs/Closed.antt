@@ -3,9 +3,11 @@ use Rattle.std.proofs.Common.{◌≡◌, ℕ, zero, suc, ◌+◌, ◌<◌, ◌�
 use Rattle.std.proofs.Math.Seq.{take-suc}
 use Rattle.std.proofs.lemmas.List.Elements.{All-contains}
 use Rattle.std.specs.List.{AllByRecursion}
-use mathlib.Core.List.{map-append}
+use mathlib.Core.List.{IsPrefix, map-append}
+use Rattle.app_threads.specs.Order.{all_stamps}
 use Rattle.app_threads.specs.Workers.{AreSeats}
 use Rattle.desk_like.specs.Desks.{DeskView, IsAlone, IsAt, IsOther, Waits}
+use Rattle.desk_like.specs.Stamps.{IsStampedFrom}
 use Rattle.nook_data.specs.declared.steps.Event.{Event}
 use Rattle.nook_data.specs.declared.scenario.PartSpec.{PartSpec}
 use Rattle.nook_data.specs.Places.{at_number}
@@ -19,7 +21,7 @@ use Rattle.shares.specs.Shares.{IsWhole}
 use Rattle.run_ends.specs.Ends.{end_of, objects_in}
 use Rattle.threaded_run.proofs.Counted.{place_there}
 use Rattle.part_server.specs.Turns.{opening_view}
-use Rattle.threaded_run.specs.Leaving.{AreAlone, AreLeft, AreNew, GoesOn, IsClosed, IsLeft}
+use Rattle.threaded_run.specs.Leaving.{AreAlone, AreLeft, AreNew, AreStampedFrom, GoesOn, IsClosed, IsLeft}
 
 -- ---- the only seat of a desk that settles
 
@@ -58,6 +60,17 @@ closed_behind spec old new part alone w settled same closed =
       goes_on = subst (GoesOn old.seen) (sym journal) (goes_on old new alone w);
       settled = ap (λ (l : List Event). next_any (state_of spec l)) journal ∙ settled;
     }
+
+-- what its journal's stamps begin with
+prefix_of_prefix : {X : Type 0} (a b c : List X) → IsPrefix a b → IsPrefix b c → IsPrefix a c
+prefix_of_prefix a b c p q = (p.0 ++ q.0, sym (append_assoc a p.0 q.0) ∙ ap (λ xs. xs ++ q.0) p.1 ∙ q.1)
+
+pub stamped_behind : (old new : List ℕ) (journal : List Event) → IsPrefix old new → IsStampedFrom new journal → IsStampedFrom old journal
+stamped_behind old new journal p h = record {
+  stamps = h.stamps;
+  begins = prefix_of_prefix old new h.stamps p h.begins;
+  stamped = h.stamped;
+}
 
 -- ---- what the part leaves
 
@@ -199,3 +212,33 @@ module _ {D S : Type 0} (IsSeat : D → S → Type 0) (spec : D → PartSpec) (v
       (subst (λ es. Remain specs seens desks seats (journals ++ journal ∷ []) es) (sym f)
       (one_less specs seens desk desks seat seats journals ends journal end
       (subst (λ x. Remain specs seens x (seat ∷ seats) journals ends) d (subst (λ y. Remain specs seens all y journals ends) s h)) left))
+
+-- ---- the stamps of one desk's part after another
+
+module _ {S : Type 0} (view : S → DeskView) where
+  -- these seats' desks are left to close, and the journals of the others' parts are stamped
+  pub record StampsRemain (stamps : List (List ℕ)) (seats : List S) (journals : List (Kept Event)) : Type 0 where
+    pub goes_on : (js : List (Kept Event)) → AreStampedFrom (all_stamps (map view seats)) js → AreStampedFrom stamps (journals ++ js)
+
+  pub all_stamps_remain : (mine seats : List S) (journals : List (Kept Event)) → seats ≡ mine → journals ≡ []
+      → StampsRemain (all_stamps (map view mine)) seats journals
+  all_stamps_remain mine seats journals s j = rw (s, j) record { goes_on = λ js h. h }
+
+  stamped_one : (stamps : List (List ℕ)) (seat : S) (seats : List S) (journals : List (Kept Event)) (journal : Kept Event)
+      → StampsRemain stamps (seat ∷ seats) journals → IsStampedFrom (view seat).stamps journal.list
+      → StampsRemain stamps seats (journals ++ journal ∷ [])
+  stamped_one stamps seat seats journals journal h stamped = record {
+    goes_on = λ js more. rw (append_assoc journals (journal ∷ []) js) (h.goes_on (journal ∷ js) (stamped, more));
+  }
+
+  pub stamps_one : (stamps : List (List ℕ)) (seat : S) (both seats : List S) (journals more : List (Kept Event)) (journal : Kept Event)
+      → both ≡ seat ∷ seats → more ≡ journals ++ journal ∷ [] → StampsRemain stamps both journals → IsStampedFrom (view seat).stamps journal.list
+      → StampsRemain stamps seats more
+  stamps_one stamps seat both seats journals more journal s m h stamped =
+      subst (StampsRemain stamps seats) (sym m)
+      (stamped_one stamps seat seats journals journal (subst (λ xs. StampsRemain stamps xs journals) s h) stamped)
+
+  pub no_stamps_remain : (stamps : List (List ℕ)) (seats : List S) (journals : List (Kept Event)) → length seats ≡ 0
+      → StampsRemain stamps seats journals → AreStampedFrom stamps journals
+  no_stamps_remain stamps [] journals e h = rw (← append-nil journals) (h.goes_on [] tt)
+  no_stamps_remain stamps (seat ∷ seats) journals e h = absurd (omega arith)

@@ -4,7 +4,9 @@ pub mod Counted
 pub mod Growing
 pub mod Heard
 pub mod Leaving
+pub mod Ordered
 pub mod Placed
 pub mod Refusing
+pub mod Sending
 pub mod Threading
 pub mod Working

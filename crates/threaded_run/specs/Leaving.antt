@@ -11,6 +11,7 @@ use Rattle.part_defs.specs.Runs.{IsRun, PartRun, next_any, state_of}
 use Rattle.report_text.specs.declared.whole_report.PartEnd.{PartEnd}
 use Rattle.report_text.specs.Whole.{ShowsState}
 use Rattle.desk_like.specs.Desks.{DeskView, IsAlone, IsOther, IsRisingFrom}
+use Rattle.desk_like.specs.Stamps.{IsStampedFrom}
 use Rattle.part_server.specs.Turns.{opening_view}
 use Rattle.threaded_run.specs.Others.{HaveNoOthers}
 use Rattle.threaded_run.specs.Threaded.{HaveArrivals, HaveReceipts, answers_by, invoked_on}
@@ -41,6 +42,12 @@ AreLeft [] [] [] [] = Unit {0}
 AreLeft (spec ∷ specs) (seen ∷ seens) (journal ∷ journals) (end ∷ ends) =
     IsLeft spec seen journal end × AreLeft specs seens journals ends
 AreLeft _ _ _ _ = ⊥
+
+-- the events of each part's journal are stamped, and their stamps begin with these
+abbrev pub AreStampedFrom : List (List ℕ) → List (Kept Event) → Type 0
+AreStampedFrom [] [] = Unit {0}
+AreStampedFrom (begun ∷ all) (journal ∷ journals) = IsStampedFrom begun journal.list × AreStampedFrom all journals
+AreStampedFrom _ _ = ⊥
 
 -- the answers of each thread's receipts, each with its part
 abbrev pub answers_in : List ThreadSpec → List (List Receipt) → List (List (ℕ × Answer))

@@ -1,5 +1,5 @@
 -- Journals that have no other invocations than the scripts', and no other arrivals than the scenario's.
-use Rattle.std.specs.Prelude.{◌≡◌, ℕ, suc, ◌==◌, Bool, true, false, Option, Some, None, List, [], ◌∷◌, filter, length}
+use Rattle.std.specs.Prelude.{◌≡◌, ℕ, suc, ◌==◌, Bool, false, Option, Some, None, List, [], ◌∷◌, filter, length}
 use Rattle.std.specs.Prelude.{slice_get}
 use Rattle.nook_data.specs.declared.steps.Event.{Event}
 use Rattle.nook_data.specs.declared.steps.Event.TheVariants as event

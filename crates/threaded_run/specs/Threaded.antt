@@ -9,6 +9,7 @@ use Rattle.nook_data.specs.declared.scenario.PartSpec.{PartSpec}
 use Rattle.nook_data.specs.declared.desks.Receipt.{Receipt}
 use Rattle.nook_data.specs.declared.scenario.Scenario.{Scenario}
 use Rattle.nook_data.specs.declared.scenario.ThreadSpec.{ThreadSpec}
+use Rattle.order_defs.specs.OneClock.{AreOneRun}
 use Rattle.part_defs.specs.Runs.{next_any, state_of}
 use Rattle.nook_io.specs.Listening.{Listening}
 use Rattle.request_taps.specs.Bus.{told_all}
@@ -90,13 +91,15 @@ AreServed journals thread (t ∷ threads) (answers ∷ table) =
 -- ---- the whole
 
 -- The journals and answers of `run threads`: each part has taken all its steps; each thread's operations with its
--- answers, and each part's arrivals, are in the journals in order; and the journals have no other invocation or arrival
+-- answers, and each part's arrivals, are in the journals in order; the journals have no other invocation or arrival; and
+-- they are one run, by one clock over all parts
 pub record IsThreaded (scenario : Scenario) (journals : List (List Event))
     (answers : List (List (ℕ × Answer))) : Type 0 where
   pub settled : AreSettled scenario.parts journals
   pub served : AreServed journals 0 scenario.threads answers
   pub arrived : HaveArrivals scenario.parts journals
   pub no_others : HaveNoOthers scenario.threads 0 scenario.parts journals
+  pub one_run : AreOneRun scenario.threads journals
 
 -- the events of journals, part by part, of which the first is that of part `part`
 abbrev pub in_parts : ℕ → List (List Event) → List (ℕ × Event)

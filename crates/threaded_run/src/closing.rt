@@ -1,10 +1,12 @@
 //! Parts that are taken out of their desks, and what they leave.
 
 ghost use Rattle.std.specs.Prelude.{◌≡◌, IfOk, map};
+ghost use Rattle.app_threads.specs.Order.{all_stamps};
 ghost use Rattle.app_threads.specs.Workers.{AreSeats};
 ghost use Rattle.desk_like.specs.Desks.{IsAlone};
+ghost use Rattle.desk_like.specs.Stamps.{IsStampedFrom};
 ghost use Rattle.part_server.specs.Desk.{IsDeskSeat, desk_spec, desk_view};
-ghost use Rattle.threaded_run.specs.Leaving.{AreAlone, AreLeft, IsClosed, IsLeft};
+ghost use Rattle.threaded_run.specs.Leaving.{AreAlone, AreLeft, AreStampedFrom, IsClosed, IsLeft};
 
 use crate::opening::Opened;
 use nook_data::journal::Journal;
@@ -34,8 +36,10 @@ pub struct AllLeft {
 pub fn leave_all<R: Wait>(rt: &R, alloc: Global, opened: Opened) -> Result<AllLeft, NoMemory>
     requires seats { AreSeats IsDeskSeat opened.desks.items opened.seats.items }
     requires alone { AreAlone (map desk_view opened.seats.items) }
-    ensures { IfOk result (λ left. AreLeft (map desk_spec opened.desks.items)
+    ensures left { IfOk result (λ left. AreLeft (map desk_spec opened.desks.items)
         (map (λ s. (desk_view s).seen) opened.seats.items) left.journals left.ends) }
+    ensures stamped { IfOk result (λ left. AreStampedFrom (all_stamps (map desk_view opened.seats.items))
+        left.journals) }
 {
     let mut journals = Journals::new(alloc);
     let mut ends = PartEnds::new(alloc);
@@ -61,7 +65,8 @@ pub fn leave<R: Wait>(
 ) -> Result<Left, NoMemory>
     requires seat { IsDeskSeat desk seat }
     requires alone { IsAlone (desk_view seat) }
-    ensures { IfOk result (λ left. IsLeft (desk_spec desk) (desk_view seat).seen left.journal left.end) }
+    ensures left { IfOk result (λ left. IsLeft (desk_spec desk) (desk_view seat).seen left.journal left.end) }
+    ensures stamped { IfOk result (λ left. IsStampedFrom (desk_view seat).stamps left.journal.list) }
 {
     let part = close(rt, desk, seat)?;
     // Its contract says that the events lead to the part's state.
@@ -77,7 +82,8 @@ pub fn leave<R: Wait>(
 fn close<R: Wait>(rt: &R, desk: PartDesk, seat: DeskSeat) -> Result<Part, NoMemory>
     requires seat { IsDeskSeat desk seat }
     requires alone { IsAlone (desk_view seat) }
-    ensures { IfOk result (λ part. IsClosed (desk_spec desk) (desk_view seat).seen part) }
+    ensures closed { IfOk result (λ part. IsClosed (desk_spec desk) (desk_view seat).seen part) }
+    ensures stamped { IfOk result (λ part. IsStampedFrom (desk_view seat).stamps part.journal) }
 {
     let mut seat = seat;
     desk.settle(rt, &mut seat)?;

@@ -1,6 +1,7 @@
 //! The run of a scenario by threads.
 
 ghost use Rattle.std.specs.Prelude.{◌≡◌, IfOk, OnErr, map};
+ghost use Rattle.app_threads.specs.Order.{AllFollow, all_stamps};
 ghost use Rattle.app_threads.specs.Workers.{AreSeats};
 ghost use Rattle.nook_data.specs.Valid.{IsValidScenario};
 ghost use Rattle.report_text.specs.Whole.{HaveEnds};
@@ -42,7 +43,8 @@ pub struct Unheard {
 ///
 /// In whatever order the threads got their turns, each journal is a run of its part that has no step left. It holds the
 /// operations of each thread, in order and with the answers that are told, and the part's arrivals, in order, and no
-/// other invocation or arrival.
+/// other invocation or arrival. The journals are one run: by one clock over all parts, each thread invoked an operation
+/// later than it was answered the one before.
 ///
 /// An error comes where memory was wanting, and no desk of a valid scenario refuses a thread for another cause. After
 /// it the taps have heard nothing, or all events of the journals of such a run, part by part.
@@ -118,6 +120,7 @@ fn gather<R: Wait>(
     requires alone { AreAlone (map desk_view opened.seats.items) }
     requires worked { HaveWorked scenario.now.parts scenario.now.threads
         (map (λ s. (desk_view s).seen) opened.seats.items) table }
+    requires order { AllFollow (all_stamps (map desk_view opened.seats.items)) scenario.now.threads table }
     ensures { IfOk result (IsWholeRun scenario.now) }
 {
     let left = leave_all(rt, alloc, opened)?;

@@ -2,8 +2,10 @@ use Rattle.std.proofs.Common.{◌<◌, length, map, take, arith}
 use Rattle.std.specs.Prelude.{Ok, Err}
 use Rattle.std.proofs.lemmas.List.{take_all}
 use Rattle.std.proofs.lemmas.Result.{err_from_is_err_and}
+use Rattle.app_threads.specs.Order.{all_stamps}
 use Rattle.app_threads.proofs.Listed.{all_at, take_next}
 use Rattle.app_threads.proofs.Scripts.{call_shares, ops_ended, ops_more, ops_none, ops_stopped, ops_unkept, shares_none}
+use Rattle.app_threads.proofs.Stamped.{until_follows, until_more, until_none}
 use Rattle.app_threads.proofs.script.run_script.Goals as goal
 
 pub loop-place-init : goal.loop-place-init
@@ -11,6 +13,7 @@ loop-place-init g c = record {
   seats = c.requires.seats;
   does = rw c.new-receipts.ensures (ops_none (map g.D.DeskLike.view c.args.seats.now) c.args.thread);
   shares = shares_none (map g.D.DeskLike.view c.args.seats.now);
+  order = rw c.new-receipts.ensures (until_none (all_stamps (map g.D.DeskLike.view c.args.seats.now)) c.start-clock.result);
 }
 
 pub call_next-requires-clause-part : goal.call_next-requires-clause-part
@@ -57,6 +60,11 @@ loop-place-preserved g c = record {
   shares =
       call_shares (map g.D.DeskLike.spec c.args.desks.now) (map g.D.DeskLike.view c.args.seats.now) (map g.D.DeskLike.view c.loop-place.seats) (map g.D.DeskLike.view c.call_next.new.seats)
       c.args.thread c.loop-place.place c.get.result.now.0 c.get.result.now.1 (Ok c.in_ok-receipt.receipt) c.in_ok-receipt.ensures.ends c.loop-place.invariant.shares;
+  order =
+      let k = until_more (map g.D.DeskLike.view c.loop-place.seats) (map g.D.DeskLike.view c.call_next.new.seats) c.loop-place.clock c.call_next.new.clock
+      c.get.result.now.0 c.get.result.now.1 c.in_ok-receipt.receipt (take c.loop-place.place c.args.ops.now) c.loop-place.receipts
+      c.in_ok-receipt.ensures.stamps c.in_ok-receipt.ensures.timely c.loop-place.invariant.order in
+      rw (c.in_ok-push.ensures.ok, take_next c.args.ops.now c.loop-place.place c.get.result.now c.get.ensures) k;
 }
 
 pub returns-clause-ends : goal.returns-clause-ends
@@ -64,3 +72,9 @@ returns-clause-ends g c =
     let e = take_all c.loop-place.place c.args.ops.now (omega arith) in
     ops_ended (map g.D.DeskLike.spec c.args.desks.now) (map g.D.DeskLike.view c.args.seats.now) (map g.D.DeskLike.view c.loop-place.seats) c.args.thread c.args.ops.now c.loop-place.receipts
     (rw e at c.loop-place.invariant.does)
+
+pub returns-clause-order : goal.returns-clause-order
+returns-clause-order g c =
+    let e = take_all c.loop-place.place c.args.ops.now (omega arith) in
+    until_follows (all_stamps (map g.D.DeskLike.view c.loop-place.seats)) 0 c.loop-place.clock c.args.ops.now c.loop-place.receipts
+    (rw e at c.loop-place.invariant.order)

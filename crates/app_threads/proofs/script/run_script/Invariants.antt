@@ -1,5 +1,7 @@
 use Rattle.std.proofs.Common.{map, take}
+use Rattle.app_threads.specs.Order.{all_stamps}
 use Rattle.app_threads.specs.Workers.{AreSeats, DoesOps, KeepShares}
+use Rattle.app_threads.proofs.Stamped.{FollowsUntil}
 use Rattle.app_threads.proofs.script.run_script.Given as goal
 
 abbrev pub invariant-loop-place : goal.invariant-loop-place
@@ -8,4 +10,5 @@ invariant-loop-place g l =
       seats : AreSeats g.D.DeskLike.is_seat l.desks l.seats;
       does : DoesOps (map g.D.DeskLike.view l.fn.seats) (map g.D.DeskLike.view l.seats) l.thread (take l.place l.ops) l.receipts;
       shares : KeepShares (map g.D.DeskLike.view l.fn.seats) (map g.D.DeskLike.view l.seats);
+      order : FollowsUntil (all_stamps (map g.D.DeskLike.view l.seats)) 0 l.clock (take l.place l.ops) l.receipts;
     }

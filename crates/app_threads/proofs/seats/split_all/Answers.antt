@@ -2,7 +2,7 @@ use Rattle.std.proofs.Common.{map, arith}
 use Rattle.std.proofs.lemmas.List.{length-map, map_push}
 use Rattle.app_threads.proofs.Points.{halve_more}
 use Rattle.app_threads.proofs.SeatLists.{seats_pushed}
-use Rattle.app_threads.proofs.Splitting.{accounts_more, same_more, start_done, start_more}
+use Rattle.app_threads.proofs.Splitting.{accounts_more, clocked_more, same_more, start_done, start_more}
 use Rattle.app_threads.proofs.seats.split_all.Goals as goal
 
 pub loop-at-preserved : goal.loop-at-preserved
@@ -22,6 +22,7 @@ loop-at-preserved g c =
       same = same_more specs olds mids news c.loop-at.at one c.split_at.ensures.splits was.same;
       made = rw items (seats_pushed is_seat c.args.desks.now c.loop-at.made.items c.loop-at.at c.split_at.result was.made c.split_at.ensures.made);
       accounts = accounts_more specs olds mids news c.loop-at.at one c.split_at.ensures.splits was.accounts;
+      clocked = clocked_more specs olds mids news c.loop-at.at one c.split_at.ensures.splits was.clocked;
       starts = rw (items, map_push view c.loop-at.made.items c.split_at.result) (start_more specs olds mids news made c.loop-at.at one c.split_at.ensures.splits was.same was.starts);
       halves = rw (items, map_push view c.loop-at.made.items c.split_at.result) (halve_more specs olds mids news made c.loop-at.at one was.starts.0 c.split_at.ensures.splits was.halves);
     }
@@ -30,6 +31,11 @@ pub returns-in_err-push-clause-accounts : goal.returns-in_err-push-clause-accoun
 returns-in_err-push-clause-accounts g c =
     accounts_more (map g.D.DeskLike.spec c.args.desks.now) (map g.D.DeskLike.view c.args.seats.now) (map g.D.DeskLike.view c.loop-at.seats) (map g.D.DeskLike.view c.split_at.new.seats)
     c.loop-at.at (g.D.DeskLike.view c.split_at.result) c.split_at.ensures.splits c.loop-at.invariant.accounts
+
+pub returns-in_err-push-clause-clocked : goal.returns-in_err-push-clause-clocked
+returns-in_err-push-clause-clocked g c =
+    clocked_more (map g.D.DeskLike.spec c.args.desks.now) (map g.D.DeskLike.view c.args.seats.now) (map g.D.DeskLike.view c.loop-at.seats) (map g.D.DeskLike.view c.split_at.new.seats)
+    c.loop-at.at (g.D.DeskLike.view c.split_at.result) c.split_at.ensures.splits c.loop-at.invariant.clocked
 
 pub returns-clause-starts : goal.returns-clause-starts
 returns-clause-starts g c =

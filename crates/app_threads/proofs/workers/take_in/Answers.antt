@@ -4,7 +4,7 @@ use Rattle.std.proofs.lemmas.List.{nil_from_length}
 use Rattle.std.proofs.lemmas.List.Elements.{All-rest}
 use Rattle.app_threads.specs.Steps.{TakeAllIn}
 use Rattle.app_threads.specs.Workers.{AreSeats}
-use Rattle.app_threads.proofs.Ending.{accounts_joined}
+use Rattle.app_threads.proofs.Ending.{accounts_joined, clocked_joined}
 use Rattle.app_threads.proofs.workers.take_in.Goals as goal
 
 pub loop-done-preserved : goal.loop-done-preserved
@@ -26,12 +26,18 @@ loop-done-preserved g c =
           (append_assoc c.loop-done.ends.items (done.end ∷ []) (map (λ d. d.end) rest)
           ∙ (ap (λ l. c.loop-done.ends.items ++ map (λ d. d.end) l) (sym items) ∙ c.loop-done.invariant.ends));
       accounts = accounts_joined specs (map view c.args.seats.now) (map view c.loop-done.seats) (map view done.seats.items) (map view c.join_all.new.seats) c.loop-done.invariant.accounts c.join_all.ensures.joins;
+      clocked = clocked_joined specs (map view c.args.seats.now) (map view c.loop-done.seats) (map view done.seats.items) (map view c.join_all.new.seats) c.loop-done.invariant.clocked c.join_all.ensures.joins;
     }
 
 pub returns-in_err-push-clause-accounts : goal.returns-in_err-push-clause-accounts
 returns-in_err-push-clause-accounts g c =
     let view = g.D.DeskLike.view in
     accounts_joined (map g.D.DeskLike.spec c.args.desks.now) (map view c.args.seats.now) (map view c.loop-done.seats) (map view c.in-Some.done.seats.items) (map view c.join_all.new.seats) c.loop-done.invariant.accounts c.join_all.ensures.joins
+
+pub returns-in_err-push-clause-clocked : goal.returns-in_err-push-clause-clocked
+returns-in_err-push-clause-clocked g c =
+    let view = g.D.DeskLike.view in
+    clocked_joined (map g.D.DeskLike.spec c.args.desks.now) (map view c.args.seats.now) (map view c.loop-done.seats) (map view c.in-Some.done.seats.items) (map view c.join_all.new.seats) c.loop-done.invariant.clocked c.join_all.ensures.joins
 
 pub returns-clause-joins : goal.returns-clause-joins
 returns-clause-joins g c =

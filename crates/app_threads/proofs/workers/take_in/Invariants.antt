@@ -2,6 +2,7 @@ use Rattle.std.proofs.Common.{◌≡◌, ◌++◌, List, map, length}
 use Rattle.std.specs.Prelude.{All}
 use Rattle.std.specs.Vec.Iter.{into_iter_items, into_iter_len}
 use Rattle.desk_like.specs.Desks.{DeskView}
+use Rattle.app_threads.specs.Order.{KeepClocked}
 use Rattle.app_threads.specs.Steps.{TakeAllIn}
 use Rattle.app_threads.specs.Workers.{AreSeats, KeepAccounts}
 use Rattle.app_threads.proofs.workers.take_in.Given as goal
@@ -18,4 +19,5 @@ invariant-loop-done g l =
           → TakeAllIn specs (map view l.fn.seats) (map (λ done. map view done.seats.items) l.fn.workers.items) news;
       ends : l.ends.items ++ map (λ done. done.end) (into_iter_items l.done-iterator) ≡ map (λ done. done.end) l.fn.workers.items;
       accounts : KeepAccounts (map view l.fn.seats) (map view l.seats);
+      clocked : KeepClocked (map view l.fn.seats) (map view l.seats);
     }

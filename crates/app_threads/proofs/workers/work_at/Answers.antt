@@ -7,7 +7,7 @@ pub returns-in-Script-clause-ends : goal.returns-in-Script-clause-ends
 returns-in-Script-clause-ends g c =
     rw c.in-Script.is
     (script_work (map g.D.DeskLike.spec c.args.desks.now) c.args.scripts.now c.args.arrivals.now (map g.D.DeskLike.view c.args.seats.now) (map g.D.DeskLike.view c.run_script.new.seats)
-    c.in-Script.thread c.get-script.result.now c.run_script.result c.get-script.ensures c.run_script.ensures.ends)
+    c.in-Script.thread c.get-script.result.now c.run_script.result c.get-script.ensures c.run_script.ensures.ends c.run_script.ensures.order)
 
 pub returns-in-Arrivals-clause-ends : goal.returns-in-Arrivals-clause-ends
 returns-in-Arrivals-clause-ends g c =

@@ -1,7 +1,9 @@
 -- The next line is missing, or that of an event which fits or does not.
-use Rattle.std.proofs.Common.{ℕ, List, Bor, Bool, Some, refl, sym, ap, ◌∙◌}
+use Rattle.std.proofs.Common.{ℕ, List, Bor, Bool, Some, refl, sym, ap, subst, ◌∙◌}
 use Rattle.std.proofs.lemmas.Result.{err_from_is_err_and}
-use Rattle.journal_audit.proofs.Finding.{event_refused, no_line_unfit, reads_taken, stopped}
+use Rattle.journal_audit.proofs.Finding.{event_refused, no_line_unfit, stopped}
+use Rattle.journal_audit.proofs.Reading.{reads_none, reads_taken}
+use Rattle.journal_audit.specs.Readings.{Reads}
 use Rattle.journal_audit.proofs.auditing.check_event.Goals as goal
 use Rattle.journal_audit.specs.Found.{found_from, inside}
 use Rattle.journal_audit.specs.Placed.{HasNoLine}
@@ -26,12 +28,11 @@ returns-clause-checks c = λ scenario sections coming.
     c.in_ok-line.ensures.ok (sym c.is_numbered.ensures ∙ c.if-not-is_numbered.false) c.if-not-branch.false c.in_ok-after_event.ensures in
     read.same scenario sections coming ∙ ap (found_from scenario (inside sections c.after_event.new.self coming)) (sym c.skip.ensures)
 
-pub returns-clause-place : goal.returns-clause-place
-returns-clause-place c =
-    (reads_taken c.args.section.now c.after_event.new.self c.args.cursor.now c.in_ok-line.line.now c.in_ok-after_event.field-0
-    c.in_ok-line.ensures.ok (sym c.is_numbered.ensures ∙ c.if-not-is_numbered.false) c.if-not-branch.false c.in_ok-after_event.ensures).place
+pub returns-then-not-is_numbered-clause-reads : goal.returns-then-not-is_numbered-clause-reads
+returns-then-not-is_numbered-clause-reads c = reads_none c.args.section.now c.args.cursor.now
 
-pub returns-clause-spec : goal.returns-clause-spec
-returns-clause-spec c =
+pub returns-clause-reads : goal.returns-clause-reads
+returns-clause-reads c =
+    subst (Reads c.args.section.now c.after_event.new.self c.args.cursor.now) (sym c.skip.ensures)
     (reads_taken c.args.section.now c.after_event.new.self c.args.cursor.now c.in_ok-line.line.now c.in_ok-after_event.field-0
-    c.in_ok-line.ensures.ok (sym c.is_numbered.ensures ∙ c.if-not-is_numbered.false) c.if-not-branch.false c.in_ok-after_event.ensures).spec
+    c.in_ok-line.ensures.ok (sym c.is_numbered.ensures ∙ c.if-not-is_numbered.false) c.if-not-branch.false c.in_ok-after_event.ensures)

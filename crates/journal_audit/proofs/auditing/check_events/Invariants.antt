@@ -1,5 +1,5 @@
 use Rattle.std.proofs.Common.{length}
-use Rattle.journal_audit.proofs.Finding.{Reads}
+use Rattle.journal_audit.specs.Readings.{Reads}
 use Rattle.journal_audit.proofs.auditing.check_events.Given as goal
 
 abbrev pub invariant-events : goal.invariant-events

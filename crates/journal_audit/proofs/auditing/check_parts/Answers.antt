@@ -9,39 +9,41 @@ use Rattle.journal_audit.proofs.auditing.check_parts.Goals as goal
 use Rattle.journal_audit.specs.Found.{found_from}
 
 pub loop-place-init : goal.loop-place-init
-loop-place-init c = parts_begun c.args.scenario.now c.as_slice-specs.result.now c.args.cursor.now c.args.tally.now c.as_slice-specs.ensures c.requires.none
+loop-place-init c =
+    parts_begun c.args.scenario.now c.as_slice-specs.result.now c.args.cursor.now c.args.past.now c.as_slice-specs.ensures c.requires.none
+    c.requires.no_ends
 
 pub returns-in_err-check_part : goal.returns-in_err-check_part
 returns-in_err-check_part c =
     let i : ℕ = c.loop-place.place in
     let specs : List Spec = c.as_slice-specs.result.now in
-    let found : Option ℕ = found_from c.args.scenario.now (opening_audit c.args.scenario.now) c.args.cursor.now in
+    let first = c.args.cursor.now in
+    let found : Option ℕ = found_from c.args.scenario.now (opening_audit c.args.scenario.now) first in
     let less : i < length specs = omega arith in
     let p = err_from_is_err_and c.from_residual.result c.from_residual.ensures.1 in
     rw (p.1, p.2)
     (passed (Unit {0}) (Unit {0}) c.in_err-check_part.field-0.0 found found _ _
-    (c.in_err-check_part.ensures (take i specs) (drop (i + 1) specs) found
-    (parts_before c.args.scenario.now specs i found c.loop-place.cursor c.loop-place.tally less)
-    (part_coming c.args.scenario.now specs i found c.loop-place.cursor c.loop-place.tally c.index-specs-place.result less c.index-specs-place.is
+    (c.in_err-check_part.ensures first (take i specs) (drop (i + 1) specs)
+    (parts_before c.args.scenario.now specs i first c.loop-place.cursor c.loop-place.past less)
+    (part_coming c.args.scenario.now specs i first c.loop-place.cursor c.loop-place.past c.index-specs-place.result less c.index-specs-place.is
     c.loop-place.invariant)) refl)
 
 pub loop-place-preserved : goal.loop-place-preserved
 loop-place-preserved c =
     let i : ℕ = c.loop-place.place in
     let specs : List Spec = c.as_slice-specs.result.now in
-    let found : Option ℕ = found_from c.args.scenario.now (opening_audit c.args.scenario.now) c.args.cursor.now in
+    let first = c.args.cursor.now in
     let less : i < length specs = omega arith in
-    part_past c.args.scenario.now specs i found c.check_part.new.cursor c.check_part.new.tally c.index-specs-place.result less c.index-specs-place.is
-    (c.in_ok-check_part.ensures (take i specs) (drop (i + 1) specs) found
-    (parts_before c.args.scenario.now specs i found c.loop-place.cursor c.loop-place.tally less)
-    (part_coming c.args.scenario.now specs i found c.loop-place.cursor c.loop-place.tally c.index-specs-place.result less c.index-specs-place.is
+    part_past c.args.scenario.now specs i first c.check_part.new.cursor c.check_part.new.past c.index-specs-place.result less c.index-specs-place.is
+    (c.in_ok-check_part.ensures first (take i specs) (drop (i + 1) specs)
+    (parts_before c.args.scenario.now specs i first c.loop-place.cursor c.loop-place.past less)
+    (part_coming c.args.scenario.now specs i first c.loop-place.cursor c.loop-place.past c.index-specs-place.result less c.index-specs-place.is
     c.loop-place.invariant))
 
 pub returns : goal.returns
 returns c =
     let i : ℕ = c.loop-place.place in
     let specs : List Spec = c.as_slice-specs.result.now in
-    let found : Option ℕ = found_from c.args.scenario.now (opening_audit c.args.scenario.now) c.args.cursor.now in
     let all : length specs ≤ i = omega arith in
-    parts_past c.args.scenario.now specs i found c.loop-place.cursor c.loop-place.tally c.args.scenario.now.parts c.as_slice-specs.ensures all
+    parts_past c.args.scenario.now specs i c.args.cursor.now c.loop-place.cursor c.loop-place.past c.args.scenario.now.parts c.as_slice-specs.ensures all
     c.loop-place.invariant

@@ -1,6 +1,6 @@
 use Rattle.std.proofs.Common.{◌≡◌, List, map, take}
 use Rattle.run_laws.specs.Audit.{Done, answers_in_order}
-use Rattle.journal_audit.specs.Tallies.{answers_in}
+use Rattle.journal_audit.specs.PastSections.{answers_in}
 use Rattle.journal_audit.proofs.last.answers_in_order.Given as goal
 
 abbrev pub invariant-loop-thread : goal.invariant-loop-thread

@@ -1,5 +1,7 @@
-use Rattle.std.proofs.Common.{Some, ◌++◌, [], ap, sym, subst, ◌∙◌}
-use Rattle.run_laws.specs.Audit.{last_lines}
+use Rattle.std.proofs.Common.{◌≡◌, Some, List, ◌++◌, [], ap, sym, subst, ◌∙◌}
+use Rattle.nook_data.specs.declared.scenario.Scenario.{Scenario}
+use Rattle.run_laws.specs.Audit.{Done, last_lines}
+use Rattle.journal_audit.specs.PastSections.{SumsUp}
 use Rattle.report_defs.specs.ReportText.{status_line, taps_text, threads_text}
 use Rattle.report_text.specs.Statuses.{status_number}
 use Rattle.report_text.specs.Writing.{Wrote}
@@ -27,15 +29,26 @@ held c = record {
 pub settle-requires : goal.settle-requires
 settle-requires c = text_kept _ _ _ _ (held (goal.at.settle-requires c).After-write_last-written)
 
-pub returns : goal.returns
-returns c = λ scenario sections threads sums.
-    let here = (goal.at.returns c).After-write_last-written in
+wrote : (c : After-write_last-written) (scenario : Scenario) (sections : List Done) → scenario.threads ≡ c.args.threads.now
+    → SumsUp scenario.parts sections c.args.past.now
+    → Held c.write_last-written.new.sink c.args.cursor.now.rest c.write_last-written.result (last_lines scenario sections)
+wrote c scenario sections threads sums =
     let answers = c.as_slice.ensures ∙ c.in_ok-answers.ensures sections (sym (c.answers.ensures ∙ sums.answers)) in
-    let text = last_text scenario sections c.args.tally.now c.args.threads.now c.as_slice.result.now c.in_ok-taps.taps (status_number c.status.result)
-    sums threads answers c.in_ok-taps.ensures c.status.ensures in
-    let wrote = subst (Held c.write_last-written.new.sink c.args.cursor.now.rest c.write_last-written.result) text (held here) in
+    subst (Held c.write_last-written.new.sink c.args.cursor.now.rest c.write_last-written.result)
+    (last_text scenario sections c.args.past.now c.args.threads.now c.as_slice.result.now c.in_ok-taps.taps (status_number c.status.result)
+    sums threads answers c.in_ok-taps.ensures c.status.ensures)
+    (held c)
+
+pub returns-clause-checks : goal.returns-clause-checks
+returns-clause-checks c = λ scenario sections threads sums.
+    let text = wrote (goal.at.returns-clause-checks c).After-write_last-written scenario sections threads sums in
     subst (λ before. Checks c.settle.result before (found_from scenario (at_last sections []) c.settle.new.self))
     (sym (last_due scenario sections c.args.cursor.now (last_lines_ended scenario sections)))
     (due_checked c.settle.result scenario (at_last sections []) (last_lines scenario sections) c.args.cursor.now c.settle.new.self
     (last_lines_ended scenario sections)
-    (settled_ok c.settle.result _ _ _ _ _ wrote c.settle.ensures.ok) (settled_unfit c.settle.result _ _ _ _ wrote c.settle.ensures.unfit))
+    (settled_ok c.settle.result _ _ _ _ _ text c.settle.ensures.ok) (settled_unfit c.settle.result _ _ _ _ text c.settle.ensures.unfit))
+
+pub returns-clause-text : goal.returns-clause-text
+returns-clause-text c = λ scenario sections threads sums.
+    settled_ok c.settle.result _ _ _ _ _ (wrote (goal.at.returns-clause-text c).After-write_last-written scenario sections threads sums)
+    c.settle.ensures.ok

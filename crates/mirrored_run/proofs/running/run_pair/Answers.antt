@@ -72,5 +72,5 @@ returns g c =
     (subst (λ (threads : List ThreadSpec). HasServed desk_spec c.in_ok-left_desk.left_desk c.in_ok-right_desk.right_desk (desk_view c.in_ok-left_desk.left_seat)
     (desk_view c.in_ok-right_desk.right_seat) c.args.left.now.blocks (ops_of_thread threads) c.in_ok-served.served.answers
     (desk_view c.in_ok-served.served.left) (desk_view c.in_ok-served.served.right)) c.as_slice-threads.ensures c.in_ok-served.ensures.served)
-    c.in_ok-left_part.ensures c.in_ok-right_part.ensures journals ends answers)
+    c.in_ok-left_part.ensures.left c.in_ok-right_part.ensures.left journals ends answers)
     c.gather.ensures.journals c.gather.ensures.ends c.gather.ensures.answers

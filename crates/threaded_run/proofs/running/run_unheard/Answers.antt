@@ -1,12 +1,15 @@
+use denote.Param.Send.{sendable}
 use Rattle.std.proofs.Common.{◌≡◌, ◌∙◌, ap, length, ◌++◌, map, subst, sym, drop, take}
 use Rattle.std.specs.Prelude.{All}
 use Rattle.std.proofs.lemmas.List.{length-map}
+use Rattle.app_threads.specs.Order.{AllFollow, all_stamps}
 use Rattle.app_threads.specs.Workers.{AreArrivals, AreSeats}
 use Rattle.nook_data.specs.declared.scenario.PartSpec.{PartSpec}
 use Rattle.part_server.specs.Desk.{IsDeskSeat, desk_spec, desk_view}
 use Rattle.nook_data.specs.Valid.{IsValidPart}
 use Rattle.threaded_run.proofs.Closed.{lent_whole}
 use Rattle.threaded_run.proofs.Refusing.{only_for_memory}
+use Rattle.threaded_run.proofs.Sending.{desk_sync, seat_send}
 use Rattle.threaded_run.proofs.Working.{arrivals_fit, gathered, left_alone, scripts_fit}
 use Rattle.threaded_run.specs.Leaving.{AreNew}
 use Rattle.threaded_run.proofs.running.run_unheard.Goals as goal
@@ -54,6 +57,10 @@ gather-requires-clause-seats g c =
     subst (λ seats. AreSeats IsDeskSeat c.in_ok-opened.opened.desks.items seats) (sym (seats_back g c))
     (subst (λ desks. AreSeats IsDeskSeat desks c.run_workers-worked.new.seats) c.as_slice-3.ensures.value c.in-Ok.ensures.seats)
 
+pub gather-requires-clause-order : goal.gather-requires-clause-order
+gather-requires-clause-order g c =
+    subst (λ seats. AllFollow (all_stamps (map desk_view seats)) c.args.scenario.now.threads c.in-Ok.table) (sym (seats_back g c)) c.in-Ok.ensures.order
+
 pub gather-requires-clause-worked : goal.gather-requires-clause-worked
 gather-requires-clause-worked g c =
     let frames : c.as_slice-4.result.now ≡ map (λ (s : PartSpec). s.arrivals) c.args.scenario.now.parts =
@@ -83,3 +90,9 @@ want_of_memory-requires g c =
     (arrivals_fit c.args.scenario.now.parts (map desk_spec c.as_slice-3.result.now) c.requires.parts specs))
     (subst (λ seats. AreNew (map desk_view seats)) (sym c.as_mut_slice.ensures.value) c.in_ok-opened.ensures.new)
     c.in-Err.ensures.accounts c.in-Err.ensures.ends
+
+pub run_workers-worked-requires-send-D-Seat : goal.run_workers-worked-requires-send-D-Seat
+run_workers-worked-requires-send-D-Seat g c κs within = search (sendable, seat_send)
+
+pub run_workers-worked-requires-sync-D : goal.run_workers-worked-requires-sync-D
+run_workers-worked-requires-sync-D g c κs within = search (sendable, desk_sync)

@@ -1,4 +1,5 @@
 use Rattle.desk_like.specs.Desks.{Waits}
+use Rattle.desk_like.specs.Stamps.{Ticks}
 use Rattle.part_server.specs.Desk.{IsDeskSeat, desk_view}
 use Rattle.part_server.proofs.desk.PartDesk.settle.Given as goal
 
@@ -6,6 +7,7 @@ abbrev pub invariant-loop : goal.invariant-loop
 invariant-loop g l = record {
   seat : IsDeskSeat l.self l.seat;
   waits : Waits (desk_view l.initial.seat) (desk_view l.seat);
+  ticks : Ticks (desk_view l.initial.seat) (desk_view l.seat);
   next : (goal.iterator-loop g).can_next l.iterator';
   ends : (goal.iterator-loop g).is_finite l.iterator';
 }

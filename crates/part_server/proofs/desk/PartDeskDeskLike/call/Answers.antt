@@ -5,6 +5,7 @@ use Rattle.part_server.specs.declared.waiting.Progress.{Progress}
 use Rattle.part_server.specs.Desk.{desk_spec, desk_view}
 use Rattle.part_server.specs.Turns.{InvokeEnds}
 use Rattle.part_server.proofs.Calls.{call_any}
+use Rattle.part_server.proofs.Ticking.{ticks_more}
 use Rattle.part_server.proofs.desk.PartDeskDeskLike.call.Goals as goal
 
 pub returns-in-Open-clause-ends : goal.returns-in-Open-clause-ends
@@ -16,3 +17,7 @@ returns-in-Open-clause-ends g c =
     (subst (λ (p : Progress). InvokeEnds (desk_spec c.args.self.now) (desk_view c.args.seat.now) (desk_view c.invoke.new.seat) c.args.thread c.in-Ok-copy.op (Ok p))
     c.in-Open.is c.in_ok-receipt.ensures.ends)
     c.finish.ensures.ends)
+
+pub returns-in-Open-clause-ticks : goal.returns-in-Open-clause-ticks
+returns-in-Open-clause-ticks g c =
+    ticks_more (desk_view c.args.seat.now) (desk_view c.invoke.new.seat) (desk_view c.finish.new.seat) c.invoke.ensures.ticks c.finish.ensures.ticks

@@ -1,0 +1,8 @@
+pub mod Bared
+pub mod Heard
+pub mod Held
+pub mod Nexts
+pub mod Ahead
+pub mod SameOps
+pub mod Shorter
+pub mod Taken

@@ -1,0 +1,4 @@
+pub mod Bare
+pub mod Ends
+pub mod Lefts
+pub mod Ways

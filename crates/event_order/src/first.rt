@@ -1,0 +1,33 @@
+//! The first event that no order reaches.
+
+ghost use Rattle.std.specs.Prelude.{IfOk, map};
+ghost use Rattle.event_order.specs.Lefts.{events_in};
+ghost use Rattle.event_order.specs.Ends.{IsLeftOver};
+
+use crate::taker::Taker;
+use nook_data::journal::Journal;
+use nook_data::memory::NoMemory;
+use nook_data::scenario::ThreadSpec;
+use std::alloc::Global;
+
+/// The first part of which events are left: its number, from 0, and how many events.
+#[derive(Clone, Copy, Debug, PartialEq, Eq)]
+pub struct FirstLeft {
+    pub part: usize,
+    pub count: usize,
+}
+
+/// Takes the events of these journals, of each in its order, as long as one may be taken: an invocation if its thread
+/// has no open operation and this is its next one, every other event at once. Reports the first part of which events
+/// are left; none if every event was taken.
+pub fn first_left(
+    alloc: Global,
+    threads: &[ThreadSpec],
+    journals: &[Journal],
+) -> Result<Option<FirstLeft>, NoMemory>
+    ensures { IfOk result (IsLeftOver threads.now (map events_in journals.now)) }
+{
+    let mut taker = Taker::new(alloc, threads, journals)?;
+    taker.take_all();
+    Ok(taker.first_left())
+}

@@ -1,5 +1,0 @@
-use Rattle.order_laws.proofs.OneRun.{threaded_listed}
-use Rattle.order_laws.proofs.schedules.a_run_by_threads_with_one_clock_is_a_scheduled_run.Goals as goal
-
-pub returns : goal.returns
-returns c = threaded_listed

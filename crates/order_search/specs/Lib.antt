@@ -1,0 +1,4 @@
+pub mod Moments
+pub mod Ways
+pub mod Ends
+pub mod Found

@@ -1,0 +1,41 @@
+//! What is searched: a simulation of which each step can be followed.
+
+ghost use Rattle.explore_laws.specs.Held.{choices_in};
+ghost use Rattle.explore_laws.specs.Present.{Present, numbers_in, outcome_in};
+ghost use Rattle.order_search.specs.Moments.{IsAfter, actors_in};
+ghost use Rattle.std.specs.Prelude.{◌≡◌, ◌<◌, ◌↔◌, true, length, IfOk, IsTrue};
+
+use nook_data::campaign::MemberRow;
+use nook_data::lists::Words;
+use nook_data::memory::NoMemory;
+use std::alloc::Global;
+
+/// A simulation as it stands. Contracts see its present, which decides how it goes on.
+pub trait Moment: Drop {
+    ghost now: { Self → Present };
+
+    /// The actors that have a step, in order.
+    fn choices(&self, alloc: Global) -> Result<Words, NoMemory>
+        ensures { IfOk result (λ actors. actors ≡ actors_in (now self.now)) };
+
+    /// Another simulation, which is one step further: that of the actor with this index.
+    fn after(&self, alloc: Global, index: usize) -> Result<Self, NoMemory>
+        requires { index < length (choices_in (now self.now)) }
+        ensures { IfOk result (λ made. IsAfter (now self.now) index (now made)) };
+
+    /// Whether the other one has the same present. One that has may be denied: then both are followed.
+    fn is_same(&self, other: &Self) -> bool
+        ensures { result ≡ true → now self.now ≡ now other.now };
+
+    /// A number that is the same for simulations that are the same. Only those with one number are compared; no result
+    /// depends on it.
+    fn digest(&self) -> u64;
+
+    /// Whether the other one has the same outcome.
+    fn has_same_outcome(&self, other: &Self) -> bool
+        ensures { IsTrue result ↔ (outcome_in (now self.now) ≡ outcome_in (now other.now)) };
+
+    /// The numbers of the row of a run that has that many steps.
+    fn numbers(&self, steps: u64) -> MemberRow
+        ensures { result ≡ numbers_in steps (now self.now) };
+}

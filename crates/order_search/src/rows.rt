@@ -1,0 +1,49 @@
+//! What a search finds.
+
+ghost use Rattle.order_search.specs.Found.{row_from};
+ghost use Rattle.order_search.specs.Moments.{held_as};
+ghost use Rattle.std.specs.Prelude.{◌≡◌, map, IfOk};
+
+use crate::moment::Moment;
+use crate::states::HeldState;
+use nook_data::campaign::MemberRow;
+use nook_data::lists::{Items, Words};
+use nook_data::memory::NoMemory;
+use std::alloc::Global;
+
+/// An outcome: the first order to it, and the numbers of its run.
+#[derive(Drop)]
+pub struct OutcomeRow {
+    /// The actors of its steps.
+    pub picks: Words,
+    pub numbers: MemberRow,
+}
+
+/// What a search finds.
+#[derive(Drop)]
+pub struct Explored {
+    /// The outcomes, in the order of their picks.
+    pub rows: Items<OutcomeRow>,
+    /// How many states were held.
+    pub states: u32,
+    /// Whether not every order was followed, since there are too many states.
+    pub is_cut: bool,
+}
+
+/// The rows of these ends.
+pub fn rows_from<M: Moment>(
+    alloc: Global,
+    firsts: Items<HeldState<M>>,
+) -> Result<Items<OutcomeRow>, NoMemory>
+    ensures { IfOk result (λ rows. rows ≡ map row_from (map (held_as M.now) firsts)) }
+{
+    let mut rows = Items::new(alloc);
+    for first in firsts.into_vec() {
+        let numbers = first.moment.numbers(first.picks.len() as u64);
+        rows.push(OutcomeRow {
+            picks: first.picks,
+            numbers,
+        })?;
+    }
+    Ok(rows)
+}

@@ -1,5 +1,6 @@
 -- What each kind of turn does to what a seat knows.
 use Rattle.std.proofs.Common.{◌≡◌, ℕ, ◌+◌, ◌<◌, ◌≤◌, ◌^◌, Bool, true, false, Option, Some, None, Result, Ok, Err, List, [], ◌∷◌, ◌++◌, length, refl, sym, ap, ◌∙◌, subst, arith, length-append, append-nil}
+use Rattle.std.specs.Prelude.{is_ok}
 use Rattle.std.specs.List.{Contains}
 use Rattle.std.proofs.lemmas.List.Elements.{Contains-push}
 use mathlib.Core.List.{IsPrefix}
@@ -25,7 +26,7 @@ use Rattle.turn_lock.proofs.Prefixes.{prefix_trans, prefix_length, prefix_snoc}
 use Rattle.part_server.specs.declared.waiting.Progress.{Progress}
 use Rattle.part_server.specs.declared.waiting.Progress.TheVariants as progress
 use Rattle.part_server.specs.declared.waiting.Waiting.{Waiting}
-use Rattle.part_server.specs.Turns.{Grows, InvokeGives, GoOnGives, FindGives, ArriveGives, SettleGives, seen_view, IsSeen, InvokeEnds, AdvanceEnds, FindEnds, SettlesOnce}
+use Rattle.part_server.specs.Turns.{Grows, IsGrown, InvokeGives, GoOnGives, FindGives, ArriveGives, SettleGives, seen_view, IsSeen, InvokeEnds, AdvanceEnds, FindEnds, SettlesOnce, took_step}
 use Rattle.part_server.proofs.Steps.{last_there}
 use Rattle.part_server.proofs.Views.{waits_nothing, waits_one, invokes_once}
 
@@ -239,18 +240,45 @@ arrive_same r q frame refused.NoOpenCall h = absurd h
 arrive_same r q frame refused.TooManyArrivals h = h.0
 
 -- the one event more, and what the part is made from
-pub record OneMore (r q : PartRun) : Type 0 where
+record OneMore (r q : PartRun) : Type 0 where
   pub event : Event
   pub journal : q.journal ≡ r.journal ++ event ∷ []
   pub spec : q.state.spec ≡ r.state.spec
 
-pub one_more : (r q : PartRun) (Is : Event → Type 0) → Grows r q Is → OneMore r q
+one_more : (r q : PartRun) (Is : Event → Type 0) → Grows r q Is → OneMore r q
 one_more r q Is g = record { event = g.event; journal = g.journal; spec = g.spec }
 
-pub invoke_more : (r q : PartRun) (thread : ℕ) (o : Op) (p : Progress) → InvokeGives r q thread o (Ok p) → OneMore r q
+invoke_more : (r q : PartRun) (thread : ℕ) (o : Op) (p : Progress) → InvokeGives r q thread o (Ok p) → OneMore r q
 invoke_more r q thread o (progress.Answered receipt) h = one_more r q (λ e. IsInvoke receipt.call thread o e × IsReply receipt.call receipt.answer e) h.0
 invoke_more r q thread o (progress.Open w) h = one_more r q (IsInvoke w.call thread o) h.0
 
-pub go_on_more : (r q : PartRun) (w : Waiting) (p : Progress) → GoOnGives r q w (Ok p) → OneMore r q
+go_on_more : (r q : PartRun) (w : Waiting) (p : Progress) → GoOnGives r q w (Ok p) → OneMore r q
 go_on_more r q w (progress.Answered receipt) h = one_more r q (λ e. IsOther e × IsReply w.call receipt.answer e) h.0
 go_on_more r q w (progress.Open next) h = one_more r q IsOther h.0
+
+-- how a step changes the part: by one event more, or by nothing
+abbrev pub GrowsBy : Bool → PartRun → PartRun → Type 0
+GrowsBy b r q = IsGrown b r.journal q.journal × (q.state.spec ≡ r.state.spec)
+
+grows_more : (r q : PartRun) → OneMore r q → GrowsBy true r q
+grows_more r q m = ((m.event, m.journal), m.spec)
+
+grows_same : (r q : PartRun) → q ≡ r → GrowsBy false r q
+grows_same r q e = (ap (λ (x : PartRun). x.journal) e, ap (λ (x : PartRun). x.state.spec) e)
+
+pub invoke_grows : (r q : PartRun) (thread : ℕ) (o : Op) (x : Result Progress DeskRefused) → InvokeGives r q thread o x → GrowsBy (is_ok x) r q
+invoke_grows r q thread o (Ok p) h = grows_more r q (invoke_more r q thread o p h)
+invoke_grows r q thread o (Err e) h = grows_same r q (invoke_same r q thread o e h)
+
+pub go_on_grows : (r q : PartRun) (w : Waiting) (x : Result Progress DeskRefused) → GoOnGives r q w x → GrowsBy (is_ok x) r q
+go_on_grows r q w (Ok p) h = grows_more r q (go_on_more r q w p h)
+go_on_grows r q w (Err e) h = grows_same r q (go_on_same r q w e h)
+
+pub arrive_grows : (r q : PartRun) (frame : List ℕ) (x : Result Bool DeskRefused) → ArriveGives r q frame x → GrowsBy (is_ok x) r q
+arrive_grows r q frame (Ok kept) h = grows_more r q (one_more r q (IsArrive frame kept) h)
+arrive_grows r q frame (Err e) h = grows_same r q (arrive_same r q frame e h)
+
+pub settle_grows : (r q : PartRun) (x : Result Bool NoMemory) → SettleGives r q x → GrowsBy (took_step x) r q
+settle_grows r q (Ok true) h = grows_more r q (one_more r q IsOther h)
+settle_grows r q (Ok false) h = grows_same r q h.0
+settle_grows r q (Err e) h = grows_same r q h

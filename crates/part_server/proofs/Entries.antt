@@ -2,7 +2,6 @@
 use Rattle.std.proofs.Common.{◌≡◌, ◌⊎◌, inl, inr, ℕ, suc, ◌<◌, ◌≤◌, Bool, true, false, cond, nat_lt, List, [], ◌∷◌, ◌++◌, length, All, refl, sym, ap, ◌∙◌, subst, arith}
 use mathlib.Core.List.{IsPrefix}
 use Rattle.nook_data.specs.declared.steps.Event.{Event}
-use Rattle.part_defs.specs.Runs.{PartRun}
 use Rattle.desk_like.specs.Stamps.{IsStamped}
 use Rattle.turn_lock.specs.Seats.{IsAlone, Tally}
 use Rattle.turn_lock.specs.Views.{took, longer, joined, learnt}
@@ -14,10 +13,6 @@ use Rattle.part_server.specs.Entries.{DatedRun, TurnView, entries, events_of, st
 pub events_length : (xs : List Stamped) → length (events_of xs) ≡ length xs
 events_length [] = refl
 events_length (x ∷ xs) = ap suc (events_length xs)
-
-pub stamps_length : (xs : List Stamped) → length (stamps_of xs) ≡ length xs
-stamps_length [] = refl
-stamps_length (x ∷ xs) = ap suc (stamps_length xs)
 
 events_append : (xs ys : List Stamped) → events_of (xs ++ ys) ≡ events_of xs ++ events_of ys
 events_append [] ys = refl
@@ -47,61 +42,41 @@ stamps_entries (e ∷ es) (s ∷ ss) h = ap (λ (l : List ℕ). s ∷ l) (stamps
 pub entries_length : (es : List Event) (ss : List ℕ) → length ss ≡ length es → length (entries es ss) ≡ length es
 entries_length es ss h = sym (events_length (entries es ss)) ∙ ap length (events_entries es ss h)
 
-pub entries_of : (xs : List Stamped) → entries (events_of xs) (stamps_of xs) ≡ xs
-entries_of [] = refl
-entries_of (x ∷ xs) = ap (λ (l : List Stamped). x ∷ l) (entries_of xs)
+pub entries_within : (es : List Event) (ss : List ℕ) → length (entries es ss) ≤ length es
+entries_within [] ss = omega arith
+entries_within (e ∷ es) [] = omega arith
+entries_within (e ∷ es) (s ∷ ss) = let l : length (entries es ss) ≤ length es = entries_within es ss in omega arith
 
-pub entries_last : (xs : List Stamped) (e : Event) (s : ℕ) → entries (events_of xs ++ e ∷ []) (stamps_of xs ++ s ∷ []) ≡ xs ++ record { event = e; stamp = s } ∷ []
-entries_last [] e s = refl
-entries_last (x ∷ xs) e s = ap (λ (l : List Stamped). x ∷ l) (entries_last xs e s)
+pub entries_last : (es : List Event) (ss : List ℕ) (e : Event) (s : ℕ) → length ss ≡ length es → entries (es ++ e ∷ []) (ss ++ s ∷ []) ≡ entries es ss ++ record { event = e; stamp = s } ∷ []
+entries_last [] [] e s h = refl
+entries_last [] (t ∷ ss) e s h = absurd (omega arith)
+entries_last (d ∷ es) [] e s h = absurd (omega arith)
+entries_last (d ∷ es) (t ∷ ss) e s h = ap (λ (l : List Stamped). record { event = d; stamp = t } ∷ l) (entries_last es ss e s (omega arith))
 
 -- ---- what is kept, and what the turn lists of it
 
-module _ (x : DatedRun) (r : PartRun) (ss : List ℕ) (same : x ≡ record { run = r; stamps = ss }) where
-  abbrev listed : List Stamped
-  listed = entries x.run.journal x.stamps
+module _ (x : DatedRun) (stamped : IsStamped x.run.journal x.stamps) where
+  pub listed_events : events_of (entries x.run.journal x.stamps) ≡ x.run.journal
+  listed_events = events_entries x.run.journal x.stamps stamped.count
 
-  listed_is : listed ≡ entries r.journal ss
-  listed_is = ap (λ (y : DatedRun). entries y.run.journal y.stamps) same
+  pub listed_stamps : stamps_of (entries x.run.journal x.stamps) ≡ x.stamps
+  listed_stamps = stamps_entries x.run.journal x.stamps stamped.count
 
-  pub listed_events : IsStamped r.journal ss → events_of listed ≡ r.journal
-  listed_events s = ap events_of listed_is ∙ events_entries r.journal ss s.count
+  pub listed_length : length (entries x.run.journal x.stamps) ≡ length x.run.journal
+  listed_length = entries_length x.run.journal x.stamps stamped.count
 
-  pub listed_stamps : IsStamped r.journal ss → stamps_of listed ≡ ss
-  listed_stamps s = ap stamps_of listed_is ∙ stamps_entries r.journal ss s.count
+  -- a seat of the turn that took it
+  pub took_view : (v z : TurnView) → z ≡ took v (entries x.run.journal x.stamps) → journal_view z ≡ took (journal_view v) x.run.journal
+  took_view v z e = ap journal_view e ∙ ap (λ (l : List Event). took (journal_view v) l) listed_events
 
-  pub listed_length : IsStamped r.journal ss → length listed ≡ length r.journal
-  listed_length s = ap length listed_is ∙ entries_length r.journal ss s.count
+  pub took_begins : (v : TurnView) → IsPrefix v.seen (entries x.run.journal x.stamps) → IsPrefix (events_of v.seen) x.run.journal
+  took_begins v p = subst (λ (l : List Event). IsPrefix (events_of v.seen) l) listed_events (prefix_events v.seen (entries x.run.journal x.stamps) p)
 
-  pub listed_short : (n : ℕ) → IsStamped r.journal ss → length r.journal < n → length listed < n
-  listed_short n s h = let l : length listed ≡ length r.journal = listed_length s in omega arith
+  pub took_begun : (v : TurnView) → IsPrefix v.seen (entries x.run.journal x.stamps) → IsPrefix (stamps_of v.seen) x.stamps
+  took_begun v p = subst (λ (l : List ℕ). IsPrefix (stamps_of v.seen) l) listed_stamps (prefix_stamps v.seen (entries x.run.journal x.stamps) p)
 
--- ---- a seat of the turn that took what is kept
-
-module _ (v w : TurnView) (x : DatedRun) (r : PartRun) (ss : List ℕ) (run : r ≡ x.run) (stamps : ss ≡ x.stamps) (stamped : IsStamped r.journal ss) where
-  whole : x ≡ record { run = r; stamps = ss }
-  whole = ap (λ (y : PartRun). record { run = y; stamps = x.stamps }) (sym run) ∙ ap (λ (l : List ℕ). record { run = r; stamps = l }) (sym stamps)
-
-  events_taken : events_of (entries x.run.journal x.stamps) ≡ r.journal
-  events_taken = listed_events x r ss whole stamped
-
-  stamps_taken : stamps_of (entries x.run.journal x.stamps) ≡ ss
-  stamps_taken = listed_stamps x r ss whole stamped
-
-  pub took_view : w ≡ took v (entries x.run.journal x.stamps) → journal_view w ≡ took (journal_view v) r.journal
-  took_view e = ap journal_view e ∙ ap (λ (l : List Event). took (journal_view v) l) events_taken
-
-  pub took_stamps : w ≡ took v (entries x.run.journal x.stamps) → ss ≡ stamps_of w.taken
-  took_stamps e = sym stamps_taken ∙ ap (λ (y : TurnView). stamps_of y.taken) (sym e)
-
-  pub took_begins : IsPrefix v.seen (entries x.run.journal x.stamps) → IsPrefix (events_of v.seen) r.journal
-  took_begins p = subst (λ (l : List Event). IsPrefix (events_of v.seen) l) events_taken (prefix_events v.seen (entries x.run.journal x.stamps) p)
-
-  pub took_begun : IsPrefix v.seen (entries x.run.journal x.stamps) → IsPrefix (stamps_of v.seen) ss
-  took_begun p = subst (λ (l : List ℕ). IsPrefix (stamps_of v.seen) l) stamps_taken (prefix_stamps v.seen (entries x.run.journal x.stamps) p)
-
-  pub took_alone : (IsAlone v → entries x.run.journal x.stamps ≡ v.seen) → IsAlone v → r.journal ≡ events_of v.seen
-  took_alone f alone = sym events_taken ∙ ap events_of (f alone)
+  pub took_alone : (v : TurnView) → (IsAlone v → entries x.run.journal x.stamps ≡ v.seen) → IsAlone v → x.run.journal ≡ events_of v.seen
+  took_alone v f alone = sym listed_events ∙ ap events_of (f alone)
 
 -- ---- what a seat of the turn may claim
 

@@ -8,4 +8,5 @@ pub mod Seats
 pub mod Short
 pub mod Steps
 pub mod Ticking
+pub mod Turning
 pub mod Views

@@ -1,9 +1,8 @@
 -- One turn, as the code takes it.
-use Rattle.std.proofs.Common.{◌≡◌, ℕ, ◌+◌, ◌<◌, Bool, true, false, Some, None, Result, Ok, Err, List, [], ◌∷◌, ◌++◌, length, drop, refl, sym, ap, ◌∙◌, subst, arith}
+use Rattle.std.proofs.Common.{◌≡◌, ℕ, ◌+◌, ◌<◌, Bool, true, false, Some, None, Result, Ok, Err, List, length, drop, refl, sym, ap, ◌∙◌, subst, arith}
 use Rattle.std.specs.Prelude.{is_ok}
 use mathlib.Core.List.{IsPrefix}
 use Rattle.nook_data.specs.declared.desks.DeskRefused.{DeskRefused}
-use Rattle.nook_data.specs.declared.steps.Event.{Event}
 use Rattle.nook_data.specs.declared.calls.Op.{Op}
 use Rattle.nook_data.specs.declared.scenario.PartSpec.{PartSpec}
 use Rattle.nook_data.specs.declared.desks.Receipt.{Receipt}
@@ -12,17 +11,15 @@ use Rattle.part_defs.specs.Runs.{PartRun, IsRun, state_of}
 use Rattle.part_defs.specs.Views.CallLogs.{answered_from}
 use Rattle.part_defs.specs.State.{PartState}
 use Rattle.nook_data.specs.Valid.{IsValidPart}
-use Rattle.desk_like.specs.Desks.{DeskView, IsAt, IsArrive, IsOther, IsReply, HasOpen, ArriveEnds}
+use Rattle.desk_like.specs.Desks.{DeskView, IsAt, IsReply, HasOpen, ArriveEnds}
 use Rattle.part_core.specs.Kept.{IsKept}
 use Rattle.turn_lock.specs.Seats.{IsAlone}
 use Rattle.turn_lock.specs.Views.{took, committed, gave}
-use Rattle.shares.specs.Shares.{IsWhole}
 use Rattle.part_server.specs.declared.waiting.Progress.{Progress}
 use Rattle.part_server.specs.declared.waiting.Progress.TheVariants as progress
 use Rattle.part_server.specs.declared.waiting.Waiting.{Waiting}
-use Rattle.part_server.specs.Entries.{events_of, journal_view}
-use Rattle.part_server.specs.Turns.{SeatValue, TurnValue, InvokeGives, GoOnGives, FindGives, ArriveGives, SettleGives, LookGives, IsGoingOn, IsWaitingIn, seen_view, IsSeen, InvokeEnds, AdvanceEnds, FindEnds, SettlesOnce, IsGrown, ended, took_step}
-use Rattle.part_server.proofs.Ends.{Vw, invoke_ends_ok, advance_ends_ok, arrive_ends_ok, settle_ends_ok, invoke_ends_err, advance_ends_err, found_ends, find_ends, arrive_ends_err, settle_ends_none, settle_ends_err, invoke_same, go_on_same, arrive_same, OneMore, one_more, invoke_more, go_on_more}
+use Rattle.part_server.specs.Turns.{InvokeGives, GoOnGives, FindGives, ArriveGives, SettleGives, LookGives, IsGoingOn, IsWaitingIn, seen_view, IsSeen, InvokeEnds, AdvanceEnds, FindEnds, SettlesOnce, ended, took_step}
+use Rattle.part_server.proofs.Ends.{Vw, invoke_ends_ok, advance_ends_ok, arrive_ends_ok, settle_ends_ok, invoke_ends_err, advance_ends_err, found_ends, find_ends, arrive_ends_err, settle_ends_none, settle_ends_err, invoke_same, go_on_same, arrive_same}
 use Rattle.part_server.proofs.Opens.{still_open}
 
 -- the part r was taken through a seat, which knew v
@@ -31,43 +28,6 @@ pub record IsTaken (spec : PartSpec) (old v : Vw) (r : PartRun) : Type 0 where
   pub begins : IsPrefix v.seen r.journal
   pub alone : IsAlone v → r.journal ≡ v.seen
   pub home : r.state.spec ≡ spec
-
-pub taken_through : (spec : PartSpec) (old : SeatValue) (s : TurnValue) (m : ℕ) (r : PartRun) → record { seat = s; clock = m } ≡ old → IsPrefix (events_of s.me.0.seen) r.journal
-    → (IsWhole s.me.0.share → r.journal ≡ events_of s.me.0.seen) → r.state.spec ≡ spec → IsTaken spec (journal_view old.seat.me.0) (journal_view s.me.0) r
-taken_through spec old s m r is begins alone home =
-    record { same = ap (λ (x : SeatValue). journal_view x.seat.me.0) is; begins = begins; alone = alone; home = home }
-
--- what the end of a turn asks
-entry_of : (v : Vw) (z : Vw) (r q : PartRun) → OneMore r q → z ≡ took v r.journal → (e : Event) × (q.journal ≡ z.taken ++ e ∷ [])
-entry_of v z r q m e = (m.event, m.journal ∙ ap (λ (x : Vw). x.taken ++ m.event ∷ []) (sym e))
-
-same_journal : (v z : Vw) (r q : PartRun) → q ≡ r → z ≡ took v r.journal → q.journal ≡ z.taken
-same_journal v z r q e taken = ap (λ (x : PartRun). x.journal) e ∙ ap (λ (x : Vw). x.taken) (sym taken)
-
-module _ (v z : Vw) (r q : PartRun) (taken : z ≡ took v r.journal) where
-  grown_by : (b b' : Bool) → b ≡ b' → IsGrown b' z.taken q.journal → IsGrown b z.taken q.journal
-  grown_by b b' e h = subst (λ (x : Bool). IsGrown x z.taken q.journal) (sym e) h
-
-  pub invoke_grows : (thread : ℕ) (o : Op) (x : Result Progress DeskRefused) (b : Bool) → b ≡ is_ok x → InvokeGives r q thread o x → IsGrown b z.taken q.journal
-  invoke_grows thread o (Ok p) b e h = grown_by b true e (entry_of v z r q (invoke_more r q thread o p h) taken)
-  invoke_grows thread o (Err x) b e h = grown_by b false e (same_journal v z r q (invoke_same r q thread o x h) taken)
-
-  pub go_on_grows : (w : Waiting) (x : Result Progress DeskRefused) (b : Bool) → b ≡ is_ok x → GoOnGives r q w x → IsGrown b z.taken q.journal
-  go_on_grows w (Ok p) b e h = grown_by b true e (entry_of v z r q (go_on_more r q w p h) taken)
-  go_on_grows w (Err x) b e h = grown_by b false e (same_journal v z r q (go_on_same r q w x h) taken)
-
-  pub arrive_grows : (frame : List ℕ) (x : Result Bool DeskRefused) (b : Bool) → b ≡ is_ok x → ArriveGives r q frame x → IsGrown b z.taken q.journal
-  arrive_grows frame (Ok kept) b e h = grown_by b true e (entry_of v z r q (one_more r q (IsArrive frame kept) h) taken)
-  arrive_grows frame (Err x) b e h = grown_by b false e (same_journal v z r q (arrive_same r q frame x h) taken)
-
-  pub settle_grows : (x : Result Bool NoMemory) (b : Bool) → b ≡ took_step x → SettleGives r q x → IsGrown b z.taken q.journal
-  settle_grows (Ok true) b e h = grown_by b true e (entry_of v z r q (one_more r q IsOther h) taken)
-  settle_grows (Ok false) b e h = grown_by b false e (same_journal v z r q h.0 taken)
-  settle_grows (Err x) b e h = grown_by b false e (same_journal v z r q h taken)
-
--- what a seat knows behind the end of a turn
-pub ended_view : (v z w : Vw) (b b' : Bool) (all more : List Event) → w ≡ ended b z more → b ≡ b' → z ≡ took v all → w ≡ ended b' (took v all) more
-ended_view v z w b b' all more e same taken = e ∙ (ap (λ (x : Bool). ended x z more) same ∙ ap (λ (x : Vw). ended b' x more) taken)
 
 module _ (stamps stamps' : List ℕ) (clock clock' : ℕ) (spec : PartSpec) (old v w : Vw) (r q : PartRun) (t : IsTaken spec old v r) (k : IsKept q) where
   abbrev Given : Type 0

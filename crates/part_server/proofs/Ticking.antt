@@ -1,8 +1,8 @@
 -- What a turn does to stamps and to the clock of the seat that takes it.
-use Rattle.std.proofs.Common.{◌≡◌, ◌⊎◌, ℕ, zero, suc, ◌<◌, ◌≤◌, ◌^◌, Bool, true, false, true≢false, List, [], ◌∷◌, ◌++◌, length, get_or, refl, sym, ap, ◌∙◌, subst, arith, length-append, append_assoc, append-nil}
+use Rattle.std.proofs.Common.{◌≡◌, ◌⊎◌, ℕ, zero, suc, ◌<◌, ◌≤◌, Bool, true, false, true≢false, List, [], ◌∷◌, ◌++◌, length, get_or, sym, ap, ◌∙◌, subst, arith, length-append, append_assoc, append-nil}
 use Rattle.std.proofs.Math.Seq.{get_or-append_seam}
 use Rattle.std.proofs.lemmas.Bool.Decides.{nat_tests}
-use Rattle.std.proofs.lemmas.List.Elements.{All-nil, All-cons, All-append, All-weaker}
+use Rattle.std.proofs.lemmas.List.Elements.{All-nil, All-append, All-weaker}
 use mathlib.Core.List.{IsPrefix}
 use Rattle.clocks.specs.Clocks.{last_of, latest}
 use Rattle.clocks.proofs.Lasts.{last_added}
@@ -10,14 +10,11 @@ use Rattle.nook_data.specs.declared.steps.Event.{Event}
 use Rattle.part_defs.specs.Runs.{PartRun}
 use Rattle.desk_like.specs.Desks.{DeskView, IsRisingFrom}
 use Rattle.desk_like.specs.Stamps.{Clocked, IsStamped, JoinsClocks, Ticks, stamp_of}
-use Rattle.part_core.specs.Kept.{IsKept}
-use Rattle.turn_lock.specs.Views.{took, committed, gave}
 use Rattle.turn_lock.proofs.Prefixes.{prefix_refl, prefix_trans, prefix_snoc}
-use Rattle.part_server.specs.declared.stamped.Stamped.{Stamped}
-use Rattle.part_server.specs.Entries.{DatedRun, TurnView, entries, events_of, stamps_of, journal_view}
-use Rattle.part_server.specs.Turns.{EndsStamped, IsGrown, SeatValue, TurnValue, ended, timed_view}
-use Rattle.part_server.proofs.Entries.{events_length, stamps_length, entries_of, entries_last, listed_events, listed_stamps, listed_length, listed_short, of_either, prefix_stamps}
-use Rattle.part_server.proofs.Ends.{Vw, run_short}
+use Rattle.part_server.specs.Entries.{DatedRun, TurnView, entries, events_of, stamps_of}
+use Rattle.part_server.specs.Turns.{Dates, EndsStamped, IsGrown, StampsOnce, timed_view}
+use Rattle.part_server.proofs.Entries.{entries_last, of_either, prefix_stamps}
+use Rattle.part_server.proofs.Ends.{GrowsBy}
 
 -- ---- times
 
@@ -86,139 +83,95 @@ ticks_more u v w a b =
     before : (n : ℕ) → u.clock ≤ v.clock → v.clock < n → u.clock < n
     before n h i = omega arith
 
--- ---- the end of a turn
+-- ---- what a turn does to stamps
 
-module _ (v w : TurnView) (q : PartRun) (ss : List ℕ) (b : Bool) (grown : IsGrown b (events_of v.taken) q.journal) (taken : ss ≡ stamps_of v.taken) (rising : IsRisingFrom 0 ss) where
-  added : b ≡ true → (event : Event) × (q.journal ≡ events_of v.taken ++ event ∷ [])
-  added e = subst (λ (x : Bool). IsGrown x (events_of v.taken) q.journal) e grown
-
-  same : b ≡ false → q.journal ≡ events_of v.taken
-  same e = subst (λ (x : Bool). IsGrown x (events_of v.taken) q.journal) e grown
-
-  count_taken : length ss ≡ length (events_of v.taken)
-  count_taken = ap length taken ∙ (stamps_length v.taken ∙ sym (events_length v.taken))
-
+module _ (es es' : List Event) (ss ss' : List ℕ) (m n : ℕ) (was : IsStamped es ss) where
   -- one event more, with one stamp more
-  module _ (m n : ℕ) (new : List ℕ) (yes : b ≡ true) (pushed : new ≡ ss ++ n ∷ []) (passed : n ≡ suc (latest (last_of ss) m)) where
+  module _ (e : Event) (more : es' ≡ es ++ e ∷ []) (once : StampsOnce true ss m ss' n) where
     past_last : last_of ss < n
-    past_last = let l = latest_left (last_of ss) m in omega arith
+    past_last = let l = latest_left (last_of ss) m in let p = once.0 in omega arith
 
     past_clock : m < n
-    past_clock = let l = latest_right (last_of ss) m in omega arith
+    past_clock = let l = latest_right (last_of ss) m in let p = once.0 in omega arith
 
-    count_added : length q.journal ≡ suc (length ss)
-    count_added = let e = added yes in let c = count_taken in omega (arith, ap length e.1, length-append (events_of v.taken) (e.0 ∷ []))
+    count_added : length es' ≡ suc (length ss)
+    count_added = let c = was.count in omega (arith, ap length more, length-append es (e ∷ []))
 
-    pub added_stamped : IsStamped q.journal new
+    added_stamped : IsStamped es' ss'
     added_stamped = record {
-      count = let c = count_added in omega (arith, ap length pushed, length-append ss (n ∷ []));
-      rising = subst (λ (l : List ℕ). IsRisingFrom 0 l) (sym pushed) (rising_last 0 ss n rising (omega (arith, past_clock)) past_last);
+      count = let c = count_added in omega (arith, ap length once.1, length-append ss (n ∷ []));
+      rising = subst (λ (l : List ℕ). IsRisingFrom 0 l) (sym once.1) (rising_last 0 ss n was.rising (omega (arith, past_clock)) past_last);
     }
 
-    pub added_entry : (x : DatedRun) → x ≡ record { run = q; stamps = new } → (entry : Stamped) × (entries x.run.journal x.stamps ≡ v.taken ++ entry ∷ [])
-    added_entry x whole =
-        let e = added yes in (
-          record { event = e.0; stamp = n },
-          ap (λ (y : DatedRun). entries y.run.journal y.stamps) whole
-              ∙ (ap (λ (l : List Event). entries l new) e.1
-              ∙ (ap (λ (l : List ℕ). entries (events_of v.taken ++ e.0 ∷ []) l) (pushed ∙ ap (λ (l : List ℕ). l ++ n ∷ []) taken) ∙ entries_last v.taken e.0 n)),
-        )
+    pub added_ends : EndsStamped true ss m es' ss' n
+    added_ends = record {
+      begins = prefix_snoc ss ss' n once.1;
+      stamped = added_stamped;
+      last = let l : last_of ss' ≡ n = ap last_of once.1 ∙ last_added ss n in omega arith;
+      risen = let p = past_clock in omega arith;
+      added = λ _. let s : stamp_of ss' (length es') ≡ n = ap (λ (l : List ℕ). stamp_of l (length es')) once.1 ∙ last_stamp ss n (length es') count_added in
+          let p = past_clock in omega arith;
+    }
 
-    module _ (x : DatedRun) (whole : x ≡ record { run = q; stamps = new }) (given : w ≡ gave (committed v (entries x.run.journal x.stamps))) where
-      seen_stamps : stamps_of w.seen ≡ new
-      seen_stamps = ap (λ (y : TurnView). stamps_of y.seen) given ∙ listed_stamps x q new whole added_stamped
+    pub added_grown : IsGrown true (entries es ss) (entries es' ss')
+    added_grown = (
+      record { event = e; stamp = n },
+      ap (λ (l : List Event). entries l ss') more ∙ (ap (λ (l : List ℕ). entries (es ++ e ∷ []) l) once.1 ∙ entries_last es ss e n was.count),
+    )
 
-      pub added_seen : events_of w.seen ≡ q.journal
-      added_seen = ap (λ (y : TurnView). events_of y.seen) given ∙ listed_events x q new whole added_stamped
+  -- nothing more
+  module _ (same : es' ≡ es) (once : StampsOnce false ss m ss' n) where
+    pub same_ends : EndsStamped false ss m es' ss' n
+    same_ends = record {
+      begins = subst (λ (l : List ℕ). IsPrefix ss l) (sym once.1) (prefix_refl ss);
+      stamped = subst (λ (l : List ℕ). IsStamped es' l) (sym once.1) (subst (λ (l : List Event). IsStamped l ss) (sym same) was);
+      last = let l = latest_right m (last_of ss) in let s : last_of ss' ≡ last_of ss = ap last_of once.1 in let p = once.0 in omega arith;
+      risen = let l = latest_left m (last_of ss) in let p = once.0 in omega arith;
+      added = λ yes. absurd (true≢false (sym yes));
+    }
 
-      abbrev shown : List Event → ℕ → Vw
-      shown journal place = record {
-        origin = v.origin;
-        seen = journal;
-        told = events_of v.told;
-        made = v.made ++ place ∷ [];
-        start = v.start;
-        share = v.share;
-        has = false;
-        taken = [];
-      }
+    pub same_grown : IsGrown false (entries es ss) (entries es' ss')
+    same_grown = ap (λ (l : List Event). entries l ss') same ∙ ap (λ (l : List ℕ). entries es l) once.1
 
-      shown_is : journal_view (gave (committed v (entries x.run.journal x.stamps))) ≡ gave (committed (journal_view v) q.journal)
-      shown_is =
-          ap (λ (l : List Event). shown l (length (entries x.run.journal x.stamps))) (listed_events x q new whole added_stamped)
-          ∙ ap (λ (k : ℕ). shown q.journal k) (listed_length x q new whole added_stamped)
+-- what became of a part with its stamps
+dated : (b : Bool) (x y : DatedRun) (m n : ℕ) → IsStamped x.run.journal x.stamps → GrowsBy b x.run y.run → StampsOnce b x.stamps m y.stamps n → Dates b x y m n
+dated true x y m n was more once = record {
+  was = was;
+  grown = added_grown x.run.journal y.run.journal x.stamps y.stamps m n was more.0.0 more.0.1 once;
+  spec = more.1;
+  ends = added_ends x.run.journal y.run.journal x.stamps y.stamps m n was more.0.0 more.0.1 once;
+}
+dated false x y m n was same once = record {
+  was = was;
+  grown = same_grown x.run.journal y.run.journal x.stamps y.stamps m n was same.0 once;
+  spec = same.1;
+  ends = same_ends x.run.journal y.run.journal x.stamps y.stamps m n was same.0 once;
+}
 
-      pub added_view : journal_view w ≡ ended b (journal_view v) q.journal
-      added_view = ap journal_view given ∙ (shown_is ∙ ap (λ (c : Bool). ended c (journal_view v) q.journal) (sym yes))
+-- a step of the part r, with a stamp if it added an event
+pub step_dates : {b is_added : Bool} {x : DatedRun} {r : PartRun} {ss : List ℕ} (q : PartRun) (ss' : List ℕ) (m n : ℕ) → record { run = r; stamps = ss } ≡ x → IsStamped r.journal ss
+    → GrowsBy b r q → is_added ≡ b → StampsOnce is_added ss m ss' n → Dates b x (record { run = q; stamps = ss' }) m n
+step_dates {b} {is_added} {x} {r} {ss} q ss' m n is was grows same once =
+    subst (λ (y : DatedRun). Dates b y (record { run = q; stamps = ss' }) m n) is
+    (dated b (record { run = r; stamps = ss }) (record { run = q; stamps = ss' }) m n was grows (subst (λ (c : Bool). StampsOnce c ss m ss' n) same once))
 
-      pub added_ends : EndsStamped b ss m q.journal (stamps_of w.seen) n
-      added_ends = subst (λ (l : List ℕ). EndsStamped b ss m q.journal l n) (sym seen_stamps) record {
-        begins = prefix_snoc ss new n pushed;
-        stamped = added_stamped;
-        last = let e : last_of new ≡ n = ap last_of pushed ∙ last_added ss n in omega arith;
-        risen = let p = past_clock in omega arith;
-        added = λ _. let e : stamp_of new (length q.journal) ≡ n = ap (λ (l : List ℕ). stamp_of l (length q.journal)) pushed ∙ last_stamp ss n (length q.journal) count_added in
-            let p = past_clock in omega arith;
-      }
-
-  -- nothing added
-  module _ (m n : ℕ) (no : b ≡ false) (raised : n ≡ latest m (last_of ss)) where
-    pub same_stamped : IsStamped q.journal ss
-    same_stamped = record { count = count_taken ∙ ap length (sym (same no)); rising = rising }
-
-    pub same_entries : (x : DatedRun) → x ≡ record { run = q; stamps = ss } → entries x.run.journal x.stamps ≡ v.taken
-    same_entries x whole =
-        ap (λ (y : DatedRun). entries y.run.journal y.stamps) whole
-        ∙ (ap (λ (l : List Event). entries l ss) (same no) ∙ (ap (λ (l : List ℕ). entries (events_of v.taken) l) taken ∙ entries_of v.taken))
-
-    module _ (given : w ≡ gave v) where
-      pub same_seen : events_of w.seen ≡ q.journal
-      same_seen = ap (λ (y : TurnView). events_of y.seen) given ∙ sym (same no)
-
-      pub same_view : journal_view w ≡ ended b (journal_view v) q.journal
-      same_view = ap journal_view given ∙ ap (λ (c : Bool). ended c (journal_view v) q.journal) (sym no)
-
-      pub same_ends : EndsStamped b ss m q.journal (stamps_of w.seen) n
-      same_ends = subst (λ (l : List ℕ). EndsStamped b ss m q.journal l n) (taken ∙ ap (λ (y : TurnView). stamps_of y.seen) (sym given)) record {
-        begins = prefix_refl ss;
-        stamped = same_stamped;
-        last = let l = latest_right m (last_of ss) in omega arith;
-        risen = let l = latest_left m (last_of ss) in omega arith;
-        added = λ yes. absurd (true≢false (sym yes ∙ no));
-      }
-
--- a journal of a part is short
-pub short_listed : (x : DatedRun) (q : PartRun) (ss : List ℕ) → x ≡ record { run = q; stamps = ss } → IsStamped q.journal ss → IsKept q → length (entries x.run.journal x.stamps) < 2 ^ 62
-short_listed x q ss whole s k = listed_short x q ss whole (2 ^ 62) s (run_short q.state.spec q.journal k.valid k.run)
-
--- ---- what a turn does
-
-module _ (w : TurnView) (n : ℕ) (b : Bool) (ss : List ℕ) (m : ℕ) (q : PartRun) (end : EndsStamped b ss m q.journal (stamps_of w.seen) n) where
-  pub turn_clocked : events_of w.seen ≡ q.journal → Clocked (timed_view w n)
-  turn_clocked seen = record { stamped = subst (λ (l : List Event). IsStamped l (stamps_of w.seen)) (sym seen) end.stamped; last = end.last }
-
-  made_by : (v z : TurnView) (r : PartRun) (t : Bool) → b ≡ t → journal_view z ≡ took (journal_view v) r.journal → journal_view w ≡ ended t (journal_view z) q.journal
-      → IsPrefix (stamps_of v.seen) ss → Ticks (timed_view v m) (timed_view w n)
-  made_by v z r true is took' ended' begun = record {
-    stamps = prefix_trans (stamps_of v.seen) ss (stamps_of w.seen) begun end.begins;
-    clock = end.risen;
-    places = length q.journal ∷ [];
-    made = ap (λ (x : Vw). x.made) ended' ∙ ap (λ (x : Vw). x.made ++ length q.journal ∷ []) took';
-    later = All-cons (λ place. m < stamp_of (stamps_of w.seen) place) (length q.journal) [] (end.added is) (All-nil (λ place. m < stamp_of (stamps_of w.seen) place));
-  }
-  made_by v z r false is took' ended' begun = record {
-    stamps = prefix_trans (stamps_of v.seen) ss (stamps_of w.seen) begun end.begins;
-    clock = end.risen;
-    places = [];
-    made = ap (λ (x : Vw). x.made) ended' ∙ (ap (λ (x : Vw). x.made) took' ∙ sym (append-nil v.made));
-    later = All-nil (λ place. m < stamp_of (stamps_of w.seen) place);
-  }
-
-  pub turn_ticks : (old : SeatValue) (s : TurnValue) (z : TurnView) (r : PartRun) → record { seat = s; clock = m } ≡ old → journal_view z ≡ took (journal_view s.me.0) r.journal
-      → journal_view w ≡ ended b (journal_view z) q.journal → IsPrefix (stamps_of s.me.0.seen) ss
-      → Ticks (timed_view old.seat.me.0 old.clock) (timed_view w n)
-  turn_ticks old s z r is took' ended' begun =
-      subst (λ (o : SeatValue). Ticks (timed_view o.seat.me.0 o.clock) (timed_view w n)) is (made_by s.me.0 z r b refl took' ended' begun)
+-- a look, and then a step
+pub then_dates : {b : Bool} {x y : DatedRun} {m k n : ℕ} → Dates false x x m k → Dates b x y k n → Dates b x y m n
+then_dates {b} {x} {y} {m} {k} {n} look step =
+    let first : m ≤ k = look.ends.risen in
+    let second : k ≤ n = step.ends.risen in
+    record {
+      was = step.was;
+      grown = step.grown;
+      spec = step.spec;
+      ends = record {
+        begins = step.ends.begins;
+        stamped = step.ends.stamped;
+        last = step.ends.last;
+        risen = omega arith;
+        added = λ yes. let past : k < stamp_of y.stamps (length y.run.journal) = step.ends.added yes in omega arith;
+      };
+    }
 
 -- ---- a clock that is raised
 

@@ -1,5 +1,5 @@
 -- What one turn does to a part, and to what a seat of its desk knows.
-use Rattle.std.specs.Prelude.{◌≡◌, ℕ, ◌+◌, ◌<◌, ◌≤◌, Bool, true, false, Option, Some, None, Result, Ok, Err, List, []}
+use Rattle.std.specs.Prelude.{◌≡◌, ℕ, suc, ◌+◌, ◌<◌, ◌≤◌, Bool, true, false, Option, Some, None, Result, Ok, Err, List, []}
 use Rattle.std.specs.Prelude.{◌∷◌, ◌++◌, drop, length}
 use mathlib.Core.List.{IsPrefix}
 use Rattle.atomic_table.specs.declared.shared.Seat.{Seat}
@@ -19,12 +19,12 @@ use Rattle.part_defs.specs.Views.CallLogs.{answered_from}
 use Rattle.desk_like.specs.Desks.{DeskView, IsAt, IsInvoke, IsArrive, IsOther, IsReply, Adds, AddsNothing, Waits}
 use Rattle.desk_like.specs.Desks.{HasOpen, HasNoneOpen, CallEnds, ResumeEnds, state_seen}
 use Rattle.desk_like.specs.Stamps.{IsStamped, stamp_of}
-use Rattle.clocks.specs.Clocks.{last_of}
+use Rattle.clocks.specs.Clocks.{last_of, latest}
 use Rattle.shares.specs.Shares.{whole}
 use Rattle.turn_lock.specs.Views.{committed, gave}
 use Rattle.turn_lock.specs.declared.view.View.{View}
 use Rattle.part_server.specs.Answers.{InvokesCall, Numbers}
-use Rattle.part_server.specs.Entries.{DatedRun, TurnView, journal_view, stamps_of}
+use Rattle.part_server.specs.Entries.{DatedRun, TurnView, entries, journal_view, stamps_of}
 use Rattle.part_server.specs.declared.waiting.Progress.{Progress}
 use Rattle.part_server.specs.declared.waiting.Progress.TheVariants as progress
 use Rattle.part_server.specs.declared.waiting.Waiting.{Waiting}
@@ -136,10 +136,33 @@ abbrev pub took_step : Result Bool NoMemory → Bool
 took_step (Ok is_taken) = is_taken
 took_step (Err e) = false
 
--- a turn added an event to the journal that was taken, or left it as it was
-abbrev pub IsGrown : Bool → List Event → List Event → Type 0
-IsGrown true taken journal = (event : Event) × (journal ≡ taken ++ event ∷ [])
-IsGrown false taken journal = journal ≡ taken
+-- a turn added an entry to the list that was taken, or left it as it was
+abbrev pub IsGrown : {E : Type 0} → Bool → List E → List E → Type 0
+IsGrown {E} true taken now = (entry : E) × (now ≡ taken ++ entry ∷ [])
+IsGrown false taken now = now ≡ taken
+
+-- ---- what a turn does to the stamps, and to the clock of its seat
+
+-- the clock was set past its own time and the last stamp, which made one stamp more, or it was raised to the last stamp
+abbrev pub StampsOnce : Bool → List ℕ → ℕ → List ℕ → ℕ → Type 0
+StampsOnce true old clock new now = (now ≡ suc (latest (last_of old) clock)) × (new ≡ old ++ now ∷ [])
+StampsOnce false old clock new now = (now ≡ latest clock (last_of old)) × (new ≡ old)
+
+-- an event that was added is stamped later than the clock was, and the clock is no earlier than any stamp
+pub record EndsStamped (is_added : Bool) (taken : List ℕ) (clock : ℕ) (journal : List Event) (stamps : List ℕ)
+    (now : ℕ) : Type 0 where
+  pub begins : IsPrefix taken stamps
+  pub stamped : IsStamped journal stamps
+  pub last : last_of stamps ≤ now
+  pub risen : clock ≤ now
+  pub added : is_added ≡ true → clock < stamp_of stamps (length journal)
+
+-- what was taken had a stamp for each event, and so has what became of it: that, or one event more with its stamp
+pub record Dates (is_added : Bool) (old new : DatedRun) (clock now : ℕ) : Type 0 where
+  pub was : IsStamped old.run.journal old.stamps
+  pub grown : IsGrown is_added (entries old.run.journal old.stamps) (entries new.run.journal new.stamps)
+  pub spec : new.run.state.spec ≡ old.run.state.spec
+  pub ends : EndsStamped is_added old.stamps clock new.run.journal new.stamps now
 
 -- ---- what a seat knows
 
@@ -175,16 +198,6 @@ IsWaitingIn spec v w =
     HasOpen (state_seen spec v) w.thread w.call × (w.looked ≡ length v.seen) × (MOST_ANSWER_WORDS ≤ w.room)
 
 -- ---- what a turn does to what a seat knows
-
--- what the end of a turn does to the stamps that were taken and to the seat's clock: an event that was added is stamped
--- later than the clock was, and the clock is no earlier than any stamp
-pub record EndsStamped (is_added : Bool) (taken : List ℕ) (clock : ℕ) (journal : List Event) (stamps : List ℕ)
-    (now : ℕ) : Type 0 where
-  pub begins : IsPrefix taken stamps
-  pub stamped : IsStamped journal stamps
-  pub last : last_of stamps ≤ now
-  pub risen : clock ≤ now
-  pub added : is_added ≡ true → clock < stamp_of stamps (length journal)
 
 -- an operation of a thread is invoked
 abbrev pub InvokeEnds : PartSpec → DeskView → DeskView → ℕ → Op → Result Progress DeskRefused → Type 0

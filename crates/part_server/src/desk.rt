@@ -3,21 +3,19 @@
 ghost use Rattle.std.specs.Prelude.{◌≡◌, ◌<◌, ◌≤◌, None, [], length, true, false, IfOk, OnOk};
 ghost use mathlib.Core.List.{IsPrefix};
 ghost use Rattle.desk_like.specs.Desks.{Accounts, ArriveEnds, CallEnds, IsAlone, Joins, ResumeEnds, Waits, halved_view};
-ghost use Rattle.desk_like.specs.Desks.{IsRisingFrom, new_view, state_seen};
-ghost use Rattle.desk_like.specs.Stamps.{Clocked, IsStampedFrom, Ticks};
+ghost use Rattle.desk_like.specs.Desks.{new_view, state_seen};
+ghost use Rattle.desk_like.specs.Stamps.{Clocked, IsStamped, IsStampedFrom, Ticks};
 ghost use Rattle.nook_data.specs.Classes.{same_class};
 ghost use Rattle.part_defs.specs.Runs.{IsRun, next_any};
 ghost use Rattle.nook_data.specs.declared.classes.Class.TheVariants as class;
 ghost use Rattle.part_core.specs.Kept.{IsKept};
-ghost use Rattle.shares.specs.Shares.{IsWhole};
 ghost use Rattle.part_server.specs.Desk.{IsDeskSeat, desk_spec, desk_view};
-ghost use Rattle.part_server.specs.Entries.{events_of, journal_view, stamps_of};
-ghost use Rattle.part_server.specs.Turns.{AdvanceEnds, EndsStamped, FindEnds, FinishEnds, InvokeEnds, IsGrown};
-ghost use Rattle.part_server.specs.Turns.{IsWaitingIn, SettlesOnce, ended, opening_view, took_step};
+ghost use Rattle.part_server.specs.Entries.{entries, events_of, journal_view, stamps_of};
+ghost use Rattle.part_server.specs.Turns.{AdvanceEnds, FindEnds, FinishEnds, InvokeEnds, IsGrown};
+ghost use Rattle.part_server.specs.Turns.{IsWaitingIn, SettlesOnce, ended, opening_view};
 ghost use Rattle.turn_lock.specs.Seats.{IsSeatOf, Tally, seat_view};
-ghost use Rattle.turn_lock.specs.Views.{took};
 
-use crate::dated::Dated;
+use crate::dated::{Dated, took_step};
 use crate::held::Held;
 use crate::seat::DeskSeat;
 use crate::waiting::{Progress, Waiting};
@@ -121,57 +119,26 @@ impl PartDesk {
         held.into_part()
     }
 
-    /// Begins a turn: waits for it, and takes the part with the stamps of its events.
-    fn begin_turn<R: Wait>(&self, rt: &R, seat: &mut TurnSeat<Dated>) -> (Held, Stamps)
-        requires seat { IsSeatOf self.now.turn seat.old }
-        requires free { (seat_view seat.old).has ≡ false }
-        ensures seat { IsSeatOf self.now.turn seat.new }
-        ensures turn { (seat_view seat.new).has ≡ true }
-        ensures view { journal_view (seat_view seat.new) ≡ took (journal_view (seat_view seat.old)) result.0.journal }
-        ensures taken { result.1 ≡ stamps_of (seat_view seat.new).taken }
-        ensures begins { IsPrefix (events_of (seat_view seat.old).seen) result.0.journal }
-        ensures begun { IsPrefix (stamps_of (seat_view seat.old).seen) result.1 }
-        ensures origin { result.0.state.spec ≡ desk_spec self.now }
-        ensures alone { IsWhole (seat_view seat.old).share
-            → result.0.journal ≡ events_of (seat_view seat.old).seen }
-        ensures rising { IsRisingFrom 0 result.1 }
-    {
-        self.turn.take(rt, seat).open()
-    }
-
-    /// Ends a turn: commits the event that was added in it, with a stamp, or gives the part back as it was taken. The
-    /// seat's clock is then no earlier than any stamp.
-    fn end_turn(
-        &self,
-        seat: &mut TurnSeat<Dated>,
-        clock: &mut Clock,
-        held: Held,
-        mut stamps: Stamps,
-        is_added: bool,
-    )
+    /// Ends a turn: commits the event that was added in it, or gives the part back as it was taken.
+    fn end_turn(&self, seat: &mut TurnSeat<Dated>, dated: Dated, is_added: bool)
         requires seat { IsSeatOf self.now.turn seat.old }
         requires turn { (seat_view seat.old).has ≡ true }
-        requires grown { IsGrown is_added (events_of (seat_view seat.old).taken) held.journal }
-        requires taken { stamps ≡ stamps_of (seat_view seat.old).taken }
-        requires rising { IsRisingFrom 0 stamps }
-        requires home { held.state.spec ≡ desk_spec self.now }
-        requires kept { IsKept held }
+        requires grown { IsGrown is_added (seat_view seat.old).taken (entries dated.run.journal dated.stamps) }
+        requires stamped { IsStamped dated.run.journal dated.stamps }
+        requires home { dated.run.state.spec ≡ desk_spec self.now }
+        requires kept { IsKept dated.run }
         ensures seat { IsSeatOf self.now.turn seat.new }
         ensures view { journal_view (seat_view seat.new)
-            ≡ ended is_added (journal_view (seat_view seat.old)) held.journal }
+            ≡ ended is_added (journal_view (seat_view seat.old)) dated.run.journal }
         ensures free { (seat_view seat.new).has ≡ false }
-        ensures seen { events_of (seat_view seat.new).seen ≡ held.journal }
+        ensures seen { events_of (seat_view seat.new).seen ≡ dated.run.journal }
+        ensures stamps { stamps_of (seat_view seat.new).seen ≡ dated.stamps }
         ensures made { Tally (journal_view (seat_view seat.new)) }
-        ensures stamped { EndsStamped is_added stamps clock.old held.journal
-            (stamps_of (seat_view seat.new).seen) clock.new }
     {
         if is_added {
-            stamps.push(clock);
-            self.turn.commit_and_give(seat, Dated::new(held, stamps));
+            self.turn.commit_and_give(seat, dated);
         } else {
-            // Another seat may have added what was awaited.
-            clock.raise(&stamps.last());
-            self.turn.give_back(seat, Dated::new(held, stamps));
+            self.turn.give_back(seat, dated);
         }
     }
 
@@ -194,15 +161,9 @@ impl PartDesk {
         ensures clocked { Clocked (desk_view seat.new) }
         ensures ticks { Ticks (desk_view seat.old) (desk_view seat.new) }
     {
-        let (mut held, stamps) = self.begin_turn(rt, &mut seat.seat);
-        let invoked = held.invoke(thread, op, room);
-        self.end_turn(
-            &mut seat.seat,
-            &mut seat.clock,
-            held,
-            stamps,
-            invoked.is_ok(),
-        );
+        let mut dated = self.turn.take(rt, &mut seat.seat);
+        let invoked = dated.invoke(&mut seat.clock, thread, op, room);
+        self.end_turn(&mut seat.seat, dated, invoked.is_ok());
         invoked
     }
 
@@ -222,22 +183,16 @@ impl PartDesk {
         ensures clocked { Clocked (desk_view seat.new) }
         ensures ticks { Ticks (desk_view seat.old) (desk_view seat.new) }
     {
-        let (mut held, stamps) = self.begin_turn(rt, &mut seat.seat);
-        let waiting = match held.look(waiting) {
+        let mut dated = self.turn.take(rt, &mut seat.seat);
+        let waiting = match dated.look(&mut seat.clock, waiting) {
             Ok(receipt) => {
-                self.end_turn(&mut seat.seat, &mut seat.clock, held, stamps, false);
+                self.end_turn(&mut seat.seat, dated, false);
                 return Ok(Progress::Answered(receipt));
             }
             Err(waiting) => waiting,
         };
-        let went_on = held.go_on(waiting);
-        self.end_turn(
-            &mut seat.seat,
-            &mut seat.clock,
-            held,
-            stamps,
-            went_on.is_ok(),
-        );
+        let went_on = dated.go_on(&mut seat.clock, waiting);
+        self.end_turn(&mut seat.seat, dated, went_on.is_ok());
         went_on
     }
 
@@ -284,9 +239,9 @@ impl PartDesk {
         ensures clocked { Clocked (desk_view seat.new) }
         ensures ticks { Ticks (desk_view seat.old) (desk_view seat.new) }
     {
-        let (held, stamps) = self.begin_turn(rt, &mut seat.seat);
-        let found = held.find(thread, room);
-        self.end_turn(&mut seat.seat, &mut seat.clock, held, stamps, false);
+        let dated = self.turn.take(rt, &mut seat.seat);
+        let found = dated.find(&mut seat.clock, thread, room);
+        self.end_turn(&mut seat.seat, dated, false);
         found
     }
 
@@ -300,15 +255,9 @@ impl PartDesk {
         ensures clocked { Clocked (desk_view seat.new) }
         ensures ticks { Ticks (desk_view seat.old) (desk_view seat.new) }
     {
-        let (mut held, stamps) = self.begin_turn(rt, &mut seat.seat);
-        let settled = held.settle();
-        self.end_turn(
-            &mut seat.seat,
-            &mut seat.clock,
-            held,
-            stamps,
-            took_step(settled),
-        );
+        let mut dated = self.turn.take(rt, &mut seat.seat);
+        let settled = dated.settle(&mut seat.clock);
+        self.end_turn(&mut seat.seat, dated, took_step(settled));
         settled
     }
 
@@ -330,26 +279,10 @@ impl PartDesk {
         ensures clocked { Clocked (desk_view seat.new) }
         ensures ticks { Ticks (desk_view seat.old) (desk_view seat.new) }
     {
-        let (mut held, stamps) = self.begin_turn(rt, &mut seat.seat);
-        let arrived = held.arrive(frame);
-        self.end_turn(
-            &mut seat.seat,
-            &mut seat.clock,
-            held,
-            stamps,
-            arrived.is_ok(),
-        );
+        let mut dated = self.turn.take(rt, &mut seat.seat);
+        let arrived = dated.arrive(&mut seat.clock, frame);
+        self.end_turn(&mut seat.seat, dated, arrived.is_ok());
         arrived
-    }
-}
-
-/// Whether a step was taken.
-fn took_step(settled: Result<bool, NoMemory>) -> bool
-    ensures { result ≡ took_step settled }
-{
-    match settled {
-        Ok(is_taken) => is_taken,
-        Err(NoMemory) => false,
     }
 }
 

@@ -11,24 +11,20 @@ use Rattle.part_server.proofs.desk.PartDesk.close.Goals as goal
 pub returns-clause-begins : goal.returns-clause-begins
 returns-clause-begins g c =
     subst (λ (s : SeatValue). IsPrefix (events_of s.seat.me.0.seen) c.into_part.result.journal) c.seat.view_is
-    (took_begins c.seat.inside.seat.me.0 c.seat.inside.seat.me.0 c.close.result c.into_part.result c.open-held.result.1
-    (c.into_part.ensures.part ∙ c.open-held.ensures.run) c.open-held.ensures.stamps
-    (subst (λ (r : PartRun). IsStamped r.journal c.open-held.result.1) (sym c.into_part.ensures.part) c.open-held.ensures.stamped) c.close.ensures.begins)
+    (subst (λ (r : PartRun). IsPrefix (events_of c.seat.inside.seat.me.0.seen) r.journal) (sym (c.into_part.ensures.part ∙ c.open-held.ensures.run))
+    (took_begins c.close.result c.open-held.ensures.stamped c.seat.inside.seat.me.0 c.close.ensures.begins))
 
 pub returns-clause-alone : goal.returns-clause-alone
 returns-clause-alone g c =
     subst (λ (s : SeatValue). IsWhole s.seat.me.0.share → c.into_part.result.journal ≡ events_of s.seat.me.0.seen) c.seat.view_is
-    (took_alone c.seat.inside.seat.me.0 c.seat.inside.seat.me.0 c.close.result c.into_part.result c.open-held.result.1
-    (c.into_part.ensures.part ∙ c.open-held.ensures.run) c.open-held.ensures.stamps
-    (subst (λ (r : PartRun). IsStamped r.journal c.open-held.result.1) (sym c.into_part.ensures.part) c.open-held.ensures.stamped) c.close.ensures.alone)
+    (subst (λ (r : PartRun). IsWhole c.seat.inside.seat.me.0.share → r.journal ≡ events_of c.seat.inside.seat.me.0.seen) (sym (c.into_part.ensures.part ∙ c.open-held.ensures.run))
+    (took_alone c.close.result c.open-held.ensures.stamped c.seat.inside.seat.me.0 c.close.ensures.alone))
 
 pub returns-clause-stamped : goal.returns-clause-stamped
 returns-clause-stamped g c =
     subst (λ (s : SeatValue). IsStampedFrom (stamps_of s.seat.me.0.seen) c.into_part.result.journal) c.seat.view_is
     (record {
-      stamps = c.open-held.result.1;
-      begins = took_begun c.seat.inside.seat.me.0 c.seat.inside.seat.me.0 c.close.result c.into_part.result c.open-held.result.1
-          (c.into_part.ensures.part ∙ c.open-held.ensures.run) c.open-held.ensures.stamps
-          (subst (λ (r : PartRun). IsStamped r.journal c.open-held.result.1) (sym c.into_part.ensures.part) c.open-held.ensures.stamped) c.close.ensures.begins;
-      stamped = (subst (λ (r : PartRun). IsStamped r.journal c.open-held.result.1) (sym c.into_part.ensures.part) c.open-held.ensures.stamped);
+      stamps = c.close.result.stamps;
+      begins = took_begun c.close.result c.open-held.ensures.stamped c.seat.inside.seat.me.0 c.close.ensures.begins;
+      stamped = subst (λ (r : PartRun). IsStamped r.journal c.close.result.stamps) (sym (c.into_part.ensures.part ∙ c.open-held.ensures.run)) c.open-held.ensures.stamped;
     })

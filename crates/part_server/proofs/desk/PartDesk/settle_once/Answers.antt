@@ -1,43 +1,50 @@
-use Rattle.std.proofs.Common.{rules}
+use Rattle.std.proofs.Common.{rules, ◌∙◌}
 use Rattle.part_server.specs.Desk.{desk_spec}
 use Rattle.part_server.specs.Entries.{journal_view, stamps_of}
-use Rattle.part_server.proofs.Alone.{ended_accounts}
-use Rattle.part_server.proofs.Seats.{ended_view, settle_ends, settle_grows, taken_through}
-use Rattle.part_server.proofs.Ticking.{turn_clocked, turn_ticks}
+use Rattle.part_server.specs.Turns.{took_step}
+use Rattle.part_server.proofs.Seats.{settle_ends}
+use Rattle.part_server.proofs.Turning.{turn, turn_accounts, turn_clocked, turn_grown, turn_start, turn_taken, turn_ticks}
 use Rattle.part_server.proofs.desk.PartDesk.settle_once.Goals as goal
 
 pub end_turn-requires-clause-grown : goal.end_turn-requires-clause-grown
-end_turn-requires-clause-grown g c =
-    settle_grows (journal_view c.seat.inside.seat.me.0) (journal_view c.begin_turn-held.new.seat.me.0) c.begin_turn-held.result.0 c.settle-settled.new.self c.begin_turn-held.ensures.view
-    c.settle-settled.result c.took_step.result c.took_step.ensures c.settle-settled.ensures.gives
+end_turn-requires-clause-grown g c = turn_grown c.seat.inside.seat.me.0 c.take-dated.new.seat.me.0 c.take-dated.ensures.view c.took_step.ensures c.settle-settled.ensures.dates
+
+pub end_turn-requires-clause-stamped : goal.end_turn-requires-clause-stamped
+end_turn-requires-clause-stamped g c = c.settle-settled.ensures.dates.ends.stamped
+
+pub end_turn-requires-clause-home : goal.end_turn-requires-clause-home
+end_turn-requires-clause-home g c = c.settle-settled.ensures.dates.spec ∙ c.take-dated.ensures.origin
 
 pub returns-clause-ends : goal.returns-clause-ends
 returns-clause-ends g c =
-    settle_ends (stamps_of c.args.seat.now.seat.me.0.seen) (stamps_of c.end_turn.new.seat.me.0.seen) c.args.seat.now.clock c.end_turn.new.clock
-    (desk_spec c.args.self.now) (journal_view c.args.seat.now.seat.me.0) (journal_view c.seat.inside.seat.me.0) (journal_view c.end_turn.new.seat.me.0) c.begin_turn-held.result.0 c.settle-settled.new.self
-    (taken_through (desk_spec c.args.self.now) c.args.seat.now c.seat.inside.seat c.seat.inside.clock c.begin_turn-held.result.0 c.seat.view_is c.begin_turn-held.ensures.begins c.begin_turn-held.ensures.alone
-    c.begin_turn-held.ensures.origin)
-    c.settle-settled.ensures.kept c.settle-settled.result
-    (ended_view (journal_view c.seat.inside.seat.me.0) (journal_view c.begin_turn-held.new.seat.me.0) (journal_view c.end_turn.new.seat.me.0) c.took_step.result _ c.begin_turn-held.result.0.journal c.settle-settled.new.self.journal
-    c.end_turn.ensures.view c.took_step.ensures c.begin_turn-held.ensures.view)
-    c.settle-settled.ensures.gives
+    let t = turn c.seat.inside.seat.me.0 c.take-dated.new.seat.me.0 c.end_turn.new.seat.me.0 c.take-dated.result c.settle-settled.new.self (took_step c.settle-settled.result) c.took_step.result c.seat.inside.clock c.settle-settled.new.clock
+    c.take-dated.ensures.view c.take-dated.ensures.begins c.take-dated.ensures.alone c.took_step.ensures c.settle-settled.ensures.dates c.end_turn.ensures.view c.end_turn.ensures.seen c.end_turn.ensures.stamps c.end_turn.ensures.made in
+    settle_ends (stamps_of c.args.seat.now.seat.me.0.seen) (stamps_of c.end_turn.new.seat.me.0.seen) c.args.seat.now.clock c.settle-settled.new.clock
+    (desk_spec c.args.self.now) (journal_view c.args.seat.now.seat.me.0) (journal_view c.seat.inside.seat.me.0) (journal_view c.end_turn.new.seat.me.0) c.take-dated.result.run c.settle-settled.new.self.run
+    (turn_taken c.seat.view_is t (desk_spec c.args.self.now) c.take-dated.ensures.origin)
+    c.settle-settled.ensures.kept c.settle-settled.result t.view c.settle-settled.ensures.gives
 
 pub invariant_of-seat : goal.invariant_of-seat
 invariant_of-seat g c =
-    let a = ended_accounts (journal_view c.seat.inside.seat.me.0) (journal_view c.begin_turn-held.new.seat.me.0) (journal_view c.end_turn.new.seat.me.0) (stamps_of c.end_turn.new.seat.me.0.seen) c.end_turn.new.clock c.took_step.result c.begin_turn-held.result.0.journal c.settle-settled.new.self.journal
-    c.seat.invariant.2 c.begin_turn-held.ensures.view c.end_turn.ensures.view c.end_turn.ensures.made in
-    (search rules, search rules, a.0, a.1, turn_clocked c.end_turn.new.seat.me.0 c.end_turn.new.clock c.took_step.result c.begin_turn-held.result.1 c.seat.inside.clock c.settle-settled.new.self c.end_turn.ensures.stamped c.end_turn.ensures.seen)
+    let t = turn c.seat.inside.seat.me.0 c.take-dated.new.seat.me.0 c.end_turn.new.seat.me.0 c.take-dated.result c.settle-settled.new.self (took_step c.settle-settled.result) c.took_step.result c.seat.inside.clock c.settle-settled.new.clock
+    c.take-dated.ensures.view c.take-dated.ensures.begins c.take-dated.ensures.alone c.took_step.ensures c.settle-settled.ensures.dates c.end_turn.ensures.view c.end_turn.ensures.seen c.end_turn.ensures.stamps c.end_turn.ensures.made in
+    (search rules, search rules, turn_start t c.seat.invariant.2, turn_accounts t c.seat.invariant.2, turn_clocked t)
 
 pub returns-clause-accounts : goal.returns-clause-accounts
 returns-clause-accounts g c =
-    (ended_accounts (journal_view c.seat.inside.seat.me.0) (journal_view c.begin_turn-held.new.seat.me.0) (journal_view c.end_turn.new.seat.me.0) (stamps_of c.end_turn.new.seat.me.0.seen) c.end_turn.new.clock c.took_step.result c.begin_turn-held.result.0.journal c.settle-settled.new.self.journal
-    c.seat.invariant.2 c.begin_turn-held.ensures.view c.end_turn.ensures.view c.end_turn.ensures.made).1
+    turn_accounts
+    (turn c.seat.inside.seat.me.0 c.take-dated.new.seat.me.0 c.end_turn.new.seat.me.0 c.take-dated.result c.settle-settled.new.self (took_step c.settle-settled.result) c.took_step.result c.seat.inside.clock c.settle-settled.new.clock
+    c.take-dated.ensures.view c.take-dated.ensures.begins c.take-dated.ensures.alone c.took_step.ensures c.settle-settled.ensures.dates c.end_turn.ensures.view c.end_turn.ensures.seen c.end_turn.ensures.stamps c.end_turn.ensures.made)
+    c.seat.invariant.2
 
 pub returns-clause-clocked : goal.returns-clause-clocked
 returns-clause-clocked g c =
-    turn_clocked c.end_turn.new.seat.me.0 c.end_turn.new.clock c.took_step.result c.begin_turn-held.result.1 c.seat.inside.clock c.settle-settled.new.self c.end_turn.ensures.stamped c.end_turn.ensures.seen
+    turn_clocked
+    (turn c.seat.inside.seat.me.0 c.take-dated.new.seat.me.0 c.end_turn.new.seat.me.0 c.take-dated.result c.settle-settled.new.self (took_step c.settle-settled.result) c.took_step.result c.seat.inside.clock c.settle-settled.new.clock
+    c.take-dated.ensures.view c.take-dated.ensures.begins c.take-dated.ensures.alone c.took_step.ensures c.settle-settled.ensures.dates c.end_turn.ensures.view c.end_turn.ensures.seen c.end_turn.ensures.stamps c.end_turn.ensures.made)
 
 pub returns-clause-ticks : goal.returns-clause-ticks
 returns-clause-ticks g c =
-    turn_ticks c.end_turn.new.seat.me.0 c.end_turn.new.clock c.took_step.result c.begin_turn-held.result.1 c.seat.inside.clock c.settle-settled.new.self c.end_turn.ensures.stamped c.args.seat.now c.seat.inside.seat c.begin_turn-held.new.seat.me.0
-    c.begin_turn-held.result.0 c.seat.view_is c.begin_turn-held.ensures.view c.end_turn.ensures.view c.begin_turn-held.ensures.begun
+    turn_ticks c.seat.view_is
+    (turn c.seat.inside.seat.me.0 c.take-dated.new.seat.me.0 c.end_turn.new.seat.me.0 c.take-dated.result c.settle-settled.new.self (took_step c.settle-settled.result) c.took_step.result c.seat.inside.clock c.settle-settled.new.clock
+    c.take-dated.ensures.view c.take-dated.ensures.begins c.take-dated.ensures.alone c.took_step.ensures c.settle-settled.ensures.dates c.end_turn.ensures.view c.end_turn.ensures.seen c.end_turn.ensures.stamps c.end_turn.ensures.made)

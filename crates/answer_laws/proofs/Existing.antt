@@ -1,6 +1,7 @@
 -- What waits for nobody has an answer.
-use Rattle.std.proofs.Common.{◌≡◌, ℕ, ◌≤◌, nat_lt, Bool, true, false, List, [], ◌++◌, ◌⊎◌, inl, inr, All, length, map, IfOk, Option, Some, None, Result, Ok, Err, refl, sym, subst, true≢false}
+use Rattle.std.proofs.Common.{◌≡◌, ℕ, ◌≤◌, nat_lt, Bool, true, false, List, [], ◌++◌, ◌⊎◌, inl, inr, All, is_some, length, map, IfOk, Option, Some, None, Result, Ok, Err, refl, sym, subst, true≢false}
 use Rattle.std.proofs.lemmas.Bool.{ltb-false, ltb-true}
+use Rattle.answer_laws.proofs.Explorable.{exploration_exists}
 use Rattle.asm_defs.specs.Disassembler.{disassembled}
 use Rattle.asm_defs.specs.ImageText.{image_text}
 use Rattle.audit_input.proofs.Once.{hands_or_not}
@@ -10,6 +11,7 @@ use Rattle.campaign_defs.specs.TableText.{plan_table_text}
 use Rattle.command_forms.specs.Forms.{AskAlone, Asks, IsForm, is_alone, is_reading, limit_of}
 use Rattle.command_forms.specs.declared.words.Form.{Form}
 use Rattle.command_forms.specs.declared.words.Form.TheVariants as form
+use Rattle.explore_defs.specs.Explored.{IsExplored, all_numbers}
 use Rattle.guard_defs.specs.Guard.{HasRoom}
 use Rattle.guard_defs.specs.GuardText.{guard_lines}
 use Rattle.guarded_run.specs.Guarded.{IsGuarded}
@@ -26,12 +28,13 @@ use Rattle.nook_data.specs.declared.scenario.Scenario.{Scenario}
 use Rattle.nook_io.specs.Listening.{Listening, tap_result}
 use Rattle.nooks.proofs.Audits.{sound_report}
 use Rattle.nooks.proofs.Campaigns.{promised_table, table_of}
+use Rattle.nooks.proofs.Explorations.{exploration, status_exists}
 use Rattle.nooks.proofs.Guards.{guard_reported, guardable_parts}
 use Rattle.nooks.proofs.Reports.{run_status}
 use Rattle.nooks.proofs.Safety.{all_safe}
 use Rattle.nooks.proofs.Traces.{is_trace_of}
 use Rattle.nooks.specs.Answers.{Answers, AnswersInput, IsFaultOf, IsGuardReport, IsRefusalLine, IsReported, IsScheduled, IsSummary, IsWhole, Left}
-use Rattle.nooks.specs.Answers.{listing_from, verdict_status}
+use Rattle.nooks.specs.Answers.{IsExploration, IsExploredStatus, listing_from, verdict_status}
 use Rattle.nooks.specs.Endings.{AnswersBytes, input_for}
 use Rattle.nooks.specs.Guardable.{guardable_from}
 use Rattle.nooks.specs.Streams.{Input, TooLong, Whole}
@@ -258,6 +261,29 @@ guarded_exists guarded bytes hearing (Ok scenario) is =
 guarded_exists guarded bytes hearing (Err refusal) is =
     refused_by form.GuardScenario bytes hearing Scenario (guardable_from bytes) refusal is (λ text line. line)
 
+-- ---- every order of the steps
+
+exploration_told : (scenario : Scenario) (text : List ℕ) (number : ℕ) → IsExplored scenario text number → HasAnswer (IsExploration scenario)
+exploration_told scenario text number explored =
+    let status = status_exists (is_some explored.cut) (all_numbers scenario explored.firsts) in (
+      text,
+      (
+        status.0,
+        exploration scenario text number status.0 explored
+            (subst (λ (n : ℕ). IsExploredStatus n status.0) (sym explored.status_is) status.1),
+      ),
+    )
+
+explore_exists : (bytes : List ℕ) (hearing : List Listening) (r : Result Scenario Refusal) → scenario_from bytes ≡ r → IfOk r IsValidScenario
+    → HasAnswer (AnswersInput form.Explore (Whole bytes) hearing)
+explore_exists bytes hearing (Ok scenario) is valid =
+    let there = exploration_exists scenario valid in
+    answer_by (IsExploration scenario) (AnswersInput form.Explore (Whole bytes) hearing)
+    (λ text status told. inr (record { scenario = scenario; reading = is; exploration = told }))
+    (exploration_told scenario there.0 there.1.0 there.1.1)
+explore_exists bytes hearing (Err refusal) is valid =
+    refused_by form.Explore bytes hearing Scenario (scenario_from bytes) refusal is (λ text line. line)
+
 -- ---- audits
 
 verdict_exists : (bytes handed report : List ℕ) (hearing : List Listening) (r : Result Scenario Refusal) → Hands bytes handed report
@@ -350,6 +376,7 @@ input_exists guarded (form.Trace part burst) (Whole bytes) hearing alone reading
     trace_exists bytes part burst hearing (scenario_from bytes) refl (scenario_is_valid bytes)
 input_exists guarded form.Guard (Whole bytes) hearing alone reading = guard_exists guarded bytes hearing (guardable_from bytes) refl
 input_exists guarded form.GuardScenario (Whole bytes) hearing alone reading = guarded_exists guarded bytes hearing (guardable_from bytes) refl
+input_exists guarded form.Explore (Whole bytes) hearing alone reading = explore_exists bytes hearing (scenario_from bytes) refl (scenario_is_valid bytes)
 input_exists guarded form.Help (Whole bytes) hearing alone reading = absurd (true≢false (sym reading))
 input_exists guarded form.Version (Whole bytes) hearing alone reading = absurd (true≢false (sym reading))
 
@@ -368,6 +395,7 @@ form_exists guarded words form.List input hearing is alone = input_exists guarde
 form_exists guarded words (form.Trace part burst) input hearing is alone = input_exists guarded (form.Trace part burst) input hearing alone refl
 form_exists guarded words form.Guard input hearing is alone = input_exists guarded form.Guard input hearing alone refl
 form_exists guarded words form.GuardScenario input hearing is alone = input_exists guarded form.GuardScenario input hearing alone refl
+form_exists guarded words form.Explore input hearing is alone = input_exists guarded form.Explore input hearing alone refl
 form_exists guarded words form.Help input hearing is alone = (help_text, (ended.Done, (refl, refl)))
 form_exists guarded words form.Version input hearing is alone = (version_text, (ended.Done, (refl, refl)))
 

@@ -1,4 +1,4 @@
--- What waits for nobody has at most one answer.
+-- What waits for nobody has at most one answer, except `explore`.
 use Rattle.std.proofs.Common.{◌≡◌, ℕ, ◌==◌, ◌<◌, ◌≤◌, if◌then◌else◌, true, List, [], ◌∷◌, ◌++◌, ◌⊎◌, inl, inr, length, map, Option, Some, None, Result, Ok, Err, IfOk, refl, sym, ap, ◌∙◌, subst, true≢false, arith}
 use Rattle.std.specs.List.{AllZip}
 use Rattle.asm_defs.specs.Disassembler.{disassembled}
@@ -12,7 +12,7 @@ use Rattle.campaign_defs.specs.TableText.{plan_table_text}
 use Rattle.campaign_defs.specs.Types.{Row}
 use Rattle.campaign_laws.proofs.PlanTables.{plan_table_once}
 use Rattle.command_forms.proofs.OneForm.{one_form}
-use Rattle.command_forms.specs.Forms.{AskAlone, Asks, is_alone, limit_of}
+use Rattle.command_forms.specs.Forms.{AskOneAnswer, Asks, has_one_answer, is_alone, limit_of}
 use Rattle.command_forms.specs.declared.words.Form.{Form}
 use Rattle.command_forms.specs.declared.words.Form.TheVariants as form
 use Rattle.guard_defs.specs.GuardText.{guard_lines}
@@ -84,6 +84,7 @@ told_status number ended.WriteFault is = absurd is
 told_status number ended.NoMemory is = absurd is
 told_status number ended.ContractBroken is = rw is refl
 told_status number ended.AuditNo is = absurd is
+told_status number ended.Cut is = absurd is
 
 -- ---- runs
 
@@ -327,89 +328,110 @@ done_once : (Does : List ℕ → Type 0) → ((text other : List ℕ) → Does t
     → (text ≡ other) × (status ≡ end)
 done_once Does does text other status end a b = (does text other a.0 b.0, a.1 ∙ sym b.1)
 
-input_once : (asked : Form) (input : Input) (hearing : List Listening) (text other : List ℕ) (status end : Status) → is_alone asked ≡ true
+input_once : (asked : Form) (input : Input) (hearing : List Listening) (text other : List ℕ) (status end : Status) → has_one_answer asked ≡ true
     → AnswersInput asked input hearing text status → AnswersInput asked input hearing other end → (text ≡ other) × (status ≡ end)
-input_once asked TooLong hearing text other status end alone a b = (a.0 ∙ sym b.0, a.1 ∙ sym b.1)
-input_once form.Run (Whole bytes) hearing text other status end alone a b =
+input_once asked TooLong hearing text other status end one_only a b = (a.0 ∙ sym b.0, a.1 ∙ sym b.1)
+input_once form.Run (Whole bytes) hearing text other status end one_only a b =
     either_once (IsFaultOf form.Run bytes) (IsReportOf form.Run bytes hearing) (refusal_once (scenario_from bytes)) (report_once bytes hearing)
     (λ t u s r f. not_both (scenario_from bytes) r.scenario f.refusal r.reading f.is) text other status end a b
-input_once form.RunThreads (Whole bytes) hearing text other status end alone a b = absurd (true≢false (sym alone))
-input_once form.Asm (Whole bytes) hearing text other status end alone a b =
+input_once form.RunThreads (Whole bytes) hearing text other status end one_only a b = absurd (true≢false (sym one_only))
+input_once form.Asm (Whole bytes) hearing text other status end one_only a b =
     either_once (IsFaultOf form.Asm bytes) (λ t s. IsImageOf bytes t × (s ≡ ended.Done)) (refusal_once (image_from_asm bytes))
     (done_once (IsImageOf bytes) (image_once bytes))
     (λ t u s r f. not_both (image_from_asm bytes) r.0.image f.refusal r.0.reading f.is) text other status end a b
-input_once form.Dis (Whole bytes) hearing text other status end alone a b =
+input_once form.Dis (Whole bytes) hearing text other status end one_only a b =
     either_once (IsFaultOf form.Dis bytes) (λ t s. IsAsmOf bytes t × (s ≡ ended.Done)) (refusal_once (image_from bytes))
     (done_once (IsAsmOf bytes) (asm_once bytes))
     (λ t u s r f. not_both (image_from bytes) r.0.image f.refusal r.0.reading f.is) text other status end a b
-input_once (form.Gen number) (Whole bytes) hearing text other status end alone (inl a) b = absurd a.0
-input_once (form.Gen number) (Whole bytes) hearing text other status end alone (inr a) b = absurd a
-input_once (form.GenScenario number) (Whole bytes) hearing text other status end alone (inl a) b = absurd a.0
-input_once (form.GenScenario number) (Whole bytes) hearing text other status end alone (inr a) b = absurd a
-input_once form.Audit (Whole bytes) hearing text other status end alone a b =
+input_once (form.Gen number) (Whole bytes) hearing text other status end one_only (inl a) b = absurd a.0
+input_once (form.Gen number) (Whole bytes) hearing text other status end one_only (inr a) b = absurd a
+input_once (form.GenScenario number) (Whole bytes) hearing text other status end one_only (inl a) b = absurd a.0
+input_once (form.GenScenario number) (Whole bytes) hearing text other status end one_only (inr a) b = absurd a
+input_once form.Audit (Whole bytes) hearing text other status end one_only a b =
     either_once (IsFaultOf form.Audit bytes) (IsAuditOf bytes) (audit_fault_once bytes) (audit_once bytes)
     (λ t u s r f. audit_has_no_fault bytes t u s r f) text other status end a b
-input_once form.Campaign (Whole bytes) hearing text other status end alone a b =
+input_once form.Campaign (Whole bytes) hearing text other status end one_only a b =
     either_once (IsFaultOf form.Campaign bytes) (λ t s. IsTableOf bytes t × (s ≡ ended.Done)) (refusal_once (plan_from bytes))
     (done_once (IsTableOf bytes) (table_is_one bytes))
     (λ t u s r f. not_both (plan_from bytes) r.0.plan f.refusal r.0.reading f.is) text other status end a b
-input_once form.Mirror (Whole bytes) hearing text other status end alone a b = absurd (true≢false (sym alone))
-input_once form.List (Whole bytes) hearing text other status end alone a b =
+input_once form.Mirror (Whole bytes) hearing text other status end one_only a b = absurd (true≢false (sym one_only))
+input_once form.List (Whole bytes) hearing text other status end one_only a b =
     either_once (IsFaultOf form.List bytes) (λ t s. (listing_from bytes ≡ Ok t) × (s ≡ ended.Done)) (refusal_once (listing_from bytes))
     (done_once (λ t. listing_from bytes ≡ Ok t) (λ t u x y. ok_once (listing_from bytes) t u x y))
     (λ t u s r f. not_both (listing_from bytes) t f.refusal r.0 f.is) text other status end a b
-input_once (form.Trace part burst) (Whole bytes) hearing text other status end alone a b =
+input_once (form.Trace part burst) (Whole bytes) hearing text other status end one_only a b =
     either_once (IsFaultOf (form.Trace part burst) bytes) (λ t s. IsTraceOf bytes part burst t × (s ≡ ended.Done))
     (trace_fault_once bytes part burst) (done_once (IsTraceOf bytes part burst) (trace_once bytes part burst))
     (λ t u s r f. trace_has_no_fault bytes part burst t u r.0 f) text other status end a b
-input_once form.Guard (Whole bytes) hearing text other status end alone a b =
+input_once form.Guard (Whole bytes) hearing text other status end one_only a b =
     either_once (IsFaultOf form.Guard bytes) (IsGuardOf bytes hearing) (refusal_once (guardable_from bytes)) (guard_once bytes hearing)
     (λ t u s r f. not_both (guardable_from bytes) r.scenario f.refusal r.reading f.is) text other status end a b
-input_once form.GuardScenario (Whole bytes) hearing text other status end alone a b =
+input_once form.GuardScenario (Whole bytes) hearing text other status end one_only a b =
     either_once (IsFaultOf form.GuardScenario bytes) (λ t s. IsGuardedOf bytes t × (s ≡ ended.Done)) (refusal_once (guardable_from bytes))
     (done_once (IsGuardedOf bytes) (guarded_scenario_once bytes))
     (λ t u s r f. not_both (guardable_from bytes) r.0.scenario f.refusal r.0.reading f.is) text other status end a b
-input_once form.Help (Whole bytes) hearing text other status end alone (inl a) b = absurd a.0
-input_once form.Help (Whole bytes) hearing text other status end alone (inr a) b = absurd a
-input_once form.Version (Whole bytes) hearing text other status end alone (inl a) b = absurd a.0
-input_once form.Version (Whole bytes) hearing text other status end alone (inr a) b = absurd a
+input_once form.Explore (Whole bytes) hearing text other status end one_only a b = absurd (true≢false (sym one_only))
+input_once form.Help (Whole bytes) hearing text other status end one_only (inl a) b = absurd a.0
+input_once form.Help (Whole bytes) hearing text other status end one_only (inr a) b = absurd a
+input_once form.Version (Whole bytes) hearing text other status end one_only (inl a) b = absurd a.0
+input_once form.Version (Whole bytes) hearing text other status end one_only (inr a) b = absurd a
 
 said_once : (line : List ℕ) (said : Status) (text other : List ℕ) (status end : Status) → (text ≡ line) × (status ≡ said)
     → (other ≡ line) × (end ≡ said) → (text ≡ other) × (status ≡ end)
 said_once line said text other status end a b = (a.0 ∙ sym b.0, a.1 ∙ sym b.1)
 
-pub answer_once : (asked : Form) (input : Input) (hearing : List Listening) (text other : List ℕ) (status end : Status) → is_alone asked ≡ true
+pub answer_once : (asked : Form) (input : Input) (hearing : List Listening) (text other : List ℕ) (status end : Status) → has_one_answer asked ≡ true
     → Answers (Some asked) input hearing text status → Answers (Some asked) input hearing other end → (text ≡ other) × (status ≡ end)
-answer_once form.Run input hearing text other status end alone a b = input_once form.Run input hearing text other status end alone a b
-answer_once form.RunThreads input hearing text other status end alone a b = absurd (true≢false (sym alone))
-answer_once form.Asm input hearing text other status end alone a b = input_once form.Asm input hearing text other status end alone a b
-answer_once form.Dis input hearing text other status end alone a b = input_once form.Dis input hearing text other status end alone a b
-answer_once (form.Gen number) input hearing text other status end alone a b = summary_once number text other status end a b
-answer_once (form.GenScenario number) input hearing text other status end alone a b =
+answer_once form.Run input hearing text other status end one_only a b = input_once form.Run input hearing text other status end one_only a b
+answer_once form.RunThreads input hearing text other status end one_only a b = absurd (true≢false (sym one_only))
+answer_once form.Asm input hearing text other status end one_only a b = input_once form.Asm input hearing text other status end one_only a b
+answer_once form.Dis input hearing text other status end one_only a b = input_once form.Dis input hearing text other status end one_only a b
+answer_once (form.Gen number) input hearing text other status end one_only a b = summary_once number text other status end a b
+answer_once (form.GenScenario number) input hearing text other status end one_only a b =
     said_once (scenario_line (generated number)) ended.Done text other status end a b
-answer_once form.Audit input hearing text other status end alone a b = input_once form.Audit input hearing text other status end alone a b
-answer_once form.Campaign input hearing text other status end alone a b = input_once form.Campaign input hearing text other status end alone a b
-answer_once form.Mirror input hearing text other status end alone a b = absurd (true≢false (sym alone))
-answer_once form.List input hearing text other status end alone a b = input_once form.List input hearing text other status end alone a b
-answer_once (form.Trace part burst) input hearing text other status end alone a b =
-    input_once (form.Trace part burst) input hearing text other status end alone a b
-answer_once form.Guard input hearing text other status end alone a b = input_once form.Guard input hearing text other status end alone a b
-answer_once form.GuardScenario input hearing text other status end alone a b =
-    input_once form.GuardScenario input hearing text other status end alone a b
-answer_once form.Help input hearing text other status end alone a b = said_once help_text ended.Done text other status end a b
-answer_once form.Version input hearing text other status end alone a b = said_once version_text ended.Done text other status end a b
+answer_once form.Audit input hearing text other status end one_only a b = input_once form.Audit input hearing text other status end one_only a b
+answer_once form.Campaign input hearing text other status end one_only a b = input_once form.Campaign input hearing text other status end one_only a b
+answer_once form.Mirror input hearing text other status end one_only a b = absurd (true≢false (sym one_only))
+answer_once form.List input hearing text other status end one_only a b = input_once form.List input hearing text other status end one_only a b
+answer_once (form.Trace part burst) input hearing text other status end one_only a b =
+    input_once (form.Trace part burst) input hearing text other status end one_only a b
+answer_once form.Guard input hearing text other status end one_only a b = input_once form.Guard input hearing text other status end one_only a b
+answer_once form.GuardScenario input hearing text other status end one_only a b =
+    input_once form.GuardScenario input hearing text other status end one_only a b
+answer_once form.Explore input hearing text other status end one_only a b = absurd (true≢false (sym one_only))
+answer_once form.Help input hearing text other status end one_only a b = said_once help_text ended.Done text other status end a b
+answer_once form.Version input hearing text other status end one_only a b = said_once version_text ended.Done text other status end a b
 
 asked_once : (words : List (List ℕ)) (one two : Option Form) (hearing : List Listening) (bytes text other : List ℕ) (status end : Status)
-    → AskAlone words → Asks words one → Asks words two → Answers one (input_for one bytes) hearing text status
+    → AskOneAnswer words → Asks words one → Asks words two → Answers one (input_for one bytes) hearing text status
     → Answers two (input_for two bytes) hearing other end → (text ≡ other) × (status ≡ end)
-asked_once words None None hearing bytes text other status end alone x y a b = said_once usage_text ended.Usage text other status end a b
-asked_once words None (Some two) hearing bytes text other status end alone x y a b = absurd (x two y)
-asked_once words (Some one) None hearing bytes text other status end alone x y a b = absurd (y one x)
-asked_once words (Some one) (Some two) hearing bytes text other status end alone x y a b =
-    answer_once two (input_for (Some two) bytes) hearing text other status end (alone two y)
+asked_once words None None hearing bytes text other status end one_only x y a b = said_once usage_text ended.Usage text other status end a b
+asked_once words None (Some two) hearing bytes text other status end one_only x y a b = absurd (x two y)
+asked_once words (Some one) None hearing bytes text other status end one_only x y a b = absurd (y one x)
+asked_once words (Some one) (Some two) hearing bytes text other status end one_only x y a b =
+    answer_once two (input_for (Some two) bytes) hearing text other status end (one_only two y)
     (subst (λ f. Answers (Some f) (input_for (Some f) bytes) hearing text status) (one_form words one two x y) a) b
 
-pub words_once : (words : List (List ℕ)) (hearing : List Listening) (bytes text other : List ℕ) (status end : Status) → AskAlone words
+pub words_once : (words : List (List ℕ)) (hearing : List Listening) (bytes text other : List ℕ) (status end : Status) → AskOneAnswer words
     → AnswersBytes words hearing bytes text status → AnswersBytes words hearing bytes other end → (text ≡ other) × (status ≡ end)
-words_once words hearing bytes text other status end alone a b =
-    asked_once words a.asked b.asked hearing bytes text other status end alone a.asks b.asks a.answer b.answer
+words_once words hearing bytes text other status end one_only a b =
+    asked_once words a.asked b.asked hearing bytes text other status end one_only a.asks b.asks a.answer b.answer
+
+-- what waits for nobody has one answer, except `explore`
+pub one_if_alone : (asked : Form) → is_alone asked ≡ true → (asked ≡ form.Explore → ⊥) → has_one_answer asked ≡ true
+one_if_alone form.Run alone other = refl
+one_if_alone form.RunThreads alone other = absurd (true≢false (sym alone))
+one_if_alone form.Asm alone other = refl
+one_if_alone form.Dis alone other = refl
+one_if_alone (form.Gen number) alone other = refl
+one_if_alone (form.GenScenario number) alone other = refl
+one_if_alone form.Audit alone other = refl
+one_if_alone form.Campaign alone other = refl
+one_if_alone form.Mirror alone other = absurd (true≢false (sym alone))
+one_if_alone form.List alone other = refl
+one_if_alone (form.Trace part burst) alone other = refl
+one_if_alone form.Guard alone other = refl
+one_if_alone form.GuardScenario alone other = refl
+one_if_alone form.Explore alone other = absurd (other refl)
+one_if_alone form.Help alone other = refl
+one_if_alone form.Version alone other = refl

@@ -12,6 +12,6 @@ mod tally;
 pub use detail::detail_of;
 pub use lines::{write_base_row, write_rows};
 pub use plan_rows::plan_row;
-pub use row::row_of;
+pub use row::{count_gone, row_of};
 pub use shown::{Shown, shown_of};
 pub use tally::{Tally, write_tally};

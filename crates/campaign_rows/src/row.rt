@@ -59,7 +59,7 @@ fn count_failures(parts: &[PartReport]) -> Result<u64, NoMemory>
 }
 
 /// How many answers of all threads are Gone.
-fn count_gone(answers: &[PartAnswers]) -> Result<u64, NoMemory>
+pub fn count_gone(answers: &[PartAnswers]) -> Result<u64, NoMemory>
     ensures { IfOk result (λ count. count ≡ gone_count answers.now) }
 {
     let mut count = 0;

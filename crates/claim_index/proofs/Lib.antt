@@ -3,3 +3,4 @@ pub mod Claims
 pub mod Firsts
 pub mod Conflicts
 pub mod Removals
+pub mod Copied

@@ -10,6 +10,7 @@ ghost use Rattle.nook_data.specs.declared.calls.CallEntry.{CallEntry};
 use crate::claim::{Claim, Claimed};
 use crate::claimants::Claimants;
 use nook_data::classes::Class;
+use nook_data::lists::TryCopy;
 use nook_data::memory::NoMemory;
 use std::alloc::Global;
 use std::marker::Model;
@@ -120,6 +121,16 @@ impl ClaimIndex {
         ensures { result ≡ claim_by call self.now }
     {
         self.open.iter().find(|claim| claim.call == call).copied()
+    }
+}
+
+impl TryCopy for ClaimIndex {
+    fn copy(&self, alloc: Global) -> Result<ClaimIndex, NoMemory> {
+        let mut made = ClaimIndex::new(alloc);
+        for claim in &self.open {
+            made.add(*claim)?;
+        }
+        Ok(made)
     }
 }
 

@@ -18,6 +18,7 @@ one_word word =
     if bytes_eq word (codes "mirror") then Some form.Mirror else
     if bytes_eq word (codes "list") then Some form.List else
     if bytes_eq word (codes "guard") then Some form.Guard else
+    if bytes_eq word (codes "explore") then Some form.Explore else
     if bytes_eq word (codes "--help") then Some form.Help else
     if bytes_eq word (codes "--version") then Some form.Version else None
 
@@ -58,6 +59,7 @@ is_named words (form.Trace part burst) is =
     ∙ ap (λ m. Some (form.Trace part m)) (decimal_is_IsNumeral burst (omega (arith, is.3))).1)
 is_named words form.Guard is = ap named is
 is_named words form.GuardScenario is = ap named is
+is_named words form.Explore is = ap named is
 is_named words form.Help is = ap named is
 is_named words form.Version is = ap named is
 

@@ -22,6 +22,7 @@ IsForm words (form.Trace part burst) =
     (words ≡ codes "trace" ∷ decimal part ∷ decimal burst ∷ []) × (part ≤ 7) × (1 ≤ burst) × (burst ≤ 4294967295)
 IsForm words form.Guard = words ≡ codes "guard" ∷ []
 IsForm words form.GuardScenario = words ≡ codes "guard" ∷ codes "scenario" ∷ []
+IsForm words form.Explore = words ≡ codes "explore" ∷ []
 IsForm words form.Help = words ≡ codes "--help" ∷ []
 IsForm words form.Version = words ≡ codes "--version" ∷ []
 
@@ -49,6 +50,7 @@ is_reading form.List = true
 is_reading (form.Trace part burst) = true
 is_reading form.Guard = true
 is_reading form.GuardScenario = true
+is_reading form.Explore = true
 is_reading form.Help = false
 is_reading form.Version = false
 
@@ -70,6 +72,18 @@ is_alone asked = true
 -- what these words ask for waits for nobody
 abbrev pub AskAlone : List (List ℕ) → Type 0
 AskAlone words = (form : Form) → IsForm words form → is_alone form ≡ true
+
+-- it has one answer: threads and mirrors take their turns at a part in many orders, and how many states `explore` counts
+-- is left to the program
+abbrev pub has_one_answer : Form → Bool
+has_one_answer form.RunThreads = false
+has_one_answer form.Mirror = false
+has_one_answer form.Explore = false
+has_one_answer asked = true
+
+-- what these words ask for has one answer
+abbrev pub AskOneAnswer : List (List ℕ) → Type 0
+AskOneAnswer words = (form : Form) → IsForm words form → has_one_answer form ≡ true
 
 -- the form that a waiting form is
 abbrev pub form_for : WaitingForm → Form

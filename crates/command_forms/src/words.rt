@@ -33,6 +33,8 @@ pub enum Form {
     Guard,
     /// `guard scenario`: write the scenario with these traps among its faults.
     GuardScenario,
+    /// `explore`: read a scenario, follow every order of its steps, write a row for each outcome.
+    Explore,
     /// `--help`: write a line for each form and for each status.
     Help,
     /// `--version`: write the program's version.
@@ -100,6 +102,8 @@ fn form_of_word(word: &str) -> Option<Form>
         Some(Form::List)
     } else if word == "guard" {
         Some(Form::Guard)
+    } else if word == "explore" {
+        Some(Form::Explore)
     } else if word == "--help" {
         Some(Form::Help)
     } else if word == "--version" {

@@ -1,3 +1,4 @@
+pub mod Alike
 pub mod Bursts
 pub mod Changes
 pub mod Judged

@@ -1,4 +1,4 @@
-use Rattle.std.specs.Prelude.{◌≡◌, ℕ, ◌+◌, true, List, [], length, fold, count_by, Option, Some, None}
+use Rattle.std.specs.Prelude.{◌≡◌, ℕ, ◌+◌, true, List, [], length, fold, count_by, Option, Some, None, option_map}
 use Rattle.nook_data.specs.declared.verdicts.Break.{Break}
 use Rattle.nook_data.specs.declared.classes.Class.{Class}
 use Rattle.nook_data.specs.declared.steps.Event.{Event}
@@ -61,3 +61,15 @@ pub record StandsFor (class : Class) (size : ℕ) (events : List Event) (m : Mon
   pub counts : m.kept.counts ≡ counts_of events
   pub seen : m.seen ≡ length events
   pub broken : m.broken ≡ first_break class size events
+
+-- the clause of a monitor's first break
+abbrev pub broken_clause : Monitored → Option ℕ
+broken_clause m = option_map (λ (b : Break). b.clause) m.broken
+
+-- two monitors judge and count alike from now on: they have the same first clause broken, the same counts and open
+-- calls, and, if no clause is broken yet, know the same
+pub record JudgeAlike (m n : Monitored) : Type 0 where
+  pub broken : broken_clause m ≡ broken_clause n
+  pub known : m.broken ≡ None → m.kept.known ≡ n.kept.known
+  pub tallies : m.kept.tallies ≡ n.kept.tallies
+  pub counts : m.kept.counts ≡ n.kept.counts

@@ -6,6 +6,7 @@ mod acts;
 mod blocks;
 mod calls;
 mod clauses;
+mod comparing;
 mod counting;
 mod crossings;
 mod known;

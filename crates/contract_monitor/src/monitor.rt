@@ -1,13 +1,14 @@
 //! The monitor: events in, the first break and the losses out.
 
-ghost use Rattle.std.specs.Prelude.{◌≡◌, ◌∷◌, ◌++◌, [], ℕ, List, IfOk, IfSome, None, OnErr, OnOk, fold};
+ghost use Rattle.std.specs.Prelude.{◌≡◌, ◌∷◌, ◌++◌, [], ℕ, List, IfOk, IfSome, None, OnErr, OnOk, fold, true};
 ghost use Rattle.std.specs.Option.{ForSome};
 ghost use Rattle.nook_data.specs.declared.classes.Class.{Class};
 ghost use Rattle.nook_data.specs.declared.steps.Event.{Event};
 ghost use Rattle.promise_defs.specs.Contract.{first_break, known_after, known_first};
 ghost use Rattle.promise_defs.specs.Losses.{losses};
 ghost use Rattle.contract_monitor.specs.Keeping.{kept_after, told};
-ghost use Rattle.contract_monitor.specs.Monitors.{StandsFor, after_event, break_of, or_break};
+ghost use Rattle.contract_monitor.specs.Monitors.{JudgeAlike, StandsFor, after_event, break_of, broken_clause};
+ghost use Rattle.contract_monitor.specs.Monitors.{or_break};
 ghost use Rattle.contract_monitor.specs.Wrong.{first_wrong};
 
 use crate::calls::more;
@@ -15,8 +16,10 @@ use crate::known::Known;
 use crate::wrong::WrongDeed;
 use nook_data::classes::Class;
 use nook_data::clause::Clause;
+use nook_data::digest::mixed;
 use nook_data::lists::TryCopy;
 use nook_data::memory::NoMemory;
+use nook_data::same::Same;
 use nook_data::steps::Event;
 use nook_data::verdicts::{Break, Losses};
 use std::alloc::Global;
@@ -133,6 +136,48 @@ impl Monitor {
             → result ≡ losses events }
     {
         self.known.losses()
+    }
+
+    /// The number of the clause that was broken first.
+    pub fn broken_clause(&self) -> Option<u8>
+        ensures { result ≡ broken_clause self.now }
+    {
+        self.broken.map(|broken| broken.clause)
+    }
+
+    /// Whether the other monitor judges and counts as this one does from now on, but for the numbers of events. One that
+    /// does may be denied.
+    pub fn judges_alike(&self, other: &Monitor) -> bool
+        ensures { result ≡ true → JudgeAlike self.now other.now }
+    {
+        if !self.broken_clause().is_same(&other.broken_clause()) {
+            return false;
+        }
+        match self.broken {
+            Some(_) => self.known.counts_alike(&other.known),
+            None => self.known.is_alike(&other.known),
+        }
+    }
+
+    /// A digest, and more numbers that are the same for monitors that judge and count alike from now on.
+    pub fn digest(&self, digest: u64) -> u64 {
+        match self.broken {
+            Some(broken) => self
+                .known
+                .digest(mixed(digest, u64::from(broken.clause)), false),
+            None => self.known.digest(mixed(digest, 0), true),
+        }
+    }
+}
+
+impl TryCopy for Monitor {
+    fn copy(&self, alloc: Global) -> Result<Monitor, NoMemory> {
+        Ok(Monitor {
+            known: self.known.copy(alloc)?,
+            spare: None,
+            seen: self.seen,
+            broken: self.broken,
+        })
     }
 }
 

@@ -18,6 +18,7 @@ use nook_data::limits::{BLOCK_WORDS, MOST_ACTS, MOST_FRAME_WORDS, MOST_RING_FRAM
 use nook_data::lists::{Items, TryCopy, Word, Words};
 use nook_data::memory::NoMemory;
 use nook_data::ring::Ring;
+use nook_data::same::Same;
 use nook_data::scenario::BadBlocks;
 use std::alloc::Global;
 use std::marker::Model;
@@ -208,6 +209,12 @@ impl TryCopy for Device {
     fn copy(&self, alloc: Global) -> Result<Device, NoMemory> {
         let state = self.state.copy(alloc)?;
         Ok(Device { state })
+    }
+}
+
+impl Same for Device {
+    fn is_same(&self, other: &Device) -> bool {
+        self.state.is_same(&other.state)
     }
 }
 

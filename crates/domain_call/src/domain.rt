@@ -12,6 +12,7 @@ ghost use Rattle.machine_defs.specs.Pages.{opening_memory};
 ghost use Rattle.domain_call.specs.Standing.{opening_standing};
 
 mod bursts;
+mod compared;
 mod contexts;
 mod detaching;
 mod recovery;

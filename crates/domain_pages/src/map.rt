@@ -6,7 +6,10 @@ ghost use Rattle.machine_defs.specs.Views.PageMap.{opening_pages, may_change, pa
 ghost use Rattle.machine_defs.specs.Views.PageMap.{pages_loaded};
 ghost use Rattle.domain_pages.specs.Frames.{with_own};
 
-use crate::frames::{opening_frames, opening_table, put, put_all, word_at, write_all};
+use crate::frames::{
+    are_same_flags, are_same_frames, are_same_words, mixed_page, opening_frames, opening_table,
+    put, put_all, word_at, write_all,
+};
 use nook_data::limits::CONTEXTS;
 use nook_data::lists::{Items, TryCopy, Word, Words};
 use nook_data::memory::{NoMemory, Room};
@@ -229,6 +232,31 @@ impl PageMap {
         ensures { result ≡ slice_index_or self.now.own page false }
     {
         self.table[page as usize]
+    }
+
+    /// Whether the other map is the same. One that is may be denied, but not one that was made by the same writes since
+    /// the same load.
+    #[tactic(auto, using(crate::proofs::Alike::map_alike))]
+    pub fn is_same(&self, other: &PageMap) -> bool
+        ensures { result ≡ true → self.now ≡ other.now }
+    {
+        are_same_flags(&self.lent, &other.lent)
+            && are_same_flags(&self.table, &other.table)
+            && are_same_frames(&self.table, &self.frames, &other.frames)
+            && are_same_words(self.initial.as_slice(), other.initial.as_slice())
+            && are_same_words(self.text.as_slice(), other.text.as_slice())
+    }
+
+    /// A digest, and more: the pages of the driver that have had a word written since the last load. The same maps give
+    /// the same number.
+    pub fn digest(&self, digest: u64) -> u64 {
+        let mut digest = digest;
+        for page in 0..OWN_PAGES {
+            if self.table[page] {
+                digest = mixed_page(digest, &self.frames, page);
+            }
+        }
+        digest
     }
 }
 

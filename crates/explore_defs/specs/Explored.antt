@@ -5,7 +5,8 @@ use Rattle.report_defs.specs.Campaigns.{row_of}
 use Rattle.report_defs.specs.ReportLines.{line_feed, with_list, with_number}
 use Rattle.run_defs.specs.Simulation.{answer_table, begins, journals_of}
 use Rattle.explore_defs.specs.Orders.{IsWholePath, IsWithin, Path, comes_before, led}
-use Rattle.explore_defs.specs.Outcomes.{Outcome, outcome_of}
+use Rattle.explore_defs.specs.Outcomes.{outcome_of}
+use Rattle.explore_defs.specs.declared.outcome.Outcome.{Outcome}
 use Rattle.explore_defs.specs.declared.TheConstants.{CUT_STATUS, MOST_STATES}
 
 -- What `explore` answers: a row for each outcome, with the least picks that lead to it.

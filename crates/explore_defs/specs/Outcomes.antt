@@ -1,4 +1,6 @@
 use Rattle.std.specs.Prelude.{ℕ, Option, List, [], ◌∷◌, filter, map, option_map}
+use Rattle.explore_defs.specs.declared.outcome.Outcome.{Outcome}
+use Rattle.explore_defs.specs.declared.outcome.PartOutcome.{PartOutcome}
 use Rattle.guard_defs.specs.GuardedRuns.{spec_of}
 use Rattle.machine_defs.specs.Devices.{medium_of}
 use Rattle.machine_defs.specs.Pages.{object_words}
@@ -13,25 +15,6 @@ use Rattle.run_defs.specs.Simulation.{RunningPart, Simulation, answer_table}
 
 -- The outcome of a run: the answers of its threads, and of each part what its lines after the events say, without the
 -- number of the event that broke a clause first.
-
--- what a part's lines after its events say
-pub record PartOutcome : Type 0 where
-  -- the words of the kernel objects
-  pub objects : List (List ℕ)
-  -- the blocks of a disk
-  pub medium : List (List ℕ)
-  -- the frames that a link sent, or the samples that a stream played
-  pub given : List Act
-  pub config : List ℕ
-  pub losses : Losses
-  pub failures : ℕ
-  -- the clause of the first break
-  pub broken : Option ℕ
-
--- what the end of a run says
-pub record Outcome : Type 0 where
-  pub answers : List (List (ℕ × Answer))
-  pub parts : List PartOutcome
 
 -- the words of the twelve objects
 abbrev pub objects_of : List ℕ → List (List ℕ)

@@ -2,6 +2,10 @@
 //! simulation decides how it goes on, and the row of each outcome.
 #![tactic(auto)]
 
+pub mod outcome;
+
+pub use outcome::{Outcome, PartOutcome};
+
 /// How many states of a simulation are held in all.
 pub const MOST_STATES: u32 = 65_536;
 

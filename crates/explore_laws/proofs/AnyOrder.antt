@@ -8,7 +8,8 @@ use Rattle.std.proofs.lemmas.Option.{slice_get_read}
 use Rattle.explore_defs.specs.Explored.{AreOutcomes, HasOutcome, IsExplored, IsFirst, all_numbers, explored_status}
 use Rattle.explore_defs.specs.Explored.{numbers_of, rows_of_status}
 use Rattle.explore_defs.specs.Orders.{Path, with_schedule}
-use Rattle.explore_defs.specs.Outcomes.{Outcome, broken_by, clause_of, outcome_of, part_outcome}
+use Rattle.explore_defs.specs.Outcomes.{broken_by, clause_of, outcome_of, part_outcome}
+use Rattle.explore_defs.specs.declared.outcome.Outcome.{Outcome}
 use Rattle.explore_laws.proofs.Counted.{seat_spec, seats_led}
 use Rattle.explore_laws.proofs.Led.{listing, scheduled_led, whole_listed}
 use Rattle.guard_defs.specs.FirstBreaks.{NoneBreaks}

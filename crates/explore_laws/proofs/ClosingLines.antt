@@ -1,7 +1,8 @@
 -- An outcome decides the lines after the events.
 use Rattle.std.proofs.Common.{◌≡◌, ℕ, suc, if◌then◌else◌, bytes_eq, codes, filter, flat_map, option_map, Option}
 use Rattle.std.proofs.Common.{Some, None, List, [], ◌∷◌, ◌++◌, refl, sym, ap, ap₂, ◌∙◌}
-use Rattle.explore_defs.specs.Outcomes.{PartOutcome, clause_of, given_by, left_by, objects_of, shown_losses}
+use Rattle.explore_defs.specs.Outcomes.{clause_of, given_by, left_by, objects_of, shown_losses}
+use Rattle.explore_defs.specs.declared.outcome.PartOutcome.{PartOutcome}
 use Rattle.explore_laws.specs.Closing.{at_no_event, closing_lines, undated}
 use Rattle.machine_defs.specs.Devices.{medium_of}
 use Rattle.machine_defs.specs.Pages.{opening_object}

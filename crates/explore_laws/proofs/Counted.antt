@@ -4,7 +4,9 @@ use Rattle.std.proofs.Common.{◌||◌, length, map, refl, sym, ap, ap₂, ◌�
 use Rattle.std.specs.List.{AllByRecursion, list_any}
 use Rattle.std.proofs.lemmas.List.Elements.{recursion_from_All}
 use Rattle.explore_defs.specs.Orders.{IsOfLevel, Path, follows, led, with_schedule}
-use Rattle.explore_defs.specs.Outcomes.{Outcome, PartOutcome, clause_of, left_by, outcome_by, outcome_of}
+use Rattle.explore_defs.specs.Outcomes.{clause_of, left_by, outcome_by, outcome_of}
+use Rattle.explore_defs.specs.declared.outcome.Outcome.{Outcome}
+use Rattle.explore_defs.specs.declared.outcome.PartOutcome.{PartOutcome}
 use Rattle.explore_defs.specs.Outcomes.{part_outcome, parts_left}
 use Rattle.explore_laws.proofs.Led.{HasStep, IsListedStep, led_step, listed_run, listed_step, listing, with_order}
 use Rattle.guard_defs.specs.GuardedRuns.{spec_of}

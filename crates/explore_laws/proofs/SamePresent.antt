@@ -98,7 +98,7 @@ seen_as state coming events spec = record {
   given = given_by spec.class (journal_acts events);
 }
 
-same_present : (state : PartState) (coming : List (List ℕ)) (known known' : Option Known) (broken broken' : Option ℕ)
+pub same_present : (state : PartState) (coming : List (List ℕ)) (known known' : Option Known) (broken broken' : Option ℕ)
     (tallies tallies' : List Tally) (counts counts' : Counts) (given given' : List Act) → known ≡ known' → broken ≡ broken'
     → tallies ≡ tallies' → counts ≡ counts' → given ≡ given'
     → ◌≡◌ {A = PartPresent} (record { state = state; coming = coming; known = known; broken = broken; tallies = tallies; counts = counts; given = given })

@@ -3,7 +3,7 @@ use Rattle.std.specs.Prelude.{length, map}
 use Rattle.explore_defs.specs.Explored.{AreOutcomes, all_numbers, explored_line, explored_status, outcome_line}
 use Rattle.explore_defs.specs.Explored.{outcome_lines}
 use Rattle.explore_defs.specs.Orders.{IsWithin, Path, comes_before}
-use Rattle.explore_defs.specs.Outcomes.{Outcome}
+use Rattle.explore_defs.specs.declared.outcome.Outcome.{Outcome}
 use Rattle.explore_defs.specs.declared.TheConstants.{MOST_STATES}
 use Rattle.explore_laws.specs.Present.{Present, bare_run, goes_on_by, numbers_in, outcome_in, present}
 use Rattle.nook_data.specs.Types.{MemberRow, Scenario}

@@ -3,7 +3,9 @@ use Rattle.std.specs.Prelude.{[], ◌∷◌, fold, map, option_map, slice_get, s
 use Rattle.contract_monitor.specs.Judging.{event_broken}
 use Rattle.contract_monitor.specs.Keeping.{Counts, counts_after, shorter, shorter_after, told}
 use Rattle.contract_monitor.specs.Monitors.{counts_of}
-use Rattle.explore_defs.specs.Outcomes.{Outcome, PartOutcome, broken_by, given_by, objects_of, shown_losses}
+use Rattle.explore_defs.specs.Outcomes.{broken_by, given_by, objects_of, shown_losses}
+use Rattle.explore_defs.specs.declared.outcome.Outcome.{Outcome}
+use Rattle.explore_defs.specs.declared.outcome.PartOutcome.{PartOutcome}
 use Rattle.guard_defs.specs.GuardedRuns.{known_of, spec_of}
 use Rattle.machine_defs.specs.Devices.{medium_of}
 use Rattle.nook_data.specs.Clauses.{clause_number}

@@ -1,6 +1,7 @@
 use Rattle.std.specs.Prelude.{ℕ, List, [], ◌∷◌, codes, map, option_map, replicate, Option, None}
 use Rattle.explore_defs.specs.Orders.{led}
-use Rattle.explore_defs.specs.Outcomes.{Outcome, no_losses, outcome_of}
+use Rattle.explore_defs.specs.Outcomes.{no_losses, outcome_of}
+use Rattle.explore_defs.specs.declared.outcome.Outcome.{Outcome}
 use Rattle.machine_defs.specs.Pages.{opening_object}
 use Rattle.nook_data.specs.Types.{PartSpec, Scenario}
 use Rattle.nook_data.specs.declared.calls.Answer.TheVariants as answer

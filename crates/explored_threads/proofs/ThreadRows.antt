@@ -4,7 +4,9 @@ use Rattle.std.proofs.lemmas.List.Elements.{All-contains}
 use Rattle.std.specs.List.{list_any}
 use Rattle.explore_defs.specs.Explored.{AreOutcomes, HasOutcome, IsFirst, all_numbers, rows_of_status}
 use Rattle.explore_defs.specs.Orders.{IsOfLevel, Path}
-use Rattle.explore_defs.specs.Outcomes.{Outcome, PartOutcome, outcome_by}
+use Rattle.explore_defs.specs.Outcomes.{outcome_by}
+use Rattle.explore_defs.specs.declared.outcome.Outcome.{Outcome}
+use Rattle.explore_defs.specs.declared.outcome.PartOutcome.{PartOutcome}
 use Rattle.explore_laws.proofs.AnyOrder.{first_kept, is_row}
 use Rattle.explore_laws.proofs.Counted.{breaks_left, outcome_left, scheduled_left}
 use Rattle.nook_data.specs.Types.{Answer, Event, Scenario}

@@ -3,8 +3,10 @@
 ghost use Rattle.std.specs.Prelude.{◌≡◌, ℕ, IfOk};
 ghost use Rattle.machine_defs.specs.BurstFaults.{faults_of_burst};
 
+use nook_data::lists::{TryCopy, copy_all};
 use nook_data::memory::NoMemory;
 use nook_data::scenario::{Fault, Faults};
+use std::alloc::Global;
 use std::marker::Model;
 
 /// The faults of a part by burst and then by place, those of one place as they were given.
@@ -47,5 +49,13 @@ impl FaultScript {
         let count = rest.partition_point(|fault| fault.burst <= burst);
         let (found, _) = rest.split_at(count);
         found
+    }
+}
+
+impl TryCopy for FaultScript {
+    fn copy(&self, alloc: Global) -> Result<FaultScript, NoMemory> {
+        Ok(FaultScript {
+            faults: copy_all(alloc, &self.faults)?,
+        })
     }
 }

@@ -6,9 +6,11 @@ ghost use Rattle.nook_data.specs.Frames.{front_of};
 ghost use Rattle.kernel_services.specs.Outcome.{with_frame};
 
 use nook_data::limits::MOST_QUEUED_FRAMES;
-use nook_data::lists::Words;
+use nook_data::lists::{TryCopy, Words};
 use nook_data::memory::NoMemory;
+use nook_data::ring::are_same_queues;
 use nook_data::rx_front::RxFront;
+use nook_data::same::Same;
 use std::alloc::Global;
 use std::collections::VecDeque;
 use std::marker::Model;
@@ -66,5 +68,21 @@ impl RxFront for RxQueue {
 
     fn take_front(&mut self) -> Option<Words> {
         self.frames.pop_front()
+    }
+}
+
+impl TryCopy for RxQueue {
+    fn copy(&self, alloc: Global) -> Result<RxQueue, NoMemory> {
+        let mut frames = VecDeque::with_capacity(alloc, MOST_QUEUED_FRAMES)?;
+        for place in 0..self.frames.len() {
+            frames.push_back(self.frames[place].copied(alloc)?)?;
+        }
+        Ok(RxQueue { frames })
+    }
+}
+
+impl Same for RxQueue {
+    fn is_same(&self, other: &RxQueue) -> bool {
+        are_same_queues(&self.frames, &other.frames)
     }
 }

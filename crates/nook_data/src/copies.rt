@@ -3,7 +3,7 @@
 ghost use Rattle.std.specs.Prelude.{◌≡◌, ◌≤◌, length};
 ghost use Rattle.nook_data.specs.Views.Room.{answer_words};
 
-use crate::calls::{Answer, Op};
+use crate::calls::{Answer, CallEntry, Op};
 use crate::campaign::{Campaign, MemberRow};
 use crate::devices::{DeviceKind, DeviceState, Disk, Link};
 use crate::entries::Entry;
@@ -65,6 +65,19 @@ impl TryCopy for Op {
                 value: *value,
             }),
         }
+    }
+}
+
+impl TryCopy for CallEntry {
+    fn copy(&self, alloc: Global) -> Result<CallEntry, NoMemory> {
+        let op = self.op.copy(alloc)?;
+        Ok(CallEntry {
+            call: self.call,
+            thread: self.thread,
+            op,
+            inside: self.inside,
+            attempts: self.attempts,
+        })
     }
 }
 

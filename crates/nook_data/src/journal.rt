@@ -3,7 +3,7 @@
 ghost use Rattle.std.specs.Prelude.{◌≡◌, ◌<◌, ◌≤◌, [], ◌∷◌, ◌++◌, ◌+◌, All, length, slice_get, IfOk, OnErr, OnOk};
 
 use crate::limits::{MOST_ACTS, MOST_FRAME_WORDS};
-use crate::lists::{Items, Words};
+use crate::lists::{Items, Words, copy_all};
 use crate::machine::{Act, Acts};
 use crate::memory::{NoMemory, Room};
 use crate::steps::Event;
@@ -62,6 +62,15 @@ impl Journal {
         ensures { self.new.list ≡ self.old.list ++ event ∷ [] }
     {
         self.events.push(event).unwrap();
+    }
+
+    /// An equal list of events of its own.
+    pub fn copied(&self, alloc: Global) -> Result<Journal, NoMemory>
+        ensures { IfOk result (λ made. made.list ≡ self.now.list) }
+    {
+        Ok(Journal {
+            events: copy_all(alloc, &self.events)?,
+        })
     }
 
     /// The number of events.

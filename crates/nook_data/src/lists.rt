@@ -181,12 +181,21 @@ pub trait TryCopy {
 
 impl<T: TryCopy + Drop> TryCopy for Items<T> {
     fn copy(&self, alloc: Global) -> Result<Self, NoMemory> {
-        let mut made = Items::from_vec(Vec::with_capacity(alloc, self.items.len())?);
-        for item in &self.items {
-            made.push(item.copy(alloc)?)?;
-        }
-        Ok(made)
+        Ok(Items {
+            items: copy_all(alloc, &self.items)?,
+        })
     }
+}
+
+/// Copies of these items, in their order.
+pub fn copy_all<T: TryCopy + Drop>(alloc: Global, items: &[T]) -> Result<Vec<T>, NoMemory>
+    ensures { IfOk result (λ made. made.items ≡ items.now) }
+{
+    let mut made = Vec::with_capacity(alloc, items.len())?;
+    for item in items {
+        made.push(item.copy(alloc)?)?;
+    }
+    Ok(made)
 }
 
 impl TryCopy for u8 {

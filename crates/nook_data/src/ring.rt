@@ -1,11 +1,12 @@
 //! The receive ring of a net device, with room for its frames that is taken before any frame arrives.
 
-ghost use Rattle.std.specs.Prelude.{◌≡◌, ◌<◌, ◌≤◌, [], ◌∷◌, ◌++◌, length, slice_index_or, IfOk, MatchOption};
+ghost use Rattle.std.specs.Prelude.{◌≡◌, ◌<◌, ◌≤◌, [], ◌∷◌, ◌++◌, length, slice_index_or, Decides, IfOk, MatchOption};
 ghost use Rattle.nook_data.specs.Frames.{head_of};
 
 use crate::limits::{MOST_FRAME_WORDS, MOST_RING_FRAMES};
 use crate::lists::{TryCopy, Word, Words};
 use crate::memory::NoMemory;
+use crate::same::Same;
 use std::alloc::Global;
 use std::collections::VecDeque;
 use std::marker::Model;
@@ -91,6 +92,27 @@ impl Ring {
     {
         self.frames.clear();
     }
+}
+
+impl Same for Ring {
+    fn is_same(&self, other: &Ring) -> bool {
+        are_same_queues(&self.frames, &other.frames)
+    }
+}
+
+/// Whether two queues have the same frames in the same order.
+pub fn are_same_queues(frames: &VecDeque<Words>, others: &VecDeque<Words>) -> bool
+    ensures { Decides result (frames.now.items ≡ others.now.items) }
+{
+    if frames.len() != others.len() {
+        return false;
+    }
+    for index in 0..frames.len() {
+        if !frames[index].is_same(&others[index]) {
+            return false;
+        }
+    }
+    true
 }
 
 impl TryCopy for Ring {

@@ -128,6 +128,7 @@ has_answer ended.WriteFault has = absurd has
 has_answer ended.NoMemory has = absurd has
 has_answer ended.ContractBroken has = tt
 has_answer ended.AuditNo has = absurd has
+has_answer ended.Cut has = absurd has
 
 refused_has_none : (status : Status) → status ≡ ended.BadInput → HasReport status → ⊥
 refused_has_none status e has = subst (λ s. HasReport s) e has

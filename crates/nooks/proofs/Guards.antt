@@ -155,6 +155,7 @@ kept_by false gone ended.NoMemory unbroken is = absurd is
 kept_by false true ended.ContractBroken unbroken is = absurd (omega (arith, is))
 kept_by false false ended.ContractBroken unbroken is = absurd (omega (arith, is))
 kept_by false gone ended.AuditNo unbroken is = absurd is
+kept_by false gone ended.Cut unbroken is = absurd is
 
 -- the status of a run whose drivers broke no clause
 kept_status : (specs : List PartSpec) (journals : List (List Event)) (status : Status) → AreKept specs journals

@@ -1,6 +1,7 @@
 pub mod Audits
 pub mod Called
 pub mod Campaigns
+pub mod Explorations
 pub mod Guards
 pub mod Mirrors
 pub mod Reports

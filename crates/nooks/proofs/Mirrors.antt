@@ -52,6 +52,7 @@ told_by broken lost ended.ReadFault tells = absurd tells
 told_by broken lost ended.WriteFault tells = absurd tells
 told_by broken lost ended.NoMemory tells = absurd tells
 told_by broken lost ended.AuditNo tells = absurd tells
+told_by broken lost ended.Cut tells = absurd tells
 told_by true lost ended.ContractBroken tells = refl
 told_by false true ended.ContractBroken tells = absurd (tells.1 refl)
 told_by false false ended.ContractBroken tells = absurd (tells.0 refl)

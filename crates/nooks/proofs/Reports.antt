@@ -91,6 +91,7 @@ told_status specs journals number ended.ReadFault e tells = absurd tells
 told_status specs journals number ended.WriteFault e tells = absurd tells
 told_status specs journals number ended.NoMemory e tells = absurd tells
 told_status specs journals number ended.AuditNo e tells = absurd tells
+told_status specs journals number ended.Cut e tells = absurd tells
 told_status specs journals number ended.ContractBroken e tells =
     status_known specs journals (λ z. tells.0 (e ∙ z)) (λ o. tells.1 (e ∙ o))
 
@@ -105,6 +106,7 @@ told_writes Answer sink number ended.ReadFault tells written = absurd tells
 told_writes Answer sink number ended.WriteFault tells written = absurd tells
 told_writes Answer sink number ended.NoMemory tells written = absurd tells
 told_writes Answer sink number ended.AuditNo tells written = absurd tells
+told_writes Answer sink number ended.Cut tells written = absurd tells
 told_writes Answer sink number ended.ContractBroken tells written = written
 
 -- ---- reports

@@ -53,6 +53,7 @@ any_input form.List a b hearing text status e answer = absurd (true≢false e)
 any_input (form.Trace part burst) a b hearing text status e answer = absurd (true≢false e)
 any_input form.Guard a b hearing text status e answer = absurd (true≢false e)
 any_input form.GuardScenario a b hearing text status e answer = absurd (true≢false e)
+any_input form.Explore a b hearing text status e answer = absurd (true≢false e)
 any_input (form.Gen number) a b hearing text status e answer = answer
 any_input (form.GenScenario number) a b hearing text status e answer = answer
 any_input form.Help a b hearing text status e answer = answer

@@ -35,6 +35,7 @@ says_written ended.WriteFault text sink is gained = absurd is
 says_written ended.NoMemory text sink is gained = absurd is
 says_written ended.ContractBroken text sink is gained = record { text = text; answer = (refl, refl); gained = gained }
 says_written ended.AuditNo text sink is gained = record { text = text; answer = (refl, refl); gained = gained }
+says_written ended.Cut text sink is gained = record { text = text; answer = (refl, refl); gained = gained }
 
 -- a text of which a front was written
 pub says_begun : (status : Status) (text : List ℕ) (sink : Change) → HasFailed sink → GainsFront sink text → Writes (Says text status) sink ended.WriteFault
@@ -78,6 +79,7 @@ writes_more A B sink ended.WriteFault more ends = (ends.0, begun_more A B sink m
 writes_more A B sink ended.NoMemory more ends = nothing_more A B sink more ends
 writes_more A B sink ended.ContractBroken more ends = written_more A B sink ended.ContractBroken more ends
 writes_more A B sink ended.AuditNo more ends = written_more A B sink ended.AuditNo more ends
+writes_more A B sink ended.Cut more ends = written_more A B sink ended.Cut more ends
 
 -- ---- what was read
 
@@ -95,6 +97,7 @@ answers_input form.List input hearing text status reads answer = answer
 answers_input (form.Trace part burst) input hearing text status reads answer = answer
 answers_input form.Guard input hearing text status reads answer = answer
 answers_input form.GuardScenario input hearing text status reads answer = answer
+answers_input form.Explore input hearing text status reads answer = answer
 answers_input (form.Gen number) input hearing text status reads answer = absurd (true≢false (sym reads))
 answers_input (form.GenScenario number) input hearing text status reads answer = absurd (true≢false (sym reads))
 answers_input form.Help input hearing text status reads answer = absurd (true≢false (sym reads))
@@ -112,6 +115,7 @@ writes_end asked hearing source sink ended.WriteFault ends = ends
 writes_end asked hearing source sink ended.NoMemory ends = ends
 writes_end asked hearing source sink ended.ContractBroken ends = ends
 writes_end asked hearing source sink ended.AuditNo ends = ends
+writes_end asked hearing source sink ended.Cut ends = ends
 
 -- an input that was read and answered
 pub input_ends : (asked : Form) (input : Input) (hearing : List Listening) (source : Change) (limit : ℕ) (sink : Change) (status : Status)
@@ -156,6 +160,7 @@ ends_answered words asked hearing source sink ended.WriteFault asks ends is = ab
 ends_answered words asked hearing source sink ended.NoMemory asks ends is = absurd is
 ends_answered words asked hearing source sink ended.ContractBroken asks ends is = written_more _ _ sink _ (worded words asked hearing source asks) ends
 ends_answered words asked hearing source sink ended.AuditNo asks ends is = written_more _ _ sink _ (worded words asked hearing source asks) ends
+ends_answered words asked hearing source sink ended.Cut asks ends is = written_more _ _ sink _ (worded words asked hearing source asks) ends
 
 pub ends_cut : (words : List (List ℕ)) (asked : Option Form) (hearing : List Listening) (source : Change) (sink : Change)
     (status : Status) → Asks words asked → Ends asked hearing source sink status → IsCut status
@@ -169,6 +174,7 @@ ends_cut words asked hearing source sink ended.WriteFault asks ends is = inr (be
 ends_cut words asked hearing source sink ended.NoMemory asks ends is = nothing_more _ _ sink (worded words asked hearing source asks) ends
 ends_cut words asked hearing source sink ended.ContractBroken asks ends is = absurd is
 ends_cut words asked hearing source sink ended.AuditNo asks ends is = absurd is
+ends_cut words asked hearing source sink ended.Cut asks ends is = absurd is
 
 pub ends_complete : (asked : Option Form) (hearing : List Listening) (source : Change) (sink : Change) (status : Status)
     → Ends asked hearing source sink status → (HasFailed source → ⊥) → (HasFailed sink → ⊥) → IsAnswerStatus status ⊎ (status ≡ ended.NoMemory)
@@ -181,6 +187,7 @@ ends_complete asked hearing source sink ended.WriteFault ends read wrote = absur
 ends_complete asked hearing source sink ended.NoMemory ends read wrote = inr refl
 ends_complete asked hearing source sink ended.ContractBroken ends read wrote = inl tt
 ends_complete asked hearing source sink ended.AuditNo ends read wrote = inl tt
+ends_complete asked hearing source sink ended.Cut ends read wrote = inl tt
 
 pub ends_read_fault : (asked : Option Form) (hearing : List Listening) (source : Change) (sink : Change) (status : Status)
     → Ends asked hearing source sink status → status ≡ ended.ReadFault → HasFailed source

@@ -9,10 +9,13 @@ use Rattle.campaign_defs.specs.Rows.{plan_row}
 use Rattle.campaign_defs.specs.TableText.{plan_table_text}
 use Rattle.campaign_defs.specs.Types.{Row}
 use Rattle.input_defs.specs.Faults.{fault_line}
-use Rattle.guard_defs.specs.FirstBreaks.{AreNeeded}
+use Rattle.guard_defs.specs.FirstBreaks.{AreNeeded, NoneBreaks}
 use Rattle.guard_defs.specs.Guard.{HasRoom}
 use Rattle.guard_defs.specs.GuardText.{guard_lines}
 use Rattle.guard_defs.specs.GuardedRuns.{IsGuardedSchedule, guarded_scenario, stops_found}
+use Rattle.explore_defs.specs.Explored.{IsExplored}
+use Rattle.explore_defs.specs.Orders.{with_schedule}
+use Rattle.explore_defs.specs.declared.TheConstants.{CUT_STATUS}
 use Rattle.guard_defs.specs.declared.stop.Stop.{Stop}
 use Rattle.run_defs.specs.Generated.{generated}
 use Rattle.input_defs.specs.ImageReading.{image_from, image_from_asm}
@@ -31,6 +34,7 @@ use Rattle.nook_data.specs.declared.scenario.Image.{Image}
 use Rattle.nook_data.specs.declared.mirror.MirrorAnswer.{MirrorAnswer}
 use Rattle.nook_data.specs.declared.scenario.PartSpec.{PartSpec}
 use Rattle.nook_data.specs.declared.scenario.Scenario.{Scenario}
+use Rattle.nook_data.specs.declared.scenario.ScheduleSpec.{ScheduleSpec}
 use Rattle.input_defs.specs.declared.input.InputFault.TheVariants as fault
 use Rattle.input_defs.specs.declared.input.Refusal.{Refusal}
 use Rattle.plan_defs.specs.Plans.{struck_by}
@@ -272,6 +276,35 @@ pub record IsGuardedOf (bytes text : List ℕ) : Type 0 where
   pub room : All HasRoom scenario.parts
   pub line : IsGuardedLine scenario text
 
+-- ---- every order of the steps
+
+-- the status of an exploration of which this is the number
+abbrev pub IsExploredStatus : ℕ → Status → Type 0
+IsExploredStatus number ended.Done = number ≡ 0
+IsExploredStatus number ended.GivenUp = number ≡ 1
+IsExploredStatus number ended.ContractBroken = number ≡ 7
+IsExploredStatus number ended.Cut = number ≡ CUT_STATUS
+IsExploredStatus number status = ⊥
+
+-- under whatever schedule a scenario runs, no part breaks its contract
+abbrev pub NoneEverBreaks : Scenario → Type 0
+NoneEverBreaks scenario =
+    (spec : ScheduleSpec) (s : Simulation) → IsScheduledRun (with_schedule scenario spec) s → NoneBreaks s
+
+-- a row for each outcome that some order of a scenario's steps has, the line that counts them, and their status; with
+-- status 0 or 1 no schedule of the scenario breaks a contract
+pub record IsExploration (scenario : Scenario) (text : List ℕ) (status : Status) : Type 0 where
+  pub number : ℕ
+  pub explored : IsExplored scenario text number
+  pub status_is : IsExploredStatus number status
+  pub unbroken : (status ≡ ended.Done) ⊎ (status ≡ ended.GivenUp) → NoneEverBreaks scenario
+
+-- the exploration of the scenario that some bytes are
+pub record IsExploredOf (bytes text : List ℕ) (status : Status) : Type 0 where
+  pub scenario : Scenario
+  pub reading : scenario_from bytes ≡ Ok scenario
+  pub exploration : IsExploration scenario text status
+
 -- ---- campaigns
 
 -- a campaign's run of a scenario, of which all that is promised of runs holds; with a guard every part kept its contract,
@@ -324,6 +357,7 @@ Does form.List bytes hearing text status = (listing_from bytes ≡ Ok text) × (
 Does (form.Trace part burst) bytes hearing text status = IsTraceOf bytes part burst text × (status ≡ ended.Done)
 Does form.Guard bytes hearing text status = IsGuardOf bytes hearing text status
 Does form.GuardScenario bytes hearing text status = IsGuardedOf bytes text × (status ≡ ended.Done)
+Does form.Explore bytes hearing text status = IsExploredOf bytes text status
 Does asked bytes hearing text status = ⊥
 
 -- ---- faults of an input
@@ -375,6 +409,7 @@ IsFaultOf (form.Trace part burst) bytes text =
     IsRefusalLine (scenario_from bytes) text ⊎ HasNoBurst bytes part burst text
 IsFaultOf form.Guard bytes text = IsRefusalLine (guardable_from bytes) text
 IsFaultOf form.GuardScenario bytes text = IsRefusalLine (guardable_from bytes) text
+IsFaultOf form.Explore bytes text = IsRefusalLine (scenario_from bytes) text
 IsFaultOf asked bytes text = ⊥
 
 -- ---- the answer

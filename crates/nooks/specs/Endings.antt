@@ -38,6 +38,7 @@ code_of ended.WriteFault = 5
 code_of ended.NoMemory = 6
 code_of ended.ContractBroken = 7
 code_of ended.AuditNo = 8
+code_of ended.Cut = 9
 
 -- the status of an answer that was written whole
 abbrev pub IsAnswerStatus : Status → Type 0

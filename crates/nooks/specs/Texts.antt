@@ -31,6 +31,7 @@ help_text =
     ++ (line (codes "nooks trace P B       read a scenario, write what burst B of part P did, turn by turn (P from 0)")
     ++ (line (codes "nooks guard           read a scenario, stop each driver before it breaks its contract, write traps and report")
     ++ (line (codes "nooks guard scenario  read a scenario, write it as JSON with the traps of its guard")
+    ++ (line (codes "nooks explore         read a scenario, follow every order of its steps, write a row for each outcome")
     ++ (line (codes "nooks --help          write this")
     ++ (line (codes "nooks --version       write the program's version, and the kit that it is proved with")
     ++ (line (codes "status 0              done; no part was given up")
@@ -41,7 +42,8 @@ help_text =
     ++ (line (codes "status 5              writing failed; a front of the output was written")
     ++ (line (codes "status 6              memory was wanting; a front of the output was written, or nothing")
     ++ (line (codes "status 7              a driver broke its class's contract")
-    ++ line (codes "status 8              a line of the report does not fit the scenario")))))))))))))))))))))))
+    ++ (line (codes "status 8              a line of the report does not fit the scenario")
+    ++ line (codes "status 9              not every order was followed: too many states")))))))))))))))))))))))))
 
 -- what is said of the input of `audit` that does not begin with a length, or has fewer bytes
 abbrev pub bad_header_text : List ℕ

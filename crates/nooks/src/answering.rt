@@ -23,6 +23,7 @@ ghost use Rattle.request_taps.specs.Bus.{seen, settled};
 ghost use Rattle.scenario_read.specs.Gives.{Gives};
 
 use crate::auditing::run_audit;
+use crate::exploring::run_explore;
 use crate::guarding::{run_guard, run_guard_scenario};
 use crate::heard::{Heard, all_heard};
 use crate::listing::run_list;
@@ -127,6 +128,7 @@ where
         Form::Trace { part, burst } => trace_bytes(alloc, bytes, part, burst, sink),
         Form::Guard => run_guard(alloc, bytes, sink, listeners),
         Form::GuardScenario => run_guard_scenario(alloc, bytes, sink),
+        Form::Explore => run_explore(alloc, bytes, sink),
         Form::RunThreads
         | Form::Mirror
         | Form::Gen { .. }

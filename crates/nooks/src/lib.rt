@@ -6,6 +6,7 @@
 
 mod answering;
 mod auditing;
+mod exploring;
 mod generating;
 mod guarding;
 mod heard;

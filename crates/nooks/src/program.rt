@@ -30,12 +30,14 @@ pub const LIMIT: u32 = 1_048_576;
 /// The most bytes of the input of `audit`: a scenario's length, the scenario and a report.
 pub const AUDIT_LIMIT: u32 = 16_777_216;
 
-/// How the program ended. The exit codes are 0 to 8, in this order.
+/// How the program ended. The exit codes are 0 to 9, in this order.
 #[derive(Clone, Copy, Debug, PartialEq, Eq)]
 pub enum Status {
-    /// What the words ask for was written; if it is a report, no part was given up, or one of a mirror's two.
+    /// What the words ask for was written; if it is a report, no part was given up, or one of a mirror's two. Of every
+    /// order of the steps: all were followed, and none gives a part up or breaks a contract.
     Done,
-    /// A report was written, and a part was given up; of a mirror: neither of its disks was left.
+    /// A report was written, and a part was given up; of a mirror: neither of its disks was left. Of every order of the
+    /// steps: all were followed, some gives a part up, and none breaks a contract.
     GivenUp,
     /// The words are of no form.
     Usage,
@@ -47,10 +49,12 @@ pub enum Status {
     WriteFault,
     /// Memory was wanting; the sink has gained a front of the output, or nothing.
     NoMemory,
-    /// A report was written, and a part's driver broke its class's contract.
+    /// A report was written, and a part's driver broke its class's contract; or some order of the steps breaks one.
     ContractBroken,
     /// A line of the report that was handed in does not fit its scenario; the line that was written says which.
     AuditNo,
+    /// Not every order of the steps was followed, since there are too many states; none that was breaks a contract.
+    Cut,
 }
 
 impl Status {
@@ -73,6 +77,9 @@ impl Status {
 ///
 /// Where it wrote the report of `guard`, that is the report of the guarded run: no driver broke its class's contract in
 /// it, so that each part that was not given up is a device that never fails, with no condition on its drivers.
+///
+/// Where it wrote the rows of `explore`, these are the outcomes of all orders in which the steps can fall; with the
+/// status [`Status::Done`] or [`Status::GivenUp`] no schedule of that scenario breaks a contract.
 ///
 /// It waits where the words ask for threads or for a mirror; all else is [`run_alone`], which returns.
 pub fn run<R: Threads + Wait + Sync, S: Source, K: Sink, G: Gate>(
@@ -233,7 +240,8 @@ where
         | Form::List
         | Form::Trace { .. }
         | Form::Guard
-        | Form::GuardScenario => read_and_answer(rt, alloc, asked, source, sink, listeners),
+        | Form::GuardScenario
+        | Form::Explore => read_and_answer(rt, alloc, asked, source, sink, listeners),
         Form::RunThreads | Form::Mirror => unreachable!(),
     }
 }

@@ -19,6 +19,7 @@ nooks mirror          read a scenario of two disks, keep one disk on both, write
 nooks trace P B       read a scenario, write what burst B of part P did, turn by turn (P from 0)\n\
 nooks guard           read a scenario, stop each driver before it breaks its contract, write traps and report\n\
 nooks guard scenario  read a scenario, write it as JSON with the traps of its guard\n\
+nooks explore         read a scenario, follow every order of its steps, write a row for each outcome\n\
 nooks --help          write this\n\
 nooks --version       write the program's version, and the kit that it is proved with\n\
 status 0              done; no part was given up\n\
@@ -29,7 +30,8 @@ status 4              reading failed; nothing was written\n\
 status 5              writing failed; a front of the output was written\n\
 status 6              memory was wanting; a front of the output was written, or nothing\n\
 status 7              a driver broke its class's contract\n\
-status 8              a line of the report does not fit the scenario\n";
+status 8              a line of the report does not fit the scenario\n\
+status 9              not every order was followed: too many states\n";
 
 /// What is said of the input of `audit` that does not begin with a length, or has fewer bytes.
 pub const BAD_HEADER: &[u8] = b"fault 12 bad_header /\n";

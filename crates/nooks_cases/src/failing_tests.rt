@@ -16,7 +16,7 @@ use std::thread::Threads;
 const MOST: u32 = 100;
 
 /// The forms that read, each with an input that it serves.
-const FORMS: [(&str, &str); 13] = [
+const FORMS: [(&str, &str); 14] = [
     ("run", SCENARIO),
     ("run threads", SCENARIO),
     ("trace 0 1", SCENARIO),
@@ -27,6 +27,7 @@ const FORMS: [(&str, &str); 13] = [
     ("mirror", MIRROR),
     ("guard", SCENARIO),
     ("guard scenario", SCENARIO),
+    ("explore", SCENARIO),
     ("asm", TEXT),
     ("list", TEXT),
     ("dis", IMAGE),

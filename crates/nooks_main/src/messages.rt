@@ -31,6 +31,7 @@ pub fn message_of(status: Status) -> Option<&'static str>
         | Status::GivenUp
         | Status::ContractBroken
         | Status::AuditNo
+        | Status::Cut
         | Status::Usage
         | Status::BadInput => None,
     }

@@ -1,9 +1,10 @@
 //! A list of at most 82 entries that stand under keys of a slab.
 
-ghost use Rattle.std.specs.Prelude.{◌≡◌, ◌<◌, ◌≤◌, [], length, slice_index_or, insert, remove, IfOk};
+ghost use Rattle.std.specs.Prelude.{◌≡◌, ◌<◌, ◌≤◌, [], length, slice_index_or, insert, remove, Decides, IfOk};
 
 use nook_data::entries::Entry;
 use nook_data::memory::NoMemory;
+use nook_data::same::Same;
 use slab::Slab;
 use std::alloc::Global;
 use std::marker::Model;
@@ -66,6 +67,21 @@ impl Ordered {
         ensures { slice_index_or self.now place result ≡ result }
     {
         self.slab[self.keys[place]]
+    }
+
+    /// Whether the other list has the same entries in the same order.
+    pub fn is_same(&self, other: &Ordered) -> bool
+        ensures { Decides result (self.now ≡ other.now) }
+    {
+        if self.len() != other.len() {
+            return false;
+        }
+        for place in 0..self.len() {
+            if !self.get(place).is_same(&other.get(place)) {
+                return false;
+            }
+        }
+        true
     }
 
     /// Puts an entry at a place; those from there on come behind it. It takes no memory.

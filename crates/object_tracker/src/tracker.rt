@@ -1,6 +1,6 @@
 //! The tracker.
 
-ghost use Rattle.std.specs.Prelude.{◌≡◌, ◌+◌, ◌↔◌, ◌<◌, ◌≤◌, true, false, not, Contains, IsTrue, IfNone, IfSome, IfOk};
+ghost use Rattle.std.specs.Prelude.{◌≡◌, ◌+◌, ◌↔◌, ◌<◌, ◌≤◌, true, false, not, Contains, Decides, IsTrue, IfNone, IfSome, IfOk};
 ghost use Rattle.std.specs.Prelude.{OnErr, OnOk};
 ghost use Rattle.std.specs.List.{list_any};
 ghost use Rattle.machine_defs.specs.Entries.{opening_entries, with_entry, without_heap, without_borrow, without_buffer};
@@ -176,6 +176,13 @@ impl Tracker {
         ensures { IsTrue result ↔ Contains self.now.entries entry.now }
     {
         holds(&self.entries, *entry)
+    }
+
+    /// Whether the other tracker is the same.
+    pub fn is_same(&self, other: &Tracker) -> bool
+        ensures { Decides result (self.now ≡ other.now) }
+    {
+        self.heap_start == other.heap_start && self.entries.is_same(&other.entries)
     }
 
     /// Everything but the registration ends; what ended, in order.

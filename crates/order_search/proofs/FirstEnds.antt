@@ -1,15 +1,18 @@
 -- The first end of each outcome, one state after another.
 use Rattle.std.proofs.Common.{◌≡◌, inl, inr, false, All, Contains, List, [], ◌∷◌, ◌++◌, append_assoc, append-nil, refl}
 use Rattle.std.proofs.Common.{sym, ap, ◌∙◌, subst}
+use Rattle.std.proofs.lemmas.List.{map_push}
 use Rattle.std.proofs.lemmas.List.Elements.{All-contains, All-push, All-weaker, Contains-append_left, Contains-push}
 use Rattle.std.proofs.lemmas.List.Elements.{Contains-push_cases}
 use Rattle.explore_defs.specs.Orders.{comes_before}
 use Rattle.explore_laws.proofs.Words.{before_asym, before_self}
 use Rattle.explore_laws.specs.Held.{DoRise, HasHeldOutcome, Held, choices_in}
 use Rattle.explore_laws.specs.Present.{outcome_in}
+use Rattle.order_search.proofs.KeptEnds.{end_outcome, held_outcome}
 use Rattle.order_search.proofs.Rising.{IsBefore, rise_at, rise_front, rise_push}
-use Rattle.order_search.specs.Ends.{AreFirstEnds, TakesEnds}
+use Rattle.order_search.specs.Ends.{AreFirstEnds, HasOutcome, StandForEnds, TakesEnds, end_from}
 use Rattle.order_search.specs.Ways.{ComeBefore}
+use Rattle.order_search.specs.declared.ends.FirstEnd.{FirstEnd}
 
 module _ (seen firsts : List Held) (h : Held) (b : ComeBefore seen h) (e : AreFirstEnds seen firsts) where
   more_seen : All (Contains (seen ++ h ∷ [])) firsts
@@ -99,29 +102,47 @@ module _ (seen firsts : List Held) (h : Held) (b : ComeBefore seen h) (e : AreFi
 -- ---- one state
 
 -- it goes on, or there is a first end of its outcome
-pub ends_same : (h : Held) (firsts : List Held) → (choices_in h.now ≡ [] → HasHeldOutcome firsts (outcome_in h.now))
-    → TakesEnds (h ∷ []) firsts firsts
-ends_same h firsts has = record {
-  firsts = λ seen r e. firsts_same seen firsts h (rise_at seen [] h r) e has;
+pub ends_same : (h : Held) (ends : List FirstEnd) → (choices_in h.now ≡ [] → HasOutcome ends (outcome_in h.now))
+    → TakesEnds (h ∷ []) ends ends
+ends_same h ends has = record {
+  ends = λ seen r s. record {
+    firsts = s.firsts;
+    same = s.same;
+    are = firsts_same seen s.firsts h (rise_at seen [] h r) s.are
+        (λ ended. held_outcome s.firsts (outcome_in h.now)
+        (subst (λ (xs : List FirstEnd). HasOutcome xs (outcome_in h.now)) s.same (has ended)));
+  };
 }
 
-pub ends_more : (h : Held) (firsts : List Held) → choices_in h.now ≡ [] → (HasHeldOutcome firsts (outcome_in h.now) → ⊥)
-    → TakesEnds (h ∷ []) firsts (firsts ++ h ∷ [])
-ends_more h firsts ended new = record {
-  firsts = λ seen r e. firsts_more seen firsts h (rise_at seen [] h r) e ended new;
+pub ends_more : (h : Held) (ends : List FirstEnd) → choices_in h.now ≡ [] → (HasOutcome ends (outcome_in h.now) → ⊥)
+    → TakesEnds (h ∷ []) ends (ends ++ end_from h ∷ [])
+ends_more h ends ended new = record {
+  ends = λ seen r s. record {
+    firsts = s.firsts ++ h ∷ [];
+    same = ap (λ (xs : List FirstEnd). xs ++ end_from h ∷ []) s.same ∙ sym (map_push end_from s.firsts h);
+    are = firsts_more seen s.firsts h (rise_at seen [] h r) s.are ended
+        (λ has. new (subst (λ (xs : List FirstEnd). HasOutcome xs (outcome_in h.now)) (sym s.same)
+        (end_outcome s.firsts (outcome_in h.now) has)));
+  };
 }
 
 -- ---- many states
 
-pub ends_none : (firsts : List Held) → TakesEnds [] firsts firsts
-ends_none firsts = record {
-  firsts = λ seen r e. subst (λ (xs : List Held). AreFirstEnds xs firsts) (sym (append-nil seen)) e;
+-- another list of the same states was seen
+seen_as : (seen others : List Held) (ends : List FirstEnd) → seen ≡ others → StandForEnds seen ends
+    → StandForEnds others ends
+seen_as seen others ends e s = subst (λ (xs : List Held). StandForEnds xs ends) e s
+
+pub ends_none : (ends : List FirstEnd) → TakesEnds [] ends ends
+ends_none ends = record {
+  ends = λ seen r s. seen_as seen (seen ++ []) ends (sym (append-nil seen)) s;
 }
 
-pub ends_then : (xs ys a b c : List Held) → TakesEnds xs a b → TakesEnds ys b c → TakesEnds (xs ++ ys) a c
+pub ends_then : (xs ys : List Held) (a b c : List FirstEnd) → TakesEnds xs a b → TakesEnds ys b c
+    → TakesEnds (xs ++ ys) a c
 ends_then xs ys a b c p q = record {
-  firsts = λ seen r e.
+  ends = λ seen r s.
       let rises : DoRise ((seen ++ xs) ++ ys) = subst DoRise (sym (append_assoc seen xs ys)) r in
-      subst (λ (zs : List Held). AreFirstEnds zs c) (append_assoc seen xs ys)
-      (q.firsts (seen ++ xs) rises (p.firsts seen (rise_front (seen ++ xs) ys rises) e));
+      seen_as ((seen ++ xs) ++ ys) (seen ++ (xs ++ ys)) c (append_assoc seen xs ys)
+      (q.ends (seen ++ xs) rises (p.ends seen (rise_front (seen ++ xs) ys rises) s));
 }

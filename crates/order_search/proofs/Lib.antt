@@ -2,6 +2,7 @@ pub mod Picks
 pub mod ActorsRise
 pub mod Rising
 pub mod Sifted
+pub mod KeptEnds
 pub mod FirstEnds
 pub mod Onward
 pub mod Views

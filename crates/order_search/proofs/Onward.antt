@@ -11,12 +11,14 @@ use Rattle.explore_laws.specs.Held.{StandsAmong}
 use Rattle.explore_laws.specs.Held.{all_levels, held_first, last_held}
 use Rattle.explore_laws.specs.Present.{Present, present}
 use Rattle.nook_data.specs.Types.{Scenario}
+use Rattle.order_search.proofs.KeptEnds.{same_rows}
 use Rattle.order_search.proofs.Rising.{AreLong, after_shorter, none_contained, past_last, rise_append, rise_rest}
 use Rattle.order_search.proofs.Rising.{some_last, way_contained, ways_contain, ways_long, ways_rise, within_last}
-use Rattle.order_search.specs.Ends.{AreFirstEnds, TakesEnds}
-use Rattle.order_search.specs.Found.{AreLevelsTo, GoesOn, IsAt, IsFound, row_from}
+use Rattle.order_search.specs.Ends.{AreFirstEnds, StandForEnds, TakesEnds}
+use Rattle.order_search.specs.Found.{AreLevelsTo, GoesOn, IsAt, IsFound, row_of_end}
 use Rattle.order_search.specs.Moments.{held_at_first}
 use Rattle.order_search.specs.Ways.{AreAfter, ComeBefore, IsSettled, IsSifted, Made, TakesWays, all_ways}
+use Rattle.order_search.specs.declared.ends.FirstEnd.{FirstEnd}
 use Rattle.order_search.specs.declared.rows.Explored.{Explored}
 use Rattle.part_laws.proofs.Places.{split}
 use Rattle.run_defs.specs.Simulation.{begins}
@@ -89,7 +91,7 @@ module _ (was : Bool) (all level : List Held) (m : Made) (s : IsSifted was all (
 abbrev IsFull : Option (List ℕ) → List Held → Type 0
 IsFull cut all = IfSome cut (λ last. (length all ≡ MOST_STATES) × (last_held all ≡ Some last))
 
-module _ (old new : Made) (before after : List Held)
+module _ (old new : Made) (before after : List FirstEnd)
     (t : TakesWays (all_ways old.level) (record { level = []; states = old.states; is_cut = old.is_cut }) new)
     (e : TakesEnds old.level before after) (first : Held) (a : IsAt first old before) where
   abbrev all : List Held
@@ -180,7 +182,7 @@ module _ (old new : Made) (before after : List Held)
     };
     long = next_long;
     short = all_short;
-    ends = e.firsts a.before a.filled.rising a.ends;
+    ends = e.ends a.before a.filled.rising a.ends;
   }
     where
       fits : new.states ≡ length (all ++ new.level) → new.states ≤ MOST_STATES → length (all ++ new.level) ≤ MOST_STATES
@@ -219,7 +221,7 @@ module _ (old new : Made) (before after : List Held)
           → new.states ≡ old.states + length new.level
       grown c d = omega arith
 
-pub goes_on : (old new : Made) (before after : List Held)
+pub goes_on : (old new : Made) (before after : List FirstEnd)
     → TakesWays (all_ways old.level) (record { level = []; states = old.states; is_cut = old.is_cut }) new
     → TakesEnds old.level before after → GoesOn old new before after
 goes_on old new before after t e = record {
@@ -238,6 +240,9 @@ none_ended = record {
   each = λ h c ended. absurd (none_contained h c);
   rising = tt;
 }
+
+none_kept : StandForEnds [] []
+none_kept = record { firsts = []; same = refl; are = none_ended }
 
 pub at_first : (now : Present)
     → IsAt (held_at_first now) (record { level = held_at_first now ∷ []; states = 1; is_cut = false }) []
@@ -259,12 +264,12 @@ at_first now = record {
   long = All-cons (λ (h : Held). length h.picks ≡ 0) (held_at_first now) [] refl
       (All-nil (λ (h : Held). length h.picks ≡ 0));
   short = All-nil (λ (h : Held). length h.picks ≤ 0);
-  ends = none_ended;
+  ends = none_kept;
 }
 
 -- ---- the last level
 
-module _ (first : Held) (m : Made) (firsts : List Held) (none : m.level ≡ []) (a : IsAt first m firsts) where
+module _ (first : Held) (m : Made) (ends : List FirstEnd) (none : m.level ≡ []) (a : IsAt first m ends) where
   abbrev whole : List Held
   whole = all_levels ((first ∷ []) ∷ a.levels)
 
@@ -274,8 +279,11 @@ module _ (first : Held) (m : Made) (firsts : List Held) (none : m.level ≡ []) 
   filled_whole : IsFilled a.cut whole
   filled_whole = subst (IsFilled a.cut) (sym a.all) a.filled
 
+  abbrev firsts : List Held
+  firsts = a.ends.firsts
+
   ends_whole : AreFirstEnds whole firsts
-  ends_whole = subst (λ (xs : List Held). AreFirstEnds xs firsts) (sym all_before) a.ends
+  ends_whole = subst (λ (xs : List Held). AreFirstEnds xs firsts) (sym all_before) a.ends.are
 
   within_cut : (cut : Option (List ℕ)) → IsFull cut whole → (h : Held) → Contains whole h → IsWithin cut h.picks
   within_cut None full h c = tt
@@ -292,8 +300,8 @@ module _ (first : Held) (m : Made) (firsts : List Held) (none : m.level ≡ []) 
     rising = ends_whole.rising;
   }
 
-  found_last : (found : Explored) → found.rows ≡ map row_from firsts → found.states ≡ m.states → found.is_cut ≡ m.is_cut
-      → IsFound first found
+  found_last : (found : Explored) → found.rows ≡ map row_of_end ends → found.states ≡ m.states
+      → found.is_cut ≡ m.is_cut → IsFound first found
   found_last found rows states is_cut = record {
     cut = a.cut;
     levels = a.levels;
@@ -304,17 +312,17 @@ module _ (first : Held) (m : Made) (firsts : List Held) (none : m.level ≡ []) 
     filled = filled_whole;
     states = states ∙ a.count ∙ ap length (sym a.all);
     is_cut = is_cut ∙ a.is_cut;
-    rows = rows;
+    rows = rows ∙ ap (map row_of_end) a.ends.same ∙ same_rows firsts;
   }
 
 -- what is found from the first state of a scenario on
-pub is_found : (now : Present) (m : Made) (firsts : List Held) (found : Explored) → m.level ≡ []
-    → IsAt (held_at_first now) m firsts
-    → found.rows ≡ map row_from firsts → found.states ≡ m.states → found.is_cut ≡ m.is_cut
+pub is_found : (now : Present) (m : Made) (ends : List FirstEnd) (found : Explored) → m.level ≡ []
+    → IsAt (held_at_first now) m ends
+    → found.rows ≡ map row_of_end ends → found.states ≡ m.states → found.is_cut ≡ m.is_cut
     → (scenario : Scenario) → now ≡ present (begins scenario) → IsFound (held_first scenario) found
-is_found now m firsts found none a rows states is_cut scenario same =
+is_found now m ends found none a rows states is_cut scenario same =
     subst (λ (p : Present). IsFound (held_at_first p) found) same
-    (found_last (held_at_first now) m firsts none a found rows states is_cut)
+    (found_last (held_at_first now) m ends none a found rows states is_cut)
 
 -- ---- the end of the search
 
@@ -322,7 +330,7 @@ pub level_falls : (a b m n : ℕ) → b ≡ a + n → b ≤ MOST_STATES → 0 < 
     → (MOST_STATES - b) + min 1 n < (MOST_STATES - a) + min 1 m
 level_falls a b m n e few some = omega arith
 
-pub falls : (first : Held) (old new : Made) (before after : List Held) → IsAt first old before
+pub falls : (first : Held) (old new : Made) (before after : List FirstEnd) → IsAt first old before
     → GoesOn old new before after
     → 0 < length old.level
     → (MOST_STATES - new.states) + min 1 (length new.level) < (MOST_STATES - old.states) + min 1 (length old.level)

@@ -1,9 +1,21 @@
-use Rattle.std.specs.Prelude.{◌≡◌, false, All, Contains, List, [], ◌++◌}
+use Rattle.std.specs.Prelude.{◌≡◌, false, All, Contains, List, [], ◌++◌, map}
 use Rattle.explore_defs.specs.Orders.{comes_before}
-use Rattle.explore_laws.specs.Held.{DoRise, HasHeldOutcome, Held, choices_in}
+use Rattle.explore_defs.specs.declared.outcome.Outcome.{Outcome}
+use Rattle.explore_laws.specs.Held.{DoRise, HasHeldOutcome, Held, choices_in, held_numbers}
 use Rattle.explore_laws.specs.Present.{outcome_in}
+use Rattle.order_search.specs.declared.ends.FirstEnd.{FirstEnd}
 
--- The first end of each outcome.
+-- The first end of each outcome, and what is kept of it.
+
+-- what is kept of an end
+abbrev pub end_from : Held → FirstEnd
+end_from h = record { picks = h.picks; numbers = held_numbers h; outcome = outcome_in h.now }
+
+-- one of these ends has the outcome
+pub record HasOutcome (ends : List FirstEnd) (outcome : Outcome) : Type 0 where
+  pub by : FirstEnd
+  pub listed : Contains ends by
+  pub same : by.outcome ≡ outcome
 
 -- of those that were seen and have ended, the first of each outcome
 pub record AreFirstEnds (seen firsts : List Held) : Type 0 where
@@ -14,6 +26,12 @@ pub record AreFirstEnds (seen firsts : List Held) : Type 0 where
   pub each : (h : Held) → Contains seen h → choices_in h.now ≡ [] → HasHeldOutcome firsts (outcome_in h.now)
   pub rising : DoRise firsts
 
+-- of those that were seen, these are kept: what is kept of the first end of each outcome
+pub record StandForEnds (seen : List Held) (ends : List FirstEnd) : Type 0 where
+  pub firsts : List Held
+  pub same : ends ≡ map end_from firsts
+  pub are : AreFirstEnds seen firsts
+
 -- these are seen as well, after all that were seen before
-pub record TakesEnds (helds old new : List Held) : Type 0 where
-  pub firsts : (seen : List Held) → DoRise (seen ++ helds) → AreFirstEnds seen old → AreFirstEnds (seen ++ helds) new
+pub record TakesEnds (helds : List Held) (old new : List FirstEnd) : Type 0 where
+  pub ends : (seen : List Held) → DoRise (seen ++ helds) → StandForEnds seen old → StandForEnds (seen ++ helds) new

@@ -3,8 +3,9 @@ use Rattle.explore_defs.specs.Explored.{explored_line, explored_status, outcome_
 use Rattle.explore_laws.specs.Held.{AreFirstHeld, AreHeldLevels, AreJoined, AreRowsOf, Held, IsFilled, all_levels}
 use Rattle.explore_laws.specs.Held.{held_numbers}
 use Rattle.nook_data.specs.Types.{MemberRow, Scenario}
-use Rattle.order_search.specs.Ends.{AreFirstEnds}
+use Rattle.order_search.specs.Ends.{StandForEnds}
 use Rattle.order_search.specs.Ways.{Made}
+use Rattle.order_search.specs.declared.ends.FirstEnd.{FirstEnd}
 use Rattle.order_search.specs.declared.rows.Explored.{Explored}
 use Rattle.order_search.specs.declared.rows.OutcomeRow.{OutcomeRow}
 
@@ -13,6 +14,10 @@ use Rattle.order_search.specs.declared.rows.OutcomeRow.{OutcomeRow}
 -- the row of an end
 abbrev pub row_from : Held → OutcomeRow
 row_from h = record { picks = h.picks; numbers = held_numbers h }
+
+-- the row that is kept of an end
+abbrev pub row_of_end : FirstEnd → OutcomeRow
+row_of_end end = record { picks = end.picks; numbers = end.numbers }
 
 -- the levels from the first one on, the number of states in all of them, and the first end of each outcome
 pub record IsFound (first : Held) (found : Explored) : Type 0 where
@@ -40,7 +45,7 @@ AreLevelsTo cut held [] last = held ≡ last
 AreLevelsTo cut held (next ∷ levels) last = AreJoined cut held next × AreLevelsTo cut next levels last
 
 -- a search that has come to a level, and has seen the ends of all levels before it
-pub record IsAt (first : Held) (m : Made) (firsts : List Held) : Type 0 where
+pub record IsAt (first : Held) (m : Made) (firsts : List FirstEnd) : Type 0 where
   pub cut : Option (List ℕ)
   pub levels : List (List Held)
   pub before : List Held
@@ -52,10 +57,10 @@ pub record IsAt (first : Held) (m : Made) (firsts : List Held) : Type 0 where
   pub filled : IsFilled cut (before ++ m.level)
   pub long : All (λ (h : Held). length h.picks ≡ steps) m.level
   pub short : All (λ (h : Held). length h.picks ≤ steps) before
-  pub ends : AreFirstEnds before firsts
+  pub ends : StandForEnds before firsts
 
 -- a search goes on by one level; what it holds grows by that level
-pub record GoesOn (old new : Made) (before after : List Held) : Type 0 where
+pub record GoesOn (old new : Made) (before after : List FirstEnd) : Type 0 where
   pub at : (first : Held) → IsAt first old before → IsAt first new after
   pub grown : (first : Held) → IsAt first old before → new.states ≡ old.states + length new.level
 

@@ -1,24 +1,35 @@
 //! The ends, of which the first of each outcome becomes a row.
 
-ghost use Rattle.explore_laws.specs.Held.{HasHeldOutcome, choices_in};
-ghost use Rattle.explore_laws.specs.Present.{outcome_in};
-ghost use Rattle.order_search.specs.Ends.{TakesEnds};
+ghost use Rattle.explore_laws.specs.Held.{choices_in};
+ghost use Rattle.order_search.specs.Ends.{HasOutcome, TakesEnds};
 ghost use Rattle.order_search.specs.Moments.{held_as};
-ghost use Rattle.std.specs.Prelude.{◌≡◌, ◌∷◌, [], false, true, map, OnOk};
+ghost use Rattle.std.specs.Prelude.{◌≡◌, ◌∷◌, [], false, true, OnOk};
 
 use crate::moment::Moment;
 use crate::states::HeldState;
-use nook_data::lists::Items;
+use explore_defs::Outcome;
+use nook_data::campaign::MemberRow;
+use nook_data::lists::{Items, Words};
 use nook_data::memory::NoMemory;
+use nook_data::same::Same;
+use std::alloc::Global;
 
-/// Whether one of these states has the outcome of another.
-fn has_outcome<M: Moment>(firsts: &Items<HeldState<M>>, moment: &M) -> bool
-    ensures some { result ≡ true → HasHeldOutcome (map (held_as M.now) firsts.now) (outcome_in (M.now moment.now)) }
-    ensures none { result ≡ false → HasHeldOutcome (map (held_as M.now) firsts.now) (outcome_in (M.now moment.now))
-        → ⊥ }
+/// What is kept of the first end of an outcome: what its row shows, and the outcome. The simulation itself is let go.
+#[derive(Drop)]
+pub struct FirstEnd {
+    /// The actors of its steps.
+    pub picks: Words,
+    pub numbers: MemberRow,
+    pub outcome: Outcome,
+}
+
+/// Whether one of these ends has the outcome.
+fn has_outcome(firsts: &Items<FirstEnd>, outcome: &Outcome) -> bool
+    ensures some { result ≡ true → HasOutcome firsts.now outcome.now }
+    ensures none { result ≡ false → HasOutcome firsts.now outcome.now → ⊥ }
 {
     for index in 0..firsts.len() {
-        if firsts.get(index).moment.has_same_outcome(moment) {
+        if firsts.get(index).outcome.is_same(outcome) {
             return true;
         }
     }
@@ -27,15 +38,21 @@ fn has_outcome<M: Moment>(firsts: &Items<HeldState<M>>, moment: &M) -> bool
 
 /// A state from which no way goes on is the first end of its outcome, unless there is one already.
 pub fn add_end<M: Moment>(
+    alloc: Global,
     state: HeldState<M>,
-    firsts: &mut Items<HeldState<M>>,
+    firsts: &mut Items<FirstEnd>,
 ) -> Result<(), NoMemory>
     requires { choices_in (M.now state.moment) ≡ [] }
-    ensures { OnOk result (TakesEnds (held_as M.now state ∷ []) (map (held_as M.now) firsts.old)
-        (map (held_as M.now) firsts.new)) }
+    ensures { OnOk result (TakesEnds (held_as M.now state ∷ []) firsts.old firsts.new) }
 {
-    if has_outcome(firsts, &state.moment) {
+    let outcome = state.moment.outcome(alloc)?;
+    if has_outcome(firsts, &outcome) {
         return Ok(());
     }
-    firsts.push(state)
+    let numbers = state.moment.numbers(state.picks.len() as u64)?;
+    firsts.push(FirstEnd {
+        picks: state.picks,
+        numbers,
+        outcome,
+    })
 }

@@ -5,10 +5,10 @@ ghost use Rattle.order_search.specs.Ends.{TakesEnds};
 ghost use Rattle.order_search.specs.Found.{GoesOn, IsAt};
 ghost use Rattle.order_search.specs.Moments.{held_as, held_at_first};
 ghost use Rattle.order_search.specs.Ways.{TakesWays, made_as};
-ghost use Rattle.std.specs.Prelude.{◌∷◌, [], map, IfOk, OnOk};
+ghost use Rattle.std.specs.Prelude.{◌∷◌, [], IfOk, OnOk};
 
 use crate::by_digest::ByDigest;
-use crate::ends::add_end;
+use crate::ends::{FirstEnd, add_end};
 use crate::moment::Moment;
 use crate::states::HeldState;
 use crate::ways::{Front, follow};
@@ -22,7 +22,7 @@ pub struct Work<M> {
     /// The states of the level, in the order of their picks.
     pub level: Items<HeldState<M>>,
     /// Of the levels before it the first end of each outcome.
-    pub firsts: Items<HeldState<M>>,
+    pub firsts: Items<FirstEnd>,
     /// How many states are held in all.
     pub states: u32,
     /// Whether one more state would have had to be held.
@@ -32,7 +32,7 @@ pub struct Work<M> {
 /// A search at its first state.
 pub fn begin<M: Moment>(alloc: Global, first: M) -> Result<Work<M>, NoMemory>
     ensures { IfOk result (λ work. IsAt (held_at_first (M.now first))
-        (made_as M.now work.level work.states work.is_cut) (map (held_as M.now) work.firsts)) }
+        (made_as M.now work.level work.states work.is_cut) work.firsts) }
 {
     let mut level = Items::new(alloc);
     level.push(HeldState {
@@ -52,17 +52,16 @@ fn visit<M: Moment>(
     alloc: Global,
     state: HeldState<M>,
     front: &mut Front<M>,
-    firsts: &mut Items<HeldState<M>>,
+    firsts: &mut Items<FirstEnd>,
 ) -> Result<(), NoMemory>
     ensures ways { OnOk result (TakesWays (ways_from (held_as M.now state))
         (made_as M.now front.old.level front.old.states front.old.is_cut)
         (made_as M.now front.new.level front.new.states front.new.is_cut)) }
-    ensures ends { OnOk result (TakesEnds (held_as M.now state ∷ []) (map (held_as M.now) firsts.old)
-        (map (held_as M.now) firsts.new)) }
+    ensures ends { OnOk result (TakesEnds (held_as M.now state ∷ []) firsts.old firsts.new) }
 {
     let choices = state.moment.choices(alloc)?;
     if choices.is_empty() {
-        return add_end(state, firsts);
+        return add_end(alloc, state, firsts);
     }
     if front.is_cut {
         return Ok(());
@@ -73,8 +72,7 @@ fn visit<M: Moment>(
 /// Goes over a level: its ends are taken, and the ways on from it make the next level.
 pub fn go_over<M: Moment>(alloc: Global, work: Work<M>) -> Result<Work<M>, NoMemory>
     ensures { IfOk result (λ next. GoesOn (made_as M.now work.level work.states work.is_cut)
-        (made_as M.now next.level next.states next.is_cut) (map (held_as M.now) work.firsts)
-        (map (held_as M.now) next.firsts)) }
+        (made_as M.now next.level next.states next.is_cut) work.firsts next.firsts) }
 {
     let mut firsts = work.firsts;
     let mut front = Front {

@@ -3,8 +3,9 @@
 ghost use Rattle.explore_laws.specs.Held.{choices_in};
 ghost use Rattle.explore_laws.specs.Present.{Present, numbers_in, outcome_in};
 ghost use Rattle.order_search.specs.Moments.{IsAfter, actors_in};
-ghost use Rattle.std.specs.Prelude.{◌≡◌, ◌<◌, ◌↔◌, true, length, IfOk, IsTrue};
+ghost use Rattle.std.specs.Prelude.{◌≡◌, ◌<◌, true, length, IfOk};
 
+use explore_defs::Outcome;
 use nook_data::campaign::MemberRow;
 use nook_data::lists::Words;
 use nook_data::memory::NoMemory;
@@ -31,11 +32,11 @@ pub trait Moment: Drop {
     /// depends on it.
     fn digest(&self) -> u64;
 
-    /// Whether the other one has the same outcome.
-    fn has_same_outcome(&self, other: &Self) -> bool
-        ensures { IsTrue result ↔ (outcome_in (now self.now) ≡ outcome_in (now other.now)) };
+    /// The outcome of a run that ends here.
+    fn outcome(&self, alloc: Global) -> Result<Outcome, NoMemory>
+        ensures { IfOk result (λ made. made ≡ outcome_in (now self.now)) };
 
-    /// The numbers of the row of a run that has that many steps.
-    fn numbers(&self, steps: u64) -> MemberRow
-        ensures { result ≡ numbers_in steps (now self.now) };
+    /// The numbers of the row of a run that has that many steps. A sum that has no room in 64 bits is refused as memory is.
+    fn numbers(&self, steps: u64) -> Result<MemberRow, NoMemory>
+        ensures { IfOk result (λ row. row ≡ numbers_in steps (now self.now)) };
 }

@@ -1,11 +1,9 @@
 //! What a search finds.
 
-ghost use Rattle.order_search.specs.Found.{row_from};
-ghost use Rattle.order_search.specs.Moments.{held_as};
+ghost use Rattle.order_search.specs.Found.{row_of_end};
 ghost use Rattle.std.specs.Prelude.{◌≡◌, map, IfOk};
 
-use crate::moment::Moment;
-use crate::states::HeldState;
+use crate::ends::FirstEnd;
 use nook_data::campaign::MemberRow;
 use nook_data::lists::{Items, Words};
 use nook_data::memory::NoMemory;
@@ -31,18 +29,14 @@ pub struct Explored {
 }
 
 /// The rows of these ends.
-pub fn rows_from<M: Moment>(
-    alloc: Global,
-    firsts: Items<HeldState<M>>,
-) -> Result<Items<OutcomeRow>, NoMemory>
-    ensures { IfOk result (λ rows. rows ≡ map row_from (map (held_as M.now) firsts)) }
+pub fn rows_from(alloc: Global, firsts: Items<FirstEnd>) -> Result<Items<OutcomeRow>, NoMemory>
+    ensures { IfOk result (λ rows. rows ≡ map row_of_end firsts) }
 {
     let mut rows = Items::new(alloc);
     for first in firsts.into_vec() {
-        let numbers = first.moment.numbers(first.picks.len() as u64);
         rows.push(OutcomeRow {
             picks: first.picks,
-            numbers,
+            numbers: first.numbers,
         })?;
     }
     Ok(rows)

@@ -16,7 +16,7 @@ use std::alloc::Global;
 /// Follows every order of the steps from the first state on, level by level, with states that are alike held as one,
 /// until nothing goes on or too many states would have to be held.
 ///
-/// In memory are the states of two levels, and the first end of each outcome.
+/// In memory are the states of two levels, and of the first end of each outcome its row and the outcome.
 pub fn search<M: Moment>(alloc: Global, first: M) -> Result<Explored, NoMemory>
     ensures { (scenario : Scenario) → M.now first ≡ present (begins scenario)
         → IfOk result (IsFound (held_first scenario)) }

@@ -6,6 +6,7 @@
 
 mod arrive;
 mod burst;
+mod copies;
 mod crossing;
 mod enabled;
 mod enter;

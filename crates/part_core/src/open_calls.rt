@@ -11,9 +11,10 @@ ghost use Rattle.part_core.specs.Claimed.{without_answered};
 use claim_index::{Claim, ClaimIndex};
 use nook_data::calls::{Answer, CallAnswers, CallEntry, Op};
 use nook_data::classes::Class;
-use nook_data::lists::Word;
+use nook_data::lists::{TryCopy, Word};
 use nook_data::memory::NoMemory;
 use nook_data::rx_front::RxFront;
+use nook_data::same::Same;
 use shadow_log::ShadowLog;
 use std::alloc::Global;
 use std::marker::Model;
@@ -172,6 +173,20 @@ impl OpenCalls {
         ensures number { IfSome result (λ c. open_call c.now.call self.now.pending ≡ Some c.now) }
     {
         self.log.call_of_thread(thread)
+    }
+}
+
+impl TryCopy for OpenCalls {
+    fn copy(&self, alloc: Global) -> Result<OpenCalls, NoMemory> {
+        let log = self.log.copy(alloc)?;
+        let claims = self.claims.copy(alloc)?;
+        Ok(OpenCalls { log, claims })
+    }
+}
+
+impl Same for OpenCalls {
+    fn is_same(&self, other: &OpenCalls) -> bool {
+        self.log.is_same(&other.log)
     }
 }
 

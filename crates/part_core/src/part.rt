@@ -287,6 +287,18 @@ impl Part {
         self.state.log.count()
     }
 
+    /// Whether the other part's state is the same; journals are not compared. One that is may be denied.
+    pub fn is_same_state(&self, other: &Part) -> bool
+        ensures { result ≡ true → self.now.state ≡ other.now.state }
+    {
+        self.state.is_same(&other.state)
+    }
+
+    /// A digest, and the part's state more. Parts whose states are the same give the same number.
+    pub fn digest(&self, digest: u64) -> u64 {
+        self.state.digest(digest)
+    }
+
     /// The number of the event that answered the call, from 1; None exactly where the call is open or its number was given
     /// to none.
     pub fn answered_at(&self, call: u32) -> Option<u64>
@@ -294,6 +306,19 @@ impl Part {
         ensures told { is_some result ≡ is_answered self.now.state.log call }
     {
         place_of_answer(self.journal.as_slice(), call)
+    }
+}
+
+impl TryCopy for Part {
+    fn copy(&self, alloc: Global) -> Result<Part, NoMemory> {
+        let script = self.script.copy(alloc)?;
+        let journal = self.journal.copied(alloc)?;
+        let state = self.state.copied(alloc)?;
+        Ok(Part {
+            state,
+            script,
+            journal,
+        })
     }
 }
 

@@ -2,8 +2,9 @@
 
 ghost use Rattle.search_cases.specs.Nothing.{nothing};
 
+use explore_defs::Outcome;
 use nook_data::campaign::MemberRow;
-use nook_data::lists::Words;
+use nook_data::lists::{Items, Words};
 use nook_data::memory::NoMemory;
 use order_search::Moment;
 use std::alloc::Global;
@@ -31,18 +32,21 @@ impl Moment for Still {
         0
     }
 
-    fn has_same_outcome(&self, _other: &Still) -> bool {
-        true
+    fn outcome(&self, alloc: Global) -> Result<Outcome, NoMemory> {
+        Ok(Outcome {
+            answers: Items::new(alloc),
+            parts: Items::new(alloc),
+        })
     }
 
-    fn numbers(&self, steps: u64) -> MemberRow {
-        MemberRow {
+    fn numbers(&self, steps: u64) -> Result<MemberRow, NoMemory> {
+        Ok(MemberRow {
             status: 0,
             events: steps,
             failures: 0,
             gone: 0,
             lost: 0,
-        }
+        })
     }
 }
 

@@ -12,8 +12,9 @@ ghost use Rattle.shadow_log.specs.Stopped.{after_answers};
 use nook_data::answers::answer_among;
 use nook_data::calls::{Answer, CallEntry, Op};
 use nook_data::limits::MOST_CALLS;
-use nook_data::lists::Word;
+use nook_data::lists::{TryCopy, Word, copy_all};
 use nook_data::memory::NoMemory;
+use nook_data::same::{Same, are_same};
 use nook_data::steps::Stage;
 use std::alloc::Global;
 use std::marker::Model;
@@ -253,6 +254,28 @@ impl ShadowLog {
             Some(_) => Stage::ReplayOpen,
             None => Stage::Resume,
         }
+    }
+}
+
+impl TryCopy for ShadowLog {
+    fn copy(&self, alloc: Global) -> Result<ShadowLog, NoMemory> {
+        Ok(ShadowLog {
+            pending: copy_all(alloc, &self.pending)?,
+            count: self.count,
+            config: self.config,
+            defaults: self.defaults,
+            holder: self.holder,
+        })
+    }
+}
+
+impl Same for ShadowLog {
+    fn is_same(&self, other: &ShadowLog) -> bool {
+        self.count == other.count
+            && self.holder.is_same(&other.holder)
+            && self.config.is_same(&other.config)
+            && self.defaults.is_same(&other.defaults)
+            && are_same(&self.pending, &other.pending)
     }
 }
 

@@ -30,7 +30,7 @@ none_picked s actors e l =
 pub place_within : (order : Order) (actors : List ℕ) (place : ℕ) → 0 < length actors → place ≡ (picked order actors).place → place < length actors
 place_within order actors place l e = subst (λ (n : ℕ). n < length actors) (sym e) (picked_within order actors l)
 
-map_at : (xs : List Choice) (i : ℕ) (c : Choice) → slice_get xs i ≡ Some c → slice_get (map actor_of xs) i ≡ Some c.actor
+pub map_at : (xs : List Choice) (i : ℕ) (c : Choice) → slice_get xs i ≡ Some c → slice_get (map actor_of xs) i ≡ Some c.actor
 map_at [] i c h = cc
 map_at (x ∷ xs) zero c h = ap {B = Option ℕ} (λ (y : Choice). Some y.actor) (inner h)
   where

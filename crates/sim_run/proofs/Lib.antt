@@ -1,5 +1,6 @@
 pub mod AbleThreads
 pub mod Advancing
+pub mod Branching
 pub mod FirstBreak
 pub mod Choosing
 pub mod Ending

@@ -9,3 +9,4 @@ pub mod Reached
 pub mod Watched
 pub mod Whole
 pub mod Breaks
+pub mod Branching

@@ -71,7 +71,7 @@ fn steps_to_break(alloc: Global, scenario: &Scenario) -> Result<Option<u32>, NoM
 
 /// Takes a choice that may be taken, and the monitor of its part sees the event. Tells whether the part has then broken
 /// a clause.
-fn take_judged(
+pub fn take_judged(
     simulation: &mut Simulating,
     monitors: &mut [Monitor],
     unheard: &mut Bus<CountListener>,

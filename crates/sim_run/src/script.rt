@@ -1,16 +1,19 @@
 //! A thread of a run: its script, its open call and its answers.
 
-ghost use Rattle.std.specs.Prelude.{drop, ◌≡◌, is_some, slice_get, IfOk, None, OnOk, if◌then◌else◌};
+ghost use Rattle.std.specs.Prelude.{drop, ◌≡◌, is_some, slice_get, true, IfOk, None, OnOk, if◌then◌else◌};
 ghost use Rattle.nook_data.specs.Answers.{answer_among, answer_at};
 ghost use Rattle.sim_run.specs.Able.{concerns, is_invocation, looks_at};
 ghost use Rattle.sim_run.specs.Actors.{choice_when, has_step};
+ghost use Rattle.sim_run.specs.Opened.{waiting_of};
 ghost use Rattle.run_defs.specs.Simulation.{going_on, invocation, opening_thread, started, thread_after};
 
 use crate::chosen::Chosen;
 use crate::seat::Seat;
-use nook_data::calls::{Op, PartAnswers};
+use nook_data::calls::{Answer, Op, PartAnswers};
+use nook_data::digest::{mixed, mixed_words};
 use nook_data::lists::{Items, TryCopy};
 use nook_data::memory::NoMemory;
+use nook_data::same::{Same, are_same};
 use nook_data::scenario::ThreadSpec;
 use nook_data::steps::{Event, Step};
 use std::alloc::Global;
@@ -50,6 +53,46 @@ impl<'a> Script<'a> {
             waiting: None,
             answers: Items::new(alloc),
         }
+    }
+
+    /// An equal thread of its own.
+    pub fn copied(&self, alloc: Global) -> Result<Script<'a>, NoMemory>
+        ensures { IfOk result (λ made. made ≡ self.now) }
+    {
+        let answers = self.answers.copy(alloc)?;
+        Ok(Script {
+            rest: self.rest,
+            waiting: self.waiting,
+            answers,
+        })
+    }
+
+    /// Whether the other thread is as this one.
+    pub fn is_same(&self, other: &Script) -> bool
+        ensures { result ≡ true → self.now ≡ other.now }
+    {
+        are_same_calls(self.waiting, other.waiting)
+            && are_same(self.rest, other.rest)
+            && self.answers.is_same(&other.answers)
+    }
+
+    /// A digest, and where the thread is in its script with it, and what it was answered.
+    pub fn digest(&self, digest: u64) -> u64 {
+        let mut digest = mixed(digest, self.rest.len() as u64);
+        if let Some(call) = self.waiting {
+            digest = mixed(digest, u64::from(call.call));
+        }
+        for answer in &self.answers {
+            digest = mixed_answer(digest, &answer.1);
+        }
+        digest
+    }
+
+    /// The answers so far, each with its part.
+    pub fn answers(&self) -> &PartAnswers
+        ensures { result.now ≡ self.now.answers }
+    {
+        &self.answers
     }
 
     /// Whether the thread has a step: of its open call, else the invocation of its next operation.
@@ -161,6 +204,27 @@ impl<'a> Script<'a> {
         ensures { result ≡ self.entry.answers }
     {
         self.answers
+    }
+}
+
+/// Whether two threads have the same open call, or both none.
+fn are_same_calls(call: Option<Open>, other: Option<Open>) -> bool
+    ensures { result ≡ true → waiting_of call ≡ waiting_of other }
+{
+    match (call, other) {
+        (Some(call), Some(other)) => call.part == other.part && call.call == other.call,
+        (None, None) => true,
+        _ => false,
+    }
+}
+
+/// A digest, and the words of an answer with it.
+fn mixed_answer(digest: u64, answer: &Answer) -> u64 {
+    match answer {
+        Answer::Blocks(words) => mixed_words(digest, words.as_slice()),
+        Answer::Frame(frame) => mixed_words(digest, frame.as_slice()),
+        Answer::Value(value) => mixed(digest, u64::from(*value)),
+        _ => mixed(digest, 1),
     }
 }
 

@@ -39,6 +39,8 @@ use schedule::Schedule;
 use std::alloc::Global;
 use std::marker::Model;
 
+mod branching;
+
 /// A run as it stands.
 #[derive(Drop)]
 pub struct Simulating<'a> {

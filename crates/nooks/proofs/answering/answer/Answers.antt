@@ -29,3 +29,6 @@ returns-in-Trace-clause-ends g c = rw (c.in-Trace.is) (c.trace_bytes.ensures.end
 
 pub returns-in-GuardScenario-clause-ends : goal.returns-in-GuardScenario-clause-ends
 returns-in-GuardScenario-clause-ends g c = rw (c.in-GuardScenario.is) (c.run_guard_scenario.ensures.ends [])
+
+pub returns-in-Explore-clause-ends : goal.returns-in-Explore-clause-ends
+returns-in-Explore-clause-ends g c = rw (c.in-Explore.is) (c.run_explore.ensures.ends [])

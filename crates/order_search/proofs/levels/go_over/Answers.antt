@@ -27,8 +27,8 @@ loop-state-preserved g c =
           (made_as now c.visit.new.front.level c.visit.new.front.states c.visit.new.front.is_cut) new items
           c.in_ok-visit.ensures.ways t);
       ends = λ new t.
-          c.loop-state.invariant.ends new (all_ends_then now was rest c.in-Some.state (map view c.loop-state.firsts)
-          (map view c.visit.new.firsts) new items c.in_ok-visit.ensures.ends t);
+          c.loop-state.invariant.ends new (all_ends_then now was rest c.in-Some.state c.loop-state.firsts
+          c.visit.new.firsts new items c.in_ok-visit.ensures.ends t);
     }
 
 pub returns : goal.returns
@@ -38,9 +38,9 @@ returns g c =
     let none : into_iter_items c.loop-state.state-iterator ≡ [] = nil_from_length
     (into_iter_items c.loop-state.state-iterator)
     (let n = c.in-None.ensures.steps.0 in let m = c.loop-state.invariant.len in omega arith) in
-    let after = map view c.loop-state.firsts in
+    let after = c.loop-state.firsts in
     let new : Made = made_as now c.loop-state.front.level c.loop-state.front.states c.loop-state.front.is_cut in
-    goes_on (made_as now c.args.work.level c.args.work.states c.args.work.is_cut) new (map view c.args.work.firsts)
+    goes_on (made_as now c.args.work.level c.args.work.states c.args.work.is_cut) new c.args.work.firsts
     after
     (c.loop-state.invariant.ways new
     (subst (λ (xs : List (HeldState g.row.M.Denot)). TakesWays (all_ways (map view xs)) new new) (sym none)

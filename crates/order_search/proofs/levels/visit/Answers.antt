@@ -1,4 +1,3 @@
-use Rattle.std.proofs.Common.{map}
 use Rattle.explore_laws.specs.Held.{ways_from}
 use Rattle.order_search.proofs.FirstEnds.{ends_same}
 use Rattle.order_search.proofs.Sifted.{takes_all_past}
@@ -14,13 +13,12 @@ returns-then-front-clause-ways g c =
 
 pub returns-then-front-clause-ends : goal.returns-then-front-clause-ends
 returns-then-front-clause-ends g c =
-    ends_same (held_as g.M.Moment.now c.args.state) (map (held_as g.M.Moment.now) c.args.firsts.now)
+    ends_same (held_as g.M.Moment.now c.args.state) c.args.firsts.now
     (λ ended. absurd (some_listed (g.M.Moment.now c.args.state.moment) c.in_ok-choices.choices c.is_empty.result
     c.in_ok-choices.ensures c.is_empty.ensures c.if-is_empty.false ended))
 
 pub returns-clause-ends : goal.returns-clause-ends
 returns-clause-ends g c =
-    on_ok c.follow.result (ends_same (held_as g.M.Moment.now c.args.state)
-    (map (held_as g.M.Moment.now) c.args.firsts.now)
+    on_ok c.follow.result (ends_same (held_as g.M.Moment.now c.args.state) c.args.firsts.now
     (λ ended. absurd (some_listed (g.M.Moment.now c.args.state.moment) c.in_ok-choices.choices c.is_empty.result
     c.in_ok-choices.ensures c.is_empty.ensures c.if-is_empty.false ended)))

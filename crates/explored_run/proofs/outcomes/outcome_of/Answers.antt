@@ -1,0 +1,14 @@
+use Rattle.std.proofs.Common.{ap, ap₂, ◌∙◌}
+use Rattle.explore_defs.specs.Outcomes.{shown_losses}
+use Rattle.explored_run.proofs.Loops.{outcome_is}
+use Rattle.explored_run.proofs.outcomes.outcome_of.Goals as goal
+use Rattle.nook_data.specs.Types.{Class, Losses, PartSpec}
+
+pub returns : goal.returns
+returns c =
+    outcome_is c.args.part.now c.args.monitor.now c.in_ok-objects.field-0 c.in_ok-given_of.field-0 c.shown_losses.result
+    c.broken_clause.result c.requires c.in_ok-objects.ensures c.in_ok-given_of.ensures
+    (c.shown_losses.ensures
+    ∙ ap₂ (λ (x : Class) (n : Losses). shown_losses x n) (ap (λ (s : PartSpec). s.class) c.spec.ensures.spec)
+    c.losses.ensures.value)
+    c.broken_clause.ensures

@@ -1,0 +1,74 @@
+//! Digests of what tells simulations apart beside their parts' memories: what disks hold, and what reports will list.
+
+use nook_data::classes::Class;
+use nook_data::digest::mixed_words;
+use nook_data::machine::Act;
+use nook_data::steps::Event;
+use part_core::Part;
+use sim_run::Simulating;
+
+/// A digest, and what the parts' devices were given with it.
+pub fn digest_of_parts(digest: u64, simulation: &Simulating) -> u64 {
+    let mut digest = digest;
+    for number in 0..simulation.part_count() {
+        digest = digest_of_part(digest, simulation.part(number));
+    }
+    digest
+}
+
+/// A digest, and the blocks of a part's disk, or the acts that its report lists.
+fn digest_of_part(digest: u64, part: &Part) -> u64 {
+    match part.spec().class {
+        Class::Block => mixed_medium(digest, part),
+        Class::Net => mixed_acts(digest, part),
+        Class::Sound => mixed_acts(digest, part),
+    }
+}
+
+/// A digest, and the blocks of a part's disk.
+fn mixed_medium(digest: u64, part: &Part) -> u64 {
+    let mut digest = digest;
+    for block in part.medium() {
+        digest = mixed_words(digest, block);
+    }
+    digest
+}
+
+/// A digest, and the frames that a part sent or the samples that it played.
+fn mixed_acts(digest: u64, part: &Part) -> u64 {
+    let mut digest = digest;
+    for event in part.journal().as_slice() {
+        digest = mixed_event(digest, event);
+    }
+    digest
+}
+
+/// A digest, and those of an event.
+fn mixed_event(digest: u64, event: &Event) -> u64 {
+    match event {
+        Event::Burst { acts, .. } => mixed_burst(digest, acts.as_slice()),
+        _ => digest,
+    }
+}
+
+/// A digest, and those of a burst's acts.
+fn mixed_burst(digest: u64, acts: &[Act]) -> u64 {
+    let mut digest = digest;
+    for act in acts {
+        digest = mixed_act(digest, act);
+    }
+    digest
+}
+
+/// A digest, and the words of an act that is listed.
+fn mixed_act(digest: u64, act: &Act) -> u64 {
+    match act {
+        Act::Sent { frame } => mixed_words(digest, frame.as_slice()),
+        Act::Played {
+            sample,
+            rate,
+            volume,
+        } => mixed_words(digest, &[*sample, *rate, *volume]),
+        _ => digest,
+    }
+}

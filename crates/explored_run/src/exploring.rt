@@ -1,0 +1,24 @@
+//! Every order of the steps of a scenario.
+
+ghost use Rattle.explore_defs.specs.Explored.{IsExplored};
+ghost use Rattle.nook_data.specs.Valid.{IsValidScenario};
+ghost use Rattle.order_search.specs.Found.{found_status, found_text};
+ghost use Rattle.std.specs.Prelude.{IfOk};
+
+use crate::standing::Standing;
+use nook_data::memory::NoMemory;
+use nook_data::scenario::Scenario;
+use order_search::{Explored, search};
+use std::alloc::Global;
+
+/// Follows every order of the steps of a valid scenario, and gives a row for each outcome. Its schedule is not asked.
+///
+/// # Errors
+///
+/// Out of memory: the states of two levels are in memory, and the first end of each outcome.
+pub fn explore(alloc: Global, scenario: &Scenario) -> Result<Explored, NoMemory>
+    requires { IsValidScenario scenario.now }
+    ensures { IfOk result (λ found. IsExplored scenario.now (found_text found) (found_status found)) }
+{
+    search(alloc, Standing::first(alloc, scenario)?)
+}

@@ -1,0 +1,94 @@
+//! The acts that a report lists at its end.
+
+ghost use Rattle.explored_run.specs.Alike.{event_acts, given_at, given_in, is_given};
+ghost use Rattle.std.specs.Prelude.{◌≡◌, ◌++◌, filter, IfOk, OnOk, map, true};
+
+use nook_data::classes::Class;
+use nook_data::lists::TryCopy;
+use nook_data::machine::{Act, Acts};
+use nook_data::memory::NoMemory;
+use nook_data::same::Same;
+use nook_data::steps::Event;
+use part_core::Part;
+use sim_run::Simulating;
+use std::alloc::Global;
+
+/// The acts that the report of a part lists: the frames that a link sent, or the samples that a stream played.
+pub fn given_of(alloc: Global, part: &Part) -> Result<Acts, NoMemory>
+    ensures { IfOk result (λ given. given ≡ given_in part.now) }
+{
+    let class = part.spec().class;
+    let mut given = Acts::new(alloc);
+    if class == Class::Block {
+        return Ok(given);
+    }
+    for event in part.journal().as_slice() {
+        add_given(alloc, class, event, &mut given)?;
+    }
+    Ok(given)
+}
+
+/// Adds those of an event.
+fn add_given(alloc: Global, class: Class, event: &Event, given: &mut Acts) -> Result<(), NoMemory>
+    ensures { OnOk result (given.new ≡ given.old ++ filter (is_given class) (event_acts event.now)) }
+{
+    match event {
+        Event::Burst { acts, .. } => add_given_acts(alloc, class, acts.as_slice(), given),
+        _ => Ok(()),
+    }
+}
+
+/// Adds those of some acts.
+fn add_given_acts(
+    alloc: Global,
+    class: Class,
+    acts: &[Act],
+    given: &mut Acts,
+) -> Result<(), NoMemory>
+    ensures { OnOk result (given.new ≡ given.old ++ filter (is_given class) acts.now) }
+{
+    for act in acts {
+        if is_given(class, act) {
+            given.push(act.copy(alloc)?)?;
+        }
+    }
+    Ok(())
+}
+
+/// Whether the report of a part of a class lists an act.
+fn is_given(class: Class, act: &Act) -> bool
+    ensures { result ≡ is_given class act.now }
+{
+    match class {
+        Class::Block => false,
+        Class::Net => matches!(act, Act::Sent { .. }),
+        Class::Sound => matches!(act, Act::Played { .. }),
+    }
+}
+
+/// Whether the parts of two simulations have the same acts that their reports list. Without memory to list them this is
+/// denied.
+#[tactic(auto, using(crate::proofs::Loops::given_alike_more))]
+pub fn are_given_alike(alloc: Global, simulation: &Simulating, other: &Simulating) -> bool
+    ensures { result ≡ true → map given_at simulation.now.parts ≡ map given_at other.now.parts }
+{
+    if simulation.part_count() != other.part_count() {
+        return false;
+    }
+    for number in 0..simulation.part_count() {
+        if !is_given_alike(alloc, simulation.part(number), other.part(number)) {
+            return false;
+        }
+    }
+    true
+}
+
+/// Whether two parts have the same acts that their reports list.
+fn is_given_alike(alloc: Global, part: &Part, other: &Part) -> bool
+    ensures { result ≡ true → given_in part.now ≡ given_in other.now }
+{
+    match (given_of(alloc, part), given_of(alloc, other)) {
+        (Ok(given), Ok(others)) => given.is_same(&others),
+        _ => false,
+    }
+}

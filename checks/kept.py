@@ -95,7 +95,7 @@ def check_inputs(tally: Tally, whose: str, program: str) -> None:
 
 
 # The forms that read JSON, and the one line of each over an input that is cut off.
-CUT_OFF = [([form], "1 not_json /") for form in ("run", "dis", "campaign", "mirror", "guard")] + [
+CUT_OFF = [([form], "1 not_json /") for form in ("run", "dis", "campaign", "mirror", "guard", "explore")] + [
     (["run", "threads"], "1 not_json /"),
     (["guard", "scenario"], "1 not_json /"),
     (["trace", "0", "1"], "1 not_json /"),
@@ -114,7 +114,7 @@ def check_fronts(tally: Tally, whose: str, program: str) -> None:
 
 
 # Words that are of no form, beside those of checks/statuses.
-NO_FORMS = [["list", "me"], ["gen", "257", "scenario"], ["gen", "1", "report"], ["--help", "me"], ["run", "run"], ["guard", "run"]]
+NO_FORMS = [["list", "me"], ["gen", "257", "scenario"], ["gen", "1", "report"], ["--help", "me"], ["run", "run"], ["guard", "run"], ["explore", "1"]]
 
 
 def check_usage(tally: Tally, whose: str, program: str) -> None:

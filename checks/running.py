@@ -6,6 +6,7 @@ import importlib.machinery
 import importlib.util
 import json
 import os
+import re
 import shutil
 import subprocess
 import sys
@@ -131,6 +132,11 @@ def example(name: str) -> bytes:
     """The bytes of a file of examples/."""
     with open(os.path.join(EXAMPLES, name), "rb") as file:
         return file.read()
+
+
+def without_states(exploration: bytes) -> bytes:
+    """What `explore` writes, without its count of states: the plain program holds more of them as one."""
+    return re.sub(rb"(?m)^explored \d+ states", b"explored", exploration)
 
 
 def document(name: str) -> list[str]:

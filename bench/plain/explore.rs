@@ -1,11 +1,9 @@
 //! Every order of the steps of a scenario: the outcomes that some order has, and an order for each.
 //!
-//! This form is ahead of the proved program, which answers its word with the usage line until it has it. docs/EXPLORE.md
-//! describes it, and neither the usage line nor `--help` names it.
-//!
 //! Runs are followed level by level: those of one step, those of two, and so on. Runs of one length after which all goes
 //! on alike are one state. The states of a level stand in the order of their least picks, and their successors are made
 //! in the order of the actors. So the first run that leads to a state or to an outcome is the one with the least picks.
+//! The rows are those of the proved program; it holds fewer states as one, since it does not number open calls anew.
 //!
 //! A state is held whole, and a step is taken by a copy of the one part that it changes. All other parts and threads are
 //! shared with the state before it, and equal ones by all states of the last two levels. Of older levels the actors are

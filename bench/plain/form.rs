@@ -1,7 +1,4 @@
 //! Which form the words are of.
-//!
-//! `explore` is ahead of the proved program: until it has it, it answers the word with the usage line. The usage line and
-//! `--help` do not name it.
 
 use std::ops::RangeInclusive;
 
@@ -28,6 +25,7 @@ pub enum Form {
     Guard,
     /// The scenario whose run that is.
     GuardScenario,
+    /// The outcomes of every order of the steps.
     Explore,
     Help,
     Version,

@@ -19,6 +19,7 @@ nooks mirror          read a scenario of two disks, keep one disk on both, write
 nooks trace P B       read a scenario, write what burst B of part P did, turn by turn (P from 0)
 nooks guard           read a scenario, stop each driver before it breaks its contract, write traps and report
 nooks guard scenario  read a scenario, write it as JSON with the traps of its guard
+nooks explore         read a scenario, follow every order of its steps, write a row for each outcome
 nooks --help          write this
 nooks --version       write the program's version, and the kit that it is proved with
 status 0              done; no part was given up
@@ -30,6 +31,7 @@ status 5              writing failed; a front of the output was written
 status 6              memory was wanting; a front of the output was written, or nothing
 status 7              a driver broke its class's contract
 status 8              a line of the report does not fit the scenario
+status 9              not every order was followed: too many states
 ";
 
 /// The version of the proved program that this one agrees with.

@@ -1,22 +1,21 @@
-"""What `explore` says of a scenario: how its run can end, and an order of steps for each end. The proved program does
-not have this form yet, the plain one does, and it is not proved."""
+"""What `explore` says of a scenario: how its run can end, and an order of steps for each end."""
 
 from __future__ import annotations
 
 import json
-import os
 import re
 from dataclasses import dataclass
 
+from .facts import STATUSES
 from .outcomes import Row
-from .program import BUILT, USAGE, Mistake, Program, find_program
+from .program import REPORTED, Mistake, Program
 from .scenario import Scenario
 
 FORM = "explore"
 
-# The status of an exploration that did not follow every order. The tables of the sources do not have it yet.
-CUT = 9
-ANSWERS = (0, 1, 7, CUT)
+# The status of an exploration that did not follow every order.
+CUT = STATUSES["cut"]
+ANSWERS = (*REPORTED, CUT)
 
 # The version line of a program of which nothing is proved.
 PLAIN = " plain, nothing proved"
@@ -65,23 +64,6 @@ def parse_explored(text: str) -> Explored:
     if len(found) != int(words[3]):
         raise Mistake(f"{len(found)} rows of an exploration, and it counts {words[3]}")
     return Explored(found, int(words[2]), words[1] is not None)
-
-
-def has_explore(program: Program) -> bool:
-    """Whether a program has the form, by the way in which it refuses an empty input."""
-    return program.ask([FORM], "").status != USAGE
-
-
-def find_explorer(named: str | None) -> Program:
-    """The program that follows every order: the named one or that of the environment; else the default one, or the
-    plain one if that alone has the form."""
-    program = find_program(named)
-    if has_explore(program):
-        return program
-    plain = Program(BUILT["./nooks-plain"])
-    if named or os.environ.get("NOOKS") or not os.access(plain.path, os.X_OK) or not has_explore(plain):
-        raise program.too_old(f"`{FORM}`")
-    return plain
 
 
 def is_plain(program: Program) -> bool:

@@ -9,7 +9,7 @@ import shutil
 import sys
 
 from .ends import End, end_of, listed
-from .explored import Found, explored, find_explorer
+from .explored import Found, explored
 from .facts import STATUSES
 from .faults import check_range
 from .jsontext import json_text
@@ -34,10 +34,9 @@ CUT, GIVEN, BREAKS = "cut", "given-up", "broken"
 FAILURES = {GIVEN: STATUSES["given_up"], BREAKS: STATUSES["contract_broken"]}
 
 ABOUT = """Follows every order in which the steps of the scenario FILE can happen, whatever its own schedule is, and
-writes how its run can end: each outcome, what differs between outcomes, and an order for the worst. The program has to
-have `explore`, which the proved one does not have yet: ./nooks-plain builds one, and nothing is proved of it. If there
-are too many states for that, or with --search, orders are run by themselves: first those without a preemption, a switch
-away from an actor that could go on, then those with one, and so on. That proves nothing of the others."""
+writes how its run can end: each outcome, what differs between outcomes, and an order for the worst. If there are too
+many states for that, or with --search, orders are run by themselves: first those without a preemption, a switch away
+from an actor that could go on, then those with one, and so on. That proves nothing of the others."""
 
 
 def end_by_path(path: str, scenario: Scenario, found: Found) -> End:
@@ -75,7 +74,7 @@ def searched(program: Program, scenario: Scenario, known: list[End], args: argpa
 
 def ways_of(args: argparse.Namespace) -> Ways:
     """All that the options ask for."""
-    program = find_program(args.program) if args.search else find_explorer(args.program)
+    program = find_program(args.program)
     ways = Ways(scenario_of(program, args.file), program)
     if not args.search:
         ways.explored = explored(program, ways.scenario)
@@ -147,6 +146,6 @@ def add_to(commands: argparse._SubParsersAction[argparse.ArgumentParser]) -> Non
 def add_search(parser: argparse.ArgumentParser) -> None:
     """The options of the search."""
     group = parser.add_argument_group("search", "if there are too many states to follow every order")
-    group.add_argument("--search", action="store_true", help="search, whatever the number of states; any program can")
+    group.add_argument("--search", action="store_true", help="search, whatever the number of states")
     group.add_argument("--tries", type=int, default=4000, metavar="N", help="switches to try (default 4000; 0: none)")
     group.add_argument("--preemptions", type=int, metavar="P", help="at most P of them in an order (default: no bound)")

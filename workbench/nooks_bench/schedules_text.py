@@ -39,14 +39,13 @@ def statuses_text(ends: Sequence[End]) -> str:
 
 def covered_lines(ways: Ways) -> list[str]:
     """What was followed, and by which program."""
-    by = "the plain program" if is_plain(ways.program) else "the program"
+    by = "the plain program, of which nothing is proved" if is_plain(ways.program) else "the program"
     lines = [f"run by {by}, {ways.program.path}"]
     found = ways.explored
     if found and found.is_front:
         lines.append(f"NOT every order: there are more than {found.states:,} states, so longer runs were not followed")
     elif found:
-        trust = "; the program that found them is not proved" if is_plain(ways.program) else ""
-        lines.append(f"every order of the steps: {found.states:,} states{trust}")
+        lines.append(f"every order of the steps: {found.states:,} states")
     lines.append(f"{counted(len(ways.ends), 'outcome')}: {statuses_text(ways.ends)}" if ways.ends else "no outcome yet")
     return lines
 

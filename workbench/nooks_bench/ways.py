@@ -45,7 +45,7 @@ class Ways:
             for number, end in enumerate(self.ends, 1)
         ]
         shown: dict[str, Any] = {"program": self.program.path, "version": self.program.version(),
-                                 "proved": False, "every_order": self.is_whole, "outcomes": outcomes,
+                                 "every_order": self.is_whole, "outcomes": outcomes,
                                  "differs": [each.as_json() for each in differing(self.ends)]}
         if self.explored:
             shown["explored"] = {"states": self.explored.states, "front": self.explored.is_front}

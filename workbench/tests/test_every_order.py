@@ -11,27 +11,26 @@ from unittest import mock
 from common import bench, example, example_path, file_of, program
 from race import racing_scenario
 
-from nooks_bench import explored, program as program_module
+from nooks_bench import explored
 from nooks_bench.ends import differing, end_of, order_text
-from nooks_bench.explored import CUT, find_explorer, has_explore
+from nooks_bench.explored import CUT, is_plain
 from nooks_bench.preemptions import Search, Switch, Walk, follow, setting_of
-from nooks_bench.program import BUILT, Mistake, Program
+from nooks_bench.program import Mistake
 from nooks_bench.report import parse_report
 from nooks_bench.scenario import with_schedule
 from nooks_bench.schedules_text import shortened
 
-PLAIN = Program(BUILT["./nooks-plain"])
-EXPLORER = next((each for each in (program(), PLAIN) if os.access(each.path, os.X_OK) and has_explore(each)), None)
-WHY_NOT = "no program has explore: ./nooks-plain builds one"
+EXPLORER = program()
+BY = "the plain program, of which nothing is proved" if is_plain(EXPLORER) else "the program"
 
 RACES = {"read-ahead": 7, "two-sends": 7, "shared-word": 7, "spins": 1}
 ACTED = re.compile(r"(?m)^\d+ (?:invoke c\d+ t(\d+)|(?:enter c\d+|burst) x(\d+)|(stage|arrive))\b")
 
 
 def schedules(name: str, *words: str) -> tuple[int, str, str]:
-    """The command over an example, by the program that has the form."""
+    """The command over an example."""
     path = name if os.path.exists(name) else example_path(name + ".json")
-    return bench("--program", EXPLORER.path, "schedules", path, "--quiet", *words)
+    return bench("schedules", path, "--quiet", *words)
 
 
 def report(scenario: dict, picks=None) -> str:
@@ -94,7 +93,6 @@ def tiny() -> dict:
     return scenario
 
 
-@unittest.skipUnless(EXPLORER, WHY_NOT)
 class EveryOrder(unittest.TestCase):
     def test_the_table(self):
         status, out, err = schedules("read-ahead")
@@ -102,9 +100,8 @@ class EveryOrder(unittest.TestCase):
         found = rows(example("read-ahead.json"))
         lines = [[int(word) for word in line.split()] for line in out.split("\n") if re.fullmatch(r"[ \d]+", line)]
         self.assertEqual([line[:3] for line in lines], [[number, each[0], len(each[1])] for number, each in enumerate(found, 1)])
-        self.assertIn("every order of the steps: ", out)
-        self.assertIn("the program that found them is not proved", out)
-        self.assertIn(f"run by {'the plain program' if EXPLORER == PLAIN else 'the program'}", out.replace(", " + EXPLORER.path, ""))
+        self.assertRegex(out, r"(?m)^every order of the steps: [\d,]+ states$")
+        self.assertIn(f"\nrun by {BY}, {EXPLORER.path}\n", out)
         self.assertTrue(out.endswith("some order breaks a contract\n"))
         read = report(example("read-ahead.json"), found[1][1])
         self.assertIn("\ncontract broken event 37 clause 4\n", read)
@@ -146,7 +143,7 @@ class EveryOrder(unittest.TestCase):
         found = rows(scenario)
         self.assertEqual([each["schedule"]["picks"] for each in shown["outcomes"]], [picks for _, picks in found])
         self.assertEqual(len({json.dumps(each["things"]) for each in shown["outcomes"]}), len(found))
-        self.assertEqual((shown["every_order"], shown["proved"], shown["explored"]["front"]), (True, False, False))
+        self.assertEqual((shown["every_order"], shown["version"], shown["explored"]["front"]), (True, EXPLORER.version(), False))
         reports = [report(scenario, picks) for _, picks in found]
         received = [re.search(r"(?m)^frames .* received (\d+)", text)[1] for text in reports]
         values = next(each["values"] for each in shown["differs"] if each["what"] == "frames of wire, received")
@@ -204,7 +201,7 @@ class EveryOrder(unittest.TestCase):
             self.assertRaises(Mistake, explored.parse_explored, text)
 
     def test_the_program(self):
-        """One that has no such form is refused if it was named; else the plain one is taken."""
+        """One that has no such form is refused, but for a search."""
         with tempfile.TemporaryDirectory() as folder:
             old = os.path.join(folder, "nooks")
             with open(old, "w", encoding="utf-8") as file:
@@ -213,23 +210,11 @@ class EveryOrder(unittest.TestCase):
             status, out, err = bench("--program", old, "schedules", example_path("net.json"))
             self.assertEqual((status, out), (2, ""))
             self.assertIn("has no `explore`; the program that ./nooks-plain builds has it", err)
-            built = {"./nooks": old, "./nooks-plain": EXPLORER.path}
-            with mock.patch.dict(os.environ), mock.patch.object(program_module, "BUILT", built), \
-                    mock.patch.object(explored, "BUILT", built):
-                os.environ.pop("NOOKS", None)
-                self.assertEqual(find_explorer(None).path, EXPLORER.path)
-                built["./nooks-plain"] = old
-                self.assertRaises(Mistake, find_explorer, None)
-                os.environ["NOOKS"] = old
-                built["./nooks-plain"] = EXPLORER.path
-                self.assertRaises(Mistake, find_explorer, None)
-            # A search takes any program.
             status, out, _ = bench("--program", old, "schedules", example_path("net.json"), "--search", "--tries", "9", "--quiet")
             self.assertEqual(status, 0)
             self.assertIn("this proves nothing", out)
 
 
-@unittest.skipUnless(EXPLORER, WHY_NOT)
 class ByPreemptions(unittest.TestCase):
     def test_against_all_orders(self):
         """Each order is run once, at the level of its preemptions, and the outcomes are those of every order."""
@@ -308,8 +293,7 @@ class ByPreemptions(unittest.TestCase):
         """Many states: the front is told, and orders are run."""
         scenario = example("link-loses.json")
         self.assertEqual(EXPLORER.ask(["explore"], json.dumps(scenario)).status, CUT)
-        status, out, err = bench("--program", EXPLORER.path, "schedules", example_path("link-loses.json"), "--tries", "120",
-                                 "--fail-on", "cut")
+        status, out, err = bench("schedules", example_path("link-loses.json"), "--tries", "120", "--fail-on", "cut")
         self.assertEqual(status, 1)
         self.assertIn("NOT every order: there are more than 65,536 states", out)
         self.assertIn("this proves nothing: any order that was not run may end otherwise", out)

@@ -28,7 +28,7 @@ class Tables(unittest.TestCase):
         reading = {row["words"].split(" ")[0] for row in facts.TABLES["forms"] if row["reads"]}
         for name in sorted(reading - {"trace"}):
             self.assertEqual(program().ask([name], "").status, facts.STATUSES["bad_input"], name)
-        self.assertEqual(reading, {"run", "asm", "dis", "list", "audit", "campaign", "mirror", "trace", "guard"})
+        self.assertEqual(reading, {"run", "asm", "dis", "list", "audit", "campaign", "mirror", "trace", "guard", "explore"})
 
     def test_a_table_of_each_kind(self):
         self.assertEqual(facts.OPERANDS["BLT"], "a b imm")

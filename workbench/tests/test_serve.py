@@ -20,7 +20,7 @@ from test_page import data_of, many_events
 
 from nooks_bench import serve_requests, serve_work
 from nooks_bench.build import built
-from nooks_bench.program import Mistake, Program
+from nooks_bench.program import Mistake
 from nooks_bench.report import parse_report
 from nooks_bench.scenario import with_faults
 from nooks_bench.serve_folder import Folder, Outside
@@ -565,10 +565,6 @@ class Texts(unittest.TestCase):
                 self.assertEqual(built(made["file"], texts[made["file"]], texts.__getitem__).plain(), example(name), name)
 
 
-EXPLORES = program().ask(["explore"], json.dumps(example("block.json"))).status != 2
-PLAIN = Program(os.path.join(os.path.dirname(os.path.dirname(HERE)), "out/plain/nooks"))
-
-
 class Orders(unittest.TestCase):
     def test_a_program_without_it(self):
         """A program that answers with its usage line."""
@@ -581,12 +577,9 @@ class Orders(unittest.TestCase):
             refused = served.work("explore", "block.json")["refused"]["text"]
             self.assertEqual(refused, f"{path} is too old: it has no `explore`; the program that ./nooks-plain builds has it")
 
-    @unittest.skipUnless(EXPLORES or os.path.exists(PLAIN.path), "no program has `explore`: ./nooks-plain builds one")
     def test_a_race(self):
         """Some orders of the racing driver break its contract; each outcome is opened as a schedule that has it."""
         with site() as served:
-            if not EXPLORES:
-                served.server.served.runs.about["program"] = PLAIN.path
             served.put("race.json", json.dumps(racing_scenario()))
             made = served.work("explore", "race.json")["made"]
             self.assertTrue(made["whole"])

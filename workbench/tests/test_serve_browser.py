@@ -11,7 +11,7 @@ from race import racing_scenario
 from serving import site
 from test_page import many_events
 from test_page_browser import DRAWN, MOST_SECONDS, MOST_STEPS, STEPS
-from test_serve import EXPLORES, ends, group
+from test_serve import ends, group
 
 from nooks_bench.report import parse_report
 from nooks_bench.scenario import with_faults
@@ -305,7 +305,6 @@ class Served(unittest.TestCase):
         finally:
             about["program"] = known
 
-    @unittest.skipUnless(EXPLORES, "the program has no `explore`: ./nooks-plain builds one that has")
     def test_orders(self):
         """Each outcome is opened by its button, and the run is the one of its schedule."""
         self.site.put("race.json", json.dumps(racing_scenario()))

@@ -12,9 +12,9 @@ ghost use Rattle.machine_defs.specs.Pages.{opening_memory};
 ghost use Rattle.domain_call.specs.Standing.{opening_standing};
 
 mod bursts;
-mod compared;
 mod contexts;
 mod detaching;
+mod packed;
 mod recovery;
 mod serving;
 
@@ -31,6 +31,7 @@ use nook_data::memory_map::{
 };
 use nook_data::scenario::PartSpec;
 use object_tracker::Tracker;
+pub use packed::PackedDomain;
 use std::alloc::Global;
 use std::marker::Model;
 

@@ -1,4 +1,4 @@
-pub mod Alike
+pub mod Packs
 pub mod Own
 pub mod Rights
 pub mod Shown

@@ -259,7 +259,7 @@ words_at start words memory k within =
           ∙ ap (λ i. get_or memory i 0) (omega arith),
     )
 
-length-with_words : (start : ℕ) (words memory : List ℕ) → start + length words ≤ length memory → length (with_words start words memory) ≡ length memory
+pub length-with_words : (start : ℕ) (words memory : List ℕ) → start + length words ≤ length memory → length (with_words start words memory) ≡ length memory
 length-with_words start words memory within =
     omega (
       arith,

@@ -30,15 +30,15 @@ pub record IsFramed (table : List Bool) (frames : List ℕ) : Type 0 where
   pub frames_all : length frames ≡ MEMORY_WORDS
   pub objects : (page : ℕ) → OWN_PAGES ≤ page → page < PAGES → slice_index_or table page false ≡ true
 
--- where the page has a frame, its words are the same in two lists of frames
-abbrev pub IsAlike : List Bool → List ℕ → List ℕ → ℕ → Type 0
-IsAlike table frames others page =
-    (k : ℕ) → k / PAGE_WORDS ≡ page → slice_index_or table page false ≡ true → slice_index frames k ≡ slice_index others k
-
 -- the text has all its words, and they are those that are shown
 pub record IsText (table : List Bool) (frames text initial : List ℕ) : Type 0 where
   pub size : length text ≡ TEXT_WORDS
   pub same : (k : ℕ) → k < TEXT_WORDS → word_at table frames text initial k ≡ slice_index text k
+
+-- behind so many words the text is zeros
+pub record IsEndOfText (end : ℕ) (text : List ℕ) : Type 0 where
+  pub within : end ≤ TEXT_WORDS
+  pub zeros : (k : ℕ) → end ≤ k → slice_index text k ≡ 0
 
 -- the page has one of n words from an address on
 abbrev pub has_some : ℕ → ℕ → ℕ → Bool

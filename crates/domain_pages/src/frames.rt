@@ -1,10 +1,9 @@
 //! Frames and the table that says which pages have one, as plain slices.
 
-ghost use Rattle.std.specs.Prelude.{◌≡◌, ◌+◌, ◌*◌, ◌/◌, ◌<◌, ◌≤◌, ◌⊎◌, ◌&&◌, ◌||◌, nat_le, nat_lt, ℕ, [], List, true, false, length, take, slice_index, slice_index_or, slice_range, slice_set, Decides, IfOk};
+ghost use Rattle.std.specs.Prelude.{◌≡◌, ◌+◌, ◌*◌, ◌/◌, ◌<◌, ◌≤◌, ◌⊎◌, ◌&&◌, ◌||◌, nat_le, nat_lt, ℕ, [], List, true, false, length, take, slice_index, slice_index_or, slice_range, slice_set, IfOk};
 ghost use Rattle.machine_defs.specs.Pages.{opening_memory, padded_words, with_words};
-ghost use Rattle.domain_pages.specs.Frames.{has_some, image_word, word_at, shown, opening_table, IsAlike, IsFramed, IsText, with_own};
+ghost use Rattle.domain_pages.specs.Frames.{has_some, image_word, word_at, shown, opening_table, IsFramed, IsText, with_own};
 
-use nook_data::digest::{mixed, mixed_words};
 use nook_data::lists::Word;
 use nook_data::memory::NoMemory;
 use nook_data::memory_map::{
@@ -104,6 +103,16 @@ pub fn put(
 {
     put_in_frame(table, frames, text, initial, address, word);
     put_in_text(text, address, word);
+}
+
+/// Where the zeros at the text's end begin, after a write from an address on.
+pub fn end_after(end: usize, address: u32) -> usize
+    requires { end ≤ TEXT_WORDS }
+    ensures within { result ≤ TEXT_WORDS }
+    ensures kept { end ≤ result }
+    ensures written { address < TEXT_WORDS → result ≡ TEXT_WORDS }
+{
+    if address < TEXT_WORDS { TEXT_LEN } else { end }
 }
 
 /// Writes a word of text; an address behind the text has none.
@@ -269,60 +278,12 @@ pub fn opening_frames(alloc: Global) -> Result<Vec<Word>, NoMemory>
     Ok(frames)
 }
 
-/// Whether each page that has a frame has the same words in both lists of frames.
-#[tactic(auto, using(crate::proofs::Alike::shown_alike))]
-pub fn are_same_frames(table: &[bool; PAGES], frames: &[Word], others: &[Word]) -> bool
-    requires frames { length frames.now ≡ MEMORY_WORDS }
-    requires others { length others.now ≡ MEMORY_WORDS }
-    ensures { (text initial : List ℕ) → result ≡ true → shown table.now frames.now text initial ≡ shown table.now others.now text initial }
-{
-    for page in 0..PAGES {
-        if !is_same_page(table, frames, others, page) {
-            return false;
-        }
-    }
-    true
-}
-
-/// Whether a page has no frame, or has the same words in both lists of frames.
-#[tactic(auto, using(crate::proofs::Alike::alike_by))]
-fn is_same_page(table: &[bool; PAGES], frames: &[Word], others: &[Word], page: usize) -> bool
-    requires page { page < PAGES }
-    requires frames { length frames.now ≡ MEMORY_WORDS }
-    requires others { length others.now ≡ MEMORY_WORDS }
-    ensures { result ≡ true → IsAlike table.now frames.now others.now page }
-{
-    !table[page] || are_same_words(frame_of(frames, page), frame_of(others, page))
-}
-
-/// Whether two lists have the same words. It compares many at once.
-pub fn are_same_words(words: &[Word], others: &[Word]) -> bool
-    ensures { Decides result (words.now ≡ others.now) }
-{
-    words == others
-}
-
-/// Whether two lists of tests have the same answers.
-pub fn are_same_flags<const N: usize>(flags: &[bool; N], others: &[bool; N]) -> bool
-    ensures { Decides result (flags.now ≡ others.now) }
-{
-    flags == others
-}
-
 /// The 64 words of a page's frame.
-fn frame_of(frames: &[Word], page: usize) -> &[Word]
+pub fn frame_of(frames: &[Word], page: usize) -> &[Word]
     requires page { page < PAGES }
     requires frames { length frames.now ≡ MEMORY_WORDS }
     ensures { result.now ≡ slice_range frames.now (page * PAGE_WORDS) (page * PAGE_WORDS + PAGE_WORDS) }
 {
     let start = page * PAGE_LEN;
     &frames[start..start + PAGE_LEN]
-}
-
-/// A digest, and a page more: its number and the words of its frame.
-pub fn mixed_page(digest: u64, frames: &[Word], page: usize) -> u64
-    requires page { page < PAGES }
-    requires frames { length frames.now ≡ MEMORY_WORDS }
-{
-    mixed_words(mixed(digest, page as u64), frame_of(frames, page))
 }

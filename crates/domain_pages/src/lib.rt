@@ -7,5 +7,7 @@
 
 mod frames;
 mod map;
+mod packed;
 
 pub use map::PageMap;
+pub use packed::PackedPages;

@@ -6,10 +6,8 @@ ghost use Rattle.machine_defs.specs.Views.PageMap.{opening_pages, may_change, pa
 ghost use Rattle.machine_defs.specs.Views.PageMap.{pages_loaded};
 ghost use Rattle.domain_pages.specs.Frames.{with_own};
 
-use crate::frames::{
-    are_same_flags, are_same_frames, are_same_words, mixed_page, opening_frames, opening_table,
-    put, put_all, word_at, write_all,
-};
+use crate::frames::{end_after, opening_frames, opening_table, put, put_all, word_at, write_all};
+use crate::packed::{PackedPages, packed_frames, unpack_frames};
 use nook_data::limits::CONTEXTS;
 use nook_data::lists::{Items, TryCopy, Word, Words};
 use nook_data::memory::{NoMemory, Room};
@@ -28,6 +26,8 @@ pub struct PageMap {
     alloc: Global,
     /// The words of text as they are shown: so a turn fetches without a look at the table.
     text: Vec<Word>,
+    /// Behind so many words the text is zeros.
+    text_end: usize,
     initial: Words,
     table: [bool; PAGES],
     frames: Vec<Word>,
@@ -38,7 +38,7 @@ impl Model for PageMap {
     ghost use Rattle.std.specs.Prelude.{take};
     ghost use Rattle.machine_defs.specs.Views.PageMap.{PageMap};
     ghost use Rattle.nook_data.specs.declared.memory_map.TheConstants.{OWN_PAGES};
-    ghost use Rattle.domain_pages.specs.Frames.{shown, IsFramed, IsText};
+    ghost use Rattle.domain_pages.specs.Frames.{shown, IsEndOfText, IsFramed, IsText};
 
     ghost Value = { PageMap };
 
@@ -48,7 +48,8 @@ impl Model for PageMap {
       own = take OWN_PAGES s.table;
     } };
 
-    ghost invariant = { λ s. IsFramed s.table s.frames.items × IsText s.table s.frames.items s.text.items s.initial };
+    ghost invariant = { λ s. IsFramed s.table s.frames.items × IsText s.table s.frames.items s.text.items s.initial
+        × IsEndOfText s.text_end s.text.items };
 }
 
 impl PageMap {
@@ -62,6 +63,7 @@ impl PageMap {
         Ok(PageMap {
             alloc,
             text,
+            text_end: 0,
             initial: Words::new(alloc),
             table: opening_table(),
             frames,
@@ -145,6 +147,7 @@ impl PageMap {
         ensures written { self.new ≡ page_written self.old address word }
         ensures size { length self.old.words ≡ MEMORY_WORDS }
     {
+        self.text_end = end_after(self.text_end, address);
         put(
             &mut self.table,
             &mut self.frames,
@@ -165,6 +168,7 @@ impl PageMap {
         ensures own { self.new.own ≡ with_own start count self.old.own }
         ensures pages { length self.old.own ≡ OWN_PAGES }
     {
+        self.text_end = end_after(self.text_end, start);
         put_all(
             &mut self.table,
             &mut self.frames,
@@ -220,6 +224,7 @@ impl PageMap {
             image.text.as_slice(),
             TEXT_WORDS as usize,
         );
+        self.text_end = image.text.len();
         self.initial = initial;
         self.table = opening_table();
         Ok(())
@@ -234,29 +239,20 @@ impl PageMap {
         self.table[page as usize]
     }
 
-    /// Whether the other map is the same. One that is may be denied, but not one that was made by the same writes since
-    /// the same load.
-    #[tactic(auto, using(crate::proofs::Alike::map_alike))]
-    pub fn is_same(&self, other: &PageMap) -> bool
-        ensures { result ≡ true → self.now ≡ other.now }
+    /// The words of the pages that have a frame, and what else tells the map, in memory of their size.
+    pub fn packed(&self, alloc: Global) -> Result<PackedPages, NoMemory>
+        ensures { IfOk result (λ made. made ≡ self.now) }
     {
-        are_same_flags(&self.lent, &other.lent)
-            && are_same_flags(&self.table, &other.table)
-            && are_same_frames(&self.table, &self.frames, &other.frames)
-            && are_same_words(self.initial.as_slice(), other.initial.as_slice())
-            && are_same_words(self.text.as_slice(), other.text.as_slice())
-    }
-
-    /// A digest, and more: the pages of the driver that have had a word written since the last load. The same maps give
-    /// the same number.
-    pub fn digest(&self, digest: u64) -> u64 {
-        let mut digest = digest;
-        for page in 0..OWN_PAGES {
-            if self.table[page] {
-                digest = mixed_page(digest, &self.frames, page);
-            }
-        }
-        digest
+        let text = Vec::from_slice(alloc, &self.text[..self.text_end])?;
+        let initial = self.initial.copy(alloc)?;
+        let words = packed_frames(alloc, &self.table, &self.frames)?;
+        Ok(PackedPages {
+            text: Items::from_vec(text),
+            initial,
+            table: self.table,
+            words: Items::from_vec(words),
+            lent: self.lent,
+        })
     }
 }
 
@@ -268,6 +264,34 @@ impl TryCopy for PageMap {
         Ok(PageMap {
             alloc,
             text,
+            text_end: self.text_end,
+            initial,
+            table: self.table,
+            frames,
+            lent: self.lent,
+        })
+    }
+}
+
+impl PackedPages {
+    /// The map again, in the memory of one that is no longer needed.
+    pub fn unpacked(&self, alloc: Global, over: PageMap) -> Result<PageMap, NoMemory>
+        ensures { IfOk result (λ made. made ≡ self.now) }
+    {
+        let initial = self.initial.copy(alloc)?;
+        let PageMap {
+            mut text,
+            text_end,
+            mut frames,
+            ..
+        } = over;
+        unpack_frames(&self.table, self.words.as_slice(), &mut frames);
+        let end = text_end.max(self.text.len());
+        write_all(&mut text, 0, self.text.as_slice(), end);
+        Ok(PageMap {
+            alloc,
+            text,
+            text_end: self.text.len(),
             initial,
             table: self.table,
             frames,

@@ -39,10 +39,10 @@ actors_present s = ap (map actor_of) (sym (choices_bare s))
 pub choices_within : (s : Simulation) (index : ℕ) → index < length (choices_in (present s)) → index < length (choices_of s)
 choices_within s index l = subst (λ (cs : List Choice). index < length cs) (choices_bare s) l
 
-pub actors_seen : (s : Simulation) (r : Result (List ℕ) NoMemory) → IfOk r (λ actors. actors ≡ ready.actors_in s.parts s.threads)
-    → IfOk r (λ actors. actors ≡ map actor_of (choices_in (present s)))
-actors_seen s (Err x) h = h
-actors_seen s (Ok actors) h = h ∙ sym (actors_named s) ∙ actors_present s
+pub actors_seen : (s : Simulation) (held : List ℕ) (r : Result (List ℕ) NoMemory) → held ≡ ready.actors_in s.parts s.threads
+    → IfOk r (λ made. made ≡ held) → IfOk r (λ actors. actors ≡ map actor_of (choices_in (present s)))
+actors_seen s held (Err x) a h = h
+actors_seen s held (Ok actors) a h = h ∙ a ∙ sym (actors_named s) ∙ actors_present s
 
 pub index_within : (s : Simulation) (index : ℕ) → index < length (choices_in (present s))
     → index < length (choices_of (standing (round 0) s.parts s.threads))
@@ -71,12 +71,28 @@ present_after_step s next o c index at is = record {
       ∙ ap (goes_on_by (present s)) (one_choice (choices_in (present s)) (choices_of s) index c d (choices_bare s) at other);
 }
 
-pub after_taken : (s branch next : Simulation) (c : Choice) (index : ℕ)
-    → slice_get (choices_of (standing (round 0) s.parts s.threads)) index ≡ Some c → branch ≡ record s { order = round 0 }
-    → next ≡ stepped_by branch branch.order c (slice_get branch.parts c.part) → IsAfter (present s) index (present next)
-after_taken s branch next c index at b n =
-    present_after_step s next (round 0) c index (ap (λ cs. slice_get cs index) (sym (choices_stand s)) ∙ at)
-    (n ∙ ap (λ (t : Simulation). stepped_by t t.order c (slice_get t.parts c.part)) b)
+pub present_unordered : (s : Simulation) (o : Order) → present (record s { order = o }) ≡ present s
+unfolding present
+present_unordered s o = refl
+
+after_taken : (s branch next made : Simulation) (c : Choice) (index : ℕ)
+    → slice_get (choices_of (standing (round 0) branch.parts branch.threads)) index ≡ Some c → branch ≡ s
+    → next ≡ stepped_by branch branch.order c (slice_get branch.parts c.part) → made ≡ record next { order = round 0 }
+    → IsAfter (present s) index (present made)
+after_taken s branch next made c index at b n m =
+    subst (IsAfter (present s) index) (sym (ap present m ∙ present_unordered next (round 0)))
+    (subst (λ (t : Simulation). IsAfter (present t) index (present next)) b
+    (present_after_step branch next branch.order c index (ap (λ cs. slice_get cs index) (sym (choices_stand branch)) ∙ at) n))
+
+pub after_held : (s branch next : Simulation) (c : Choice) (index : ℕ) (r : Result Simulation NoMemory)
+    → slice_get (choices_of (standing (round 0) branch.parts branch.threads)) index ≡ Some c → branch ≡ s
+    → next ≡ stepped_by branch branch.order c (slice_get branch.parts c.part)
+    → IfOk r (λ made. made ≡ record next { order = round 0 }) → IfOk r (λ made. IsAfter (present s) index (present made))
+after_held s branch next c index (Err x) at b n h = h
+after_held s branch next c index (Ok made) at b n h = after_taken s branch next made c index at b n h
+
+pub first_present : (first s made : Simulation) → s ≡ first → made ≡ record s { order = round 0 } → present made ≡ present first
+first_present first s made b m = ap present m ∙ present_unordered s (round 0) ∙ ap present b
 
 -- ---- the same present
 

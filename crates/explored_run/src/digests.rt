@@ -4,11 +4,11 @@ use nook_data::classes::Class;
 use nook_data::digest::mixed_words;
 use nook_data::machine::Act;
 use nook_data::steps::Event;
-use part_core::Part;
-use sim_run::Simulating;
+use part_core::PackedPart;
+use sim_run::PackedSimulation;
 
 /// A digest, and what the parts' devices were given with it.
-pub fn digest_of_parts(digest: u64, simulation: &Simulating) -> u64 {
+pub fn digest_of_parts(digest: u64, simulation: &PackedSimulation) -> u64 {
     let mut digest = digest;
     for number in 0..simulation.part_count() {
         digest = digest_of_part(digest, simulation.part(number));
@@ -17,7 +17,7 @@ pub fn digest_of_parts(digest: u64, simulation: &Simulating) -> u64 {
 }
 
 /// A digest, and the blocks of a part's disk, or the acts that its report lists.
-fn digest_of_part(digest: u64, part: &Part) -> u64 {
+fn digest_of_part(digest: u64, part: &PackedPart) -> u64 {
     match part.spec().class {
         Class::Block => mixed_medium(digest, part),
         Class::Net => mixed_acts(digest, part),
@@ -26,7 +26,7 @@ fn digest_of_part(digest: u64, part: &Part) -> u64 {
 }
 
 /// A digest, and the blocks of a part's disk.
-fn mixed_medium(digest: u64, part: &Part) -> u64 {
+fn mixed_medium(digest: u64, part: &PackedPart) -> u64 {
     let mut digest = digest;
     for block in part.medium() {
         digest = mixed_words(digest, block);
@@ -35,7 +35,7 @@ fn mixed_medium(digest: u64, part: &Part) -> u64 {
 }
 
 /// A digest, and the frames that a part sent or the samples that it played.
-fn mixed_acts(digest: u64, part: &Part) -> u64 {
+fn mixed_acts(digest: u64, part: &PackedPart) -> u64 {
     let mut digest = digest;
     for event in part.journal().as_slice() {
         digest = mixed_event(digest, event);

@@ -9,16 +9,19 @@ use crate::standing::Standing;
 use nook_data::memory::NoMemory;
 use nook_data::scenario::Scenario;
 use order_search::{Explored, search};
+use part_core::LeftRooms;
 use std::alloc::Global;
+use std::cell::Cell;
 
 /// Follows every order of the steps of a valid scenario, and gives a row for each outcome. Its schedule is not asked.
 ///
 /// # Errors
 ///
-/// Out of memory: the states of two levels are in memory, and the first end of each outcome.
+/// Out of memory: the states of two levels are in memory, packed, and the first end of each outcome.
 pub fn explore(alloc: Global, scenario: &Scenario) -> Result<Explored, NoMemory>
     requires { IsValidScenario scenario.now }
     ensures { IfOk result (λ found. IsExplored scenario.now (found_text found) (found_status found)) }
 {
-    search(alloc, Standing::first(alloc, scenario)?)
+    let left = Cell::new(LeftRooms::none(alloc));
+    search(alloc, Standing::first(alloc, scenario, &left)?)
 }

@@ -1,6 +1,8 @@
 //! The acts that a report lists at its end.
 
+ghost use Rattle.explore_defs.specs.Outcomes.{given_by};
 ghost use Rattle.explored_run.specs.Alike.{event_acts, given_at, given_in, is_given};
+ghost use Rattle.report_defs.specs.ReportText.{journal_acts};
 ghost use Rattle.std.specs.Prelude.{◌≡◌, ◌++◌, filter, IfOk, OnOk, map, true};
 
 use nook_data::classes::Class;
@@ -9,20 +11,20 @@ use nook_data::machine::{Act, Acts};
 use nook_data::memory::NoMemory;
 use nook_data::same::Same;
 use nook_data::steps::Event;
-use part_core::Part;
-use sim_run::Simulating;
+use part_core::PackedPart;
+use sim_run::PackedSimulation;
 use std::alloc::Global;
 
-/// The acts that the report of a part lists: the frames that a link sent, or the samples that a stream played.
-pub fn given_of(alloc: Global, part: &Part) -> Result<Acts, NoMemory>
-    ensures { IfOk result (λ given. given ≡ given_in part.now) }
+/// The acts that the report of a part of a class lists: the frames that a link sent, or the samples that a stream
+/// played.
+pub fn given_of(alloc: Global, class: Class, events: &[Event]) -> Result<Acts, NoMemory>
+    ensures { IfOk result (λ given. given ≡ given_by class (journal_acts events.now)) }
 {
-    let class = part.spec().class;
     let mut given = Acts::new(alloc);
     if class == Class::Block {
         return Ok(given);
     }
-    for event in part.journal().as_slice() {
+    for event in events {
         add_given(alloc, class, event, &mut given)?;
     }
     Ok(given)
@@ -69,7 +71,11 @@ fn is_given(class: Class, act: &Act) -> bool
 /// Whether the parts of two simulations have the same acts that their reports list. Without memory to list them this is
 /// denied.
 #[tactic(auto, using(crate::proofs::Loops::given_alike_more))]
-pub fn are_given_alike(alloc: Global, simulation: &Simulating, other: &Simulating) -> bool
+pub fn are_given_alike(
+    alloc: Global,
+    simulation: &PackedSimulation,
+    other: &PackedSimulation,
+) -> bool
     ensures { result ≡ true → map given_at simulation.now.parts ≡ map given_at other.now.parts }
 {
     if simulation.part_count() != other.part_count() {
@@ -84,11 +90,18 @@ pub fn are_given_alike(alloc: Global, simulation: &Simulating, other: &Simulatin
 }
 
 /// Whether two parts have the same acts that their reports list.
-fn is_given_alike(alloc: Global, part: &Part, other: &Part) -> bool
+fn is_given_alike(alloc: Global, part: &PackedPart, other: &PackedPart) -> bool
     ensures { result ≡ true → given_in part.now ≡ given_in other.now }
 {
-    match (given_of(alloc, part), given_of(alloc, other)) {
+    match (given_of_packed(alloc, part), given_of_packed(alloc, other)) {
         (Ok(given), Ok(others)) => given.is_same(&others),
         _ => false,
     }
+}
+
+/// The acts that the report of a part lists.
+fn given_of_packed(alloc: Global, part: &PackedPart) -> Result<Acts, NoMemory>
+    ensures { IfOk result (λ given. given ≡ given_in part.now) }
+{
+    given_of(alloc, part.spec().class, part.journal().as_slice())
 }

@@ -56,6 +56,7 @@ fn outcome_of(alloc: Global, part: &Part, monitor: &Monitor) -> Result<PartOutco
     requires { HasSeenRun part.now monitor.now }
     ensures { IfOk result (λ made. made ≡ run_outcome part.now) }
 {
+    let class = part.spec().class;
     let PartEnd {
         objects,
         medium,
@@ -65,9 +66,9 @@ fn outcome_of(alloc: Global, part: &Part, monitor: &Monitor) -> Result<PartOutco
     Ok(PartOutcome {
         objects,
         medium,
-        given: given_of(alloc, part)?,
+        given: given_of(alloc, class, part.journal().as_slice())?,
         config,
-        losses: shown_losses(part.spec().class, monitor.losses()),
+        losses: shown_losses(class, monitor.losses()),
         failures,
         broken: monitor.broken_clause(),
     })

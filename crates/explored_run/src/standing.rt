@@ -4,7 +4,9 @@ ghost use Rattle.explore_laws.specs.Present.{outcome_in, present};
 ghost use Rattle.explored_run.specs.Alike.{MonitorsAlike};
 ghost use Rattle.explored_run.specs.Sums.{any_broken};
 ghost use Rattle.nook_data.specs.Valid.{IsValidScenario};
+ghost use Rattle.run_defs.specs.Schedules.{round};
 ghost use Rattle.run_defs.specs.Simulation.{begins};
+ghost use Rattle.sim_run.specs.Watched.{HaveSeen};
 ghost use Rattle.std.specs.Prelude.{◌≡◌, true, IfOk, map};
 
 use crate::digests::digest_of_parts;
@@ -23,42 +25,85 @@ use order_search::Moment;
 use part_core::LeftRooms;
 use report_text::ReportStatus;
 use request_taps::Bus;
-use sim_run::{Simulating, take_judged};
+use sim_run::{PackedSimulation, Simulating, take_judged};
 use std::alloc::Global;
+use std::cell::Cell;
 use std::marker::Model;
 
-/// A simulation as it stands, with a monitor of each part that has seen its journal. Contracts see the simulation.
+/// A simulation as it stands, held packed, with the actors that have a step and a monitor of each part that has seen its
+/// journal. Contracts see the simulation.
+///
+/// To take a step it is unpacked into memory that all of them share, since one at a time needs it.
 #[derive(Drop)]
 pub struct Standing<'a> {
     alloc: Global,
-    simulation: Simulating<'a>,
+    simulation: PackedSimulation<'a>,
+    actors: Words,
     monitors: Vec<Monitor>,
+    left: &'a Cell<LeftRooms>,
 }
 
 impl<'a> Model for Standing<'a> {
+    ghost use Rattle.std.specs.Prelude.{◌≡◌};
     ghost use Rattle.run_defs.specs.Simulation.{Simulation};
+    ghost use Rattle.sim_run.specs.Actors.{actors_in};
     ghost use Rattle.sim_run.specs.Watched.{HaveSeen};
 
     ghost Value = { Simulation };
 
     ghost view = { λ s. s.simulation };
 
-    ghost invariant = { λ s. HaveSeen s.simulation.parts s.monitors.items };
+    ghost invariant = { λ s. HaveSeen s.simulation.parts s.monitors.items
+        × (s.actors ≡ actors_in s.simulation.parts s.simulation.threads) };
 }
 
 impl<'a> Standing<'a> {
-    /// A valid scenario before its first step.
-    pub fn first(alloc: Global, scenario: &'a Scenario) -> Result<Standing<'a>, NoMemory>
+    /// A valid scenario before its first step. All that follow it share the memory that is left.
+    #[tactic(auto, using(crate::proofs::Presents::first_present))]
+    pub fn first(
+        alloc: Global,
+        scenario: &'a Scenario,
+        left: &'a Cell<LeftRooms>,
+    ) -> Result<Standing<'a>, NoMemory>
         requires { IsValidScenario scenario.now }
-        ensures { IfOk result (λ made. made ≡ begins scenario.now) }
+        ensures { IfOk result (λ made. present made ≡ present (begins scenario.now)) }
     {
         let simulation = Simulating::new(alloc, scenario, &mut LeftRooms::none(alloc))?;
         let monitors = simulation.monitors()?;
+        Standing::held(alloc, simulation, monitors, left)
+    }
+
+    /// A simulation whose monitors have seen its journals, held packed.
+    fn held(
+        alloc: Global,
+        simulation: Simulating<'a>,
+        monitors: Vec<Monitor>,
+        left: &'a Cell<LeftRooms>,
+    ) -> Result<Standing<'a>, NoMemory>
+        requires { HaveSeen simulation.parts monitors.items }
+        ensures { IfOk result (λ made. made ≡ record simulation.entry { order = round 0 }) }
+    {
+        let actors = simulation.actors()?.fitted();
+        let mut rooms = left.replace(LeftRooms::none(alloc));
+        let simulation = simulation.into_packed(&mut rooms)?;
+        left.set(rooms);
         Ok(Standing {
             alloc,
             simulation,
+            actors,
             monitors,
+            left,
         })
+    }
+
+    /// The simulation, unpacked.
+    fn unpacked(&self, alloc: Global) -> Result<Simulating<'a>, NoMemory>
+        ensures { IfOk result (λ made. made ≡ self.now) }
+    {
+        let mut rooms = self.left.replace(LeftRooms::none(alloc));
+        let simulation = self.simulation.unpacked(&mut rooms)?;
+        self.left.set(rooms);
+        Ok(simulation)
     }
 }
 
@@ -66,22 +111,17 @@ impl<'a> Moment for Standing<'a> {
     ghost now = { λ s. present s };
 
     #[tactic(auto, using(crate::proofs::Presents::actors_seen))]
-    fn choices(&self, _alloc: Global) -> Result<Words, NoMemory> {
-        self.simulation.actors()
+    fn choices(&self, alloc: Global) -> Result<Words, NoMemory> {
+        self.actors.copied(alloc)
     }
 
-    #[tactic(auto, using(crate::proofs::Presents::index_within, crate::proofs::Presents::after_taken))]
     fn after(&self, alloc: Global, index: usize) -> Result<Standing<'a>, NoMemory> {
-        let chosen = self.simulation.choice(index)?;
-        let mut simulation = self.simulation.branch()?;
+        let mut simulation = self.unpacked(alloc)?;
         let mut monitors = copy_all(alloc, &self.monitors)?;
+        let chosen = simulation.choice(index)?;
         let mut unheard: Bus<CountListener> = Bus::of(alloc, Vec::new(alloc))?;
         take_judged(&mut simulation, &mut monitors, &mut unheard, chosen)?;
-        Ok(Standing {
-            alloc,
-            simulation,
-            monitors,
-        })
+        Standing::held(alloc, simulation, monitors, self.left)
     }
 
     #[tactic(auto, using(crate::proofs::Presents::same_now))]
@@ -98,19 +138,18 @@ impl<'a> Moment for Standing<'a> {
 
     #[tactic(auto, using(crate::proofs::Presents::outcome_made))]
     fn outcome(&self, alloc: Global) -> Result<Outcome, NoMemory> {
-        let answers = self.simulation.answers()?;
-        let parts = outcomes_of(alloc, &self.simulation, &self.monitors)?;
+        let simulation = self.unpacked(alloc)?;
+        let answers = simulation.answers()?;
+        let parts = outcomes_of(alloc, &simulation, &self.monitors)?;
         Ok(Outcome { answers, parts })
     }
 
     fn numbers(&self, steps: u64) -> Result<MemberRow, NoMemory> {
-        let failures = count_failures(&self.simulation)?;
-        let gone = count_gone(self.simulation.answers()?.as_slice())?;
+        let simulation = self.unpacked(self.alloc)?;
+        let failures = count_failures(&simulation)?;
+        let gone = count_gone(simulation.answers()?.as_slice())?;
         let lost = count_lost(&self.monitors)?;
-        let status = ReportStatus::of(
-            is_any_broken(&self.monitors),
-            is_any_given_up(&self.simulation),
-        );
+        let status = ReportStatus::of(is_any_broken(&self.monitors), is_any_given_up(&simulation));
         Ok(MemberRow {
             status: status.number(),
             events: steps,

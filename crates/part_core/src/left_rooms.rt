@@ -1,32 +1,76 @@
-//! Memory for acts that parts leave, for the parts of later runs.
+//! Memory that parts leave, for the parts of later runs.
 
+use crate::rooms::Rooms;
+use domain_pages::PageMap;
 use nook_data::journal::SpareRooms;
+use nook_data::memory::NoMemory;
 use std::alloc::Global;
 
-/// The memory for acts that parts left: whoever makes one run after another takes it once for all of them.
-#[derive(Drop)]
+/// The memory that parts left, for acts, for crossings and for pages: whoever makes one run after another takes it once
+/// for all of them.
 pub struct LeftRooms {
-    rooms: Vec<SpareRooms>,
+    spare: Vec<SpareRooms>,
+    rooms: Vec<Rooms>,
+    pages: Vec<PageMap>,
+}
+
+impl Drop for LeftRooms {
+    /// By hand, so that it is proved once, and not in each function that owns what parts left.
+    fn drop(self) {
+        let LeftRooms {
+            spare: _,
+            rooms: _,
+            pages: _,
+        } = self;
+    }
 }
 
 impl LeftRooms {
     /// Nothing is left yet. It takes no memory.
     pub fn none(alloc: Global) -> LeftRooms {
         LeftRooms {
+            spare: Vec::new(alloc),
             rooms: Vec::new(alloc),
+            pages: Vec::new(alloc),
         }
     }
 
-    /// What a part left, or where there is nothing no memory yet.
+    /// The memory for acts that a part left, or where there is nothing no memory yet.
     pub fn take(&mut self, alloc: Global) -> SpareRooms {
-        match self.rooms.pop() {
+        match self.spare.pop() {
             Some(spare) => spare,
             None => SpareRooms::new(alloc),
         }
     }
 
-    /// Keeps what a part left. It is dropped where there is no memory to keep it in.
+    /// Keeps the memory for acts that a part left. It is dropped where there is no memory to keep it in.
     pub fn give(&mut self, spare: SpareRooms) {
-        let _kept = self.rooms.push(spare);
+        let _kept = self.spare.push(spare);
+    }
+
+    /// The room for crossings that a part left, or where there is nothing no room yet.
+    pub fn take_rooms(&mut self) -> Rooms {
+        match self.rooms.pop() {
+            Some(rooms) => rooms,
+            None => Rooms::none(),
+        }
+    }
+
+    /// Keeps the room for crossings that a part left. It is dropped where there is no memory to keep it in.
+    pub fn give_rooms(&mut self, rooms: Rooms) {
+        let _kept = self.rooms.push(rooms);
+    }
+
+    /// Pages that a part left, or where there is nothing new ones. What they hold is nothing to count on.
+    pub fn take_pages(&mut self, alloc: Global) -> Result<PageMap, NoMemory> {
+        match self.pages.pop() {
+            Some(pages) => Ok(pages),
+            None => PageMap::new(alloc),
+        }
+    }
+
+    /// Keeps the pages that a part left. They are dropped where there is no memory to keep them in.
+    pub fn give_pages(&mut self, pages: PageMap) {
+        let _kept = self.pages.push(pages);
     }
 }

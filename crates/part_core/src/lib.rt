@@ -6,7 +6,6 @@
 
 mod arrive;
 mod burst;
-mod copies;
 mod crossing;
 mod enabled;
 mod enter;
@@ -22,4 +21,4 @@ mod stage;
 mod state;
 
 pub use left_rooms::LeftRooms;
-pub use part::{Part, StepDone, StepRefused};
+pub use part::{PackedPart, Part, StepDone, StepRefused};

@@ -13,6 +13,8 @@ ghost use Rattle.part_core.specs.Turning.{IsStepped};
 ghost use Rattle.part_laws.specs.Answered.{is_answered};
 ghost use Rattle.part_laws.specs.Recovery.{HasFacts, IsKeptRun};
 
+mod packed;
+
 use crate::state::State;
 use domain_call::Domain;
 use fault_script::FaultScript;
@@ -23,6 +25,7 @@ use nook_data::memory::{NoMemory, Room};
 use nook_data::memory_map::{LAST_OBJECT, OBJECT_WORDS, object_start};
 use nook_data::scenario::PartSpec;
 use nook_data::steps::{Event, Mode, Step};
+pub use packed::PackedPart;
 use std::alloc::Global;
 use std::marker::Model;
 
@@ -44,7 +47,8 @@ pub enum StepRefused {
 /// One part. Contracts see its state and the list of its events. Whatever steps it took, its journal is a run of its
 /// part.
 pub struct Part {
-    state: State,
+    /// In memory of its own, so that a part is moved without it.
+    state: Box<State>,
     script: FaultScript,
     journal: Journal,
 }
@@ -55,9 +59,9 @@ impl Model for Part {
 
     ghost Value = { PartRun };
 
-    ghost view = { λ s. record { state = s.state; journal = s.journal.list } };
+    ghost view = { λ s. record { state = s.state.value; journal = s.journal.list } };
 
-    ghost invariant = { λ s. IsKept (record { state = s.state; journal = s.journal.list }) × AreSameFaults s.script s.state.spec.faults };
+    ghost invariant = { λ s. IsKept (record { state = s.state.value; journal = s.journal.list }) × AreSameFaults s.script s.state.value.spec.faults };
 }
 
 impl Drop for Part {
@@ -86,7 +90,7 @@ impl Part {
         ensures { IfOk result (λ part. part ≡ opening_run spec) }
     {
         let script = FaultScript::new(spec.faults.copy(alloc)?)?;
-        let state = State::new(alloc, spec, spare)?;
+        let state = Box::new(alloc, State::new(alloc, spec, spare)?)?;
         Ok(Part {
             state,
             script,
@@ -186,7 +190,7 @@ impl Part {
             script: _,
             journal,
         } = self;
-        (journal, state.into_spare())
+        (journal, Box::into_inner(state).into_spare())
     }
 
     /// The driver's domain as it is now.
@@ -287,18 +291,6 @@ impl Part {
         self.state.log.count()
     }
 
-    /// Whether the other part's state is the same; journals are not compared. One that is may be denied.
-    pub fn is_same_state(&self, other: &Part) -> bool
-        ensures { result ≡ true → self.now.state ≡ other.now.state }
-    {
-        self.state.is_same(&other.state)
-    }
-
-    /// A digest, and the part's state more. Parts whose states are the same give the same number.
-    pub fn digest(&self, digest: u64) -> u64 {
-        self.state.digest(digest)
-    }
-
     /// The number of the event that answered the call, from 1; None exactly where the call is open or its number was given
     /// to none.
     pub fn answered_at(&self, call: u32) -> Option<u64>
@@ -306,19 +298,6 @@ impl Part {
         ensures told { is_some result ≡ is_answered self.now.state.log call }
     {
         place_of_answer(self.journal.as_slice(), call)
-    }
-}
-
-impl TryCopy for Part {
-    fn copy(&self, alloc: Global) -> Result<Part, NoMemory> {
-        let script = self.script.copy(alloc)?;
-        let journal = self.journal.copied(alloc)?;
-        let state = self.state.copied(alloc)?;
-        Ok(Part {
-            state,
-            script,
-            journal,
-        })
     }
 }
 

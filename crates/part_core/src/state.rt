@@ -6,6 +6,8 @@ ghost use Rattle.nook_data.specs.Valid.{IsValidPart};
 ghost use Rattle.part_core.specs.Kept.{AreSameFaults, IsSound};
 ghost use Rattle.part_core.specs.Turning.{IsStepOf};
 
+mod packed;
+
 use crate::open_calls::OpenCalls;
 use crate::rooms::Rooms;
 use class_table::defaults_of;
@@ -16,6 +18,7 @@ use nook_data::journal::SpareRooms;
 use nook_data::memory::NoMemory;
 use nook_data::scenario::PartSpec;
 use nook_data::steps::{Event, Mode, Stage, Step};
+pub use packed::PackedState;
 use std::alloc::Global;
 use std::marker::Model;
 

@@ -13,5 +13,5 @@ mod whole_run;
 
 pub use breaking::{WrongBurst, run_to_break, take_judged};
 pub use chosen::Chosen;
-pub use simulating::Simulating;
+pub use simulating::{PackedSimulation, Simulating};
 pub use whole_run::{FoundBurst, run_to_burst, simulate, simulate_over};

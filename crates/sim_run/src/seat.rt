@@ -4,7 +4,6 @@ ghost use Rattle.std.specs.Prelude.{◌≡◌, ◌-◌, ◌<◌, true, is_some, 
 ghost use Rattle.part_defs.specs.Runs.{event_of, next_for, next_recovery};
 ghost use Rattle.run_defs.specs.Simulation.{arrival, coming_after, invocation, opening_part, part_after};
 ghost use Rattle.sim_run.specs.Bursts.{is_burst, shown_burst, shown_step};
-ghost use Rattle.sim_run.specs.Branching.{seat_now};
 ghost use Rattle.sim_run.specs.Ends.{end_of_seat};
 ghost use Rattle.sim_run.specs.Watched.{HasSeen, IsOneBehind, first_break_of};
 ghost use Rattle.part_defs.specs.Steps.{enabled};
@@ -13,11 +12,9 @@ ghost use Rattle.nook_data.specs.Valid.{IsValidPart};
 use crate::whole_run::FoundBurst;
 use contract_monitor::Monitor;
 use nook_data::calls::Op;
-use nook_data::digest::mixed;
 use nook_data::journal::Journal;
 use nook_data::lists::{TryCopy, Words};
 use nook_data::memory::NoMemory;
-use nook_data::same::are_same;
 use nook_data::scenario::PartSpec;
 use nook_data::steps::{Event, Step};
 use part_core::{LeftRooms, Part};
@@ -25,6 +22,10 @@ use report_text::PartEnd;
 use run_ends::end_of;
 use std::alloc::Global;
 use std::marker::Model;
+
+mod packed;
+
+pub use packed::PackedSeat;
 
 /// A part and the frames that have not arrived. Whether its actors have a step is found once behind each step.
 #[derive(Drop)]
@@ -67,30 +68,6 @@ impl<'a> Seat<'a> {
             has_recovery,
             has_arrival,
         })
-    }
-
-    /// An equal seat of its own.
-    pub fn copied(&self, alloc: Global) -> Result<Seat<'a>, NoMemory>
-        ensures { IfOk result (λ made. made ≡ self.now) }
-    {
-        Ok(Seat {
-            part: self.part.copy(alloc)?,
-            coming: self.coming,
-            has_recovery: self.has_recovery,
-            has_arrival: self.has_arrival,
-        })
-    }
-
-    /// Whether the other part is in the same state, with the same frames to come. One that is may be denied.
-    pub fn is_alike(&self, other: &Seat) -> bool
-        ensures { result ≡ true → seat_now self.now ≡ seat_now other.now }
-    {
-        are_same(self.coming, other.coming) && self.part.is_same_state(&other.part)
-    }
-
-    /// A digest, and the part's state and the number of frames to come with it.
-    pub fn digest(&self, digest: u64) -> u64 {
-        self.part.digest(mixed(digest, self.coming.len() as u64))
     }
 
     /// The part.

@@ -40,6 +40,9 @@ use std::alloc::Global;
 use std::marker::Model;
 
 mod branching;
+mod packed;
+
+pub use packed::PackedSimulation;
 
 /// A run as it stands.
 #[derive(Drop)]

@@ -1,11 +1,11 @@
-//! A simulation that branches: copies of it, and every step that may be next.
+//! A simulation that branches: every step that may be next, and what it has come to.
 
-ghost use Rattle.std.specs.Prelude.{◌≡◌, ◌<◌, ◌≤◌, Some, true, IfOk, length, map, slice_get};
+ghost use Rattle.std.specs.Prelude.{◌≡◌, ◌<◌, ◌≤◌, Some, IfOk, length, map, slice_get};
 ghost use Rattle.run_defs.specs.Schedules.{round};
 ghost use Rattle.run_defs.specs.Simulation.{answer_table, answers_of_thread, choices_of};
 ghost use Rattle.sim_run.specs.Actors.{actors_in};
 ghost use Rattle.sim_run.specs.Advanced.{standing};
-ghost use Rattle.sim_run.specs.Branching.{StandAlike, run_of, seat_now};
+ghost use Rattle.sim_run.specs.Branching.{run_of};
 ghost use Rattle.sim_run.specs.Ends.{ends_of};
 ghost use Rattle.sim_run.specs.Reached.{IsOpenChoice};
 ghost use Rattle.nook_data.specs.declared.limits.TheConstants.{MOST_PARTS, MOST_THREADS};
@@ -18,33 +18,11 @@ use crate::seat::Seat;
 use nook_data::calls::AnswerTable;
 use nook_data::lists::{Items, TryCopy, Words};
 use nook_data::memory::NoMemory;
-use nook_data::scenario::ScheduleSpec;
 use part_core::Part;
 use report_text::PartEnds;
-use schedule::Schedule;
 use std::alloc::Global;
 
 impl<'a> Simulating<'a> {
-    /// A copy as it stands, under a round robin: who follows every step asks no schedule.
-    #[tactic(auto, unfolding(run_defs::specs::Schedules::opening_order))]
-    pub fn branch(&self) -> Result<Simulating<'a>, NoMemory>
-        ensures { IfOk result (λ made. made ≡ record self.now { order = round 0 }) }
-    {
-        let alloc = self.alloc;
-        let able = match &self.able {
-            Some(able) => Some(Vec::from_slice(alloc, able)?),
-            None => None,
-        };
-        Ok(Simulating {
-            alloc,
-            schedule: Schedule::new(ScheduleSpec::RoundRobin),
-            seats: copy_seats(alloc, &self.seats)?,
-            threads: copy_threads(alloc, &self.threads)?,
-            able,
-            ready: Vec::new(alloc),
-        })
-    }
-
     /// The numbers of the actors that have a step, in rising order.
     pub fn actors(&self) -> Result<Words, NoMemory>
         ensures { IfOk result (λ actors. actors ≡ actors_in self.now.parts self.now.threads) }
@@ -67,19 +45,6 @@ impl<'a> Simulating<'a> {
     {
         let ready = ready_actors(self.alloc, &self.threads, &self.seats)?;
         choice_among(self.alloc, &ready, index, &self.threads, &self.seats)
-    }
-
-    /// Whether the other simulation's parts are in the same states, with the same frames to come, and its threads are the
-    /// same. One of which that holds may be denied.
-    pub fn is_alike(&self, other: &Simulating) -> bool
-        ensures { result ≡ true → StandAlike self.now other.now }
-    {
-        are_same_threads(&self.threads, &other.threads) && are_alike(&self.seats, &other.seats)
-    }
-
-    /// A number that is the same for simulations that are alike.
-    pub fn digest(&self) -> u64 {
-        digest_of_threads(digest_of_seats(0, &self.seats), &self.threads)
     }
 
     /// The number of parts, at most 8.
@@ -147,28 +112,6 @@ fn choice_among(
     }
 }
 
-/// Copies of the parts.
-fn copy_seats<'a>(alloc: Global, seats: &[Seat<'a>]) -> Result<Vec<Seat<'a>>, NoMemory>
-    ensures { IfOk result (λ made. made.items ≡ seats.now) }
-{
-    let mut made = Vec::with_capacity(alloc, seats.len())?;
-    for seat in seats {
-        made.push(seat.copied(alloc)?)?;
-    }
-    Ok(made)
-}
-
-/// Copies of the threads.
-fn copy_threads<'a>(alloc: Global, threads: &[Script<'a>]) -> Result<Vec<Script<'a>>, NoMemory>
-    ensures { IfOk result (λ made. made.items ≡ threads.now) }
-{
-    let mut made = Vec::with_capacity(alloc, threads.len())?;
-    for thread in threads {
-        made.push(thread.copied(alloc)?)?;
-    }
-    Ok(made)
-}
-
 /// Copies of each thread's answers.
 fn copy_answers(alloc: Global, threads: &[Script]) -> Result<AnswerTable, NoMemory>
     ensures { IfOk result (λ made. made ≡ map answers_of_thread threads.now) }
@@ -178,52 +121,4 @@ fn copy_answers(alloc: Global, threads: &[Script]) -> Result<AnswerTable, NoMemo
         made.push(thread.answers().copy(alloc)?)?;
     }
     Ok(made)
-}
-
-/// Whether the threads are the same.
-fn are_same_threads(threads: &[Script], others: &[Script]) -> bool
-    ensures { result ≡ true → threads.now ≡ others.now }
-{
-    if threads.len() != others.len() {
-        return false;
-    }
-    for number in 0..threads.len() {
-        if !threads[number].is_same(&others[number]) {
-            return false;
-        }
-    }
-    true
-}
-
-/// Whether the parts are in the same states, with the same frames to come.
-fn are_alike(seats: &[Seat], others: &[Seat]) -> bool
-    ensures { result ≡ true → map seat_now seats.now ≡ map seat_now others.now }
-{
-    if seats.len() != others.len() {
-        return false;
-    }
-    for number in 0..seats.len() {
-        if !seats[number].is_alike(&others[number]) {
-            return false;
-        }
-    }
-    true
-}
-
-/// A digest, and the parts' states with it.
-fn digest_of_seats(digest: u64, seats: &[Seat]) -> u64 {
-    let mut digest = digest;
-    for seat in seats {
-        digest = seat.digest(digest);
-    }
-    digest
-}
-
-/// A digest, and where the threads are with it.
-fn digest_of_threads(digest: u64, threads: &[Script]) -> u64 {
-    let mut digest = digest;
-    for thread in threads {
-        digest = thread.digest(digest);
-    }
-    digest
 }

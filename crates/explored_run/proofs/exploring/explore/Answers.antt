@@ -1,7 +1,5 @@
-use Rattle.std.proofs.Common.{ap}
-use Rattle.explore_laws.specs.Present.{present}
 use Rattle.explored_run.proofs.Presents.{explored}
 use Rattle.explored_run.proofs.exploring.explore.Goals as goal
 
 pub returns : goal.returns
-returns c = explored c.args.scenario.now c.search.result (c.search.ensures c.args.scenario.now (ap present c.in_ok-first.ensures))
+returns c = explored c.args.scenario.now c.search.result (c.search.ensures c.args.scenario.now c.in_ok-first.ensures)

@@ -1,6 +1,22 @@
 use Rattle.std.specs.Vec.{with_items}
+use Rattle.domain_pages.proofs.Packs.{end_put, with_back}
 use Rattle.domain_pages.proofs.Shown.{length-shown, items_back, map_put}
 use Rattle.domain_pages.proofs.map.PageMap.kernel_write.Goals as goal
+
+pub invariant_of-self : goal.invariant_of-self
+invariant_of-self c =
+    let p = c.self.inside in
+    let own = c.put.new.frames in
+    let text = c.put.new.text in
+    let words = rw (c.deref_mut.ensures.value, c.deref_mut-2.ensures.value, c.as_slice.ensures) at c.put.ensures.words in
+    let framed = rw c.deref_mut.ensures.value at c.put.ensures.framed in
+    let shows = rw c.as_slice.ensures at c.put.ensures.text in
+    let back = items_back 8192 p.frames own c.self.invariant.0.frames_all c.put.ensures.size in
+    let texts = items_back 2048 p.text text c.self.invariant.1.size c.put.ensures.text.size in
+    let end = c.end_after-self-inside in
+    with_back c.put.new.table (with_items p.frames own).items own (with_items p.text text).items text p.initial end.result back texts
+    (framed c.self.invariant.0) shows
+    (end_put p.table c.put.new.table p.frames.items own p.text.items text p.initial p.text_end end.result c.args.address c.args.word c.self.invariant.1 shows c.self.invariant.2 words end.ensures.within end.ensures.kept end.ensures.written)
 
 pub returns-clause-written : goal.returns-clause-written
 returns-clause-written c =

@@ -1,6 +1,7 @@
 use Rattle.std.proofs.Common.{◌∙◌, length, ap}
 use Rattle.std.specs.Vec.{with_items}
 use Rattle.machine_defs.proofs.Padded.{length-padded_words}
+use Rattle.domain_pages.proofs.Packs.{end_of_loaded}
 use Rattle.domain_pages.proofs.Shown.{framed_opening}
 use Rattle.domain_pages.proofs.Texts.{pages_with, text_loaded, text_opening}
 use Rattle.domain_pages.proofs.map.PageMap.load.Goals as goal
@@ -14,6 +15,7 @@ invariant_of-self c =
     rw c.opening_table-self-inside.ensures (
       framed_opening _ c.self.invariant.0.frames_all,
       text_opening _ (with_items p.text c.write_all.new.frames).items _ (ap length done ∙ length-padded_words 2048 image.text c.requires.text),
+      rw c.len-self-inside.ensures (end_of_loaded image.text _ c.requires.text done),
     )
 
 pub returns-clause-ok : goal.returns-clause-ok

@@ -1,6 +1,25 @@
 use Rattle.std.proofs.Common.{arith}
 use Rattle.std.proofs.lemmas.List.{length-take}
+use Rattle.std.specs.Vec.{with_items}
+use Rattle.domain_pages.proofs.Packs.{end_put_all, with_back}
+use Rattle.domain_pages.proofs.Shown.{items_back}
 use Rattle.domain_pages.proofs.map.PageMap.put_words.Goals as goal
+
+pub invariant_of-self : goal.invariant_of-self
+invariant_of-self c =
+    let p = c.self.inside in
+    let own = c.put_all.new.frames in
+    let text = c.put_all.new.text in
+    let words = rw (c.deref_mut.ensures.value, c.deref_mut-2.ensures.value, c.as_slice.ensures) at c.put_all.ensures.words in
+    let framed = rw c.deref_mut.ensures.value at c.put_all.ensures.framed in
+    let shows = rw c.as_slice.ensures at c.put_all.ensures.text in
+    let all = framed c.self.invariant.0 in
+    let back = items_back 8192 p.frames own c.self.invariant.0.frames_all all.frames_all in
+    let texts = items_back 2048 p.text text c.self.invariant.1.size c.put_all.ensures.text.size in
+    let end = c.end_after-self-inside in
+    with_back c.put_all.new.table (with_items p.frames own).items own (with_items p.text text).items text p.initial end.result back texts
+    all shows
+    (end_put_all p.table c.put_all.new.table p.frames.items own p.text.items text p.initial c.args.words.now p.text_end end.result c.args.start c.args.count c.self.invariant.1 shows c.self.invariant.2 c.requires.within c.requires.fits words end.ensures.within end.ensures.kept end.ensures.written)
 
 pub returns-clause-pages : goal.returns-clause-pages
 returns-clause-pages c = rw (← c.self.view_is) (omega (arith, length-take 115 c.self.inside.table))

@@ -5,6 +5,6 @@ use Rattle.part_core.proofs.part.Part.bursts.Goals as goal
 
 pub returns-clause-few : goal.returns-clause-few
 returns-clause-few c =
-    let run : PartRun = record { state = c.self.inside.state; journal = c.self.inside.journal.list } in
-    let few : c.self.inside.state.bursts < 2 ^ 23 = (sound run c.self.invariant.0).bursts in
-    rw (← c.self-inside.view_is) at few
+    let run : PartRun = record { state = c.self.inside.state.value; journal = c.self.inside.journal.list } in
+    let few : c.self.inside.state.value.bursts < 2 ^ 23 = (sound run c.self.invariant.0).bursts in
+    rw (← c.deref.ensures, ← c.behind-self.view_is) at few

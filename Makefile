@@ -15,7 +15,7 @@ mandir = $(datadir)/man/man1
 docdir = $(datadir)/doc/nooks
 sharedir = $(datadir)/nooks
 bashdir = $(datadir)/bash-completion/completions
-# zsh looks for the completions of packages in a folder of their own.
+# zsh has a separate folder for the completions of packages.
 zshdir = $(datadir)/zsh/$(if $(filter /usr,$(PREFIX)),vendor-completions,site-functions)
 vimdir = $(datadir)/vim/vimfiles
 
@@ -29,7 +29,7 @@ data = install -m 644
 help:
 	@sed -n '/^#/!q; s/^# \{0,1\}//p' Makefile
 
-# The proved program has to be there and newer than its sources. One that is named has to say that it is nooks.
+# The proved program must be newer than its sources. One that is named must report that it is nooks.
 check-program:
 	@if [ -n "$(PROGRAM)" ]; then \
 	    [ -x "$(PROGRAM)" ] || { echo "make: $(PROGRAM) is no program" >&2; exit 1; }; \
@@ -71,7 +71,7 @@ install: check-program
 	chmod -R u+rwX,go+rX,go-w $(DESTDIR)$(docdir) $(DESTDIR)$(sharedir)
 	chmod 644 $(DESTDIR)$(mandir)/nooks*.1.gz $(addprefix $(DESTDIR)$(bashdir)/,nooks nooks-bench) \
 	    $(addprefix $(DESTDIR)$(zshdir)/,_nooks _nooks-bench)
-	@# A package has its bytecode written when it is installed, and so has none in its tree.
+	@# The installation of a package writes its bytecode, so its tree has none.
 	[ -n "$(DESTDIR)" ] || $(PYTHON) -m compileall -q $(sharedir)/nooks_bench
 
 uninstall:

@@ -16,7 +16,7 @@ names in contracts are those of docs/DEFINITIONS.md, and of the folder `specs/` 
 
 """
 
-# A line that begins a function, or what functions stand in.
+# A line that begins a function, or a block of functions.
 FUNCTION = re.compile(r"^( *)pub (?:const )?fn (\w+)")
 TRAIT_FUNCTION = re.compile(r"^( +)fn (\w+)")
 BLOCK = re.compile(r"^(?:pub )?(impl|trait)\b[^{]*?(\w+)(?:<[^{]*)? \{$")
@@ -51,8 +51,8 @@ def about_crate(crate: str) -> str:
 
 
 def enter(reader: Reader, line: str) -> None:
-    """Notes the type or the trait in whose block the next functions stand. Only functions of a public trait, or with a mark of
-    their own, are public."""
+    """Notes the type or the trait whose block has the next functions. A function is public if its trait is, or if it has its
+    own mark."""
     matched = BLOCK.match(line)
     if matched:
         before, _, after = line.partition(" for ")
@@ -68,12 +68,12 @@ def enter(reader: Reader, line: str) -> None:
 def head_of(lines: list[str], at: int, indent: str) -> tuple[list[str], int]:
     """The signature and the contract of the function that begins at a line, and the line of its body."""
     head: list[str] = []
-    for place in range(at, len(lines)):
-        line = lines[place].removeprefix(indent)
+    for index in range(at, len(lines)):
+        line = lines[index].removeprefix(indent)
         if line in ("{", "{}"):
-            return head, place
+            return head, index
         if line.endswith(";") or (line.endswith((" {", " {}")) and not line.startswith(" ")):
-            return [*head, re.sub(r"( \{\}?|;)$", "", line)], place
+            return [*head, re.sub(r"( \{\}?|;)$", "", line)], index
         head.append(line)
     raise UnknownShape(f"a function has no body: {lines[at]}")
 
@@ -108,7 +108,7 @@ def sources_of(crate: str) -> list[str]:
 
 
 def exports_of(crate: str) -> tuple[set[str], set[str]]:
-    """The modules of a crate that are public, and the names that it gives of the others."""
+    """The public modules of a crate, and the names that it exports from the others."""
     text = text_of(f"crates/{crate}/src/lib.rt") if (TOP / f"crates/{crate}/src/lib.rt").is_file() else ""
     names: set[str] = set()
     for given in re.findall(r"^pub use ([^;]+);", text, re.M):
@@ -119,7 +119,7 @@ def exports_of(crate: str) -> tuple[set[str], set[str]]:
 
 
 def is_public(function: Function, file: str, exports: tuple[set[str], set[str]]) -> bool:
-    """Whether other crates may call a function: by a public module, or since the crate gives its name or its type's."""
+    """Whether other crates may call a function: by a public module, or because the crate exports its name or its type's."""
     modules, names = exports
     return file.split("/src/")[1].split("/")[0].removesuffix(".rt") in modules or re.split(r"<|::", function.name)[0] in names
 
@@ -138,7 +138,7 @@ def section(function: Function) -> str:
 
 
 def chapter(crate: str) -> str:
-    """A crate as a chapter of the page; a crate without public functions is told in its own words alone."""
+    """A crate as a chapter of the page; of a crate without public functions there is only its comment."""
     return "\n".join([f"## `{crate}`\n", about_crate(crate) + "\n", *map(section, public_functions(crate))])
 
 

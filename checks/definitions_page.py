@@ -1,6 +1,6 @@
 """docs/DEFINITIONS.md: the definitions that the promises speak of, in reading order, as one document.
 
-Each file of specs/ stands whole, without the lines that name what it uses. The comments at its top become its introduction.
+Each file of specs/ is there as a whole, without the lines that name what it uses. The comments at its top introduce it.
 """
 
 from __future__ import annotations
@@ -109,7 +109,7 @@ CHAPTERS = (
 # crates give to pieces of the definitions.
 APART = {"Lib", "Views", "Making"}
 
-# The crates of which each file stands in a chapter.
+# The crates whose files must each have a chapter.
 CRATES = ("nook_data", "nook_io", "machine_defs", "part_defs", "run_defs", "promise_defs", "headline_laws", "guard_defs", "asm_defs",
           "input_defs", "report_defs", "plan_defs", "campaign_defs", "explore_defs", "command_forms", "nooks")
 
@@ -132,7 +132,7 @@ def files_of(crate: str) -> set[str]:
 
 
 def check_whole() -> None:
-    """Each definition stands in one chapter."""
+    """Refuses a definition without a chapter, or with two."""
     named = [file for chapter in CHAPTERS for file in chapter.files]
     missing = set().union(*map(files_of, CRATES)) - set(named)
     twice = {file for file in named if named.count(file) > 1}
@@ -151,7 +151,7 @@ def is_use(line: str) -> bool:
 
 
 def halves(file: str) -> tuple[list[str], list[str]]:
-    """The comments at the top of a file, without their marks, and the lines behind them, without what the file uses."""
+    """The comments at the top of a file, without their marks, and the lines after them, without what the file uses."""
     lines = [line for line in text_of(path_of(file)).split("\n") if not line.startswith("use ")]
     while lines and not lines[0]:
         lines.pop(0)

@@ -1,4 +1,4 @@
-"""Draws inputs for the sweep: scenarios, nearly valid JSON and assembler texts. All of it hangs on the generator alone."""
+"""Draws inputs for the sweep: scenarios, nearly valid JSON and assembler texts. All of them depend on the generator alone."""
 
 import json
 import re
@@ -23,7 +23,7 @@ WRONG_DRIVERS = {
     "sound": ["plays-on"],
 }
 
-# Changes of the sound drivers, each of which breaks its class's contract in one place, or is wrong in another way.
+# Changes of the sound drivers, each of which breaks its class's contract once, or is wrong in another way.
 HABITS = {
     "block": [
         ("LI r11 256", "LI r11 257"),
@@ -64,7 +64,7 @@ MNEMONICS = "LI LUI MOV ADD SUB AND OR XOR SHL SHR ADDI LD ST JMP BEQ BNE BLT JA
 EDGES = [0, 1, 2, 3, 4, 7, 8, 11, 12, 13, 15, 16, 17, 31, 63, 64, 65, 127, 255, 256, 257, 2047, 2048, 2049, 4095, 4096]
 EDGES += [4160, 5183, 5184, 5248, 7359, 7360, 7424, 8191, 8192, 65535, 65536, 4294967295]
 
-# What a part and the base of a campaign have at most, and the keys of a campaign by which it has members.
+# The most faults of a part and operations of a base, and the keys of a campaign that give it members.
 MOST_FAULTS = 64
 MOST_OPERATIONS = 64
 STRIKES = ["faults", "members", "every"]
@@ -75,7 +75,7 @@ ODD_VALUES += ["raw:-0", "raw:1.0", "raw:1e2", "raw:01", "raw:184467440737095516
 
 
 class Twin(str):
-    """A key that may stand beside its equal."""
+    """A key of which an object may have two."""
 
     __hash__ = object.__hash__
 
@@ -99,12 +99,12 @@ def edge(random, most):
 
 
 def number_in(random, line):
-    """A line with another number in the place of one of its own."""
+    """A line with one of its numbers replaced."""
     found = list(re.finditer(r"\b\d+\b", line))
     if not found:
         return line
-    place = random.choice(found)
-    return line[: place.start()] + str(edge(random, 65535)) + line[place.end() :]
+    match = random.choice(found)
+    return line[: match.start()] + str(edge(random, 65535)) + line[match.end() :]
 
 
 def damaged_text(random, text):
@@ -241,10 +241,10 @@ def fault(random):
     return given
 
 
-def part(random, place, version):
+def part(random, index, version):
     """A part with its driver, its faults and what its class has."""
     kind = random.choice(CLASSES)
-    given = {"name": f"{random.choice(['d', 'part', '_0'])}{place}", "class": kind, "driver": driver(random, kind)}
+    given = {"name": f"{random.choice(['d', 'part', '_0'])}{index}", "class": kind, "driver": driver(random, kind)}
     if random.random() < 0.8:
         given["limit"] = random.choice([0, 1, 1, 2, 2, 3, 5, 16])
     if random.random() < 0.7:
@@ -267,11 +267,11 @@ def words(random, least, most):
 
 def operation(random, parts):
     """An operation of one of the parts, now and then of another class or out of a range."""
-    place = random.randrange(len(parts))
-    kind = parts[place]["class"] if random.random() < 0.95 else random.choice(CLASSES)
+    index = random.randrange(len(parts))
+    kind = parts[index]["class"] if random.random() < 0.95 else random.choice(CLASSES)
     names = {"block": ["read", "write"] * 3, "net": ["send", "recv"] * 3, "sound": ["play"] * 5 + ["open", "close"]}
     name = random.choice(names[kind] + ["get", "set"])
-    given = {"part": place, "op": name}
+    given = {"part": index, "op": name}
     first = random.choice([0, 1, 2, 5, 7, edge(random, 260)])
     if name == "read":
         given.update(first=first, count=random.choice([1, 1, 2, 3, 8, 9, 0]))
@@ -290,7 +290,7 @@ def operation(random, parts):
 
 
 def schedule(random, threads, parts):
-    """A schedule over so many threads and parts."""
+    """A schedule of this number of threads and parts."""
     kind = random.choice(["round_robin", "drawn", "listed"])
     if kind == "drawn":
         return {"kind": kind, "start": random.choice([random.getrandbits(64), random.randint(0, 99), 2**64 - 1])}
@@ -302,7 +302,7 @@ def schedule(random, threads, parts):
 
 def operations(random, parts, longest):
     """A thread's operations; more often than not it opens the streams before it comes to the rest."""
-    opens = [{"part": place, "op": "open"} for place, given in enumerate(parts) if given["class"] == "sound"]
+    opens = [{"part": index, "op": "open"} for index, given in enumerate(parts) if given["class"] == "sound"]
     rest = [operation(random, parts) for _ in range(random.randint(0, longest))]
     return opens + rest if random.random() < 0.6 else rest
 
@@ -310,7 +310,7 @@ def operations(random, parts, longest):
 def scenario(random):
     """A scenario that keeps the format."""
     version = random.choice([1, 2])
-    parts = [part(random, place, version) for place in range(random.choice([1, 1, 1, 2, 2, 3, 4]))]
+    parts = [part(random, index, version) for index in range(random.choice([1, 1, 1, 2, 2, 3, 4]))]
     count = random.choice([0, 1, 1, 2, 2, 3, 4, 16])
     longest = 4 if count == 16 else random.choice([3, 8, 20])
     threads = [{"name": f"t{t}", "ops": operations(random, parts, longest)} for t in range(count)]
@@ -335,8 +335,8 @@ def unreliable(random):
 
 
 def base(random, given, is_long):
-    """The scenario as the base of a campaign. Nearly always it gets no more operations than there may be; where runs are
-    many, a part is recovered once at most: a driver that hangs takes 4,096 turns each time."""
+    """The scenario as the base of a campaign. Nearly always it gets no more operations than a base may have. If there
+    are many runs, each part recovers at most once: a driver that hangs takes 4,096 instructions each time."""
     left = MOST_OPERATIONS if random.random() < 0.95 else 10**6
     for thread in given["threads"]:
         del thread["ops"][left:]
@@ -347,7 +347,7 @@ def base(random, given, is_long):
 
 
 def strikes(random, key, count):
-    """What strikes in a campaign with one of the three keys: so many faults, lists of faults, or faults without a place."""
+    """What strikes in a campaign with one of the three keys: faults, lists of faults, or faults at no instruction."""
     if key == "members":
         return [[fault(random) for _ in range(random.randint(1, 4))] for _ in range(count)]
     faults = [fault(random) for _ in range(count)]
@@ -378,17 +378,17 @@ def nearly_valid_campaign(random):
     return asked
 
 
-def disk(random, place, version):
+def disk(random, index, version):
     """A part that is a disk."""
     while True:
-        given = part(random, place, version)
+        given = part(random, index, version)
         if given["class"] == "block":
             return given
 
 
 def pair(random):
     """A scenario of two disks with a thread that reads and writes the first; now and then one that no mirror serves."""
-    parts = [disk(random, place, 2) for place in range(2)]
+    parts = [disk(random, index, 2) for index in range(2)]
     if random.random() < 0.95:
         parts[1]["blocks"] = parts[0]["blocks"]
     for given in parts:
@@ -495,7 +495,7 @@ def changed(random, given):
 
 
 def odd_token(random):
-    """A token that an assembler may take, or not, where it stands."""
+    """A token that an assembler may accept, or not, at this position."""
     return random.choice(
         ["r0", "r15", "r16", "r01", "R1", "x", "_", "init", "a" * 32, "a" * 33, "0", "0x10", "0xFFFF", "0x10000", "0x", "007"]
         + ["65535", "65536", "4294967295", "4294967296", "2047", "2048", "-1", "1.5"]

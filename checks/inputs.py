@@ -1,7 +1,7 @@
-"""Tables of inputs with the fault that each is refused for, if it is refused. checks/golden holds the program against them.
+"""Tables of inputs with the input error that each is refused for, if it is refused. checks/golden tries the program with them.
 
-A row of a scenario's table is a text and the line of its fault without the word `fault`, or `right`. The text stands inside
-a layer. If the text is right, the layer has the next fault behind it, so that the row shows how far the reader came.
+A row of a scenario's table is a text and the line of its error without the word `fault`, or `right`. The text is put into
+a layer. If the text is right, the layer has the next error after it, so that the row shows how far the reader came.
 """
 
 from collections.abc import Iterator
@@ -27,7 +27,7 @@ IN_PICKS: Layer = ('{"version":1,"schedule":{"kind":"listed","picks":[', ']},"pa
 IN_PARTS: Layer = ('{"version":1,"parts":[', '],"threads":7}')
 IN_PARTS_2: Layer = ('{"version":2,"parts":[', '],"threads":7}')
 
-# The part behind a right one named `s`.
+# The part after a right one named `s`.
 IN_SECOND_PART: Layer = ('{"version":1,"parts":[' + SPEAKER + ",", '],"threads":7}')
 
 # The bad blocks of a disk of 4 blocks in version 2; right ones are followed by no driver.
@@ -45,7 +45,7 @@ IN_ARRIVALS: Layer = (
     '}],"threads":7}',
 )
 
-# The threads behind one right part named `s`, the operations of one thread, and the words of one write.
+# The threads after one right part named `s`, the operations of one thread, and the words of one write.
 IN_THREADS: Layer = ('{"version":1,"parts":[' + SPEAKER + '],"threads":', "}")
 IN_OPS: Layer = (IN_THREADS[0] + '[{"name":"t","ops":[', "]}]}")
 IN_WORDS: Layer = (IN_OPS[0] + '{"part":0,"op":"write","first":0,"data":[', "]}]}]}")
@@ -164,7 +164,7 @@ PARTS_OF_VERSION_2: list[Row] = [
     ('{"class":"block","name":"d","blocks":1,"bad":7,"limit":17}', "4 wrong_kind /parts/0/bad"),
 ]
 
-# The part behind one that is named `s`.
+# The part after one that is named `s`.
 SECOND_PARTS: list[Row] = [
     ('7', "4 wrong_kind /parts/1"),
     ('{"class":"net","name":"s"}', "10 double_name /parts/1/name"),
@@ -209,7 +209,7 @@ ASM: list[Row] = [
     (r'{"asm":".class sound\n.entry init 0\n.entry open 0\n.entry play 0\n.entry close 0\n.entry get 0\n.entry set 0\n"}', "7 bad_image /parts/0/driver"),
 ]
 
-# Images: unknown keys come first, and another class than the part's stands at the driver.
+# Images: unknown keys come first, and another class than the part's is an error of the driver.
 IMAGES: list[Row] = [
     ('[]', "4 wrong_kind /parts/0/driver/image"),
     ('{}', "3 missing_key /parts/0/driver/image/class"),
@@ -358,22 +358,22 @@ RECV = '{"part":0,"op":"recv"}'
 
 
 def times(count: int, item: str) -> str:
-    """So many times the same item, with commas between."""
+    """The same item `count` times, with commas between."""
     return ",".join([item] * count)
 
 
-def numbered(count: int, front: str, back: str) -> str:
-    """So many items that differ by a number, with commas between."""
-    return ",".join(f"{front}{place}{back}" for place in range(count))
+def numbered(count: int, before: str, after: str) -> str:
+    """Items that differ by a number, with commas between."""
+    return ",".join(f"{before}{number}{after}" for number in range(count))
 
 
 def parts(count: int) -> str:
-    """So many links of different names."""
+    """Links of different names."""
     return numbered(count, '{"name":"p', '","class":"net","driver":{"image":' + NET_IMAGE + "}}")
 
 
 def threads(count: int) -> str:
-    """A list of so many threads of different names."""
+    """A list of threads of different names."""
     return "[" + numbered(count, '{"name":"t', '","ops":[]}') + "]"
 
 
@@ -419,17 +419,17 @@ OTHER_BYTES: list[bytes] = [
 
 
 def scenarios() -> Iterator[tuple[bytes, str]]:
-    """Each scenario of the tables with the line of its fault, or `right`."""
-    for (front, back), rows in TABLES:
-        for text, wanted in rows:
-            yield (front + text + back).encode(), wanted
-    for (front, back), text, wanted in LONG_LISTS:
-        yield (front + text + back).encode(), wanted
+    """Each scenario of the tables with the line of its error, or `right`."""
+    for (before, after), rows in TABLES:
+        for text, expected in rows:
+            yield (before + text + after).encode(), expected
+    for (before, after), text, expected in LONG_LISTS:
+        yield (before + text + after).encode(), expected
     for given in OTHER_BYTES:
         yield given, "1 not_json /"
 
 
-# Driver texts: the kind of the first fault, as docs/ASSEMBLER.md counts them, and its line.
+# Driver texts: the kind of the first error, as docs/ASSEMBLER.md counts them, and its line.
 TEXTS: list[tuple[str, int, int]] = [
     ("x:LI r1 0", 1, 1),
     ("5x", 1, 1),
@@ -564,6 +564,6 @@ LONG_TEXTS: list[tuple[str, int, int]] = [
 
 
 def texts() -> Iterator[tuple[bytes, str]]:
-    """Each driver's text of the tables with the line of its fault."""
+    """Each driver's text of the tables with the line of its error."""
     for text, kind, line in TEXTS + LONG_TEXTS:
         yield text.encode(), f"8 bad_asm {kind} line {line} /"

@@ -1,5 +1,5 @@
 # What ./nooks-unproved and ./nooks-plain share. Each keeps its program as out/KIND/nooks, with KIND `unproved` or `plain`,
-# and beside it the sum of the sources that it was built from. The caller sets `top`, the folder of the repository.
+# and next to it the checksum of the sources that it was built from. The caller sets `top`, the folder of the repository.
 
 # Whether a command is on the path.
 has() {
@@ -14,12 +14,12 @@ sources() {
     esac
 }
 
-# The sum of the names and the contents of those files. Times of change are not looked at: `git` sets them as it likes.
+# The checksum of the names and the contents of those files, without their modification times, which `git` changes.
 sum_of() {
     (cd "$top" && sources "$1" | LC_ALL=C sort -z | xargs -0 sha256sum | sha256sum)
 }
 
-# Whether a program is there that was built from the sources as they are now.
+# Whether there is a program that was built from the present sources.
 is_kept() {
     local kept="$top/out/$1"
     [ -x "$kept/nooks" ] && [ -f "$kept/sum" ] && [ "$(cat "$kept/sum")" = "$(sum_of "$1")" ]
@@ -33,8 +33,8 @@ build() {
     esac
 }
 
-# Builds a program and keeps it. The sum is written last, so that a build that was cut off is made again. Of several calls
-# at a time one builds, and the others wait for it.
+# Builds a program and keeps it. The checksum is written last, so that an interrupted build is repeated. Of several
+# concurrent calls one builds, and the others wait for it.
 keep() {
     local kind="$1" kept="$top/out/$1" sum
     mkdir -p "$kept" && exec 9> "$kept/lock" || return 1

@@ -1,7 +1,7 @@
-"""Holds programs against the files of checks/runs, the tables of inputs.py, and what it computes here. checks/golden calls it.
+"""Compares programs with the files of checks/runs, the tables of inputs.py and computed tables. checks/golden calls it.
 
-runs/README.md says what the files are. Each scenario and each text has at least one file beside it, and each of those
-has its scenario or text. An audit of each report by its scenario has to be a yes. Besides, inputs that are cut off are
+runs/README.md says what the files are. Each scenario and each text has at least one output, and each output its
+scenario or text. The audit of each report by its scenario must be yes. Besides, truncated inputs are
 refused, the generated scenario is the one of bench/run, and campaigns of up to 4,096 faults, of as many members and of
 every trap have their tables.
 """
@@ -14,15 +14,15 @@ from typing import Any
 
 import inputs
 import running
-from running import Named, Tally, run
+from running import Named, Results, run
 
 RUNS = os.path.join(running.TOP, "checks/runs")
 
-# The files that stand beside a scenario, and those beside a text.
-BESIDE_SCENARIO = (".report", ".mirror", ".trace")
-BESIDE_TEXT = (".image", ".text", ".list")
+# The outputs of a scenario, and those of a text.
+OF_SCENARIO = (".report", ".mirror", ".trace")
+OF_TEXT = (".image", ".text", ".list")
 
-def kept(name: str) -> bytes:
+def stored(name: str) -> bytes:
     """The bytes of a file of checks/runs."""
     with open(os.path.join(RUNS, name), "rb") as file:
         return file.read()
@@ -34,67 +34,67 @@ def names(ending: str) -> list[str]:
 
 
 def status_of(report: bytes) -> int:
-    """The status that a report tells in its last line; -1 if it tells none."""
+    """The status in the last line of a report; -1 if it has none."""
     found = re.search(rb"(?:^|\n)status (\d+)\n$", report)
     return int(found[1]) if found else -1
 
 
-def check_files(tally: Tally) -> None:
-    """No file stands alone."""
-    scenarios = {name.split(".")[0] for ending in BESIDE_SCENARIO for name in names(ending)}
-    tally.same("checks/runs: scenarios, and those with a file beside them", names(".json"), sorted(scenarios))
-    texts = {name for ending in BESIDE_TEXT for name in names(ending)}
-    tally.same("checks/runs: texts, and those with a file beside them", names(".asm"), sorted(texts))
+def check_files(results: Results) -> None:
+    """No file is without its input or its output."""
+    scenarios = {name.split(".")[0] for ending in OF_SCENARIO for name in names(ending)}
+    results.same("checks/runs: scenarios, and those with a file beside them", names(".json"), sorted(scenarios))
+    texts = {name for ending in OF_TEXT for name in names(ending)}
+    results.same("checks/runs: texts, and those with a file beside them", names(".asm"), sorted(texts))
 
 
-def check_reports(tally: Tally, whose: str, program: str, form: str, ending: str) -> None:
+def check_reports(results: Results, whose: str, program: str, form: str, ending: str) -> None:
     """Each report and its status."""
     for name in names(ending):
-        wanted = kept(name + ending)
-        ended = run(program, [form], kept(name + ".json"))
-        tally.same(f"runs/{name}: the report of {whose}", ended.out, wanted)
-        tally.same(f"runs/{name}: the status of {whose}", ended.status, status_of(wanted))
+        expected = stored(name + ending)
+        ended = run(program, [form], stored(name + ".json"))
+        results.same(f"runs/{name}: the report of {whose}", ended.out, expected)
+        results.same(f"runs/{name}: the status of {whose}", ended.status, status_of(expected))
 
 
-def check_audits(tally: Tally, whose: str, program: str) -> None:
+def check_audits(results: Results, whose: str, program: str) -> None:
     """The verdict on each report of a run."""
     for name in names(".report"):
-        ended = run(program, ["audit"], running.handed(kept(name + ".json"), kept(name + ".report")))
-        tally.same(f"runs/{name}: the verdict of {whose}", (ended.status, ended.out), (0, b"audit yes\n"))
+        ended = run(program, ["audit"], running.handed(stored(name + ".json"), stored(name + ".report")))
+        results.same(f"runs/{name}: the verdict of {whose}", (ended.status, ended.out), (0, b"audit yes\n"))
 
 
-def check_traces(tally: Tally, whose: str, program: str) -> None:
-    """Each trace. The name tells the part and the burst; a trace that is a fault has the status of a refused input."""
+def check_traces(results: Results, whose: str, program: str) -> None:
+    """Each trace. Its name has the part and the burst; a trace that is an input error has the status of a refused input."""
     for whole in names(".trace"):
         name, part, burst = whole.split(".")
-        wanted = kept(whole + ".trace")
-        ended = run(program, ["trace", part, burst], kept(name + ".json"))
-        tally.same(f"runs/{whole}: the trace of {whose}", ended.out, wanted)
-        tally.same(f"runs/{whole}: the status of {whose}", ended.status, 3 if wanted.startswith(b"fault ") else 0)
+        expected = stored(whole + ".trace")
+        ended = run(program, ["trace", part, burst], stored(name + ".json"))
+        results.same(f"runs/{whole}: the trace of {whose}", ended.out, expected)
+        results.same(f"runs/{whole}: the status of {whose}", ended.status, 3 if expected.startswith(b"fault ") else 0)
 
 
-def check_texts(tally: Tally, whose: str, program: str) -> None:
+def check_texts(results: Results, whose: str, program: str) -> None:
     """What is made of each driver's text: its image, the text of that image, and its list."""
     for name in names(".asm"):
-        given, image = kept(name + ".asm"), kept(name + ".image")
-        tally.same(f"runs/{name}: its image of {whose}", run(program, ["asm"], given).out, image)
-        tally.same(f"runs/{name}: the text of its image, of {whose}", run(program, ["dis"], image).out, kept(name + ".text"))
-        tally.same(f"runs/{name}: its list of {whose}", run(program, ["list"], given).out, kept(name + ".list"))
+        given, image = stored(name + ".asm"), stored(name + ".image")
+        results.same(f"runs/{name}: its image of {whose}", run(program, ["asm"], given).out, image)
+        results.same(f"runs/{name}: the text of its image, of {whose}", run(program, ["dis"], image).out, stored(name + ".text"))
+        results.same(f"runs/{name}: its list of {whose}", run(program, ["list"], given).out, stored(name + ".list"))
 
 
-def check_inputs(tally: Tally, whose: str, program: str) -> None:
-    """Each input of the tables, with the line of its fault; one that is right ends otherwise."""
-    for given, wanted in inputs.scenarios():
+def check_inputs(results: Results, whose: str, program: str) -> None:
+    """Each input of the tables, with the line of its error; one that is right ends otherwise."""
+    for given, expected in inputs.scenarios():
         ended = run(program, ["run"], given)
         found = ended.out.decode() if ended.status == 3 else "right"
-        tally.same(f"run of {whose} over {shown(given)}", found, "right" if wanted == "right" else f"fault {wanted}\n")
-    for given, wanted in inputs.texts():
+        results.same(f"run of {whose} over {shown(given)}", found, "right" if expected == "right" else f"fault {expected}\n")
+    for given, expected in inputs.texts():
         for form in ("asm", "list"):
             ended = run(program, [form], given)
-            tally.same(f"{form} of {whose} over {shown(given)}", (ended.status, ended.out), (3, f"fault {wanted}\n".encode()))
+            results.same(f"{form} of {whose} over {shown(given)}", (ended.status, ended.out), (3, f"fault {expected}\n".encode()))
 
 
-# The forms that read JSON, and the one line of each over an input that is cut off.
+# The subcommands that read JSON, and the one line of each over a truncated input.
 CUT_OFF = [([form], "1 not_json /") for form in ("run", "dis", "campaign", "mirror", "guard", "explore")] + [
     (["run", "threads"], "1 not_json /"),
     (["guard", "scenario"], "1 not_json /"),
@@ -103,35 +103,35 @@ CUT_OFF = [([form], "1 not_json /") for form in ("run", "dis", "campaign", "mirr
 ]
 
 
-def check_fronts(tally: Tally, whose: str, program: str) -> None:
-    """An example's scenario, cut off at each thirteenth byte and before its last bracket."""
+def check_prefixes(results: Results, whose: str, program: str) -> None:
+    """An example's scenario, truncated at each thirteenth byte and before its last bracket."""
     whole = running.example("write-and-read.json").rstrip()
     for length in [*range(0, len(whole), 13), len(whole) - 1]:
         for words, line in CUT_OFF:
             ended = run(program, words, whole[:length])
             name = f"{' '.join(words)} of {whose} over the first {length} bytes of write-and-read"
-            tally.same(name, (ended.status, ended.out), (3, f"fault {line}\n".encode()))
+            results.same(name, (ended.status, ended.out), (3, f"fault {line}\n".encode()))
 
 
-# Words that are of no form, beside those of checks/statuses.
+# Arguments that are no subcommand, in addition to those of checks/statuses.
 NO_FORMS = [["list", "me"], ["gen", "257", "scenario"], ["gen", "1", "report"], ["--help", "me"], ["run", "run"], ["guard", "run"], ["explore", "1"]]
 
 
-def check_usage(tally: Tally, whose: str, program: str) -> None:
-    """Other words give the line that every word of no form gives."""
+def check_usage(results: Results, whose: str, program: str) -> None:
+    """Arguments that are no subcommand all give the same line."""
     line = run(program, ["walk"]).out
     for words in NO_FORMS:
         ended = run(program, words)
-        tally.same(f"{' '.join(words)} of {whose}", (ended.status, ended.out), (2, line))
+        results.same(f"{' '.join(words)} of {whose}", (ended.status, ended.out), (2, line))
 
 
-def check_generated(tally: Tally, whose: str, program: str) -> None:
+def check_generated(results: Results, whose: str, program: str) -> None:
     """The generated scenario of 12 runs as the one that bench/run makes of the same size."""
     given = run(program, ["gen", "12", "scenario"]).out
     found = run(program, ["run"], given)
-    wanted = run(program, ["run"], running.generated(12))
-    tally.same(f"the generated scenario of 12: the report of {whose}", found.out, wanted.out)
-    tally.same(f"the generated scenario of 12: the statuses of {whose}", (found.status, wanted.status), (0, 0))
+    expected = run(program, ["run"], running.generated(12))
+    results.same(f"the generated scenario of 12: the report of {whose}", found.out, expected.out)
+    results.same(f"the generated scenario of 12: the statuses of {whose}", (found.status, expected.status), (0, 0))
 
 
 # The rows of three faults of one write: in its burst, in the driver's start, and in a burst that never comes. Without a
@@ -140,8 +140,8 @@ def check_generated(tally: Tally, whose: str, program: str) -> None:
 STRUCK = [(3, "status 1 events 10 failures 1 gone 1 lost 0"), (1, "status 1 events 6 failures 1 gone 1 lost 0")]
 UNSTRUCK = (4_294_967_295, "status 0 events 8 failures 0 gone 0 lost 0")
 
-# The rows of a trap at every turn of it: of the two turns in each of the two bursts of the start, and of the 90 in the burst
-# of the write, which makes three registers ready, asks for a block, moves its 16 words by five instructions each, stores
+# The rows of a trap at every instruction of it: of the two in each of the two bursts of the start, and of the 90 in the burst
+# of the write, which sets three registers, asks for a block, moves its 16 words by five instructions each, stores
 # it, ends the loop and replies. The row of the second burst has one event more than that of the first.
 EVERY = [STRUCK[1][1]] * 2 + [STRUCK[1][1].replace("events 6", "events 7")] * 2 + [STRUCK[0][1]] * 90
 
@@ -155,10 +155,10 @@ def base_of_campaigns() -> dict[str, Any]:
 
 
 def campaign(count: int) -> tuple[list[dict[str, Any]], str]:
-    """So many such faults, and the table of their campaign."""
-    members = [(STRUCK + [UNSTRUCK])[place % 3] for place in range(count)]
+    """The faults of `count` members, and the table of their campaign."""
+    members = [(STRUCK + [UNSTRUCK])[number % 3] for number in range(count)]
     faults = [{"burst": burst, "after": 0, "kind": "trap"} for burst, _ in members]
-    table = "".join(f"{place} {row}\n" for place, (_, row) in enumerate(members, 1))
+    table = "".join(f"{number} {row}\n" for number, (_, row) in enumerate(members, 1))
     return faults, table + f"campaign {count} kept {count // 3} given_up {count - count // 3} broken 0\n"
 
 
@@ -169,16 +169,16 @@ def campaigns() -> Iterator[tuple[str, dict[str, Any], str]]:
         yield f"{count} faults", {"faults": faults}, table
         yield f"{count} members", {"members": [[fault] for fault in faults]}, table
         yield f"{count} faults with a guard", {"faults": faults, "guard": True}, table.replace("\n", " traps 0\n")
-    rows = "".join(f"{place} {row}\n" for place, row in enumerate([UNSTRUCK[1], *EVERY]))
+    rows = "".join(f"{number} {row}\n" for number, row in enumerate([UNSTRUCK[1], *EVERY]))
     yield "every trap", {"every": [{"kind": "trap"}]}, rows + f"campaign {len(EVERY)} kept 0 given_up {len(EVERY)} broken 0\n"
 
 
-def check_campaigns(tally: Tally, whose: str, program: str) -> None:
-    """Tables of one row, of as many as are run at a time and one more, and of the most; and that of every trap."""
-    for name, strikes, wanted in campaigns():
+def check_campaigns(results: Results, whose: str, program: str) -> None:
+    """Tables of one row, of as many as run at a time and one more, and of the most; and that of every trap."""
+    for name, strikes, expected in campaigns():
         given = json.dumps({"base": base_of_campaigns(), "part": 0, **strikes}).encode()
         ended = run(program, ["campaign"], given)
-        tally.same(f"a campaign of {name} of {whose}", (ended.status, ended.out), (0, wanted.encode()))
+        results.same(f"a campaign of {name} of {whose}", (ended.status, ended.out), (0, expected.encode()))
 
 
 def shown(given: bytes) -> str:
@@ -191,18 +191,18 @@ CHECKS = [
     check_traces,
     check_texts,
     check_inputs,
-    check_fronts,
+    check_prefixes,
     check_usage,
     check_generated,
     check_campaigns,
 ]
 
 
-def check_kept(tally: Tally, programs: list[Named]) -> None:
+def check_stored(results: Results, programs: list[Named]) -> None:
     """All of it, by each of the programs."""
-    check_files(tally)
+    check_files(results)
     for whose, program in programs:
-        check_reports(tally, whose, program, "run", ".report")
-        check_reports(tally, whose, program, "mirror", ".mirror")
+        check_reports(results, whose, program, "run", ".report")
+        check_reports(results, whose, program, "mirror", ".mirror")
         for check in CHECKS:
-            check(tally, whose, program)
+            check(results, whose, program)

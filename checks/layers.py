@@ -1,4 +1,4 @@
-"""What crates.txt says of the crates: the line of each, what it stands on, and what it is."""
+"""What crates.txt says of the crates: the line of each, which crates it uses, and what it is."""
 
 from __future__ import annotations
 
@@ -8,27 +8,27 @@ from pathlib import Path
 TOP = Path(__file__).resolve().parent.parent
 CRATES = TOP / "crates"
 
-# What a crate may be (docs/ARCHITECTURE.md): a layer with a view of its own, laws over definitions, worked cases and tests, or
-# apart for the build alone.
+# What a crate may be (docs/ARCHITECTURE.md): a layer with its own view, laws over definitions, worked cases and tests, or
+# separate only for the build.
 MARKS = ("layer", "law", "cases", "build")
 
 
 def lines_of_crates() -> dict[str, str]:
-    """The line of each crate in crates.txt, by its name, without the mark behind it."""
+    """The line of each crate in crates.txt, by its name, without the mark after it."""
     marks()
-    return {name: line for name, line, _ in parted_lines()}
+    return {name: line for name, line, _ in split_lines()}
 
 
-def parted_lines() -> list[tuple[str, str, str]]:
-    """The lines of crates.txt that name a crate: its name, the line, and what stands behind it as a comment."""
+def split_lines() -> list[tuple[str, str, str]]:
+    """The lines of crates.txt that name a crate: its name, the line, and the comment after it."""
     lines = (TOP / "crates.txt").read_text(encoding="utf-8").splitlines()
-    parted = [line.partition("#") for line in lines]
-    return [(line.partition(":")[0].split()[0], line.rstrip(), note.strip()) for line, _, note in parted if ":" in line]
+    pieces = [line.partition("#") for line in lines]
+    return [(line.partition(":")[0].split()[0], line.rstrip(), note.strip()) for line, _, note in pieces if ":" in line]
 
 
 def marks() -> dict[str, str]:
     """What each crate is, by its name. A line without a mark is refused."""
-    found = {name: note for name, _, note in parted_lines()}
+    found = {name: note for name, _, note in split_lines()}
     for name, note in found.items():
         if note not in MARKS:
             sys.exit(f"crates.txt: the line of {name} has {note!r} behind it, and has to have # and one of {', '.join(MARKS)}")
@@ -41,7 +41,7 @@ def below_each(lines: dict[str, str]) -> dict[str, list[str]]:
 
 
 def all_below(crate: str, below: dict[str, list[str]]) -> set[str]:
-    """The crates that stand below a crate, itself left out."""
+    """The crates that a crate uses, directly or not; itself left out."""
     found: set[str] = set()
     more = list(below[crate])
     while more:
@@ -53,5 +53,5 @@ def all_below(crate: str, below: dict[str, list[str]]) -> set[str]:
 
 
 def size(crate: str) -> int:
-    """The bytes of a crate's code, which say about how long it takes."""
+    """The bytes of a crate's code, by which the time of its proof is estimated."""
     return sum(it.stat().st_size for it in (CRATES / crate / "src").rglob("*") if it.is_file())

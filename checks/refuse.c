@@ -1,6 +1,6 @@
-/* Takes the place of the C library's allocator in a run of the built program, and refuses what the environment asks for:
-   REFUSE_FROM is the first call that is refused, REFUSE_LAST the last. Where one is refused, a byte goes to the file
-   descriptor REFUSE_TOLD. checks/allocations compiles it with no headers, and hands the calls on to glibc. */
+/* Replaces the C library's allocator in a run of the built program, and refuses the calls that the environment names:
+   REFUSE_FROM is the first call that is refused, REFUSE_LAST the last. For each refused call a byte is written to the file
+   descriptor REFUSE_TOLD. checks/allocations compiles it with no headers. The other calls go to glibc. */
 
 typedef unsigned long size;
 

@@ -1,4 +1,4 @@
-"""What the scripts share that refuse allocations: what takes the allocator's place, and a run under it."""
+"""What the scripts that refuse allocations share: the allocator that refuses, and a run with it."""
 
 import os
 import shutil
@@ -10,7 +10,7 @@ from running import TOP, run
 
 
 def build_refuser(folder):
-    """Compiles what takes the allocator's place."""
+    """Compiles the allocator that refuses. Returns the path of its library."""
     compiler = shutil.which("cc")
     if compiler is None:
         sys.exit("there is no C compiler (cc), without which no allocation can be refused")
@@ -22,8 +22,8 @@ def build_refuser(folder):
 
 def refused_run(program, refuser, words, given, first, last):
     """A run of which the allocations from `first` to `last` are refused, and how many were."""
-    with tempfile.TemporaryFile() as told:
-        at = told.fileno()
+    with tempfile.TemporaryFile() as log:
+        at = log.fileno()
         refusal = {"REFUSE_FROM": str(first), "REFUSE_LAST": str(last), "REFUSE_TOLD": str(at)}
         ended = run(program, words, given, env={"LD_PRELOAD": refuser, **refusal}, pass_fds=[at])
         return ended, os.fstat(at).st_size

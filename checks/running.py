@@ -1,4 +1,4 @@
-"""What the scripts of this folder share: runs of a program, the tally of what passed, and the plain program."""
+"""What the scripts of this folder share: runs of a program, counts of what passed, and the plain program."""
 
 from __future__ import annotations
 
@@ -40,7 +40,7 @@ class Ended:
     err: bytes
 
 
-class Tally:
+class Results:
     """Counts what passed and what failed, and prints a line for each failure."""
 
     def __init__(self) -> None:
@@ -55,9 +55,9 @@ class Tally:
             print(f"{name}: {why}", flush=True)
         return holds
 
-    def same(self, name: str, found: object, wanted: object) -> bool:
-        """Counts whether two values are the same, and tells the first place where they differ."""
-        return self.check(name, found == wanted, difference(found, wanted))
+    def same(self, name: str, found: object, expected: object) -> bool:
+        """Counts whether two values are the same, and reports their first difference."""
+        return self.check(name, found == expected, difference(found, expected))
 
     def end(self) -> NoReturn:
         """Prints the last line and ends the script."""
@@ -65,20 +65,20 @@ class Tally:
         sys.exit(1 if self.failed else 0)
 
 
-def difference(found: object, wanted: object) -> str:
-    """A short line that tells where two values differ."""
-    if not (isinstance(found, bytes) and isinstance(wanted, bytes)):
-        return f"{found!r}, and {wanted!r} is wanted"
+def difference(found: object, expected: object) -> str:
+    """A short line that says how two values differ."""
+    if not (isinstance(found, bytes) and isinstance(expected, bytes)):
+        return f"{found!r}, and {expected!r} is wanted"
     here = found.split(b"\n")
-    there = wanted.split(b"\n")
-    for number, (line, want) in enumerate(zip(here, there), 1):
-        if line != want:
-            return f"line {number} is {line[:200]!r}, and {want[:200]!r} is wanted"
+    there = expected.split(b"\n")
+    for number, (line, other) in enumerate(zip(here, there), 1):
+        if line != other:
+            return f"line {number} is {line[:200]!r}, and {other[:200]!r} is wanted"
     return f"{len(here)} lines, and {len(there)} are wanted"
 
 
 def run(program: str, words: Sequence[str | bytes], given: bytes = b"", **how: Any) -> Ended:
-    """Runs a program on words and bytes of input; `how` may name another stdin, another stdout and more of Popen's."""
+    """Runs a program with arguments and bytes of input; `how` may have another stdin, another stdout and more for Popen."""
     if "stdin" not in how:
         how["input"] = given
     how.setdefault("stdout", subprocess.PIPE)
@@ -117,7 +117,7 @@ def program_from(words: Sequence[str]) -> str:
 
 
 def there(program: str) -> str:
-    """The whole path of a program that can be run; it is a mistake of the caller if it cannot."""
+    """The absolute path of a program; ends the script if it cannot be run."""
     if not os.access(program, os.X_OK):
         sys.exit(f"{program} is not there: ./nooks and rt ci build the proved program, ./nooks-unproved {UNPROVED}, ./nooks-plain {PLAIN}")
     return os.path.abspath(program)
@@ -135,7 +135,7 @@ def example(name: str) -> bytes:
 
 
 def without_states(exploration: bytes) -> bytes:
-    """What `explore` writes, without its count of states: the plain program holds more of them as one."""
+    """What `explore` writes, without its count of states: the plain program takes more of them for one."""
     return re.sub(rb"(?m)^explored \d+ states", b"explored", exploration)
 
 
@@ -149,7 +149,7 @@ def find_plain() -> str | None:
     """The plain program, which ./nooks-plain builds if its sources changed; None if there is no rustc."""
     if shutil.which("rustc") is None:
         return None
-    # With no words it only writes its usage line, after it was built.
+    # Without arguments it only writes its usage line, after it was built.
     ended = subprocess.run([os.path.join(TOP, "nooks-plain")], stdin=subprocess.DEVNULL, capture_output=True, check=False)
     if not os.access(PLAIN, os.X_OK):
         sys.exit(f"./nooks-plain built no {PLAIN}: {ended.stderr.decode(errors='replace')}")
@@ -157,7 +157,7 @@ def find_plain() -> str | None:
 
 
 def with_plain(program: str) -> list[Named]:
-    """A program, and the plain one beside it if it is another and there is a rustc."""
+    """A program, and the plain one too if it is another and there is a rustc."""
     programs = [("the program", program)]
     plain = None if is_plain(program) else find_plain()
     if plain is not None:

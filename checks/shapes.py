@@ -1,5 +1,5 @@
-"""The shapes in which the sources have their facts: equations of a definition, variants of an enum, constants, and rows of a
-page's table. Each reader ends with the file and what it looked for if the file is not of the shape that it knows.
+"""Reads facts from the sources: equations of a definition, variants of an enum, constants, and rows of a page's table. Each
+reader raises UnknownShape, with the file and what it looked for, if the file is not of the shape that it knows.
 """
 
 from __future__ import annotations
@@ -54,7 +54,7 @@ def matched(pattern: str, text: str, file: str, about: str) -> re.Match[str]:
 def equations(file: str, name: str) -> tuple[Equation, ...]:
     """The equations of a definition, in their order."""
     lines = text_of(file).split("\n")
-    heads = [place for place, line in enumerate(lines) if re.match(rf"(?:abbrev|unfoldable) pub {name} :", line)]
+    heads = [index for index, line in enumerate(lines) if re.match(rf"(?:abbrev|unfoldable) pub {name} :", line)]
     if len(heads) != 1:
         raise UnknownShape(f"{file} defines {name} {len(heads)} times, and once is known to checks/tables")
     sides: list[list[str]] = []
@@ -142,11 +142,11 @@ def constants(file: str, known: dict[str, int] | None = None) -> dict[str, int]:
 def rows(page: str, head: str) -> list[list[str]]:
     """The rows of the one table of a page whose head is this line, each by its cells."""
     lines = text_of(page).split("\n")
-    places = [place for place, line in enumerate(lines) if line == head]
-    if len(places) != 1:
-        raise UnknownShape(f"{page} has {len(places)} tables with the head {head!r}, and one is known to checks/tables")
+    heads = [index for index, line in enumerate(lines) if line == head]
+    if len(heads) != 1:
+        raise UnknownShape(f"{page} has {len(heads)} tables with the head {head!r}, and one is known to checks/tables")
     found: list[list[str]] = []
-    for line in lines[places[0] + 2 :]:
+    for line in lines[heads[0] + 2 :]:
         if not line.startswith("|"):
             break
         found.append([cell.strip() for cell in line.strip("|").split("|")])
@@ -159,5 +159,5 @@ def snake(name: str) -> str:
 
 
 def texts(body: str) -> list[str]:
-    """The texts that stand behind `codes` in a right side."""
+    """The texts after `codes` in a right side."""
     return re.findall(r'codes "([^"]*)"', body)

@@ -162,7 +162,7 @@ def figures(files: dict[str, Any]) -> dict[str, str]:
     return found
 
 
-# Tables. Each takes the files and the words behind its name.
+# Tables. Each takes the files and the words after its name.
 
 
 def counts_at(files: dict[str, Any], name: str, driver: str, guard: str, limit: str) -> dict[str, Any]:
@@ -284,7 +284,7 @@ NO_NUMBERS = re.compile(r"`[^`]*`|\]\([^)]*\)|\{\{.+?\}\}|95 %|\b(?:19|20)\d\d\b
 
 
 def values_at(value: Any, path: list[str]) -> list[Any]:
-    """What stands at a path, in which `*` is every key."""
+    """The values at a path, in which `*` is every key."""
     if not path:
         return [value]
     key, *rest = path
@@ -344,9 +344,9 @@ def differences() -> list[str]:
             found.append(f"{name} is missing")
             continue
         with open(path, encoding="utf-8") as file:
-            lines, wanted = file.read().split("\n"), text.split("\n")
-        if lines != wanted:
-            pairs = itertools.zip_longest(lines, wanted)
-            place = next(at for at, (ours, theirs) in enumerate(pairs) if ours != theirs)
-            found.append(f"{name}, line {place + 1}: differs from the counts in docs/survival")
+            lines, computed = file.read().split("\n"), text.split("\n")
+        if lines != computed:
+            pairs = itertools.zip_longest(lines, computed)
+            index = next(at for at, (ours, theirs) in enumerate(pairs) if ours != theirs)
+            found.append(f"{name}, line {index + 1}: differs from the counts in docs/survival")
     return found

@@ -1,7 +1,7 @@
 """The tables of the simulator, each read from the source that has it: names, numbers, keys, limits and the memory map.
 
-checks/tables writes them as JSON for the workbench. The words in which people are told of a clause or of a register stand in
-the pages of docs/ alone; what a page has as a number is compared with the definitions.
+checks/tables writes them as JSON for the workbench. Only the pages of docs/ have the sentence of a clause and the
+name of a register; what a page has as a number is compared with the definitions.
 """
 
 from __future__ import annotations
@@ -42,7 +42,7 @@ DEVICES_PAGE = "docs/DEVICES.md"
 # Which operands a form has, in the words of the assembler's page.
 OPERANDS = {"Bare": "", "A": "a", "Imm": "imm", "AB": "a b", "AImm": "a imm", "ABImm": "a b imm"}
 
-# What stands between spaces in a definition: a word, or something in brackets.
+# What a definition has between spaces: a word, or something in brackets.
 INNER = r"\((?:[^()]|\([^()]*\))*\)"
 ATOM = rf"(?:\w+|\((?:[^()]|{INNER})*\))"
 
@@ -75,7 +75,7 @@ def memory_map() -> dict[str, int]:
 
 
 def numbers() -> dict[str, int]:
-    """The constants that a definition may name; a place among parts or blocks is below the most that there may be."""
+    """The constants that a definition may name; the index of a part or a block is below the most that there may be."""
     known = {**limits(), **constants(PLAN_LIMITS), **memory_map()}
     return {**known, "parts": known["MOST_PARTS"], "blocks": known["MOST_DISK_BLOCKS"]}
 
@@ -91,7 +91,7 @@ def keys_of(body: str) -> list[str]:
     return [known[name] for name in re.findall(r"key\.(\w+)", body)]
 
 
-# ---- what may stand at a key
+# ---- the value at a key
 
 
 def number(least: str, most: str, file: str) -> Row:
@@ -113,14 +113,13 @@ def listed(body: str, file: str) -> Row | None:
 
 
 def ranges(file: str, *names: str) -> dict[str, Row]:
-    """What may stand at each key that some definitions of a file read, in their order; nothing if it is an object or a
-    name."""
+    """The value at each key that some definitions of a file read, in their order; nothing if it is an object or a name."""
     body = "; ".join(equation.body for name in names for equation in equations(file, name))
     return ranges_of(body, file)
 
 
 def ranges_of(body: str, file: str) -> dict[str, Row]:
-    """What may stand at each key that a right side reads."""
+    """The value at each key that a right side reads."""
     known = key_texts()
     found: dict[str, Row] = {}
     for way, key, rest in re.findall(rf"(word_at|number_at|required|optional) key\.(\w+)((?: {ATOM})*)", body):
@@ -144,7 +143,7 @@ def read_as(body: str, file: str) -> Row:
 
 
 def read_by(reader: str, file: str) -> str:
-    """What a reader reads by: itself if it stands in brackets, else the right side of its definition in the same file."""
+    """What a reader reads by: itself if it is in brackets, else the right side of its definition in the same file."""
     if reader.startswith("("):
         return reader[1:-1]
     is_here = re.search(rf"(?m)^(?:abbrev|unfoldable) pub {reader} :", text_of(file))
@@ -153,7 +152,7 @@ def read_by(reader: str, file: str) -> str:
 
 
 def campaign() -> dict[str, Row]:
-    """What may stand at the keys of a campaign. Of those that `strikes_of` reads just one is there."""
+    """The values at the keys of a campaign. Of those that `strikes_of` reads just one is there."""
     found = ranges(PLAN, "plan_of")
     known = key_texts()
     for equation in equations(PLAN, "strikes_of"):
@@ -166,7 +165,7 @@ def campaign() -> dict[str, Row]:
 
 
 def inputs() -> dict[str, dict[str, Row]]:
-    """For each kind of object of an input what may stand at the keys that all of its kind have, or that one class has."""
+    """For each kind of object of an input the values at the keys that all of its kind have, or that one class has."""
     entry = matched(rf"number_at entry ({ATOM}) ({ATOM}) d", equations(IMAGE, "places_from")[-1].body, IMAGE, "an entry's place")
     return {
         "scenario": ranges(SCENARIO, "scenario_of"),
@@ -182,7 +181,7 @@ def inputs() -> dict[str, dict[str, Row]]:
 
 def kinds(file: str, named: str, keys: str, read: str) -> list[Row]:
     """The names of a kind of thing with the keys that only each has: `named` has the names, `keys` the keys, and `read`
-    what may stand there."""
+    their values."""
     pairs = re.findall(r'\(codes "(\w+)", \w+\.(\w+)\)', body_of(file, named))
     own, bodies = by_variant(file, keys), by_variant(file, read)
     if [name for _, name in pairs] != list(own) or list(own) != list(bodies):
@@ -249,8 +248,8 @@ def registers(kind: str, defaults: str, maxima: str) -> list[Row]:
     """The registers of a class by the definitions, with their names from the page, which has to have the same numbers."""
     found = []
     pairs = zip(by_key(defaults), by_key(maxima), strict=True)
-    for key, ((default, most), (name, told_default, told_most)) in enumerate(zip(pairs, register_names()[kind], strict=True)):
-        if (told_default, told_most if told_most is not None else 2**32 - 1) != (default, most):
+    for key, ((default, most), (name, page_default, page_most)) in enumerate(zip(pairs, register_names()[kind], strict=True)):
+        if (page_default, page_most if page_most is not None else 2**32 - 1) != (default, most):
             raise UnknownShape(f"{DEVICES_PAGE}: register {key} of {kind} is by default {default} and at most {most} in {CLASSES}")
         found.append({"name": name, "default": default, "most": most})
     return found
@@ -305,9 +304,9 @@ def services() -> list[Row]:
     """The kernel's services: the enum has them in the order of their numbers, which the check of a call names."""
     names = [variant.name for variant in variants(MACHINE, "Service")]
     pieces = re.split(r"number == (\d+) then", body_of(SERVICES, "checked"))
-    told = {int(each): re.search(r"service\.(\w+)", piece) for each, piece in zip(pieces[1::2], pieces[2::2])}
-    wrong = [each for each, name in told.items() if name and names[each - 1 : each] != [name[1]]]
-    if sorted(told) != list(range(1, len(names) + 1)) or wrong:
+    checked = {int(each): re.search(r"service\.(\w+)", piece) for each, piece in zip(pieces[1::2], pieces[2::2])}
+    wrong = [each for each, name in checked.items() if name and names[each - 1 : each] != [name[1]]]
+    if sorted(checked) != list(range(1, len(names) + 1)) or wrong:
         raise UnknownShape(f"{SERVICES}: the numbers of `checked` are not those of the enum Service in {MACHINE}")
     return [{"number": each, "name": snake(name)} for each, name in enumerate(names, 1)]
 
@@ -317,11 +316,11 @@ def services() -> list[Row]:
 
 def clauses() -> list[Row]:
     """The clauses of the contracts by number, with what a driver did that breaks each."""
-    told = {int(each): words for each, words in rows(REPORT_PAGE, "| Clause | The driver |")}
+    sentences = {int(each): words for each, words in rows(REPORT_PAGE, "| Clause | The driver |")}
     numbered = {name: int(body) for name, body in by_variant(CLAUSES, "clause_number").items()}
-    if list(numbered.values()) != list(told):
+    if list(numbered.values()) != list(sentences):
         raise UnknownShape(f"{REPORT_PAGE}: the table of clauses has not the numbers of clause_number in {CLAUSES}")
-    return [{"number": each, "name": name, "broken": told[each]} for name, each in numbered.items()]
+    return [{"number": each, "name": name, "broken": sentences[each]} for name, each in numbered.items()]
 
 
 def words_of(name: str) -> list[str]:
@@ -352,7 +351,7 @@ def wrong_answers() -> list[str]:
 
 
 def fault_lines() -> list[Row]:
-    """The faults of an input by number, those of a scenario first."""
+    """The input errors by number, those of a scenario first."""
     lines = [texts(body)[0] for body in by_variant(FAULTS, "fault_text").values()]
     lines += [line for name in ("bad_header_text", "not_mirror_text", "no_such_burst_text") for line in texts(body_of(TEXTS, name))]
     named = [matched(r"^(?:fault )?(\d+) (\w+)", line, FAULTS, "the line of a fault") for line in lines]
@@ -360,7 +359,7 @@ def fault_lines() -> list[Row]:
 
 
 def asm_faults() -> list[Row]:
-    """The faults of an assembler text by number."""
+    """The errors of an assembler text by number."""
     return [{"number": int(body), "name": snake(name)} for name, body in by_variant(FAULTS, "asm_number").items()]
 
 
@@ -372,39 +371,39 @@ def help_lines() -> list[tuple[str, str]]:
 
 def statuses() -> list[Row]:
     """How the program ends, by number."""
-    told = dict(help_lines())
+    meanings = dict(help_lines())
     numbered = by_variant(ENDINGS, "code_of")
-    if [f"status {each}" for each in numbered.values()] != [words for words in told if words.startswith("status ")]:
+    if [f"status {each}" for each in numbered.values()] != [words for words in meanings if words.startswith("status ")]:
         raise UnknownShape(f"{TEXTS}: the statuses of help_text are not those of code_of in {ENDINGS}")
-    return [{"number": int(each), "name": snake(name), "means": told[f"status {each}"]} for name, each in numbered.items()]
+    return [{"number": int(each), "name": snake(name), "means": meanings[f"status {each}"]} for name, each in numbered.items()]
 
 
 def forms() -> list[Row]:
-    """The forms of words, as `--help` has them, each with whether an input is read. A word in capitals stands for a number."""
+    """The subcommands, as `--help` has them, each with whether it reads an input. A word in capitals is a number."""
     found = []
-    told = {words.removeprefix("nooks "): about for words, about in help_lines() if words.startswith("nooks ")}
+    abouts = {words.removeprefix("nooks "): about for words, about in help_lines() if words.startswith("nooks ")}
     reading = by_variant(FORMS, "is_reading")
     for equation in equations(FORMS, "IsForm"):
         name = re.findall(r"\b[A-Z]\w*", equation.arguments)[-1]
         words = form_words(equation.body)
-        known = [each for each in told if same_form(each.split(" "), words)]
+        known = [each for each in abouts if same_form(each.split(" "), words)]
         if len(known) != 1:
             raise UnknownShape(f"{TEXTS}: help_text has {len(known)} lines of the form {name} of {FORMS}")
-        found.append({"words": known[0], "name": snake(name), "reads": reading[name] == "true", "about": told[known[0]]})
-    if len(found) != len(told):
-        raise UnknownShape(f"{TEXTS}: help_text has {len(told)} forms of words, and IsForm in {FORMS} has {len(found)}")
-    return sorted(found, key=lambda row: list(told).index(row["words"]))
+        found.append({"words": known[0], "name": snake(name), "reads": reading[name] == "true", "about": abouts[known[0]]})
+    if len(found) != len(abouts):
+        raise UnknownShape(f"{TEXTS}: help_text has {len(abouts)} forms of words, and IsForm in {FORMS} has {len(found)}")
+    return sorted(found, key=lambda row: list(abouts).index(row["words"]))
 
 
 def form_words(body: str) -> list[str | None]:
-    """The words of a form, None for a number."""
+    """The arguments of a subcommand, None for a number."""
     literal = matched(r"words ≡ (.*?) ∷ \[\]", body, FORMS, "a form of words")[1]
     return [texts(word)[0] if word.startswith("codes") else None for word in literal.split(" ∷ ")]
 
 
-def same_form(told: list[str], words: list[str | None]) -> bool:
-    """Whether words of `--help` are those of a form, with a word in capitals for each number."""
-    return len(told) == len(words) and all(each == word or (word is None and each.isupper()) for each, word in zip(told, words))
+def same_form(named: list[str], words: list[str | None]) -> bool:
+    """Whether words of `--help` are those of a subcommand, with a word in capitals for each number."""
+    return len(named) == len(words) and all(each == word or (word is None and each.isupper()) for each, word in zip(named, words))
 
 
 TABLES = (

@@ -1,4 +1,4 @@
-//! The allocator of the system, which ends the program with a status of its own if there is no memory left.
+//! The allocator of the system, which ends the program with its own status if there is no memory left.
 
 use crate::texts::NO_MEMORY;
 use std::alloc::{GlobalAlloc, Layout, System};
@@ -44,7 +44,7 @@ fn there(start: *mut u8) -> *mut u8 {
 /// Standard error takes the line unbuffered, so this allocates nothing.
 #[cold]
 fn end_without_memory() -> ! {
-    // If standard error fails too, nobody is left to hear of it.
+    // If standard error fails too, there is nowhere to report it.
     let _said = io::stderr().write_all(NO_MEMORY.as_bytes());
     process::exit(NO_MEMORY_STATUS.into())
 }

@@ -1,6 +1,6 @@
 //! Drivers as assembler text.
 //!
-//! The first pass reads each line and gives each label its address, the second puts the words together.
+//! The first pass reads each line and gives each label its address, the second makes the words.
 
 use crate::class::Class;
 use crate::image::Image;
@@ -12,7 +12,7 @@ use std::collections::HashMap;
 
 use TextFaultKind::*;
 
-/// What a text is assembled to.
+/// The result of assembling a text.
 pub struct Assembled<'t> {
     pub image: Image,
     /// The line of each word, counted from 1.
@@ -22,7 +22,7 @@ pub struct Assembled<'t> {
     pub labels: Vec<(&'t str, u32)>,
 }
 
-/// Assembles a driver's text, or returns its first fault.
+/// Assembles a driver's text, or returns its first error.
 pub fn assemble(text: &[u8]) -> Result<Assembled<'_>, TextFault> {
     let mut reading = Reading::default();
     for (index, line) in lines(text).enumerate() {
@@ -64,7 +64,7 @@ struct Line<'t> {
     in_data: bool,
     /// Whether it defines a label that an earlier line defines.
     is_double: bool,
-    /// The first fault that the line has by itself.
+    /// The first error of the line itself.
     fault: Option<TextFaultKind>,
 }
 
@@ -77,7 +77,7 @@ struct Reading<'t> {
     data_words: u32,
     labels: Vec<(&'t str, u32)>,
     addresses: HashMap<&'t str, u32>,
-    /// The lines that are not blank. No line after one with a fault matters but for its labels.
+    /// The lines that are not blank. After a line with an error only the labels of later lines matter.
     lines: Vec<Line<'t>>,
     is_faulty: bool,
     line_count: usize,
@@ -144,7 +144,7 @@ impl<'t> Reading<'t> {
     }
 }
 
-/// What stands after the definition of a line.
+/// What follows the label of a line.
 fn statement<'t>(
     tokens: &[Token<'t>],
     class: Option<Class>,
@@ -190,7 +190,7 @@ fn directive<'t>(
         ("text", []) => Ok(Statement::Section { is_data: false }),
         ("data", []) => Ok(Statement::Section { is_data: true }),
         ("word", [value]) => Ok(Statement::Word(operand(value)?)),
-        // A name that is unknown is the fault even if there are too few or too many operands.
+        // An unknown name is the error even if there are too few or too many operands.
         ("class", [Token::Name(name), rest @ ..]) => {
             let class = Class::from_name(name).ok_or(UnknownName)?;
             expect_none(rest)?;
@@ -267,7 +267,7 @@ impl<'r, 't> Draft<'r, 't> {
         }
     }
 
-    /// Takes a line in, or returns the first of its faults.
+    /// Adds a line, or returns the first of its errors.
     fn line(&mut self, line: &Line) -> Result<(), TextFaultKind> {
         let taken = match line.statement {
             Statement::None | Statement::Section { .. } => Ok(()),

@@ -25,7 +25,7 @@ pub const LONGEST: usize = 16_777_216;
 /// The most digits of the scenario's length.
 const MOST_DIGITS: usize = 8;
 
-/// The scenario and the report of an input, which begins with the scenario's length in a line of its own.
+/// The scenario and the report of an input, whose first line is the scenario's length.
 pub fn split(input: &[u8]) -> Read<(&[u8], &[u8])> {
     let Some((length, rest)) = read_head(input) else {
         return Refusal::here(Cause::BadHeader);
@@ -60,10 +60,10 @@ pub fn first_wrong(scenario: &Scenario, report: &[u8]) -> Option<u64> {
     }
 }
 
-/// The line that is next does not fit.
+/// The next line does not fit.
 pub struct NoFit;
 
-/// The lines of a report that are left.
+/// The remaining lines of a report.
 struct Lines<'r> {
     rest: &'r [u8],
     /// The number of the next line.

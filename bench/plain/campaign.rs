@@ -4,9 +4,7 @@ use crate::fields::{each, some_items, truth, Object};
 use crate::guard;
 use crate::json::Value;
 use crate::refusal::{Cause, Read, Refusal, Within};
-use crate::scenario::{
-    self, read_fault, read_fault_of_no_place, Fault, FaultKind, Scenario, MOST_FAULTS,
-};
+use crate::scenario::{self, read_fault, read_fault_kind, Fault, FaultKind, Scenario, MOST_FAULTS};
 
 const MOST_MEMBERS: usize = 4_096;
 const MOST_FAULTS_OF_MEMBER: usize = 16;
@@ -17,14 +15,14 @@ const KEYS: [&str; 7] = [
     "base", "part", "faults", "members", "every", "guard", "detail",
 ];
 
-/// Those of the keys of which one is there.
+/// Of these keys a campaign has one.
 const CHOICES: [&str; 3] = ["faults", "members", "every"];
 
 pub struct Campaign<'v> {
-    /// The base as it was written: scenarios count the users of their words without atomics, so each worker reads one
-    /// of its own.
+    /// The base as it was written: scenarios count the users of their words without atomics, so each worker reads its
+    /// own.
     pub base: &'v Value<'v>,
-    /// The part that is struck.
+    /// The part that the faults strike.
     pub part: usize,
     pub choice: Choice,
     /// Whether the runs are guarded.
@@ -33,11 +31,11 @@ pub struct Campaign<'v> {
     pub has_detail: bool,
 }
 
-/// Which faults the members have. A member's faults come after those that the struck part has of its own.
+/// Which faults the members have. A member's faults come after the struck part's own.
 pub enum Choice {
     /// The faults of each member.
     Members(Vec<Vec<Fault>>),
-    /// A member for each of these faults at each place of the base's run where it strikes.
+    /// A member for each of these faults at each burst and instruction of the base's run at which it strikes.
     Every(Vec<FaultKind>),
 }
 
@@ -77,7 +75,7 @@ fn read_choice(key: &str, value: &Value) -> Read<Choice> {
         "members" => Choice::Members(each(some_items(value, MOST_MEMBERS)?, read_member)?),
         "every" => Choice::Every(each(
             some_items(value, MOST_FAULTS_OF_EVERY)?,
-            read_fault_of_no_place,
+            read_fault_kind,
         )?),
         _ => Choice::Members(each(some_items(value, MOST_MEMBERS)?, |fault| {
             Ok(vec![read_fault(fault)?])
@@ -90,7 +88,7 @@ fn read_member(value: &Value) -> Read<Vec<Fault>> {
 }
 
 impl Campaign<'_> {
-    /// Refuses a base with too many operations, or with too many faults to have the members' too.
+    /// Refuses a base with too many operations, or with no room for the members' faults.
     fn expect_limits(&self, base: &Scenario) -> Read<()> {
         let threads = base.threads.iter();
         if threads.map(|thread| thread.operations.len()).sum::<usize>() > MOST_OPERATIONS {

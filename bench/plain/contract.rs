@@ -56,7 +56,7 @@ pub struct Breach {
 
 /// What of an event breaks a clause.
 pub struct Breaches {
-    /// The deed that is looked at.
+    /// The present deed.
     deed: Deed,
     found: Vec<Breach>,
 }
@@ -91,10 +91,10 @@ impl Breaches {
     }
 }
 
-/// Judges the events of a part, one after the other, and keeps the place of the first that broke the contract.
+/// Judges the events of a part, one after the other, and keeps the number of the first that broke the contract.
 pub struct Judge<'s> {
     monitor: Monitor<'s>,
-    /// How many events it saw.
+    /// How many events it has seen.
     seen: usize,
     broken: Option<(usize, u8)>,
 }
@@ -108,7 +108,7 @@ impl<'s> Judge<'s> {
         }
     }
 
-    /// Takes an event in, and returns what of it breaks the contract.
+    /// Judges an event, and returns what of it breaks the contract.
     pub fn see(&mut self, event: &Event<'s>) -> Breaches {
         self.seen += 1;
         let breaches = self.monitor.see(event);
@@ -142,7 +142,7 @@ struct Call<'s> {
     failed: Vec<u32>,
 }
 
-/// What of the events seen so far decides which clauses later ones break, and what was lost. It has neither the places
+/// What of the events seen so far decides which clauses later ones break, and what was lost. It has neither the numbers
 /// of the events nor their count: after events in another order it may be the same.
 #[derive(Clone, PartialEq, Eq, Hash)]
 pub struct Monitor<'s> {
@@ -190,14 +190,14 @@ impl<'s> Monitor<'s> {
         }
     }
 
-    /// Numbers the open calls anew, from 1.
+    /// Numbers the open calls again, from 1.
     pub fn renumber(&mut self) {
         for (number, call) in (1..).zip(&mut self.calls) {
             call.number = number;
         }
     }
 
-    /// Takes an event in, and returns what of it breaks the contract.
+    /// Judges an event, and returns what of it breaks the contract.
     pub fn see(&mut self, event: &Event<'s>) -> Breaches {
         let mut breaches = Breaches::new();
         match event {
@@ -311,12 +311,12 @@ impl<'s> Monitor<'s> {
         match act {
             Act::Load { .. } => {}
             Act::Store { block, words } => {
-                let wanted = self
+                let expected = self
                     .inside()
                     .find_map(|call| call.operation.written(*block));
-                match wanted.map(|wanted| wanted == &words[..]) {
+                match expected.map(|expected| expected == &words[..]) {
                     None => breaches.add(1),
-                    Some(is_wanted) => breaches.check(2, is_wanted),
+                    Some(is_expected) => breaches.check(2, is_expected),
                 }
                 self.medium.store(*block, words.clone());
             }
@@ -419,15 +419,15 @@ impl<'s> Monitor<'s> {
         blocks.flat_map(|block| self.medium.block(block as u32))
     }
 
-    /// Counts an answer, and its call is open no more.
+    /// Counts an answer, and closes its call.
     fn answered(&mut self, number: u32, answer: Option<&Answer>) {
         let Some(answer) = answer else {
             return;
         };
-        let Some(place) = self.calls.iter().position(|call| call.number == number) else {
+        let Some(index) = self.calls.iter().position(|call| call.number == number) else {
             return;
         };
-        let call = self.calls.remove(place);
+        let call = self.calls.remove(index);
         match (call.operation, answer) {
             (Operation::Send { .. }, Answer::Done) => {
                 self.losses.sends += u64::from(call.sent == 0)

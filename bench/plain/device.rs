@@ -65,7 +65,7 @@ impl Device {
         }
     }
 
-    /// What a disk keeps.
+    /// The contents of a disk.
     pub fn medium(&self) -> Option<&Medium> {
         match &self.kind {
             Kind::Disk(disk) => Some(&disk.medium),
@@ -82,7 +82,7 @@ impl Device {
         }
     }
 
-    /// A frame comes in, and is lost if the ring is full.
+    /// A frame arrives. It is lost if the ring is full.
     pub fn arrive(&mut self, frame: Words) -> bool {
         match &mut self.kind {
             Kind::Net(net) if net.ring.len() < RING_FRAMES => {
@@ -107,7 +107,7 @@ impl Device {
         }
     }
 
-    /// Gives a word to a port, and returns the act that this makes.
+    /// Writes a word to a port, and returns the act that this makes.
     pub fn output(&mut self, port: u32, word: u32) -> Result<Option<Act>, NoSuchPort> {
         match (&mut self.kind, port) {
             (_, FIRST_REGISTER..12) => {
@@ -167,7 +167,7 @@ impl Disk {
         self.status = 0;
     }
 
-    /// The word at the position, which goes on.
+    /// The word at the position, which advances.
     fn buffer_word(&mut self) -> &mut u32 {
         let position = self.position;
         self.position = (position + 1) % BLOCK_WORDS;
@@ -239,8 +239,8 @@ impl Net {
 
     /// Adds a word to what is to be sent.
     fn add(&mut self, word: u32) {
-        if let Some(place) = self.buffer.get_mut(self.position) {
-            *place = word;
+        if let Some(slot) = self.buffer.get_mut(self.position) {
+            *slot = word;
             self.position += 1;
         }
     }

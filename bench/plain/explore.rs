@@ -1,15 +1,15 @@
 //! Every order of the steps of a scenario: the outcomes that some order has, and an order for each.
 //!
-//! Runs are followed level by level: those of one step, those of two, and so on. Runs of one length after which all goes
-//! on alike are one state. The states of a level stand in the order of their least picks, and their successors are made
-//! in the order of the actors. So the first run that leads to a state or to an outcome is the one with the least picks.
-//! The rows are those of the proved program; it holds fewer states as one, since it does not number open calls anew.
+//! Runs are followed level by level: those of one step, those of two, and so on. Runs of one length that all continue
+//! alike are one state. The states of a level are in the order of their least picks, and their successors are made in
+//! the order of the actors. So the first run that leads to a state or to an outcome is the one with the least picks.
+//! The rows are those of the proved program; it holds fewer states as one, since it does not number open calls again.
 //!
-//! A state is held whole, and a step is taken by a copy of the one part that it changes. All other parts and threads are
-//! shared with the state before it, and equal ones by all states of the last two levels. Of older levels the actors are
-//! held alone. On one processor 65,536 states of examples/link-loses.json take 1.6 seconds and 21 MB, and 21,970 states
-//! of four threads with two operations on a disk 1.0 second and 13 MB. To copy a part takes about a third of the time
-//! that it takes to lead a simulation to the same state anew by its picks, in runs of 30 to 70 steps.
+//! A state is held as a whole, and a step copies the one part that it changes. All other parts and threads are shared
+//! with the state before it, and equal ones by all states of the last two levels. Of older levels only the actors are
+//! held. On one processor 65,536 states of examples/link-loses.json take 1.6 seconds and 21 MB, and 21,970 states
+//! of four threads with two operations on a disk 1.0 second and 13 MB. Copying a part takes about a third of the time
+//! of another simulation by the state's picks, in runs of 30 to 70 steps.
 
 use crate::journal::Answer;
 use crate::lines::List;
@@ -29,8 +29,8 @@ const CUT_STATUS: u8 = 9;
 pub fn write(scenario: &Scenario, out: &mut impl Write) -> io::Result<u8> {
     let mut search = Search::new(scenario);
     search.follow_all();
-    for (place, row) in search.rows.iter().enumerate() {
-        search.write_row(place + 1, row, out)?;
+    for (index, row) in search.rows.iter().enumerate() {
+        search.write_row(index + 1, row, out)?;
     }
     let front = if search.is_cut { "front " } else { "" };
     let (states, outcomes) = (search.arrivals.len(), search.rows.len());
@@ -65,7 +65,7 @@ struct Reached<'s> {
     state: State<'s>,
 }
 
-/// What the run to an end comes to, if no run before it has its outcome.
+/// The run to an end, if no run before it has its outcome.
 struct Row {
     /// The state at its end.
     number: usize,
@@ -205,7 +205,7 @@ impl<'s> Search<'s> {
         }
     }
 
-    fn write_row(&self, place: usize, row: &Row, out: &mut impl Write) -> io::Result<()> {
+    fn write_row(&self, number: usize, row: &Row, out: &mut impl Write) -> io::Result<()> {
         let picks = self.picks_to(row.number);
         let Row {
             status,
@@ -218,7 +218,7 @@ impl<'s> Search<'s> {
         let events = picks.len();
         writeln!(
             out,
-            "{place} status {status} events {events} failures {failures} gone {gone} lost {lost} picks {}",
+            "{number} status {status} events {events} failures {failures} gone {gone} lost {lost} picks {}",
             List(&picks)
         )
     }

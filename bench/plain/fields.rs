@@ -1,4 +1,4 @@
-//! How values are taken from JSON: each check that fails is a refusal at the value's path.
+//! Reads values from JSON: each check that fails is a refusal with the value's path.
 
 use crate::json::Value;
 use crate::refusal::{Cause, Read, Refusal, Within};

@@ -1,4 +1,4 @@
-//! Which form the words are of.
+//! Which subcommand the arguments are.
 
 use std::ops::RangeInclusive;
 
@@ -14,7 +14,7 @@ pub enum Form {
         part: usize,
         burst: u32,
     },
-    /// The line that sums a generated scenario up.
+    /// The summary of a generated scenario in one line.
     Generate(u32),
     /// The generated scenario itself.
     GenerateScenario(u32),
@@ -32,7 +32,7 @@ pub enum Form {
 }
 
 impl Form {
-    /// The form of the words after the program's name, None if they are of no form.
+    /// The subcommand of the arguments after the program's name, None if they are none.
     pub fn of(words: &[&str]) -> Option<Form> {
         match words {
             ["run"] => Some(Form::Run),

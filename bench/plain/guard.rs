@@ -17,7 +17,7 @@ use std::fmt::{self, Display, Formatter};
 pub struct GuardTrap {
     pub part: usize,
     pub burst: u32,
-    /// The turns of the burst that come before the deed's.
+    /// The instructions of the burst before the deed's.
     pub after: u32,
     /// The smallest clause that the deed would break.
     pub clause: u8,
@@ -88,8 +88,8 @@ fn run_up_to_breach(scenario: &Scenario) -> Result<Run<'_>, GuardTrap> {
     Ok(simulation.end())
 }
 
-/// Refuses a scenario in which a part has no room for its traps, each of which is a failure. To each part's faults as
-/// many are added as are told for its index.
+/// Refuses a scenario in which a part has no room for its traps, each of which is a failure. Each part's faults are
+/// counted together with `added` for its index.
 pub fn expect_room(scenario: &Scenario, added: impl Fn(usize) -> usize) -> Read<()> {
     for (index, part) in scenario.parts.iter().enumerate() {
         let most_traps = part.limit as usize + 1;

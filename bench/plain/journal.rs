@@ -1,4 +1,4 @@
-//! What a part writes down of each step.
+//! The record that a part makes of each step.
 
 use crate::machine::MOST_TURNS;
 use crate::operation::Operation;
@@ -56,7 +56,7 @@ pub enum Failure {
     BadInit(u32),
 }
 
-/// What a device does that can be seen.
+/// An effect of a device that is visible outside.
 #[derive(Clone, PartialEq, Eq, Hash)]
 pub enum Act {
     Load { block: u32 },
@@ -75,7 +75,7 @@ pub struct MadeAct {
     pub act: Act,
 }
 
-/// What a burst ended in.
+/// How a burst ended.
 pub enum End {
     Service {
         service: u32,
@@ -106,7 +106,7 @@ pub struct Burst {
     /// 0 for the shadow's own calls.
     pub call: u32,
     pub burst: u32,
-    /// The turns that were made.
+    /// The turns that it took.
     pub turns: u32,
     pub end: End,
     pub acts: Vec<MadeAct>,
@@ -115,8 +115,8 @@ pub struct Burst {
 }
 
 impl Burst {
-    /// The turns that its line tells: a hang counts for all that there may be, also if it was injected before.
-    pub fn told_turns(&self) -> u32 {
+    /// The count of turns in its line: a hang has the most that there may be, even if it was injected earlier.
+    pub fn reported_turns(&self) -> u32 {
         match self.failure {
             Some(Failure::Trap(Trap::Hang)) => MOST_TURNS,
             _ => self.turns,

@@ -3,13 +3,13 @@
 use crate::refusal::{Cause, Read, Refusal};
 use std::borrow::Cow;
 
-/// How deep lists and objects may stand in each other.
+/// How deeply lists and objects may be nested.
 const DEEPEST: usize = 127;
 
 pub enum Value<'t> {
     Null,
     Bool(bool),
-    /// A whole number from 0 on.
+    /// A whole number that is not negative.
     Whole(u64),
     OtherNumber,
     Text(Cow<'t, str>),
@@ -29,7 +29,7 @@ pub fn read(input: &[u8]) -> Read<Value<'_>> {
 struct NotJson;
 
 fn parse(text: &str) -> Result<Value<'_>, NotJson> {
-    let mut parser = Parser { text, place: 0 };
+    let mut parser = Parser { text, offset: 0 };
     let value = parser.value(0)?;
     parser.skip_space();
     match parser.peek() {
@@ -40,24 +40,24 @@ fn parse(text: &str) -> Result<Value<'_>, NotJson> {
 
 struct Parser<'t> {
     text: &'t str,
-    place: usize,
+    offset: usize,
 }
 
 impl<'t> Parser<'t> {
     fn peek(&self) -> Option<u8> {
-        self.text.as_bytes().get(self.place).copied()
+        self.text.as_bytes().get(self.offset).copied()
     }
 
     fn skip_space(&mut self) {
         while matches!(self.peek(), Some(b' ' | b'\t' | b'\n' | b'\r')) {
-            self.place += 1;
+            self.offset += 1;
         }
     }
 
     /// Steps over a byte if it is the next one.
     fn eat(&mut self, byte: u8) -> bool {
         let there = self.peek() == Some(byte);
-        self.place += usize::from(there);
+        self.offset += usize::from(there);
         there
     }
 
@@ -84,15 +84,15 @@ impl<'t> Parser<'t> {
     }
 
     fn word(&mut self, word: &str, value: Value<'t>) -> Result<Value<'t>, NotJson> {
-        if !self.text[self.place..].starts_with(word) {
+        if !self.text[self.offset..].starts_with(word) {
             return Err(NotJson);
         }
-        self.place += word.len();
+        self.offset += word.len();
         Ok(value)
     }
 
     fn list(&mut self, depth: usize) -> Result<Value<'t>, NotJson> {
-        self.place += 1;
+        self.offset += 1;
         let mut items = Vec::new();
         self.skip_space();
         if self.eat(b']') {
@@ -109,7 +109,7 @@ impl<'t> Parser<'t> {
     }
 
     fn object(&mut self, depth: usize) -> Result<Value<'t>, NotJson> {
-        self.place += 1;
+        self.offset += 1;
         let mut fields = Vec::new();
         self.skip_space();
         if self.eat(b'}') {
@@ -129,13 +129,13 @@ impl<'t> Parser<'t> {
         }
     }
 
-    /// Steps over the digits that stand next, of which there is one at least.
+    /// Steps over the next digits, of which there is at least one.
     fn digits(&mut self) -> Result<(), NotJson> {
-        let start = self.place;
+        let start = self.offset;
         while matches!(self.peek(), Some(b'0'..=b'9')) {
-            self.place += 1;
+            self.offset += 1;
         }
-        if self.place == start {
+        if self.offset == start {
             Err(NotJson)
         } else {
             Ok(())
@@ -143,7 +143,7 @@ impl<'t> Parser<'t> {
     }
 
     fn number(&mut self) -> Result<Value<'t>, NotJson> {
-        let start = self.place;
+        let start = self.offset;
         self.eat(b'-');
         if !self.eat(b'0') {
             self.digits()?;
@@ -155,7 +155,7 @@ impl<'t> Parser<'t> {
             let _signed = self.eat(b'+') || self.eat(b'-');
             self.digits()?;
         }
-        let text = &self.text[start..self.place];
+        let text = &self.text[start..self.offset];
         if text.parse::<f64>().is_ok_and(f64::is_infinite) {
             return Err(NotJson);
         }
@@ -164,40 +164,40 @@ impl<'t> Parser<'t> {
 
     fn string(&mut self) -> Result<Cow<'t, str>, NotJson> {
         self.expect(b'"')?;
-        let start = self.place;
+        let start = self.offset;
         self.skip_plain();
         if self.peek() == Some(b'"') {
-            self.place += 1;
-            return Ok(Cow::Borrowed(&self.text[start..self.place - 1]));
+            self.offset += 1;
+            return Ok(Cow::Borrowed(&self.text[start..self.offset - 1]));
         }
-        let mut made = self.text[start..self.place].to_string();
+        let mut made = self.text[start..self.offset].to_string();
         loop {
             match self.peek() {
                 Some(b'"') => {
-                    self.place += 1;
+                    self.offset += 1;
                     return Ok(Cow::Owned(made));
                 }
                 Some(b'\\') => made.push(self.escape()?),
                 _ => return Err(NotJson),
             }
-            let start = self.place;
+            let start = self.offset;
             self.skip_plain();
-            made.push_str(&self.text[start..self.place]);
+            made.push_str(&self.text[start..self.offset]);
         }
     }
 
-    /// Steps over the characters of a string that stand for themselves.
+    /// Steps over the characters of a string that are not escaped.
     fn skip_plain(&mut self) {
         while self
             .peek()
             .is_some_and(|byte| byte >= b' ' && byte != b'"' && byte != b'\\')
         {
-            self.place += 1;
+            self.offset += 1;
         }
     }
 
     fn escape(&mut self) -> Result<char, NotJson> {
-        let letter = self.text.as_bytes().get(self.place + 1).copied();
+        let letter = self.text.as_bytes().get(self.offset + 1).copied();
         let made = match letter {
             Some(b'"') => '"',
             Some(b'\\') => '\\',
@@ -210,7 +210,7 @@ impl<'t> Parser<'t> {
             Some(b'u') => return self.unicode(),
             _ => return Err(NotJson),
         };
-        self.place += 2;
+        self.offset += 2;
         Ok(made)
     }
 
@@ -230,12 +230,12 @@ impl<'t> Parser<'t> {
     fn unit(&mut self) -> Result<u16, NotJson> {
         let digits = self
             .text
-            .get(self.place..self.place + 6)
+            .get(self.offset..self.offset + 6)
             .and_then(|text| text.strip_prefix("\\u"));
         let unit = digits
             .filter(|digits| digits.bytes().all(|byte| byte.is_ascii_hexdigit()))
             .and_then(|digits| u16::from_str_radix(digits, 16).ok());
-        self.place += 6;
+        self.offset += 6;
         unit.ok_or(NotJson)
     }
 }

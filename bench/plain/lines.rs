@@ -1,7 +1,7 @@
 //! The text of an event, and of what it is made of.
 
 use crate::journal::{Act, Answer, Burst, End, Event, Failure, Released, Stage, Trap};
-use crate::mirror::Told;
+use crate::mirror::MirrorAnswer;
 use crate::operation::Operation;
 use std::fmt::{self, Display, Formatter};
 
@@ -11,8 +11,8 @@ pub struct List<'w>(pub &'w [u32]);
 impl Display for List<'_> {
     fn fmt(&self, f: &mut Formatter) -> fmt::Result {
         f.write_str("[")?;
-        for (place, word) in self.0.iter().enumerate() {
-            if place > 0 {
+        for (index, word) in self.0.iter().enumerate() {
+            if index > 0 {
                 f.write_str(",")?;
             }
             word.fmt(f)?;
@@ -90,7 +90,7 @@ pub struct Outcome<'b>(pub &'b Burst);
 impl Display for Outcome<'_> {
     fn fmt(&self, f: &mut Formatter) -> fmt::Result {
         let burst = self.0;
-        write!(f, "n{} {}", burst.told_turns(), burst.end)?;
+        write!(f, "n{} {}", burst.reported_turns(), burst.end)?;
         for made in &burst.acts {
             write!(f, " | {}", made.act)?;
         }
@@ -140,11 +140,11 @@ impl Display for Answer {
     }
 }
 
-impl Display for Told {
+impl Display for MirrorAnswer {
     fn fmt(&self, f: &mut Formatter) -> fmt::Result {
         match self {
-            Told::Answer(answer) => answer.fmt(f),
-            Told::BothLost => f.write_str("both_lost"),
+            MirrorAnswer::Answer(answer) => answer.fmt(f),
+            MirrorAnswer::BothLost => f.write_str("both_lost"),
         }
     }
 }

@@ -1,12 +1,12 @@
-//! The simulator of driver domains as an ordinary Rust program, with nothing proved. It has every form of words of the
-//! proved program, writes the same bytes and ends with the same status. So it takes the proved program's place if the
-//! Rattle toolchain is missing, and the checks and the benchmark compare the two. It is written from the documents and
+//! The simulator of driver domains as an ordinary Rust program, with nothing proved. It has every subcommand of the
+//! proved program, writes the same bytes and ends with the same status. So it is used instead if the Rattle toolchain
+//! is missing, and the checks and the benchmark compare the two. It is written from the documents and
 //! shares no code with the proved program.
 //!
 //! `rustc --edition 2021 -O bench/plain/main.rs` builds it, with the standard library alone.
 //!
-//! It is known to differ in three ways. `--version` says that nothing is proved. It has a form and keys that are still to
-//! come there (form.rs names them). Standard input or output that is closed from the start is an empty file here, as in
+//! It is known to differ in three ways. `--version` says that nothing is proved. `explore` takes more states for
+//! one, and so counts fewer. Standard input or output that is closed from the start is an empty file here, as in
 //! every Rust program, and cannot be read or written there.
 
 mod allocator;
@@ -67,7 +67,7 @@ use std::process::ExitCode;
 #[global_allocator]
 static ALLOCATOR: Allocator = Allocator;
 
-/// Why there is no whole output.
+/// Why the output is not complete.
 pub enum Stop {
     Refused(Box<Refusal>),
     ReadFault,
@@ -98,9 +98,9 @@ fn main() -> ExitCode {
     ExitCode::from(answer(&words).unwrap_or_else(report_stop))
 }
 
-/// Writes what the words ask for, and returns the status.
+/// Writes what the arguments ask for, and returns the status.
 fn answer(words: &[&str]) -> Result<u8, Stop> {
-    // The library's own standard output takes writes to one that cannot be written for done.
+    // The library's own standard output ignores a write to one that cannot be written.
     let mut out = BufWriter::new(File::from(io::stdout().as_fd().try_clone_to_owned()?));
     let status = match Form::of(words) {
         Some(form) => match serve::serve(form, &mut out) {
@@ -124,8 +124,8 @@ fn write_usage(words: &[&str], out: &mut impl Write) -> io::Result<u8> {
     Ok(2)
 }
 
-/// Writes the line of a refused input. Standard error has it too, so that a redirection does not hide it, and says what
-/// shows the place.
+/// Writes the line of a refused input. Standard error has it too, so that a redirection does not hide it, and says how
+/// to find the error.
 fn refuse(refusal: &Refusal, out: &mut impl Write) -> io::Result<u8> {
     writeln!(out, "{refusal}")?;
     out.flush()?;
@@ -148,7 +148,7 @@ fn report_stop(stop: Stop) -> u8 {
     status
 }
 
-/// Writes a line to standard error. If that fails too, nobody is left to hear of it.
+/// Writes a line to standard error. If that fails too, there is nowhere to report it.
 fn say(line: &str) {
     let _said = io::stderr().write_all(line.as_bytes());
 }

@@ -1,4 +1,4 @@
-//! What a disk keeps.
+//! The contents of a disk.
 
 use crate::journal::Words;
 use crate::operation::BLOCK_WORDS;
@@ -6,7 +6,7 @@ use std::collections::BTreeMap;
 
 const ZEROS: &[u32] = &[0; BLOCK_WORDS];
 
-/// The blocks of a disk. Those that have a word that is not 0 are held, so equal media are held alike.
+/// The blocks of a disk. Only those with a word that is not 0 are held, so equal media are equal values.
 #[derive(Clone, Default, PartialEq, Eq, Hash)]
 pub struct Medium {
     blocks: BTreeMap<u32, Words>,

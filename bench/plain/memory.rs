@@ -18,7 +18,7 @@ const KERNEL: u32 = 7_360;
 /// How many words are compared at a time.
 const LINE: usize = 64;
 
-/// In what a memory is not as another one.
+/// The differences of a memory from another one.
 #[derive(PartialEq, Eq, Hash)]
 pub struct Changes {
     words: Box<[ChangedWord]>,
@@ -36,10 +36,10 @@ impl Changes {
     /// The changed words of the kernel's objects, but for the one that is the kernel's own.
     pub fn of_objects(&self) -> &[ChangedWord] {
         let start = Memory::object_start(1);
-        let place = self
+        let first = self
             .words
             .partition_point(|changed| changed.address < start);
-        &self.words[place..]
+        &self.words[first..]
     }
 }
 
@@ -62,14 +62,14 @@ impl Memory {
         memory
     }
 
-    /// Puts an image in place, and zeros everywhere else but in the kernel's objects.
+    /// Loads an image, and writes zeros everywhere else but in the kernel's objects.
     pub fn load(&mut self, image: &Image) {
         self.words[..KERNEL as usize].fill(0);
         self.words[..image.text.len()].copy_from_slice(&image.text);
         self.words[DATA_START as usize..][..image.data.len()].copy_from_slice(&image.data);
     }
 
-    /// In what it is not as a base.
+    /// Its differences from a base.
     pub fn changes_from(&self, base: &Memory) -> Changes {
         let lines = self.words.chunks(LINE).zip(base.words.chunks(LINE));
         let changed = lines
@@ -82,7 +82,7 @@ impl Memory {
         }
     }
 
-    /// The memory that is not as a base in these changes.
+    /// The memory that differs from a base by these changes.
     pub fn with_changes(base: &Memory, changes: &Changes) -> Memory {
         let mut memory = base.clone();
         memory.lent = changes.lent;
@@ -102,7 +102,7 @@ impl Memory {
         self.words.get(address as usize).copied()
     }
 
-    /// Writes for the driver, and returns whether it may.
+    /// Writes a word for the driver, and returns whether the driver may write it.
     pub fn write(&mut self, address: u32, word: u32) -> bool {
         let may = match address {
             DATA_START..BUFFERS => true,
@@ -188,7 +188,7 @@ impl Memory {
         );
     }
 
-    /// Whether a driver could write all of a range, were everything lent.
+    /// Whether a driver could write all of a range if everything were lent.
     pub fn is_drivers(start: u32, length: u32) -> bool {
         start >= DATA_START && u64::from(start) + u64::from(length) <= u64::from(KERNEL)
     }
@@ -198,7 +198,7 @@ impl Memory {
     }
 }
 
-/// The words of a line of memory that are not as those of another one.
+/// The words of a line of memory that differ from those of another one.
 fn changed_words<'m>(
     start: usize,
     own: &'m [u32],
@@ -207,8 +207,8 @@ fn changed_words<'m>(
     let pairs = own.iter().zip(others).enumerate();
     pairs
         .filter(|(_, (own, other))| own != other)
-        .map(move |(place, (word, _))| ChangedWord {
-            address: (start + place) as u32,
+        .map(move |(index, (word, _))| ChangedWord {
+            address: (start + index) as u32,
             word: *word,
         })
 }

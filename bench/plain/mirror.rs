@@ -9,16 +9,16 @@ use crate::scenario::Scenario;
 use crate::simulation::{Heard, Run};
 
 /// What the mirror answers its thread.
-pub enum Told {
+pub enum MirrorAnswer {
     /// What a side, or the check of the operation, answers.
     Answer(Answer),
     BothLost,
 }
 
-/// The mirror's run. It has no answers of threads: the mirror's are in `told`.
+/// The mirror's run. `run` has no answers of threads: the mirror's are in `answers`.
 pub struct Mirrored<'s> {
     pub run: Run<'s>,
-    pub told: Vec<Told>,
+    pub answers: Vec<MirrorAnswer>,
 }
 
 /// A part of the mirror, and whether it is still asked.
@@ -57,7 +57,7 @@ pub fn simulate(scenario: &Scenario) -> Mirrored<'_> {
         .threads
         .iter()
         .flat_map(|thread| &thread.operations);
-    let told = operations
+    let answers = operations
         .map(|(_, operation)| serve(&mut sides, operation))
         .collect();
     let parts: Vec<Part> = sides.into_iter().map(Side::settled).collect();
@@ -73,7 +73,7 @@ pub fn simulate(scenario: &Scenario) -> Mirrored<'_> {
             answers: Vec::new(),
             heard,
         },
-        told,
+        answers,
     }
 }
 
@@ -87,17 +87,17 @@ pub fn status(mirrored: &Mirrored) -> u8 {
         7 => 7,
         _ => u8::from(
             mirrored
-                .told
+                .answers
                 .iter()
-                .any(|told| matches!(told, Told::BothLost)),
+                .any(|answer| matches!(answer, MirrorAnswer::BothLost)),
         ),
     }
 }
 
-fn serve<'s>(sides: &mut [Side<'s>], operation: &'s Operation) -> Told {
+fn serve<'s>(sides: &mut [Side<'s>], operation: &'s Operation) -> MirrorAnswer {
     let spec = sides[0].part.spec();
     if let Some(refusal) = operation.refusal(spec.class, spec.blocks) {
-        return Told::Answer(refusal);
+        return MirrorAnswer::Answer(refusal);
     }
     match operation {
         Operation::Read { .. } => read(sides, operation),
@@ -106,20 +106,20 @@ fn serve<'s>(sides: &mut [Side<'s>], operation: &'s Operation) -> Told {
 }
 
 /// Asks one side after the other until one has the blocks.
-fn read<'s>(sides: &mut [Side<'s>], operation: &'s Operation) -> Told {
+fn read<'s>(sides: &mut [Side<'s>], operation: &'s Operation) -> MirrorAnswer {
     let mut failed = None;
     for side in sides.iter_mut().filter(|side| side.present) {
         match side.ask(operation) {
-            answer @ Answer::Blocks(_) => return Told::Answer(answer),
+            answer @ Answer::Blocks(_) => return MirrorAnswer::Answer(answer),
             answer @ Answer::IoError(_) => failed = failed.or(Some(answer)),
             _ => side.present = false,
         }
     }
-    failed.map_or(Told::BothLost, Told::Answer)
+    failed.map_or(MirrorAnswer::BothLost, MirrorAnswer::Answer)
 }
 
 /// Asks both sides. Those that did it stay; if none did, the first whose medium failed stays.
-fn write<'s>(sides: &mut [Side<'s>], operation: &'s Operation) -> Told {
+fn write<'s>(sides: &mut [Side<'s>], operation: &'s Operation) -> MirrorAnswer {
     let answers: Vec<Option<Answer>> = sides
         .iter_mut()
         .map(|side| side.present.then(|| side.ask(operation)))
@@ -129,20 +129,20 @@ fn write<'s>(sides: &mut [Side<'s>], operation: &'s Operation) -> Told {
         for (side, answer) in sides.iter_mut().zip(&answers) {
             side.present = done(answer);
         }
-        return Told::Answer(Answer::Done);
+        return MirrorAnswer::Answer(Answer::Done);
     }
     let failed = answers
         .iter()
         .position(|answer| matches!(answer, Some(Answer::IoError(_))));
-    for (place, side) in sides.iter_mut().enumerate() {
-        side.present = failed == Some(place);
+    for (index, side) in sides.iter_mut().enumerate() {
+        side.present = failed == Some(index);
     }
-    let answer = failed.and_then(|place| answers.into_iter().nth(place).flatten());
-    answer.map_or(Told::BothLost, Told::Answer)
+    let answer = failed.and_then(|index| answers.into_iter().nth(index).flatten());
+    answer.map_or(MirrorAnswer::BothLost, MirrorAnswer::Answer)
 }
 
 impl<'s> Side<'s> {
-    /// The answer to a call of thread 0, which takes the part's steps until it comes.
+    /// The answer to a call of thread 0. Takes the part's steps until there is one.
     fn ask(&mut self, operation: &'s Operation) -> Answer {
         self.part.invoke(0, operation);
         loop {

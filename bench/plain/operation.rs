@@ -22,7 +22,7 @@ pub enum Operation {
 use Operation::*;
 
 impl Operation {
-    /// The answer of an operation that no driver need see, because it is none of the class or out of a limit.
+    /// The answer to an operation that no driver sees, because it is not of the class or exceeds a limit.
     pub fn refusal(&self, class: Class, blocks: u32) -> Option<Answer> {
         if self.class().is_some_and(|own| own != class) {
             return Some(Answer::BadClass);
@@ -79,10 +79,10 @@ impl Operation {
 
     /// Whether it sets a register to a value.
     pub fn sets(&self, key: u32, value: u32) -> bool {
-        matches!(self, Set { key: own, value: wanted } if *own == key && *wanted == value)
+        matches!(self, Set { key: own, value: written } if *own == key && *written == value)
     }
 
-    /// Whether two operations of one class must not be with the driver together.
+    /// Whether two operations of one class must not be in the driver at the same time.
     pub fn conflicts_with(&self, other: &Operation) -> bool {
         match (self, other) {
             (Set { .. }, _) | (_, Set { .. }) => true,
@@ -111,7 +111,7 @@ impl Operation {
         }
     }
 
-    /// What stands in the buffer that is lent to the driver, and whether it may write there. None without a buffer.
+    /// The contents of the buffer that is lent to the driver, and whether it may write there. None without a buffer.
     pub fn buffer(&self) -> Option<(&[u32], bool)> {
         match self {
             Read { .. } | Get { .. } => Some((&[], true)),

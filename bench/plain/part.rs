@@ -31,7 +31,7 @@ enum Mode {
     Dead { collected: bool },
 }
 
-/// A driver's code on its way.
+/// A running call in a driver.
 #[derive(Clone, PartialEq, Eq, Hash)]
 struct Context {
     cpu: Cpu,
@@ -71,8 +71,8 @@ pub struct Before {
     pub faults: Vec<Fault>,
 }
 
-/// What of a part decides how it goes on. The number of a call is a name, and open calls are numbered anew from 1; the
-/// count of its attempts is only written down; and bursts are counted up to the last one that a fault may strike.
+/// What of a part determines its further steps. The number of a call is a name, and open calls are numbered again from
+/// 1; the count of its attempts is only recorded; and bursts are counted up to the last one that a fault may strike.
 #[derive(PartialEq, Eq, Hash)]
 pub struct Snapshot<'s> {
     memory: Changes,
@@ -108,7 +108,7 @@ impl Snapshot<'_> {
 
 pub struct Part<'s> {
     spec: &'s PartSpec,
-    /// In the order in which they strike: those of one place as they were given.
+    /// In the order in which they strike: those of one instruction in the order of the scenario.
     faults: Vec<Fault>,
     memory: Box<Memory>,
     tracker: Tracker,
@@ -180,7 +180,7 @@ impl<'s> Part<'s> {
         }
     }
 
-    /// What decides how it goes on, its memory by its changes from a base.
+    /// What determines its further steps, with its memory as changes from a base.
     pub fn snapshot(mut self, base: &Memory) -> Snapshot<'s> {
         for (number, call) in (1..).zip(&mut self.calls) {
             call.number = number;
@@ -243,14 +243,14 @@ impl<'s> Part<'s> {
         if self.mode != Mode::Running {
             return None;
         }
-        let place = self.calls.iter().position(|call| call.thread == thread)?;
-        let call = &self.calls[place];
+        let index = self.calls.iter().position(|call| call.thread == thread)?;
+        let call = &self.calls[index];
         if call.inside {
             return Some(Step::Burst {
                 context: thread.into(),
             });
         }
-        let blocked = self.calls[..place]
+        let blocked = self.calls[..index]
             .iter()
             .any(|earlier| earlier.operation.conflicts_with(call.operation));
         (!blocked).then_some(Step::Enter { thread })
@@ -296,7 +296,7 @@ impl<'s> Part<'s> {
         self.journal.push(event);
     }
 
-    /// A frame comes in from outside.
+    /// A frame arrives from outside.
     pub fn arrive(&mut self, frame: &Words) {
         let kept = self.device.arrive(frame.clone());
         self.journal.push(Event::Arrive {
@@ -333,7 +333,7 @@ impl<'s> Part<'s> {
         });
     }
 
-    /// What the shadow answers in the driver's place, None if the call is held.
+    /// What the shadow answers instead of the driver, None if the call is held.
     fn shadow_answer(&mut self, thread: u8, operation: &Operation, stage: Stage) -> Option<Answer> {
         match operation {
             Operation::Get { key } => Some(Answer::Value(self.record[*key as usize])),
@@ -349,14 +349,14 @@ impl<'s> Part<'s> {
         }
     }
 
-    /// The front of the queue, which leaves it.
+    /// Removes the first frame of the queue.
     fn receive(&mut self) -> Answer {
         self.queue.pop_front().map_or(Answer::Empty, Answer::Frame)
     }
 
     fn enter(&mut self, thread: u8) -> Event<'s> {
-        let place = self.place_of(thread);
-        let call = &mut self.calls[place];
+        let index = self.index_of(thread);
+        let call = &mut self.calls[index];
         call.attempts += 1;
         let (number, operation, attempt) = (call.number, call.operation, call.attempts);
         let answer = match (operation, self.holder) {
@@ -368,9 +368,9 @@ impl<'s> Part<'s> {
             _ => None,
         };
         match &answer {
-            Some(answer) => self.answer(place, answer),
+            Some(answer) => self.answer(index, answer),
             None => {
-                self.calls[place].inside = true;
+                self.calls[index].inside = true;
                 self.enter_operation(thread.into(), operation);
             }
         }
@@ -387,19 +387,19 @@ impl<'s> Part<'s> {
         if context == SHADOW {
             0
         } else {
-            self.calls[self.place_of(context as u8)].number
+            self.calls[self.index_of(context as u8)].number
         }
     }
 
-    fn place_of(&self, thread: u8) -> usize {
+    fn index_of(&self, thread: u8) -> usize {
         self.calls
             .iter()
             .position(|call| call.thread == thread)
             .expect("the thread has an open call")
     }
 
-    fn answer(&mut self, place: usize, answer: &Answer) {
-        let call = self.calls.remove(place);
+    fn answer(&mut self, index: usize, answer: &Answer) {
+        let call = self.calls.remove(index);
         self.answers.push((call.thread, answer.clone()));
     }
 
@@ -415,14 +415,14 @@ impl<'s> Part<'s> {
     }
 
     fn enter_plain(&mut self, context: usize, entry: Entry) -> &mut Cpu {
-        let place = self
+        let index = self
             .spec
             .class
             .entries()
             .iter()
             .position(|own| *own == entry)
             .expect("the class has the entry");
-        let cpu = Cpu::at_entry(self.spec.image.entries[place], Memory::stack_end(context));
+        let cpu = Cpu::at_entry(self.spec.image.entries[index], Memory::stack_end(context));
         &mut self.contexts[context]
             .insert(Context { cpu, bursts: 0 })
             .cpu
@@ -582,22 +582,22 @@ impl<'s> Part<'s> {
 
     /// A driver replies to the call of a thread.
     fn reply(&mut self, context: usize, status: u32) -> Result<Answer, Failure> {
-        let place = self.place_of(context as u8);
-        let (thread, operation) = (self.calls[place].thread, self.calls[place].operation);
+        let index = self.index_of(context as u8);
+        let (thread, operation) = (self.calls[index].thread, self.calls[index].operation);
         let answer = if status == 0 {
             self.accepted(thread, operation)
         } else {
             let blocks = operation.blocks();
             let failed = status
                 .checked_sub(BLOCK_FAILED)
-                .map(|place| blocks.start + u64::from(place));
+                .map(|index| blocks.start + u64::from(index));
             match failed {
                 Some(block) if block < blocks.end => Answer::IoError(block as u32),
                 _ => return Err(Failure::BadReply(status)),
             }
         };
         self.leave(context);
-        self.answer(place, &answer);
+        self.answer(index, &answer);
         Ok(answer)
     }
 
@@ -635,7 +635,7 @@ impl<'s> Part<'s> {
         self.tracker.end_buffer(context);
     }
 
-    /// A driver replies to the shadow, which goes on to the next stage.
+    /// A driver replies to the shadow, which continues with the next stage.
     fn reply_to_shadow(&mut self, status: u32) -> Result<(), Failure> {
         let (Mode::Boot(stage) | Mode::Recovering(stage)) = self.mode else {
             unreachable!("the shadow's calls are made in the boot and in recoveries");
@@ -768,7 +768,7 @@ impl<'s> Part<'s> {
     }
 }
 
-/// The last burst of an attempt has to end it.
+/// The last burst of an attempt must end it.
 fn expect_more(is_last: bool) -> Result<(), Failure> {
     if is_last {
         Err(Failure::TooManyCrossings)
@@ -784,7 +784,7 @@ fn in_order(faults: &[Fault]) -> Vec<Fault> {
     faults
 }
 
-/// The faults of one burst among faults that stand in order.
+/// The faults of one burst in a sorted list of faults.
 fn faults_of(faults: &[Fault], burst: u32) -> &[Fault] {
     let start = faults.partition_point(|fault| fault.burst < burst);
     let end = faults.partition_point(|fault| fault.burst <= burst);

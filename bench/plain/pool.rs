@@ -17,7 +17,7 @@ impl<T: Eq + Hash> Pool<T> {
         }
     }
 
-    /// The value that is held already if an equal one is, else this one.
+    /// The equal value that is held already, else this one.
     pub fn share(&mut self, value: T) -> Shared<T> {
         if let Some(held) = self.values.get(&value) {
             return Shared(held.clone());
@@ -27,7 +27,7 @@ impl<T: Eq + Hash> Pool<T> {
         Shared(value)
     }
 
-    /// Lets go of the values that nobody else holds.
+    /// Drops the values that nothing else holds.
     pub fn sweep(&mut self) {
         self.values.retain(|value| Rc::strong_count(value) > 1);
     }

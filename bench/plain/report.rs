@@ -27,9 +27,9 @@ pub fn write(run: &Run, out: &mut impl Write) -> io::Result<u8> {
 /// The report of a mirror: that of its parts, with the mirror's answers in the thread's lines.
 pub fn write_mirrored(mirrored: &Mirrored, out: &mut impl Write) -> io::Result<u8> {
     let (run, status) = (&mirrored.run, mirror::status(mirrored));
-    let told = mirrored.told.iter().map(|told| (0, told)).collect();
+    let answers = mirrored.answers.iter().map(|answer| (0, answer)).collect();
     write_parts(run, out)?;
-    write_threads(run.scenario, &[told], out)?;
+    write_threads(run.scenario, &[answers], out)?;
     write_last(&run.heard, status, out)?;
     Ok(status)
 }

@@ -37,7 +37,7 @@ pub struct PartSpec {
     pub bad: Vec<BadBlock>,
     pub limit: u32,
     pub image: Image,
-    /// As they were given.
+    /// In the order of the scenario.
     pub faults: Vec<Fault>,
     pub arrivals: Vec<Words>,
 }
@@ -80,7 +80,7 @@ impl ThreadSpec {
     }
 }
 
-/// What may stand in a scenario. Version 2 has bad blocks.
+/// The format of a scenario. Version 2 has bad blocks.
 #[derive(Clone, Copy, PartialEq, Eq)]
 enum Version {
     One,
@@ -253,7 +253,7 @@ pub fn read_fault(value: &Value) -> Read<Fault> {
     })
 }
 
-const FAULTS_OF_NO_PLACE: Rows = &[
+const FAULT_KINDS: Rows = &[
     ("trap", &["kind"]),
     ("hang", &["kind"]),
     ("poke", &["kind", "address", "value"]),
@@ -261,10 +261,10 @@ const FAULTS_OF_NO_PLACE: Rows = &[
     ("reg", &["kind", "register", "value"]),
 ];
 
-/// Reads a fault that says nothing of where it strikes.
-pub fn read_fault_of_no_place(value: &Value) -> Read<FaultKind> {
+/// Reads a fault without the burst and the instruction at which it strikes.
+pub fn read_fault_kind(value: &Value) -> Read<FaultKind> {
     let fields = Object::any(value)?;
-    let name = fields.kind("kind", FAULTS_OF_NO_PLACE)?;
+    let name = fields.kind("kind", FAULT_KINDS)?;
     read_struck(name, &fields)
 }
 

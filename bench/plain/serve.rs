@@ -1,4 +1,4 @@
-//! The forms of words: what each reads, does and writes.
+//! The subcommands: what each reads, does and writes.
 
 use crate::assembler::assemble;
 use crate::form::Form;
@@ -12,7 +12,7 @@ use crate::{
 };
 use std::io::Write;
 
-/// Does what a form asks for, and returns the status.
+/// Runs a subcommand, and returns the status.
 pub fn serve(form: Form, out: &mut impl Write) -> Result<u8, Stop> {
     match form {
         Form::Run => run(out),
@@ -42,7 +42,7 @@ fn write(text: &str, out: &mut impl Write) -> Result<u8, Stop> {
     Ok(0)
 }
 
-/// Reads a JSON value from standard input, and what is made of it.
+/// Reads a JSON value from standard input, and converts it.
 fn read_json<T>(read: impl FnOnce(&Value) -> Read<T>) -> Result<T, Stop> {
     let bytes = input::read(input::LONGEST)?;
     let value = json::read(&bytes)?;

@@ -1,4 +1,4 @@
-//! Work that is done side by side, and whose results are taken in order.
+//! Work that is done concurrently, and whose results are taken in order.
 
 use std::collections::VecDeque;
 use std::io;
@@ -16,9 +16,8 @@ struct Job<T, R> {
     results: Sender<Vec<R>>,
 }
 
-/// Has workers make a result of each of so many items, and takes the results in the order of the items while more are
-/// made. Each worker is made on its own thread, and there are as many as there are processors, but not more than there is
-/// work for.
+/// Has workers make a result of each of `count` items, and takes the results in the order of the items while more are
+/// made. Each worker is made on its own thread. There are as many as processors, but not more than there is work for.
 pub fn work<T, R, W>(
     mut items: impl Iterator<Item = T>,
     count: usize,
@@ -31,15 +30,15 @@ where
     W: FnMut(T) -> R,
 {
     let processors = thread::available_parallelism().map_or(1, usize::from);
-    let wanted = processors.min(count.div_ceil(BATCH));
+    let workers = processors.min(count.div_ceil(BATCH));
     let (jobs, waiting) = channel();
     let waiting = Mutex::new(waiting);
     thread::scope(|scope| {
         let worker = || serve(&waiting, new_worker());
         let start = |_: &usize| Builder::new().spawn_scoped(scope, worker).is_ok();
-        // Those that are not started leave their work to the others, or to this thread.
-        let started = if wanted > 1 {
-            (0..wanted).filter(start).count()
+        // If some cannot be started, the others do their work, or this thread does.
+        let started = if workers > 1 {
+            (0..workers).filter(start).count()
         } else {
             0
         };

@@ -63,8 +63,8 @@ struct Thread<'s> {
 impl Thread<'_> {
     /// The index of its next operation, if it has one and no open call.
     fn next_operation(&self) -> Option<usize> {
-        let place = self.answers.len();
-        (self.waits_for.is_none() && place < self.spec.operations.len()).then_some(place)
+        let index = self.answers.len();
+        (self.waits_for.is_none() && index < self.spec.operations.len()).then_some(index)
     }
 }
 
@@ -183,8 +183,8 @@ impl<'s> Simulation<'s> {
 
     /// The part of an actor that is no thread, and whether it hands in the arrivals.
     fn part_of(&self, actor: usize) -> (usize, bool) {
-        let behind = actor - self.threads.len();
-        (behind / 2, behind % 2 == 1)
+        let number = actor - self.threads.len();
+        (number / 2, number % 2 == 1)
     }
 
     /// An actor that can go takes its step. The part that the step was one of.
@@ -193,8 +193,8 @@ impl<'s> Simulation<'s> {
             return self.go_part(actor);
         }
         let thread = &mut self.threads[actor];
-        if let Some(place) = thread.next_operation() {
-            let (part, operation) = &thread.spec.operations[place];
+        if let Some(index) = thread.next_operation() {
+            let (part, operation) = &thread.spec.operations[index];
             thread.waits_for = Some(*part);
             self.parts[*part].invoke(actor as u8, operation);
             return *part;

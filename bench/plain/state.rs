@@ -1,4 +1,4 @@
-//! What of a simulation decides how it goes on and what its outcome is: neither its journals nor the order of the steps
+//! What of a simulation determines its further steps and its outcome: neither its journals nor the order of the steps
 //! that led to it.
 
 use crate::contract::{Losses, Monitor};
@@ -127,7 +127,7 @@ impl<'s> State<'s> {
 /// What the states of a part have in common.
 pub struct Frame<'s> {
     spec: &'s PartSpec,
-    /// A memory with the part's driver, from which those of the states are told by their changes.
+    /// A memory with the part's driver. Those of the states are held as changes from it.
     base: Box<Memory>,
     threads: u8,
 }
@@ -217,7 +217,7 @@ fn add_outputs(outputs: &mut Rc<Vec<Act>>, event: &Event) {
     }
 }
 
-/// What the end of a run leaves to the applications and says of the parts.
+/// What applications see of the end of a run, and what is left of the parts.
 #[derive(PartialEq, Eq, Hash)]
 pub struct Outcome {
     /// The answers of each thread.

@@ -1,4 +1,4 @@
-//! What a run comes to.
+//! The summary of a run.
 
 use crate::contract::Losses;
 use crate::journal::Answer;

@@ -11,7 +11,7 @@ use crate::summary::Summary;
 use std::fmt::{self, Display, Formatter};
 use std::io::{self, Write};
 
-/// Writes the table, a row for each member and how many rows have which status. The rows are written while they are made.
+/// Writes the table: a row for each member, and the count of rows by status. Rows are written while more are made.
 pub fn write(campaign: &Campaign, out: &mut impl Write) -> io::Result<()> {
     let base = Base::of(campaign);
     if let Choice::Every(_) = campaign.choice {
@@ -38,11 +38,11 @@ struct Base {
     bursts: Vec<StruckBurst>,
 }
 
-/// A burst of the base's run, and at how many places from 0 on a fault that is added strikes there.
+/// A burst of the base's run, and before how many of its instructions an added fault strikes.
 #[derive(Clone, Copy)]
 struct StruckBurst {
     burst: u32,
-    places: u32,
+    instructions: u32,
 }
 
 impl Base {
@@ -73,18 +73,21 @@ impl Base {
         match &campaign.choice {
             Choice::Members(members) => members.len(),
             Choice::Every(kinds) => {
-                let places = self.bursts.iter().map(|burst| burst.places as usize);
-                places.sum::<usize>() * kinds.len()
+                let instructions = self.bursts.iter().map(|burst| burst.instructions as usize);
+                instructions.sum::<usize>() * kinds.len()
             }
         }
     }
 }
 
 impl StruckBurst {
-    /// A member for each place and each kind of fault.
+    /// A member for each instruction and each kind of fault.
     fn members(self, kinds: &[FaultKind]) -> impl Iterator<Item = Vec<Fault>> + '_ {
-        let StruckBurst { burst, places } = self;
-        (0..places).flat_map(move |after| {
+        let StruckBurst {
+            burst,
+            instructions,
+        } = self;
+        (0..instructions).flat_map(move |after| {
             let kinds = kinds.iter();
             kinds.map(move |&kind| vec![Fault { burst, after, kind }])
         })
@@ -92,7 +95,7 @@ impl StruckBurst {
 }
 
 /// The bursts of the struck part. An added fault comes after the part's own and before a guard's trap, so it strikes at
-/// the place of the latter too.
+/// the instruction of the latter too.
 fn struck_bursts(campaign: &Campaign, run: &Run, traps: &[GuardTrap]) -> Vec<StruckBurst> {
     let guarded = |burst| {
         let mut traps = traps.iter();
@@ -106,7 +109,7 @@ fn struck_bursts(campaign: &Campaign, run: &Run, traps: &[GuardTrap]) -> Vec<Str
     bursts
         .map(|burst| StruckBurst {
             burst: burst.burst,
-            places: burst.turns + u32::from(guarded(burst.burst)),
+            instructions: burst.turns + u32::from(guarded(burst.burst)),
         })
         .collect()
 }
@@ -128,7 +131,7 @@ fn run<T>(
     }
 }
 
-/// What makes the row of a member from its faults.
+/// Makes the row of a member from its faults.
 fn worker<'c>(campaign: &'c Campaign, base: &'c Base) -> impl FnMut(Vec<Fault>) -> Row + 'c {
     let mut scenario = read_base(campaign);
     let parts = scenario.parts.iter();

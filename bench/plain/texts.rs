@@ -1,10 +1,10 @@
 //! The texts that are the same in every run.
 
-/// What is written if the words are of no form.
+/// What is written if the arguments are no subcommand.
 pub const USAGE: &str =
     "usage: nooks run | run threads | asm | dis | gen N | audit | campaign | mirror\n";
 
-/// A line for each form of words, and one for each status.
+/// A line for each subcommand, and one for each status.
 pub const HELP: &str = "\
 nooks run             read a scenario, simulate it, write the report
 nooks run threads     the same, each thread of the scenario as a thread of its own
@@ -42,7 +42,7 @@ pub const AUDIT_YES: &str = "audit yes\n";
 /// Standard error, after the usage line.
 pub const FORMS: &str = "nooks: `nooks --help` lists every form of words\n";
 
-/// Standard error, after the usage line if a word is the path of a file.
+/// Standard error, after the usage line if an argument is the path of a file.
 pub const STANDARD_INPUT: &str = "nooks: input comes from standard input: nooks run < FILE\n";
 
 /// Standard error, after the line of a refused input.

@@ -1,4 +1,4 @@
-//! Runs by threads: each thread of the scenario is a thread of its own, and so is each part. A thread hands its
+//! Runs by threads: each thread of the scenario is a separate thread, and so is each part. A thread passes its
 //! operations to the parts one by one and waits for each answer. So the order of a part's steps depends on when its
 //! calls come.
 
@@ -113,7 +113,7 @@ fn start<'scope, T: Send + 'scope>(
 fn call(thread: u8, script: Vec<Sender<Request>>) {
     for part in script {
         let (done, heard) = channel();
-        // A part that is gone has panicked. Whoever waits for its end hears of it.
+        // A part that is gone has panicked, which its join reports.
         if part.send(Request::Call { thread, done }).is_err() || heard.recv().is_err() {
             return;
         }
@@ -130,7 +130,7 @@ fn arrive(count: usize, part: &Sender<Request>) {
     }
 }
 
-/// The work of a part: its steps, and what it is asked for between them, until nobody is left who may ask.
+/// The work of a part: its steps, and what it is asked for between them, until no thread is left that may ask.
 fn own(value: &Value, index: usize, requests: &Receiver<Request>) -> Section {
     let scenario = scenario::read(value).expect("the scenario was read before");
     let mut owner = Owner::new(&scenario, index);
@@ -229,6 +229,6 @@ impl<'s> Owner<'s> {
 }
 
 fn report_done(done: Sender<()>) {
-    // Who does not wait any more has ended with a panic.
+    // A thread that no longer waits has panicked.
     let _heard = done.send(());
 }

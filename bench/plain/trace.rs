@@ -66,7 +66,7 @@ fn write_turns(before: &mut Before, out: &mut impl Write) -> io::Result<usize> {
     Ok(faults.len())
 }
 
-/// A burst on its way.
+/// A burst in progress.
 struct Tracer<'b> {
     cpu: &'b mut Cpu,
     bus: Bus<'b>,
@@ -100,7 +100,7 @@ impl Tracer<'_> {
         let acts = self.bus.acts.len();
         let turn = self.turns - 1..self.turns;
         let (_, crossing) = self.cpu.run(turn, &mut self.bus);
-        // A pause comes after the turn, any other crossing is in place of it.
+        // A pause comes after the turn, any other crossing replaces it.
         if matches!(crossing, None | Some(Crossing::Pause)) {
             self.write_changes(word, counter, out)?;
             for made in &self.bus.acts[acts..] {

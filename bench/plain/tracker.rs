@@ -1,4 +1,4 @@
-//! What a driver holds of the kernel's.
+//! The kernel's resources that a driver holds.
 
 use crate::journal::Released;
 use crate::memory::{CONTEXTS, DATA_START, DATA_WORDS, OBJECTS, OBJECT_WORDS};

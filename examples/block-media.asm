@@ -1,4 +1,4 @@
-; A block driver that asks for the status behind each command, and replies 256 + i where block i of the call failed.
+; A block driver that reads the status after each command, and replies 256 + i if block i of the call failed.
 ;
 ; read and write begin with the first block in r1, the count in r2 and the buffer's address in r3.
 ; get and set begin with the key in r1; get has the buffer in r3, set the value in r2.
@@ -21,7 +21,7 @@ read:   LI r5 16            ; words of a block
         LI r11 256          ; the reply if this block fails
 rblk:   OUT r1 1            ; the block register
         OUT r6 0
-        IN r10 3            ; the status of the command: 0 where it was done
+        IN r10 3            ; the status of the command: 0 if it was done
         BNE r10 r0 bad
         LI r7 0
 rword:  IN r8 2             ; the next word of the disk's buffer

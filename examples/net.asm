@@ -1,6 +1,6 @@
 ; A net driver: it sends a frame word by word, and hands a received frame up from the stack page.
 ;
-; send begins with the length in r2 and the buffer's address in r3. In r14 is the first address behind the stack page.
+; send begins with the length in r2 and the buffer's address in r3. r14 has the first address after the stack page.
 ; get and set begin with the key in r1; get has the buffer in r3, set the value in r2.
 
 .class net
@@ -26,7 +26,7 @@ snext:  LD r8 r3 0
         OUT r6 0
         RET r0
 
-poll:   IN r2 3             ; the length of the ring's oldest frame, 0 where there is none
+poll:   IN r2 3             ; the length of the ring's oldest frame, 0 if there is none
         BEQ r2 r0 pend
         MOV r7 r2
         MOV r9 r14

@@ -1,4 +1,4 @@
-; A sound driver whose loop plays two samples at a time: of a play with an odd number it plays one word too many.
+; A sound driver whose loop plays two samples at a time. For an odd number of samples it plays one word too many.
 ;
 ; play begins with the number of samples in r2 and the buffer's address in r3.
 
@@ -16,10 +16,10 @@ done:   RET r0
 
 play:   LD r8 r3 0
         OUT r8 0
-        LD r8 r3 1          ; of the last pair, this may be behind the samples
+        LD r8 r3 1          ; in the last pair, this may be after the samples
         OUT r8 0
         ADDI r3 r3 2
-        ADDI r6 r6 2        ; so many are played
+        ADDI r6 r6 2        ; the number of samples played
         BLT r6 r2 play
         RET r0
 

@@ -1,5 +1,5 @@
-; The driver of read-ahead.asm, mended: the count of the uses of the disk's buffer has all 32 bits of its word, and no run is
-; long enough to bring it back to where it was.
+; The driver of read-ahead.asm, fixed: the count of the uses of the disk's buffer has all 32 bits of its word, and no
+; run is long enough to bring it back to an earlier value.
 ;
 ; read and write begin with the first block in r1, the count in r2 and the buffer's address in r3.
 

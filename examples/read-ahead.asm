@@ -1,9 +1,9 @@
 ; A block driver that reads ahead, and races with itself.
 ;
-; After a read it loads the next block, which waits in the disk's own buffer for a read that begins with it. The load is
-; followed by a yield, so that other calls need not wait. If one of them used the buffer meanwhile, the block is no longer
-; there: `turns` counts the uses of the buffer, and the read compares it before and after the yield. But `turns` has three
-; bits, and eight uses bring it back to where it was.
+; After a read it loads the next block, which stays in the disk's own buffer for a read that begins with it. A yield
+; follows the load, so that other calls need not wait. If one of them uses the buffer meanwhile, the block is no longer
+; there: `turns` counts the uses of the buffer, and the read compares it before and after the yield. But `turns` has
+; three bits, and eight uses bring it back to an earlier value.
 ;
 ; read and write begin with the first block in r1, the count in r2 and the buffer's address in r3.
 

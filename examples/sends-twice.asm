@@ -1,9 +1,9 @@
 ; A net driver that sends urgent frames twice, to be sure: those whose first word is 911.
 ;
-; Sending keeps the transmit length and the buffer, so that the same command sends the same frame again. The class allows
-; one frame for each send.
+; The device keeps the transmit length and the buffer after a send, so the same command sends the same frame again. The
+; class allows one frame for each send.
 ;
-; send begins with the length in r2 and the buffer's address in r3. In r14 is the first address behind the stack page.
+; send begins with the length in r2 and the buffer's address in r3. r14 has the first address after the stack page.
 
 .class net
 .entry init init

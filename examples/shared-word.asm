@@ -1,8 +1,8 @@
 ; A block driver whose reads share a word.
 ;
-; A read logs the block that it is asked for. A kernel service leaves its result in r1, so the number of the block waits
-; in a word of the data area meanwhile. There is one such word for all contexts: another read may write its own number
-; there before this one takes it back.
+; A read logs the block that it is asked for. A kernel service leaves its result in r1, so the number of the block is
+; saved in a word of the data area. All contexts share this word: another read may write its own number there before
+; this one loads it again.
 ;
 ; read and write begin with the first block in r1, the count in r2 and the buffer's address in r3.
 

@@ -1,8 +1,8 @@
-; A block driver with a lock, for which its reads wait by yields.
+; A block driver with a lock, for which its reads wait by yielding.
 ;
 ; A read takes the lock `busy`, selects its block, and yields before it loads it. Another read that finds the lock taken
-; yields until it is free. No read can spoil what another one selected. But a call has 32 bursts: one that waits while
-; the other has no turn uses them up, and the driver has failed.
+; yields until it is free. No read can change what another one selected. But a call has 32 bursts: one that waits while
+; the other is not scheduled uses them up, and the driver has failed.
 ;
 ; read begins with the first block in r1, the count in r2 and the buffer's address in r3.
 

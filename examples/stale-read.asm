@@ -1,6 +1,6 @@
-; A block driver that remembers what it read last, and does not see that a write takes its place.
+; A block driver that remembers which block it read last, and does not notice that a write overwrites the buffer.
 ;
-; A read leaves its last block in the disk's own buffer. `last` has the number of that block, and a read that begins with
+; A read leaves its last block in the disk's own buffer. `last` has the number of that block, so a read that begins with
 ; it need not load it again. But a write fills the same buffer, and leaves `last` as it is: the next read of that block
 ; copies the words that were written to another one.
 ;

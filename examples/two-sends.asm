@@ -1,9 +1,9 @@
-; A net driver whose sends race with one another.
+; A net driver whose sends race with each other.
 ;
 ; A send gives the device the frame's length, logs it, and then gives it the words. The log is a kernel service: another
 ; send may come in between, and then the device has that one's length.
 ;
-; send begins with the length in r2 and the buffer's address in r3, get with the key in r1 and the buffer's address in r3.
+; send begins with the length in r2, get with the key in r1; both have the buffer's address in r3.
 
 .class net
 .entry init init

@@ -6,39 +6,39 @@ from described import Command, Form, Option, bench, forms
 
 
 def next_words(words: list[Form]) -> dict[str, list[str]]:
-    """For each front of a form, the words that may come next. `*` stands for a number."""
+    """The words that may follow each prefix of a subcommand's words. `*` represents a number."""
     after: dict[str, list[str]] = {}
     for form in words:
         parts = ["*" if part.isupper() else part for part in form.words.split(" ")]
-        for place, part in enumerate(parts):
-            known = after.setdefault(" ".join(parts[:place]), [])
+        for index, part in enumerate(parts):
+            known = after.setdefault(" ".join(parts[:index]), [])
             if part != "*" and part not in known:
                 known.append(part)
-    return {front: known for front, known in after.items() if known}
+    return {prefix: known for prefix, known in after.items() if known}
 
 
-def pattern(front: str) -> str:
-    """A pattern of the shell for a front of a form: the number of its words, and the words."""
-    words = front.split()
+def pattern(prefix: str) -> str:
+    """A shell pattern for a prefix: the number of its words, and the words."""
+    words = prefix.split()
     pieces = " ".join([str(len(words)), *words]).split("*")
     return "*".join(f'"{piece}"' if piece else "" for piece in pieces)
 
 
 def cases(table: dict[str, list[str]], pad: str) -> list[str]:
-    """Branches of a `case` that put the words that may come next into `words`."""
-    return [f'{pad}{pattern(front)}) words="{" ".join(known)}" ;;' for front, known in table.items()]
+    """Branches of a shell `case` that set `words` to the words that may come next."""
+    return [f'{pad}{pattern(prefix)}) words="{" ".join(known)}" ;;' for prefix, known in table.items()]
 
 
 def bash_nooks(program: str) -> str:
-    """Completion of nooks for bash: the words of its forms, and files after them."""
+    """Completion of nooks for bash: subcommands with their arguments, then files."""
     words, _ = forms(program)
     return "\n".join(
         [
             "# bash completion for nooks",
             "_nooks() {",
             '    local words=""',
-            '    local front=("${COMP_WORDS[@]:1:COMP_CWORD-1}")',
-            '    case "${#front[@]}${front[*]:+ ${front[*]}}" in',
+            '    local prefix=("${COMP_WORDS[@]:1:COMP_CWORD-1}")',
+            '    case "${#prefix[@]}${prefix[*]:+ ${prefix[*]}}" in',
             *cases(next_words(words), "        "),
             "    esac",
             '    COMPREPLY=($(compgen -W "$words" -- "${COMP_WORDS[COMP_CWORD]}"))',
@@ -55,9 +55,9 @@ def zsh_nooks(program: str) -> str:
     return "\n".join(
         [
             "#compdef nooks",
-            'local -a front=("${(@)words[2,CURRENT-1]}")',
+            'local -a prefix=("${(@)words[2,CURRENT-1]}")',
             'local next=""',
-            'case "${#front}${front:+ ${(j: :)front}}" in',
+            'case "${#prefix}${prefix:+ ${(j: :)prefix}}" in',
             *[line.replace("words=", "next=") for line in cases(next_words(words), "    ")],
             "esac",
             'if [[ -n "$next" ]]; then compadd -- ${=next}; else _files; fi',
@@ -67,12 +67,12 @@ def zsh_nooks(program: str) -> str:
 
 
 def valued(options: tuple[Option, ...]) -> list[str]:
-    """The names of the options after which something stands."""
+    """The names of the options that take a value."""
     return [name for option in options if option.value for name in option.names]
 
 
 def bash_values(options: tuple[Option, ...], pad: str) -> list[str]:
-    """Branches by the word before: what may stand after an option."""
+    """Branches of a `case` on the previous word: the values that an option may take."""
     lines = []
     for option in options:
         if option.value and not option.is_file:
@@ -84,7 +84,7 @@ def bash_values(options: tuple[Option, ...], pad: str) -> list[str]:
 
 
 def bash_subcommand(command: Command) -> list[str]:
-    """What completes after a subcommand."""
+    """The branch for a subcommand: its options and their values."""
     names = " ".join(name for option in command.options for name in option.names)
     return [
         f"        {command.name})",
@@ -96,7 +96,7 @@ def bash_subcommand(command: Command) -> list[str]:
 
 
 def bash_bench() -> str:
-    """Completion of nooks-bench for bash: subcommands, their options and what stands after these; else files."""
+    """Completion of nooks-bench for bash: subcommands, their options and the values of these; otherwise files."""
     whole, inner = bench()
     names = " ".join(each.name for each in inner)
     options = " ".join(name for option in whole.options for name in option.names)
@@ -130,12 +130,12 @@ def bash_bench() -> str:
 
 
 def zsh_quoted(text: str) -> str:
-    """A text within an argument of _arguments, in single quotes."""
+    """A text as part of a single-quoted argument of _arguments."""
     return text.replace("\\", "\\\\").replace("[", "\\[").replace("]", "\\]").replace(":", "\\:").replace("'", "'\\''")
 
 
 def zsh_option(option: Option) -> list[str]:
-    """An option as _arguments takes it: each name by itself, as often as one likes."""
+    """An option in the syntax of _arguments: each name separately, and repeatable."""
     action = "_files" if option.is_file else f"({' '.join(option.choices)})" if option.choices else " "
     value = f":{zsh_quoted(option.value.lower())}:{action}" if option.value else ""
     return [f"'*{name}[{zsh_quoted(option.about)}]{value}'" for name in option.names]

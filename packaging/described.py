@@ -1,4 +1,4 @@
-"""What the commands take, read from themselves: nooks from its --help, nooks-bench from its parser."""
+"""The arguments of the commands, as they describe them: nooks by its --help, nooks-bench by its parser."""
 
 from __future__ import annotations
 
@@ -22,7 +22,7 @@ FILES = ("PATH", "FILE", "FOLDER", "SCENARIO", "REPORT", "INPUT", "DRIVER", "SWE
 
 @dataclass(frozen=True)
 class Option:
-    """An option: its names, what stands after it (empty for nothing), and what that may be."""
+    """An option: its names, the name of its value (empty if it takes none), and the values that it may take."""
 
     names: tuple[str, ...]
     value: str
@@ -36,7 +36,7 @@ class Option:
 
 @dataclass(frozen=True)
 class Command:
-    """A command or a subcommand by its parser."""
+    """A command or a subcommand, as its parser describes it."""
 
     name: str
     about: str
@@ -49,14 +49,14 @@ class Command:
 
 @dataclass(frozen=True)
 class Form:
-    """A form of words of nooks, or a status: what it is called, and what it does."""
+    """A subcommand of nooks with its arguments, or an exit status, and its description."""
 
     words: str
     about: str
 
 
 def option_of(parser: argparse.ArgumentParser, action: argparse.Action) -> Option:
-    """An option or an operand as its parser has it."""
+    """An option or an operand, from the action of a parser."""
     value = ""
     if action.nargs != 0:
         value = str(action.metavar or (action.option_strings and action.dest.upper()) or action.dest)
@@ -68,7 +68,7 @@ def option_of(parser: argparse.ArgumentParser, action: argparse.Action) -> Optio
 
 
 def command_of(name: str, about: str, parser: argparse.ArgumentParser) -> Command:
-    """A command as its parser has it. Options that are not told of are left out."""
+    """A command, from its parser. Options whose help is suppressed are left out."""
     shown = [action for action in parser._actions if action.help != argparse.SUPPRESS]
     plain = [action for action in shown if not isinstance(action, argparse._SubParsersAction)]
     made = [option_of(parser, action) for action in plain]
@@ -89,7 +89,7 @@ def bench() -> tuple[Command, list[Command]]:
 
 
 def asked(program: str, word: str) -> str:
-    """What the program writes when it is asked for its help or its version."""
+    """The output of the program for --help or --version."""
     try:
         ended = subprocess.run([program, word], stdin=subprocess.DEVNULL, capture_output=True, check=False)
     except OSError as error:
@@ -101,7 +101,7 @@ def asked(program: str, word: str) -> str:
 
 
 def forms(program: str) -> tuple[list[Form], list[Form]]:
-    """The forms of words of the program, and its statuses, by its --help."""
+    """The subcommands of the program and its exit statuses, from its --help."""
     found = [re.fullmatch(r"((?:\S+ )+) +(\S.*)", line) for line in asked(program, "--help").splitlines()]
     lines = [Form(each.group(1).strip(), each.group(2)) for each in found if each]
     words = [Form(each.words.removeprefix("nooks "), each.about) for each in lines if each.words.startswith("nooks ")]
@@ -114,7 +114,7 @@ def forms(program: str) -> tuple[list[Form], list[Form]]:
 
 
 def version(program: str) -> str:
-    """The version of the program, as it tells it."""
+    """The version that the program prints."""
     found = re.search(r"\bnooks\b.*?(\d+\.\d+\.\d+)", asked(program, "--version").splitlines()[0])
     if not found:
         sys.exit(f"{program} is no program nooks: its --version does not have that name and a version")

@@ -1,14 +1,14 @@
-"""The editors' files of the assembler's language, made of the sources' tables: vim's syntax, VS Code's grammar."""
+"""The editors' files for driver texts, made from the tables of the sources: vim's syntax and VS Code's grammar."""
 
 from __future__ import annotations
 
 import json
 
-import described  # noqa: F401  (it has the workbench on the path)
+import described  # noqa: F401  (it puts the workbench on the path)
 
 from nooks_bench.facts import CLASSES, OPERANDS, REGISTERS
 
-# Instructions by what they are about, as an editor colours them; those that stand in no list compute.
+# Instructions by kind, as an editor colours them; those in no list are arithmetic.
 MOVES = ("LI", "LUI", "MOV", "LD", "ST")
 JUMPS = ("JMP", "BEQ", "BNE", "BLT", "JAL", "JR")
 OUTSIDE = ("IN", "OUT", "KCALL", "RET", "FAULT")
@@ -54,18 +54,18 @@ let b:current_syntax = "nooksasm"
 
 
 def unknown() -> list[str]:
-    """The names of the lists that are of no instruction."""
+    """The names in the lists that are no instructions."""
     return [name for name in (*MOVES, *JUMPS, *OUTSIDE) if name not in OPERANDS]
 
 
 def checked() -> None:
-    """Ends with an error if a list has a name that no instruction has."""
+    """Raises an error if a list has a name that is no instruction."""
     if unknown():
         raise ValueError(f"packaging/editors.py colours what is no instruction: {', '.join(unknown())}")
 
 
 def registers(bar: str) -> str:
-    """The numbers of the registers as a pattern: `[0-9]|1[0-5]`, with the editor's own bar."""
+    """A pattern for the numbers of the registers, `[0-9]|1[0-5]`, with the editor's syntax for the bar."""
     return bar.join(["[0-9]", f"1[0-{REGISTERS - 11}]"])
 
 
@@ -102,5 +102,5 @@ def grammar() -> str:
 
 
 def word_of(names: tuple[str, ...]) -> str:
-    """The pattern of a whole word that is one of some names."""
+    """A pattern for a whole word that is one of these names."""
     return rf"\b({'|'.join(names)})\b"

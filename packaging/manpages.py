@@ -6,13 +6,13 @@ from described import Command, Option, asked, bench, bench_version, forms, versi
 
 
 def escaped(text: str) -> str:
-    """A text of one line as troff shows it unchanged."""
+    """A line of text, escaped so that troff shows it unchanged."""
     plain = text.replace("\\", "\\e").replace("-", "\\-").replace("'", "\\(aq").replace("`", "\\(ga")
     return "\\&" + plain if plain.startswith(".") else plain
 
 
 def marked(text: str) -> str:
-    """A form of words or an operand: what is written as it is in bold, what stands for something in italics."""
+    """A subcommand or an operand: literal words in bold, placeholders in italics."""
     words = text.split(" ")
     return " ".join(
         f"\\fI{escaped(word)}\\fR" if word.strip("[].").isupper() else f"\\fB{escaped(word)}\\fR" for word in words
@@ -24,26 +24,26 @@ def head(name: str, about: str, of: str) -> list[str]:
 
 
 def items(pairs: list[tuple[str, str]]) -> list[str]:
-    """A list of names, marked already, and what they are."""
+    """A list of names, which have their markup already, with descriptions."""
     return [line for name, about in pairs for line in (".TP", name, escaped(about))]
 
 
 def option_text(option: Option) -> str:
-    """An option's names with what stands after them."""
+    """An option's names with the name of its value."""
     names = ", ".join(f"\\fB{escaped(name)}\\fR" for name in option.names)
     return f"{names} \\fI{escaped(option.value)}\\fR" if option.value else names
 
 
 def option_about(option: Option) -> str:
-    """What an option is for, and what may stand after it."""
-    untold = [each for each in option.choices if each not in option.about]
-    return option.about + (f" ({', '.join(option.choices)})" if untold else "")
+    """The description of an option, with the values that it may take."""
+    unlisted = [each for each in option.choices if each not in option.about]
+    return option.about + (f" ({', '.join(option.choices)})" if unlisted else "")
 
 
 def nooks_page(program: str, docs: str) -> str:
-    """nooks(1), by what the program says of itself."""
+    """nooks(1), from the --help and the --version of the program."""
     words, statuses = forms(program)
-    told = asked(program, "--version").strip()
+    version_text = asked(program, "--version").strip()
     about = "simulator of driver domains with shadow driver recovery"
     lines = head("nooks", about, f"nooks {version(program)}")
     lines += [".SH SYNOPSIS"]
@@ -66,7 +66,7 @@ def nooks_page(program: str, docs: str) -> str:
         f"\\fBnooks run < {escaped(docs)}/examples/write\\-and\\-read.json\\fR",
         escaped("writes the report of a scenario that is installed with the program."),
         ".SH VERSION",
-        escaped(told),
+        escaped(version_text),
         ".SH SEE ALSO",
         f"\\fBnooks\\-bench\\fR(1), the pages in {escaped(docs)}",
     ]
@@ -89,7 +89,7 @@ def subcommand(command: Command) -> list[str]:
 
 
 def bench_page(docs: str) -> str:
-    """nooks-bench(1), by its parser."""
+    """nooks-bench(1), from its parser."""
     whole, inner = bench()
     lines = head(
         "nooks-bench", "build scenarios for nooks, sweep faults, draw and explain reports", f"nooks {bench_version()}"

@@ -1,10 +1,10 @@
-"""The schemas of scenarios and campaigns, made of the tables of the sources. What they say in words stands here."""
+"""The schemas of scenarios and campaigns, made from the tables of the sources. Their descriptions are written here."""
 
 from __future__ import annotations
 
 from typing import Any
 
-import described  # noqa: F401  (it has the workbench on the path)
+import described  # noqa: F401  (it puts the workbench on the path)
 
 from nooks_bench.facts import CLASSES, FAULT_KINDS, INPUTS, LIMITS, MOST_WORD, OPERATIONS, SCHEDULES
 from nooks_bench.facts import Allowed, DriverClass, Keys
@@ -20,7 +20,7 @@ ABOUT_CAMPAIGN = "What a schema cannot say docs/CAMPAIGN.md does: that the part 
     f"most {LIMITS['MOST_FAULTS']} faults with those of a member and the guard's traps, and that the base has at " \
     f"most {LIMITS['MOST_CAMPAIGN_OPS']} operations. {GENERATED}"
 
-# What is said of a value beside its range, by the kind of object and the key.
+# The descriptions of values, by the kind of object and the key. Ranges come from the tables.
 NOTES = {
     ("part", "limit"): "the failures after which the part is not recovered any more; 0 if it is left out",
     ("part", "blocks"): f"the blocks of the disk, {LIMITS['BLOCK_WORDS']} words each",
@@ -40,7 +40,7 @@ NOTES = {
     ("campaign", "detail"): "whether rows have more words; false if it is left out",
 }
 
-# What stands in the lists of objects.
+# The schemas of the items of lists.
 ITEMS = {
     ("scenario", "parts"): "part",
     ("scenario", "threads"): "thread",
@@ -54,15 +54,15 @@ ITEMS = {
     ("campaign", "every"): "scenario.schema.json#/$defs/everywhere",
 }
 
-# The keys of a campaign of which just one is there, and of which the last is needed if there is none.
+# The keys of a campaign of which exactly one is present. If none is, the last is reported as missing.
 STRIKING = ("every", "members", "faults")
 
-# The keys of parts whose schemas stand by themselves.
+# The keys of parts whose schemas are definitions, since all classes share them.
 SHARED = ("limit", "faults")
 
 
 def ref(name: str) -> Schema:
-    """A reference to a schema of this file's own, or of another file."""
+    """A reference to a definition of the same file, or of another file if the name has a `#`."""
     return {"$ref": name if "#" in name else f"#/$defs/{name}"}
 
 
@@ -71,7 +71,7 @@ def whole(least: int, most: int) -> Schema:
 
 
 def many(ends: tuple[int, int], items: Schema) -> Schema:
-    """A list of so many items."""
+    """A list whose number of items is in a range."""
     least, most = ends
     return {"type": "array", **({"minItems": least} if least else {}), "maxItems": most, "items": items}
 
@@ -89,7 +89,7 @@ def of_value(allowed: Allowed, items: str = "") -> Schema:
 
 
 def noted(kind: str, key: str) -> Schema:
-    """The schema of the value at a key of a kind of object, with what is said of it."""
+    """The schema of the value at a key of a kind of object, with its description."""
     made = of_value(INPUTS[kind][key], ITEMS.get((kind, key), ""))
     about = NOTES.get((kind, key))
     if about and "$ref" in made:
@@ -98,13 +98,13 @@ def noted(kind: str, key: str) -> Schema:
 
 
 def closed(properties: Schema, optional: tuple[str, ...] = ()) -> Schema:
-    """An object with just these keys, of which some may be left out."""
+    """An object with only these keys, of which some may be left out."""
     required = [key for key in properties if key not in optional]
     return {"properties": properties, "required": required, "additionalProperties": False}
 
 
 def only_one(keys: tuple[str, ...]) -> Schema:
-    """An object with just one of some keys. Of `oneOf`, which says the same, an editor says only that none fits."""
+    """An object with exactly one of some keys. For `oneOf`, an editor would only report that no schema matches."""
     first, *others = keys
     if not others:
         return {"required": [first]}
@@ -113,7 +113,7 @@ def only_one(keys: tuple[str, ...]) -> Schema:
 
 
 def chosen(key: str, names: list[str], schemas: list[str]) -> Schema:
-    """An object one of whose keys tells by its name which schema it has."""
+    """An object whose schema depends on the name at one of its keys."""
     cases = [
         {"if": {"properties": {key: {"const": name}}, "required": [key]}, "then": ref(schema)}
         for name, schema in zip(names, schemas, strict=True)
@@ -122,7 +122,7 @@ def chosen(key: str, names: list[str], schemas: list[str]) -> Schema:
 
 
 def by_name(key: str, table: dict[str, Keys], before: Schema, ending: str = "") -> dict[str, Schema]:
-    """A schema for each name of a table: the keys that all have, and those that only this one has."""
+    """A schema for each name of a table: the common keys, and those of this name."""
     return {
         f"{name}{ending}": closed({**before, key: True, **{each: of_value(keys[each]) for each in keys}})
         for name, keys in table.items()
@@ -130,7 +130,7 @@ def by_name(key: str, table: dict[str, Keys], before: Schema, ending: str = "") 
 
 
 def part_schema(kind: DriverClass) -> Schema:
-    """A part of a class: what all have, and between these the keys that not every class has."""
+    """A part of a class: the common keys, and between them the keys that not every class has."""
     of_all = [key for key in kind.keys if all(key in each.keys for each in CLASSES.values())]
     own = {key: noted("part", key) for key in kind.keys if key not in of_all}
     driver = {**ref("driver"), "properties": {"image": {"properties": {"class": {"const": kind.name}}}}}
@@ -146,7 +146,7 @@ def entries_schema(kind: DriverClass) -> Schema:
 
 
 def image_schema() -> Schema:
-    """An image, whose class tells its entries."""
+    """An image, whose entries depend on its class."""
     names = list(CLASSES)
     cases = chosen("class", names, [f"{name}_entries" for name in names])["allOf"]
     for case in cases:
@@ -206,11 +206,11 @@ def part_schemas() -> dict[str, Schema]:
 
 def fault_schemas() -> dict[str, Schema]:
     """Faults, and those that strike everywhere."""
-    places = ("burst", "after")
+    times = ("burst", "after")
     return {
         "fault": chosen("kind", list(FAULT_KINDS), [f"{name}_fault" for name in FAULT_KINDS]),
-        **{key: noted("fault", key) for key in places},
-        **by_name("kind", FAULT_KINDS, {key: ref(key) for key in places}, "_fault"),
+        **{key: noted("fault", key) for key in times},
+        **by_name("kind", FAULT_KINDS, {key: ref(key) for key in times}, "_fault"),
         "everywhere": chosen("kind", list(FAULT_KINDS), [f"{name}_everywhere" for name in FAULT_KINDS]),
         **by_name("kind", FAULT_KINDS, {}, "_everywhere"),
     }

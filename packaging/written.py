@@ -1,4 +1,4 @@
-"""The schema of scenarios as people write them, made of that of the scenarios that the program reads."""
+"""The schema of scenarios as people write them, made from that of the scenarios that the program reads."""
 
 from __future__ import annotations
 
@@ -18,7 +18,7 @@ is generated: packaging/generate written.schema.json"""
 
 
 def repeated(item: Any) -> dict[str, Any]:
-    """An item of a list, or a value so many times."""
+    """An item of a list, or a repetition of one."""
     times = {"type": "integer", "minimum": 0, "maximum": MOST_REPEATED}
     return {
         "if": {"type": "object", "required": ["repeat"]},
@@ -32,7 +32,7 @@ def repeated(item: Any) -> dict[str, Any]:
 
 
 def written(schema: Any) -> Any:
-    """A schema with what people may write beside it: notes in each object, and repetitions in each list."""
+    """A schema that also allows what `build` removes: notes in objects, and repetitions in lists."""
     if isinstance(schema, list):
         return [written(each) for each in schema]
     if not isinstance(schema, dict):
@@ -46,16 +46,15 @@ def written(schema: Any) -> Any:
 
 
 def driver_of(driver: dict[str, Any]) -> dict[str, Any]:
-    """A driver: its name in the table, or an object, whose text may stand in a file."""
+    """A driver: its name in the table, or an object, whose text may be in a file."""
     asm_file = {"type": "string", "description": "the path of an assembler text, from this file's folder on"}
-    kept = {key: each for key, each in driver.items() if key not in ("type", "minProperties", "maxProperties")}
-    kept["properties"] = {**kept["properties"], "asm_file": asm_file}
+    inner = {key: each for key, each in driver.items() if key not in ("type", "minProperties", "maxProperties")}
+    inner["properties"] = {**inner["properties"], "asm_file": asm_file}
     about = "the text of a driver, its file, its image, or its name in the table of drivers"
-    return {"if": {"type": "object"}, "then": kept, "else": {"type": "string"}, "description": about}
+    return {"if": {"type": "object"}, "then": inner, "else": {"type": "string"}, "description": about}
 
 
 def written_schema() -> str:
-    """The text of the schema."""
     with open(os.path.join(SCHEMAS, "scenario.schema.json"), encoding="utf-8") as file:
         read = json.load(file)
     made = written(read)

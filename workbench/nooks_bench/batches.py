@@ -1,5 +1,5 @@
-"""The work of a sweep, in batches: each a campaign over some faults, and a run of each member of which the row does not
-have all. A batch is all that a worker gets, here or on another machine."""
+"""A sweep's work, split into batches. A batch is a campaign over some faults, and a run of each member whose row does
+not say everything. A worker, here or on another machine, gets nothing but a batch."""
 
 from __future__ import annotations
 
@@ -21,8 +21,8 @@ Results = list[Outcome]
 
 @dataclass(frozen=True)
 class Asking:
-    """How the program is asked about a batch: by a campaign first, with detail if it has that, or by each member's
-    report alone; and whether the runs are guarded, of which a campaign's row does not say what the guard stopped."""
+    """How a batch is run: by a campaign first, with detail if the program has that, or only by the members' reports;
+    and whether the runs are guarded. A row of a campaign does not say what a guard stopped."""
 
     by_rows: bool = True
     detail: bool = False
@@ -31,8 +31,8 @@ class Asking:
 
 @dataclass(frozen=True)
 class Batch:
-    """Some faults of one base. `first` is the place of the first of them in the whole sweep, `number` that of the base
-    among its bases."""
+    """Some faults of one base. `first` is the index of the first of them in the whole sweep, `number` that of the base
+    among the sweep's bases."""
 
     base: Scenario
     part: int
@@ -49,7 +49,7 @@ def is_base(scenario: Scenario, part: int) -> bool:
 
 
 def rows_of(program: Program, batch: Batch) -> list[Row | None]:
-    """The campaign's rows, or none if there is to be no campaign."""
+    """The campaign's rows; None for each fault if the batch is run without a campaign."""
     asking = batch.asking
     if asking.guarded or not asking.by_rows or not is_base(batch.base, batch.part):
         return [None] * len(batch.faults)
@@ -69,7 +69,7 @@ def report_of(program: Program, scenario: Scenario, guarded: bool) -> Report:
 
 
 def member_outcome(program: Program, judge: Judge, batch: Batch, fault: Fault) -> Outcome:
-    """The outcome of one fault by the report of its run."""
+    """The outcome of one fault, from the report of its run."""
     member = with_faults(batch.base, batch.part, [fault])
     return judge.by_report(fault, report_of(program, member, batch.asking.guarded))
 
@@ -77,21 +77,21 @@ def member_outcome(program: Program, judge: Judge, batch: Batch, fault: Fault) -
 def outcomes_of(program: Program, base: Report, batch: Batch) -> Results:
     """The outcomes of a batch's faults, in order. Equal faults are run once."""
     judge = judge_of(base, batch.base, batch.part)
-    looked: dict[str, Outcome] = {}
+    by_report: dict[str, Outcome] = {}
     found: list[Outcome] = []
     for fault, row in zip(batch.faults, rows_of(program, batch)):
         outcome = judge.by_row(fault, row) if row else None
         if outcome is None:
             key = json.dumps(fault)
-            if key not in looked:
-                looked[key] = member_outcome(program, judge, batch, fault)
-            outcome = looked[key]
+            if key not in by_report:
+                by_report[key] = member_outcome(program, judge, batch, fault)
+            outcome = by_report[key]
         found.append(outcome)
     return found
 
 
 def run_batch(path: str, batch: Batch) -> Results:
-    """A batch from nothing but a path and the batch, as a worker on another machine runs it."""
+    """Runs a batch, given only the program's path, as a worker on another machine does."""
     program = Program(path)
     base = report_of(program, batch.base, batch.asking.guarded)
     return outcomes_of(program, base, batch)

@@ -1,4 +1,4 @@
-"""build: a scenario as people like to write it, to the program's exact JSON."""
+"""build: converts a scenario as people write it into the program's exact JSON."""
 
 from __future__ import annotations
 
@@ -25,84 +25,84 @@ names by "driver": "NAME"; {"repeat": 16, "of": 7} in any list. A mistake is rep
 
 @dataclass(frozen=True)
 class Builder:
-    """Builds one file: its folder, its table of drivers, and how the files that it names are read."""
+    """Builds one file. `folder` is the file's, `drivers` its table of drivers; `read` reads a file that it names."""
 
     folder: str
     drivers: dict[str, Node]
     read: Callable[[str], str]
 
     def value(self, node: Node, key: str = "") -> Node:
-        """A value as the program reads it, with the place where it was written."""
+        """A value as the program reads it, with its position in the file."""
         if key == "driver":
             node = self.driver(node)
         if isinstance(node.value, dict):
             return self.object(node)
         if isinstance(node.value, list):
-            return Node([item for each in node.value for item in self.items(each)], node.place)
+            return Node([item for each in node.value for item in self.items(each)], node.position)
         return node
 
     def object(self, node: Node) -> Node:
-        kept = {key: self.value(each, key) for key, each in node.value.items() if key != "notes"}
-        return Node(kept, node.place, node.keys)
+        values = {key: self.value(each, key) for key, each in node.value.items() if key != "notes"}
+        return Node(values, node.position, node.keys)
 
     def driver(self, node: Node) -> Node:
-        """A driver: by its name in the table, and with its text if a file has it."""
+        """A driver: looked up if it is a name of the table, with its text if that is in a file."""
         if isinstance(node.value, str):
             if node.value not in self.drivers:
                 names = ", ".join(self.drivers) or "none"
                 about = f"there is no driver {node.value!r} in the table of drivers; it has {names}"
-                raise Misplaced(node.place, about)
+                raise Misplaced(node.position, about)
             node = self.drivers[node.value]
         named = node.get("asm_file")
         if named is None:
             return node
         if not isinstance(named.value, str):
-            raise Misplaced(named.place, "expected the path of a file")
+            raise Misplaced(named.position, "expected the path of a file")
         path = os.path.normpath(os.path.join(self.folder, named.value))
         try:
             text = self.read(path)
         except Mistake as error:
-            raise Misplaced(named.place, str(error)) from error
+            raise Misplaced(named.position, str(error)) from error
         others = {key: each for key, each in node.value.items() if key != "asm_file"}
-        return Node({**others, "asm": Node(text, named.place, origin=path)}, node.place, node.keys)
+        return Node({**others, "asm": Node(text, named.position, origin=path)}, node.position, node.keys)
 
     def items(self, node: Node) -> list[Node]:
-        """What an item of a list stands for: itself, or a value several times."""
+        """The items that an item of a list represents: itself, or a value several times."""
         if node.get("repeat") is None and node.get("of") is None:
             return [self.value(node)]
         times, each = node.get("repeat"), node.get("of")
         if times is None or each is None or len(node.value) != 2:
-            raise Misplaced(node.place, 'a repetition is {"repeat": COUNT, "of": VALUE}, and nothing else')
+            raise Misplaced(node.position, 'a repetition is {"repeat": COUNT, "of": VALUE}, and nothing else')
         if type(times.value) is not int or not 0 <= times.value <= MOST_REPEATED:
-            raise Misplaced(times.place, f"expected a count from 0 to {MOST_REPEATED}")
+            raise Misplaced(times.position, f"expected a count from 0 to {MOST_REPEATED}")
         return [self.value(each)] * times.value
 
 
 def built(file: str, text: str | None = None, read: Callable[[str], str] = read_text) -> Node:
-    """The scenario of a file, each value with its place. `read` reads a file that it names."""
+    """The scenario of a file, each value with its position. `read` reads a file that it names."""
     whole = read_source(file, text)
     if not isinstance(whole.value, dict):
-        raise Misplaced(whole.place, "a scenario is an object")
+        raise Misplaced(whole.position, "a scenario is an object")
     table = whole.get("drivers")
     if table is not None and not isinstance(table.value, dict):
-        raise Misplaced(table.place, 'the table of drivers is {"NAME": DRIVER}')
+        raise Misplaced(table.position, 'the table of drivers is {"NAME": DRIVER}')
     folder = os.path.dirname(file) if file != "-" else ""
     builder = Builder(folder, table.value if table else {}, read)
-    kept = {key: each for key, each in whole.value.items() if key != "drivers"}
-    return builder.value(Node(kept, whole.place, whole.keys))
+    values = {key: each for key, each in whole.value.items() if key != "drivers"}
+    return builder.value(Node(values, whole.position, whole.keys))
 
 
 def check(program: Program, node: Node, text: str) -> None:
-    """Ends with a mistake at its place if the program would refuse the scenario."""
+    """Raises a mistake with its position if the program would refuse the scenario."""
     size = len(text.encode())
     if size > MOST_BYTES:
         raise Misplaced(
-            node.place, f"the scenario has {size:,} bytes as the program reads it; it reads at most {MOST_BYTES:,}"
+            node.position, f"the scenario has {size:,} bytes as the program reads it; it reads at most {MOST_BYTES:,}"
         )
     line = program.fault_of(text)
     if line is not None:
         explained = explain_fault(parse_fault(line), node)
-        raise Misplaced(explained.place, explained.about)
+        raise Misplaced(explained.position, explained.about)
 
 
 def run(args: argparse.Namespace) -> int:

@@ -1,4 +1,4 @@
-"""The calls of a report: when each was invoked, inside the driver, cut and answered."""
+"""The calls of a report: when each was invoked, inside the driver, interrupted and answered."""
 
 from __future__ import annotations
 
@@ -13,9 +13,9 @@ AT_ENTER = "at its enter"
 BY_DRIVER = "by the driver"
 BY_SHADOW = "by the shadow"
 GONE = "with gone, since the part is given up"
-NOT = "not answered"
+UNANSWERED = "not answered"
 
-# The answers of an operation that is wrong by itself (docs/REPORT.md).
+# The answers to an operation that is wrong by itself (docs/REPORT.md).
 WRONG = WORDS["wrong"]
 
 
@@ -29,7 +29,9 @@ def answerer(answer: str) -> str:
 
 @dataclass
 class Call:
-    """A call of a thread on a part. `inside` has its stays in the driver: from an event to the one that ended it."""
+    """A call of a thread on a part. `inside` has its stays in the driver, each from the event that began it to the one
+    that ended it; `interruptions` has the failures that interrupted it, and `bursts` the bursts for it, by their
+    events."""
 
     number: int
     part: int
@@ -37,11 +39,11 @@ class Call:
     text: str
     invoked: int
     inside: list[tuple[int, int]] = field(default_factory=list)
-    cuts: list[int] = field(default_factory=list)
+    interruptions: list[int] = field(default_factory=list)
     bursts: list[int] = field(default_factory=list)
     answered: int = 0
     answer: str = ""
-    by: str = NOT
+    by: str = UNANSWERED
     entered: int = 0
 
     def leave(self, event: int) -> None:
@@ -59,12 +61,12 @@ class Follower:
     """Follows a part's events."""
 
     def __init__(self, part: Part) -> None:
-        self.place = part.place
+        self.part = part.index
         self.calls: dict[int, Call] = {}
 
     def see(self, event: Event) -> None:
         if event.kind == "invoke":
-            call = Call(event.call, self.place, event.context, event.text, event.number)
+            call = Call(event.call, self.part, event.context, event.text, event.number)
             self.calls[event.call] = call
             if event.answer is not None:
                 call.close(event.number, event.answer, answerer(event.answer))
@@ -86,7 +88,7 @@ class Follower:
         if event.failed:
             for call in self.calls.values():
                 if call.entered:
-                    call.cuts.append(event.number)
+                    call.interruptions.append(event.number)
                     call.leave(event.number)
 
 
@@ -101,13 +103,13 @@ def calls_of(part: Part) -> list[Call]:
 
 
 def calls_of_threads(report: Report) -> list[list[Call]]:
-    """For each thread its calls, in the order of its operations: on each part its invocations come in that order."""
-    waiting = {part.place: calls_of(part) for part in report.parts}
+    """For each thread its calls, in the order of its operations. On each part its invocations are in that order."""
+    by_part = {part.index: calls_of(part) for part in report.parts}
     found: list[list[Call]] = []
     for thread in report.threads:
         calls: list[Call] = []
-        for place, _ in thread.answers:
-            call = next(each for each in waiting[place] if each.thread == thread.place and each not in calls)
+        for part, _ in thread.answers:
+            call = next(each for each in by_part[part] if each.thread == thread.index and each not in calls)
             calls.append(call)
         found.append(calls)
     return found

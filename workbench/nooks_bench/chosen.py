@@ -1,4 +1,4 @@
-"""Which faults a sweep tries: kinds over places, chosen with the help of the base's report."""
+"""The faults that a sweep tries: each kind at each position, which the base's report gives."""
 
 from __future__ import annotations
 
@@ -12,21 +12,21 @@ from .program import Mistake
 from .report import SHADOW, Event, Part
 from .scenario import Fault
 
-# What a driver has of its own: initial words and heap, stacks, buffers. Drawn pokes go there if no address is named.
+# A driver's own memory: initial words and heap, stacks, buffers. Pokes are drawn from it if no address is named.
 OWN_WORDS = (MEMORY_MAP["DATA_START"], MEMORY_MAP["BUFFERS_END"] - 1)
 
 
 def bursts_of_call(part: Part, call: int, attempt: int | None) -> list[Event]:
-    """The bursts of a call, or of one of its attempts alone."""
+    """The bursts of a call, or only of one of its attempts."""
     found: list[Event] = []
-    now = 0
+    current = 0
     for event in part.events:
         if event.kind == "enter" and event.call == call:
-            now = event.attempt
-        if event.kind == "burst" and event.call == call and attempt in (None, now):
+            current = event.attempt
+        if event.kind == "burst" and event.call == call and attempt in (None, current):
             found.append(event)
     if not found:
-        raise Mistake(f"part {part.place} has no burst of call c{call}" + (f", try {attempt}" if attempt else ""))
+        raise Mistake(f"part {part.index} has no burst of call c{call}" + (f", try {attempt}" if attempt else ""))
     return found
 
 
@@ -43,23 +43,23 @@ def chosen_bursts(selection: Selection, part: Part) -> list[Event]:
     return found
 
 
-def places_of(selection: Selection, part: Part, probe: Probe) -> list[tuple[int, int]]:
-    """The places that are struck: bursts, and turns before."""
-    places: list[tuple[int, int]] = []
+def positions_of(selection: Selection, part: Part, probe: Probe) -> list[tuple[int, int]]:
+    """The positions that faults strike: each a burst, and the number of its instructions before the fault."""
+    positions: list[tuple[int, int]] = []
     bursts = chosen_bursts(selection, part)
     for event in bursts:
-        turns: Sequence[int] = range(0, event.turns, selection.every)
+        counts: Sequence[int] = range(0, event.instructions, selection.every)
         if selection.at_acts:
-            acts = probe.act_turns(event)
-            turns = sorted({turn for act in acts for turn in (act, act + 1) if turn < event.turns})
-        places.extend((event.burst, turn) for turn in turns)
+            acts = probe.instructions_before_acts(event)
+            counts = sorted({after for act in acts for after in (act, act + 1) if after < event.instructions})
+        positions.extend((event.burst, after) for after in counts)
     unknown = sorted(set(selection.bursts or ()) - {event.burst for event in bursts})
-    places.extend((burst, 0) for burst in unknown)
-    return places
+    positions.extend((burst, 0) for burst in unknown)
+    return positions
 
 
 def templates(selection: Selection) -> list[Fault]:
-    """What strikes at each place."""
+    """The faults that strike at each position, without the position itself."""
     values = selection.values or (1,)
     found: list[Fault] = []
     for kind in selection.kinds:
@@ -72,14 +72,14 @@ def templates(selection: Selection) -> list[Fault]:
     return found
 
 
-def drawn(selection: Selection, places: list[tuple[int, int]], probe: Probe) -> list[Fault]:
-    """Faults at places drawn from some. What is not named is drawn from all that makes sense: an own word for a poke,
-    a word of the text for a code fault, any register, any value."""
+def drawn(selection: Selection, positions: list[tuple[int, int]], probe: Probe) -> list[Fault]:
+    """Faults at positions drawn from these. What the selection does not name is drawn too: a word of the driver's own
+    memory for a poke, a word of the text for a code fault, any register, any value."""
     draw = random.Random(selection.seed)
     words = len(probe.listing) if "code" in selection.kinds and not selection.addresses else 1
     found: list[Fault] = []
     for _ in range(selection.random or 0):
-        burst, after = draw.choice(places)
+        burst, after = draw.choice(positions)
         fault: Fault = {"burst": burst, "after": after, "kind": draw.choice(selection.kinds)}
         if "address" in FAULT_KINDS[fault["kind"]]:
             low, high = OWN_WORDS if fault["kind"] == "poke" else (0, max(words, 1) - 1)
@@ -93,10 +93,10 @@ def drawn(selection: Selection, places: list[tuple[int, int]], probe: Probe) -> 
 
 
 def faults_of(selection: Selection, part: Part, probe: Probe) -> list[Fault]:
-    """The faults of a sweep, in the order of their places."""
-    places = places_of(selection, part, probe)
-    if not places:
-        raise Mistake(f"no burst of part {part.place} is chosen: the base's run has {len(part.bursts())}")
+    """The faults of a sweep, in the order of their positions."""
+    positions = positions_of(selection, part, probe)
+    if not positions:
+        raise Mistake(f"no burst of part {part.index} is chosen: the base's run has {len(part.bursts())}")
     if selection.random is not None:
-        return drawn(selection, places, probe)
-    return [{"burst": burst, "after": after, **each} for burst, after in places for each in templates(selection)]
+        return drawn(selection, positions, probe)
+    return [{"burst": burst, "after": after, **each} for burst, after in positions for each in templates(selection)]

@@ -13,8 +13,8 @@ from .messages import say
 from .output import Output, Unwritten
 from .program import Mistake, find_program
 
-# The subcommands, each a module of this package, with what `--help` says of it. A module is imported only if its
-# subcommand is asked for, so that each starts fast.
+# The subcommands, each a module of this package, with its text in `--help`. Only the module of the subcommand that is
+# given is imported, so that it starts fast.
 SUBCOMMANDS = {
     "build": "write a scenario's exact JSON",
     "gen": "operations to try one's own driver with",
@@ -36,7 +36,7 @@ SUBCOMMANDS = {
 # The module of a subcommand if it has another name: `map` is a builtin of Python.
 MODULES = {"map": "heatmap"}
 
-# The exit statuses, beside 0; sweep's --fail-on adds 1. 5 is the program's own for output that cannot be written.
+# The exit statuses in addition to 0; sweep's --fail-on adds 1. The program too ends with 5 if it cannot write output.
 MISTAKEN = 2
 UNWRITTEN = 5
 INTERRUPTED = 130
@@ -49,14 +49,14 @@ EPILOG = """exit status: 0; 1 by sweep's --fail-on; 2 for a mistake, which one l
 standard output cannot be written; 130 if interrupted"""
 
 
-def parser(wanted: list[str] | None = None) -> argparse.ArgumentParser:
-    """The parser of the whole command line. Only the subcommands among the wanted words have their options then."""
+def parser(arguments: list[str] | None = None) -> argparse.ArgumentParser:
+    """The parser of the whole command line. If arguments are given, only the subcommands among them have options."""
     made = argparse.ArgumentParser(prog="nooks-bench", description=ABOUT, epilog=EPILOG)
     made.add_argument("--program", metavar="PATH", help="the program nooks")
     made.add_argument("--version", action="store_true", help="the versions of the workbench and of the program")
     commands = made.add_subparsers(title="subcommands", dest="subcommand", metavar="SUBCOMMAND")
     for name, about in SUBCOMMANDS.items():
-        if wanted is None or name in wanted:
+        if arguments is None or name in arguments:
             importlib.import_module(f".{MODULES.get(name, name)}", __package__).add_to(commands)
             command = commands.choices[name]
             command.add_argument("--program", metavar="PATH", default=argparse.SUPPRESS, help="the program nooks")
@@ -66,7 +66,7 @@ def parser(wanted: list[str] | None = None) -> argparse.ArgumentParser:
 
 
 def versions(named: str | None) -> int:
-    """Writes the version of the workbench, and that of the program if there is one."""
+    """Prints the version of the workbench, and that of the program if there is one."""
     print(f"nooks-bench {__version__}")
     try:
         program = find_program(named)
@@ -77,12 +77,12 @@ def versions(named: str | None) -> int:
     return 0
 
 
-def command(words: list[str]) -> int:
-    """Does what the words ask for; the exit status."""
-    made = parser(words)
+def command(arguments: list[str]) -> int:
+    """Runs the subcommand that the arguments name; returns the exit status."""
+    made = parser(arguments)
     try:
-        args = made.parse_args(words)
-        args.words = words
+        args = made.parse_args(arguments)
+        args.words = arguments
         if args.version:
             return versions(args.program)
         if args.subcommand is None:
@@ -99,15 +99,15 @@ def command(words: list[str]) -> int:
         return ended.code if isinstance(ended.code, int) else 0
 
 
-def main(words: list[str] | None = None) -> int:
-    """Runs the command with some words, or with those of the command line."""
+def main(arguments: list[str] | None = None) -> int:
+    """Runs the command with the given arguments, or with those of the command line."""
     if sys.stdout is None:
         say("standard output is closed")
         return UNWRITTEN
     output = Output(sys.stdout)
     try:
         with contextlib.redirect_stdout(cast(TextIO, output)):
-            status = command(sys.argv[1:] if words is None else words)
+            status = command(sys.argv[1:] if arguments is None else arguments)
             output.flush()
         return status
     except Unwritten as error:

@@ -8,14 +8,14 @@ Row = list[str]
 
 
 def text_lines(rows: Sequence[Row]) -> list[str]:
-    """A table in columns: the first one to the left, the others to the right."""
-    wide = [max(len(row[place]) for row in rows) for place in range(len(rows[0]))]
-    return ["  ".join(cell.ljust(width) if place == 0 else cell.rjust(width)
-                      for place, (cell, width) in enumerate(zip(row, wide))).rstrip() for row in rows]
+    """A table in columns: the first one is aligned left, the others right."""
+    wide = [max(len(row[column]) for row in rows) for column in range(len(rows[0]))]
+    return ["  ".join(cell.ljust(width) if column == 0 else cell.rjust(width)
+                      for column, (cell, width) in enumerate(zip(row, wide))).rstrip() for row in rows]
 
 
 def markdown_lines(rows: Sequence[Row]) -> list[str]:
-    """A table of a page."""
+    """A table in Markdown."""
     head, *others = rows
     lines = ["| " + " | ".join(head) + " |", "|" + "---|" * len(head)]
     return lines + ["| " + " | ".join(row) + " |" for row in others]

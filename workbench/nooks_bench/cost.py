@@ -22,7 +22,7 @@ words that are copied and cleared, pages whose rights change or that are loaded,
 for recoveries. The counts are exact. With --model they are weighed with cycles from a TOML file, which nobody measured:
 the time with protection and without, and where the one is twice the other."""
 
-TURN = re.compile(r"^\d+ \d+ ", re.MULTILINE)
+TRACED_INSTRUCTION = re.compile(r"^\d+ \d+ ", re.MULTILINE)
 
 # The columns of the table of counts.
 COLUMNS = ("calls", "entries", "crossings", "kernel_calls", "copied", "cleared", "rights", "pages", "instructions",
@@ -30,24 +30,24 @@ COLUMNS = ("calls", "entries", "crossings", "kernel_calls", "copied", "cleared",
 ALL = "all calls"
 
 
-def hidden_turns(program: Program, scenario: Scenario, place: int) -> dict[int, int]:
-    """The instructions of bursts that a hang of the scenario's own faults ended, whose lines say as many as a burst may
-    have: those of their traces."""
-    part = scenario["parts"][place]
+def hidden_instructions(program: Program, scenario: Scenario, index: int) -> dict[int, int]:
+    """How many instructions were executed in each burst that a hang among the scenario's own faults ended, counted in
+    its trace. The report shows the most that a burst may have instead."""
+    part = scenario["parts"][index]
     hung = sorted({fault["burst"] for fault in part.get("faults", []) if fault["kind"] == "hang"})
     text = json.dumps(scenario)
     found: dict[int, int] = {}
     for burst in hung:
-        ended = program.ask(["trace", str(place), str(burst)], text)
+        ended = program.ask(["trace", str(index), str(burst)], text)
         if ended.status == 0:
-            found[burst] = len(TURN.findall(ended.out))
+            found[burst] = len(TRACED_INSTRUCTION.findall(ended.out))
     return found
 
 
 def costs_of(program: Program, scenario: Scenario) -> list[PartCost]:
     """The counts of each part."""
     report = parse_report(program.report(scenario))
-    return [cost_of(part, hidden_turns(program, scenario, part.place)) for part in report.parts]
+    return [cost_of(part, hidden_instructions(program, scenario, part.index)) for part in report.parts]
 
 
 def named_counts(cost: PartCost) -> list[tuple[str, Counts]]:
@@ -83,19 +83,19 @@ def model_lines(reckoned: Reckoned, file: str) -> list[str]:
 
 
 def part_lines(cost: PartCost, model: Model | None, file: str) -> list[str]:
-    """All about a part."""
+    """The lines about a part: its counts, and what the model says of them."""
     part = cost.part
-    lines = [f"part {part.place} {part.name}, {part.kind}: {counted(part.failures, 'failure')}"]
+    lines = [f"part {part.index} {part.name}, {part.kind}: {counted(part.failures, 'failure')}"]
     lines += count_lines(cost)
     return lines + (model_lines(reckon(model, cost), file) if model else [])
 
 
 def as_json(costs: list[PartCost], model: Model | None) -> list[dict[str, Any]]:
-    """The counts for tools."""
+    """The counts of all parts as JSON values, for tools."""
     shown: list[dict[str, Any]] = []
     for cost in costs:
         found: dict[str, Any] = {
-            "part": cost.part.place,
+            "part": cost.part.index,
             "name": cost.part.name,
             "class": cost.part.kind,
             "operations": {name: vars(counts) for name, counts in cost.operations.items()},

@@ -1,10 +1,10 @@
 """What the protection of a part did in a run, counted from its events.
 
 A report has each entry of the driver, each burst with its instructions and acts, each kernel call with the words that
-it moved, and each stage. What follows from an event by a rule of the kernel is counted by that rule: a burst enters the
-driver's domain and leaves it; a call with a buffer has its words copied there and the rest of the buffer cleared; a
+it moved, and each stage. The rest follows from an event by a rule of the kernel and is counted by it. A burst enters
+the driver's domain and leaves it; a call with a buffer has its words copied there and the rest of the buffer cleared; a
 buffer that is lent for writing has the rights of its pages changed, and changed back when it is taken back; a load
-makes every page of the driver anew."""
+creates every page of the driver again."""
 
 from __future__ import annotations
 
@@ -23,10 +23,10 @@ PAGE_WORDS = MEMORY_MAP["PAGE_WORDS"]
 BUFFER_WORDS = (MEMORY_MAP["BUFFERS_END"] - MEMORY_MAP["STACKS_END"]) // LIMITS["CONTEXTS"]
 BUFFER_PAGES = BUFFER_WORDS // PAGE_WORDS
 
-# A load makes all below the kernel's objects anew.
+# A load creates all pages below the kernel's objects again.
 LOADED_PAGES = MEMORY_MAP["BUFFERS_END"] // PAGE_WORDS
 
-# A burst goes into the driver's domain, and out of it.
+# A burst enters the driver's domain and leaves it.
 CROSSINGS = 2
 
 WRITABLE = re.compile(r" buffer \d+ write")
@@ -35,10 +35,11 @@ MOVED = re.compile(r"\[([0-9,]+)\]$")
 
 @dataclass
 class Counts:
-    """What was done for some calls, for a boot or for recoveries. `calls` were invoked, `refused` of them at once, as
-    wrong by themselves; `entries` came to the driver, a call that was cut more than once. `crossings` are changes of
-    domain. Words are copied and cleared in buffers and kernel objects, `rights` are pages whose rights changed, `pages`
-    those that a load made anew. `instructions` are the driver's."""
+    """What was done for some calls, for a boot or for recoveries. `calls` counts those invoked, `refused` those of them
+    that were wrong by themselves and answered at once, and `entries` how often one entered the driver, more than once
+    if it was interrupted. `crossings` counts changes of domain, `copied` and `cleared` words of buffers and kernel
+    objects, `rights` pages whose rights changed, and `pages` those that a load created. `instructions` are the
+    driver's."""
 
     calls: int = 0
     refused: int = 0
@@ -67,11 +68,11 @@ BOOT = "boot"
 
 
 class Counting:
-    """Counts the events of a part. `turns` has the instructions of bursts whose lines do not tell them."""
+    """Counts the events of a part. `hidden` has the number of instructions of bursts whose events do not show it."""
 
-    def __init__(self, part: Part, turns: dict[int, int]) -> None:
+    def __init__(self, part: Part, hidden: dict[int, int]) -> None:
         self.part = part
-        self.turns = turns
+        self.hidden = hidden
         self.operations: dict[int, Operation] = {}
         self.by_name: dict[str, Counts] = {}
         self.boot = Counts()
@@ -85,7 +86,7 @@ class Counting:
         return self.by_name.setdefault(self.operations[call].name, Counts())
 
     def of_kernel(self) -> Counts:
-        """What is counted for what the kernel itself asks of the driver: the boot, or the last recovery."""
+        """The counts of what the kernel itself asks of the driver: of the boot, or of the last recovery."""
         return self.recoveries[-1] if self.recoveries else self.boot
 
     def invoke(self, event: Event) -> None:
@@ -108,7 +109,7 @@ class Counting:
     def burst(self, event: Event) -> None:
         counts = self.of_kernel() if event.context == SHADOW else self.of_call(event.call)
         counts.crossings += CROSSINGS
-        counts.instructions += self.turns.get(event.burst, event.turns)
+        counts.instructions += self.hidden.get(event.burst, event.instructions)
         counts.acts += len(event.acts)
         counts.pauses += event.text == "pause"
         if event.text.startswith("service "):
@@ -118,7 +119,7 @@ class Counting:
             self.replied(event, counts)
 
     def replied(self, event: Event, counts: Counts) -> None:
-        """A reply brings a read's blocks or a get's value out, and ends the right to write to their buffer."""
+        """A reply copies a read's blocks or a get's value out, and ends the right to write to their buffer."""
         operation = self.operations[event.call]
         if BUFFERS.get(operation.name) == "write":
             counts.rights += BUFFER_PAGES
@@ -141,7 +142,7 @@ class Counting:
             counts.resets += 1
 
     def arrive(self, event: Event) -> None:
-        """A frame that arrives is the device's work."""
+        """Counts nothing: a frame that arrives is the device's work."""
 
 
 def moved_words(event: Event) -> int:
@@ -160,8 +161,8 @@ def moved_words(event: Event) -> int:
 
 @dataclass(frozen=True)
 class PartCost:
-    """What was counted for a part: for each operation, for the boot, and for each recovery, in which a failure past
-    the limit is the last one, without a load."""
+    """The counts of a part: of each operation, of the boot, and of each recovery. A failure past the limit counts as a
+    last recovery, without a load."""
 
     part: Part
     operations: dict[str, Counts]
@@ -177,9 +178,9 @@ class PartCost:
         return sum(self.recoveries, Counts())
 
 
-def cost_of(part: Part, turns: dict[int, int] | None = None) -> PartCost:
+def cost_of(part: Part, hidden: dict[int, int] | None = None) -> PartCost:
     """The counts of a part."""
-    counting = Counting(part, turns or {})
+    counting = Counting(part, hidden or {})
     for event in part.events:
         counting.see(event)
     cost = PartCost(part, dict(sorted(counting.by_name.items())), counting.boot, tuple(counting.recoveries))
@@ -188,8 +189,8 @@ def cost_of(part: Part, turns: dict[int, int] | None = None) -> PartCost:
 
 
 def check(cost: PartCost) -> None:
-    """The counts have to add up to what the report says as a whole."""
+    """Raises a mistake if the counts do not add up to the totals of the report."""
     kinds = Counter(event.kind for event in cost.part.events)
     whole = cost.all_calls + cost.boot + cost.all_recoveries
     if cost.all_calls.calls != kinds["invoke"] or whole.bursts != kinds["burst"]:
-        raise Mistake(f"the calls or the bursts of part {cost.part.place} do not add up")
+        raise Mistake(f"the calls or the bursts of part {cost.part.index} do not add up")

@@ -1,4 +1,4 @@
-"""What counts cost by a model: a number of cycles for each thing, chosen by whoever asks. Nothing here is measured."""
+"""What counts cost by a model: a number of cycles for each thing, chosen by the user. Nothing here is measured."""
 
 from __future__ import annotations
 
@@ -15,7 +15,7 @@ from .source import read_text
 class Model:
     """The cycles of: the work of an operation outside the driver; an instruction of the driver; an act on the device; a
     procedure call; a change of domain; a word that is copied, and one that is cleared; the rights of a page; a page
-    that is loaded; a reset of the device; and a reboot of the whole machine, if recoveries are to be weighed against
+    that is loaded; a reset of the device; and a reboot of the whole machine, if recoveries are to be compared with
     it."""
 
     operation: float
@@ -31,12 +31,12 @@ class Model:
     reboot: float | None = None
 
     def bare(self, counts: Counts) -> float:
-        """The same work by the same driver inside the kernel, which calls it as a procedure."""
+        """The cycles of the same work by the same driver inside the kernel, which calls it as a procedure."""
         inside = self.instruction * counts.instructions + self.act * counts.acts + self.procedure * counts.bursts
         return self.operation * counts.calls + inside
 
     def added(self, counts: Counts) -> float:
-        """What protection adds to it."""
+        """The cycles that protection adds."""
         words = self.word * counts.copied + self.clear * counts.cleared
         return self.crossing * counts.crossings + words + self.right * counts.rights
 
@@ -85,21 +85,21 @@ class Reckoned:
 
     @property
     def relative(self) -> float:
-        """The speed with protection, of that without."""
+        """The speed with protection, as a fraction of that without."""
         return self.bare / self.guarded if self.guarded else 1.0
 
     @property
     def twice(self) -> float | None:
-        """With so many cycles of a change of domain the same calls take twice as long as without protection. None if
-        nothing crosses, or all the rest takes as long already."""
+        """The cycles of a change of domain at which the same calls take twice as long as without protection. None if
+        there is no such change, or if all the rest takes that long already."""
         rest = self.guarded - self.model.crossing * self.crossings
         cycles = (2 * self.bare - rest) / self.crossings if self.crossings else -1.0
         return cycles if cycles >= 0 else None
 
     @property
     def pays(self) -> float | None:
-        """How many calls one failure has to come in, at least, so that what protection adds to them is no more than
-        what a recovery saves against a reboot. None without a reboot's cycles, or without a recovery in the run."""
+        """The most calls to one failure for which protection adds no more than a recovery saves, compared with a
+        reboot. None if the model has no reboot, if the run has no recovery, or if nothing is added or saved."""
         if self.model.reboot is None or not self.number or not self.calls:
             return None
         added = (self.guarded - self.bare) / self.calls

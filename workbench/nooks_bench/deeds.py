@@ -1,4 +1,4 @@
-"""Which deed broke the contract: of the event that a report names an act on the device, or the crossing at its end."""
+"""Finds the deed that broke the contract: in the event that a report names, an act on the device or the crossing."""
 
 from __future__ import annotations
 
@@ -12,7 +12,7 @@ from .words import CLAUSES, short
 
 @dataclass(frozen=True)
 class Deed:
-    """A deed of a burst. `act` is its place among the acts, None for the crossing that ended the burst."""
+    """A deed of a burst. `act` is its index among the acts, None for the crossing that ended the burst."""
 
     event: int
     clause: int
@@ -21,22 +21,22 @@ class Deed:
 
     @property
     def about(self) -> str:
-        """The clause, as what the driver did."""
+        """The clause, in words: what the driver did."""
         return f"the driver {CLAUSES[self.clause]}"
 
 
 def wrong_store(before: PartState, act: str) -> int | None:
-    """The clause that a store goes against."""
+    """The clause that a store breaks."""
     _, block, words = act.split(" ")
     inside = (call.operation.written(int(block)) for call in before.calls if call.where == INSIDE)
-    wanted = next((each for each in inside if each is not None), None)
-    if wanted is None:
+    expected = next((each for each in inside if each is not None), None)
+    if expected is None:
         return 1
-    return None if wanted == words_of(words) else 2
+    return None if expected == words_of(words) else 2
 
 
 def wrong_sent(before: PartState, number: int, act: str, earlier: int) -> int | None:
-    """The clause that a frame sent goes against; `earlier` ones were sent in the same burst."""
+    """The clause that a sent frame breaks; `earlier` frames were sent before it in the same burst."""
     call = before.call(number)
     if call is None or call.operation.name != "send" or call.operation.words != words_of(act.split(" ")[1]):
         return 5
@@ -44,7 +44,7 @@ def wrong_sent(before: PartState, number: int, act: str, earlier: int) -> int | 
 
 
 def wrong_played(before: PartState, act: str, earlier: int) -> int | None:
-    """The clause that a sample goes against."""
+    """The clause that a sample breaks; `earlier` samples were played before it in the same burst."""
     plays = [call for call in before.calls if call.where == INSIDE and call.operation.name == "play"]
     for call in plays:
         if call.operation.words[call.played + earlier :][:1] == (int(act.split(" ")[1]),):
@@ -53,7 +53,7 @@ def wrong_played(before: PartState, act: str, earlier: int) -> int | None:
 
 
 def wrong_register(before: PartState, act: str) -> int | None:
-    """The clause that a change of a register goes against."""
+    """The clause that a change of a register breaks."""
     numbers = tuple(map(int, act.split(" ")[1:]))
     if before.registers[numbers[0]] == numbers[1] or before.stage == f"replay_set {numbers[0]} {numbers[1]}":
         return None
@@ -61,11 +61,11 @@ def wrong_register(before: PartState, act: str) -> int | None:
     return None if any(each.name == "set" and each.numbers == numbers for each in asked) else 12
 
 
-def wrong_clause(before: PartState, event: Event, place: int) -> int | None:
-    """The clause that the act at a place goes against."""
-    act = event.acts[place]
+def wrong_clause(before: PartState, event: Event, index: int) -> int | None:
+    """The clause that the act at an index breaks."""
+    act = event.acts[index]
     name = act.split(" ")[0]
-    earlier = sum(each.split(" ")[0] == name for each in event.acts[:place])
+    earlier = sum(each.split(" ")[0] == name for each in event.acts[:index])
     if name == "store":
         return wrong_store(before, act)
     if name == "sent":
@@ -76,13 +76,13 @@ def wrong_clause(before: PartState, event: Event, place: int) -> int | None:
 
 
 def deed_of(part: Part, states: list[PartState]) -> Deed | None:
-    """The deed with which a part's contract was broken; None if it was kept. `states` are those of the part."""
+    """The deed that broke a part's contract; None if it was kept. `states` are those of the part."""
     if part.broken is None:
         return None
     number, clause = part.broken
     event = part.event(number)
     before = states[number - 1]
-    for place, act in enumerate(event.acts):
-        if wrong_clause(before, event, place) == clause:
-            return Deed(number, clause, place, short(act))
+    for index, act in enumerate(event.acts):
+        if wrong_clause(before, event, index) == clause:
+            return Deed(number, clause, index, short(act))
     return Deed(number, clause, None, short(event.text))

@@ -1,6 +1,6 @@
 """How runs of one scenario ended, thing by thing: each answer of each thread, and of each part what is left, what was
-lost, how often it failed, and whether its contract was kept. Two runs have the same outcome if all of it is the same.
-When something happened is no part of it."""
+lost, how often it failed, and whether its contract was kept. Two runs have the same outcome if all of it is the same,
+no matter when it happened."""
 
 from __future__ import annotations
 
@@ -16,7 +16,7 @@ from .report import Part, Report, parse_report
 from .scenario import Scenario, with_schedule
 from .words import short
 
-# The things that are parts' contracts, and the value of one that was not broken.
+# The prefix of the names of parts' contracts, and the value of one that was not broken.
 CONTRACT = "contract of "
 KEPT = "kept"
 
@@ -30,7 +30,7 @@ class End:
 
     @property
     def key(self) -> str:
-        """The same for equal outcomes alone."""
+        """Equal only for equal outcomes."""
         return json.dumps(self.things)
 
 
@@ -47,7 +47,7 @@ def answers_of(report: Report) -> Iterator[tuple[str, str]]:
 
 
 def left_of(part: Part) -> Iterator[tuple[str, str]]:
-    """What is left of a part. Frames and samples of one list are one thing."""
+    """What is left of a part. All frames of a list are one thing, and so are all samples."""
     lists: dict[str, list[str]] = {}
     for line in part.left:
         name, _, rest = line.partition(" ")
@@ -81,7 +81,7 @@ def things_of(report: Report) -> dict[str, str]:
 
 
 def end_of(program: Program, scenario: Scenario, found: Found) -> End:
-    """The outcome of a run, by its report. The row has to be that of the report."""
+    """The outcome of a run, from its report. Raises a mistake if the row is not that of the report."""
     report = parse_report(program.report(with_schedule(scenario, listed(found.picks))))
     if row_of(report) != found.row:
         raise Mistake(f"a row and the report of its picks differ: {found.row} and {row_of(report)}")
@@ -90,8 +90,8 @@ def end_of(program: Program, scenario: Scenario, found: Found) -> End:
 
 @dataclass(frozen=True)
 class Differing:
-    """A thing that is not the same in all outcomes: its values, each with the numbers of the outcomes that have it. A
-    thing that is not there is an empty text."""
+    """A thing that is not the same in all outcomes: its values, each with the numbers of the outcomes that have it. The
+    value is an empty text for outcomes without the thing."""
 
     name: str
     values: dict[str, list[int]]
@@ -119,8 +119,8 @@ def actor_name(actor: int, scenario: Scenario) -> str:
     threads, parts = scenario["threads"], scenario["parts"]
     if actor < len(threads):
         return str(threads[actor]["name"])
-    place, is_arrival = divmod(actor - len(threads), 2)
-    return f"{'arrivals' if is_arrival else 'recovery'} of {parts[place]['name']}"
+    index, is_arrival = divmod(actor - len(threads), 2)
+    return f"{'arrivals' if is_arrival else 'recovery'} of {parts[index]['name']}"
 
 
 def order_text(picks: Picks, scenario: Scenario) -> str:

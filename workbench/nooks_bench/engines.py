@@ -1,5 +1,5 @@
-"""Where a sweep's batches run: on this machine's processors, or on a Dask cluster. Both give the place and the results
-of each batch as it is done."""
+"""Runs a sweep's batches on this machine's processors, or on a Dask cluster. Both yield the index and the results of
+each batch when it is done."""
 
 from __future__ import annotations
 
@@ -12,27 +12,27 @@ from .batches import Batch, Results, run_batch
 from .pool import each_done
 from .program import Mistake
 
-# A batch that a cluster runs: large enough that its way there and back does not count.
+# The faults of a batch for a cluster: enough that sending it there and back takes little of its time.
 CLUSTER_BATCH = 400
 
-# The most faults of a batch on this machine, and about the most seconds that it may take: what an interruption loses is
-# the batches that are begun.
+# The most faults of a batch on this machine, and about the most seconds that it may take: an interruption loses the
+# batches that are running.
 MOST_LOCAL = 256
 LONGEST_LOCAL = 1.0
 
-# How often a batch is begun again whose worker went away.
+# How often a batch is started again after its worker went away.
 RETRIES = 10
 
 
 def local_size(faults: int, jobs: int, seconds: float) -> int:
-    """The size of a batch on this machine, by the time of a run: some batches for each processor, so that all have work
-    to the end."""
+    """The size of a batch on this machine, given the seconds of a run. Each processor has several batches, so that all
+    have work until the end."""
     share = max(16, -(-faults // (4 * jobs)))
     return max(1, min(MOST_LOCAL, share, int(LONGEST_LOCAL / max(seconds, 0.0001))))
 
 
 def run_local(path: str, batches: Sequence[Batch], jobs: int) -> Iterator[tuple[int, Results]]:
-    """Runs batches side by side here, each in a process."""
+    """Runs batches concurrently on this machine, each in its own process."""
     return each_done(functools.partial(run_batch, path), batches, jobs)
 
 
@@ -50,7 +50,7 @@ def package_file(folder: str) -> str:
 
 
 def run_dask(address: str, path: str, batches: Sequence[Batch]) -> Iterator[tuple[int, Results]]:
-    """Runs batches on a cluster, whose scheduler gives a batch again to another worker if one went away."""
+    """Runs batches on a cluster. If a worker goes away, the scheduler gives its batch to another one."""
     import logging
     import tempfile
 
@@ -65,10 +65,10 @@ def run_dask(address: str, path: str, batches: Sequence[Batch]) -> Iterator[tupl
     with client, tempfile.TemporaryDirectory() as folder:
         client.upload_file(package_file(folder))
         futures = [client.submit(run_batch, path, batch, pure=False, retries=RETRIES) for batch in batches]
-        places = {future.key: place for place, future in enumerate(futures)}
+        indices = {future.key: index for index, future in enumerate(futures)}
         try:
             for future in distributed.as_completed(futures):
-                yield places[future.key], future.result()
+                yield indices[future.key], future.result()
         finally:
-            # All results are here, or nobody waits for them: what the client logs while it closes is of no use.
+            # All results are here, or nothing waits for them any more: what the client logs while it closes is noise.
             logging.disable(logging.CRITICAL)

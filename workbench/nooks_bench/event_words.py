@@ -37,14 +37,13 @@ def waits_for(call: OpenCall, now: PartState) -> str:
         return "until the driver has started"
     if now.mode == RECOVERS:
         return "until the driver is back"
-    if call.behind:
-        return f"until c{call.behind[0]} is answered, which it conflicts with"
+    if call.waits_for:
+        return f"until c{call.waits_for[0]} is answered, which it conflicts with"
     return "until it enters"
 
 
 class Sentences:
-    """Words for the events of one part. `names` has those of the threads, and `guarded` the bursts that a guard
-    stopped."""
+    """Describes the events of one part. `names` has the threads' names, `guarded` the bursts that a guard stopped."""
 
     def __init__(self, names: dict[int, str], guarded: Collection[int] = ()) -> None:
         self.names = names
@@ -54,7 +53,7 @@ class Sentences:
         return self.names.get(thread, f"thread {thread}")
 
     def of(self, event: Event, before: PartState, after: PartState) -> str:
-        """The words of an event, between the states before and after it."""
+        """The sentences for an event, given the states before and after it."""
         if event.kind == "invoke":
             return self.invoke(event, after)
         if event.kind == "enter":
@@ -64,19 +63,19 @@ class Sentences:
         return self.stage(event, after) if event.kind == "stage" else arrived(event)
 
     def invoke(self, event: Event, after: PartState) -> str:
-        front = f"{self.name(event.context)} asks for {short(event.text)}. Call c{event.call} is "
+        prefix = f"{self.name(event.context)} asks for {short(event.text)}. Call c{event.call} is "
         call = after.call(event.call)
         if event.answer is None and call:
-            return f"{front}held {waits_for(call, after)}."
+            return f"{prefix}held {waits_for(call, after)}."
         answer = event.answer or ""
-        return f"{front}answered {answerer(answer)}: {short(answer)}."
+        return f"{prefix}answered {answerer(answer)}: {short(answer)}."
 
     def enter(self, event: Event, before: PartState) -> str:
         call = before.call(event.call)
         what = asked(call) if call else f"c{event.call}"
         if event.answer is not None:
-            told = f"is answered {AT_ENTER}, without the driver: {short(event.answer)}"
-            return f"{self.name(event.context)}'s {what} {told}."
+            answered = f"is answered {AT_ENTER}, without the driver: {short(event.answer)}"
+            return f"{self.name(event.context)}'s {what} {answered}."
         again = f", its try {event.attempt}: it starts from the beginning" if event.attempt > 1 else ""
         return f"{self.name(event.context)}'s {what} goes into the driver, context {event.context}{again}."
 
@@ -85,7 +84,7 @@ class Sentences:
         whose = f"the shadow's {before.stage.split(' ')[0]}" if event.context == SHADOW else f"c{event.call}"
         whose = f"{self.name(event.context)}'s {asked(call)}" if call else whose
         did = f": {', '.join(folded_lines(list(event.acts)))}" if event.acts else ""
-        return f"The driver works {counted(event.turns, 'turn')} for {whose}{did}. {self.end(event)}"
+        return f"The driver works {counted(event.instructions, 'turn')} for {whose}{did}. {self.end(event)}"
 
     def end(self, event: Event) -> str:
         """How a burst ended."""
@@ -107,11 +106,11 @@ class Sentences:
 
     def stage(self, event: Event, after: PartState) -> str:
         name, *numbers = event.text.split(" ")
-        told = [f"c{number} is answered {answerer(answer)}: {short(answer)}" for number, answer in event.replies]
+        details = [f"c{number} is answered {answerer(answer)}: {short(answer)}" for number, answer in event.replies]
         if name == "stop":
-            told += [f"{asked(call)} is held" for call in after.calls if call.where == HELD]
+            details += [f"{asked(call)} is held" for call in after.calls if call.where == HELD]
         text = STAGES[name].format(*numbers)
-        return ". ".join([text, *told]) + (f": {event.line.partition(' collect ')[2]}." if has_found(event) else ".")
+        return ". ".join([text, *details]) + (f": {event.line.partition(' collect ')[2]}." if has_found(event) else ".")
 
 
 def has_found(event: Event) -> bool:
@@ -120,5 +119,5 @@ def has_found(event: Event) -> bool:
 
 
 def arrived(event: Event) -> str:
-    where = "kept in the device's ring" if event.answer == "kept" else "lost, since the ring is full"
-    return f"A frame comes from the wire: {short(event.text)}, {where}."
+    outcome = "kept in the device's ring" if event.answer == "kept" else "lost, since the ring is full"
+    return f"A frame comes from the wire: {short(event.text)}, {outcome}."

@@ -1,5 +1,6 @@
-"""A sweep's whole choice as one campaign: the key `every` has what strikes, and the program strikes with each of it at
-every place of the struck part's run (docs/CAMPAIGN.md). The places are those of the base's report."""
+"""Runs a sweep's whole selection as one campaign: the key `every` has the faults without a position, and the program
+tries each of them at every position of the struck part's run (docs/CAMPAIGN.md). The positions are those of the base's
+report."""
 
 from __future__ import annotations
 
@@ -24,7 +25,7 @@ LAST = re.compile(r"campaign (\d+) kept (\d+) given_up (\d+) broken (\d+)(?: tra
 
 @dataclass(frozen=True)
 class Whole:
-    """What the last line of such a table says, and the status of the base's own row."""
+    """The counts of the last line of such a table, and the status of the base's own row."""
 
     base_status: int
     members: int
@@ -35,8 +36,8 @@ class Whole:
 
     @property
     def all_kept(self) -> bool:
-        """Whether each run, that of the base too, ended with status 0: then no fault of these, at whatever burst and
-        turn, leaves a run of another status."""
+        """Whether each run, including that of the base, ended with status 0. Then no run with one of these faults, at
+        any burst and instruction, has another status."""
         return self.base_status == 0 and self.kept == self.members
 
     def as_json(self) -> dict[str, Any]:
@@ -44,7 +45,7 @@ class Whole:
 
 
 def is_whole(selection: Selection, kinds: Sequence[Fault]) -> bool:
-    """Whether a choice is every turn of every burst of a call: `every` has these, and the bursts of the shadow."""
+    """Whether a selection is every instruction of all calls' bursts. `every` has these, and the shadow's bursts too."""
     named = (selection.bursts, selection.call, selection.random)
     is_all = named == (None, None, None) and selection.every == 1 and not selection.at_acts
     return is_all and len(kinds) <= MOST_KINDS
@@ -52,7 +53,7 @@ def is_whole(selection: Selection, kinds: Sequence[Fault]) -> bool:
 
 @dataclass
 class Every:
-    """A campaign with `every` over a base; `judge` is that of the base's run, a guarded one if the campaign is."""
+    """A campaign with `every` over a base. `judge` is that of the base's run, which is guarded if the campaign is."""
 
     program: Program
     base: Scenario
@@ -67,7 +68,7 @@ class Every:
         return {**asked, "guard": True} if self.guarded else asked
 
     def faults(self) -> Iterator[Fault]:
-        """The fault of each row behind that of the base, in order."""
+        """The fault of each row after that of the base, in order."""
         for event in self.judge.base.parts[self.part].bursts():
             for after in range(self.judge.reach(event)):
                 yield from ({"burst": event.burst, "after": after, **kind} for kind in self.kinds)
@@ -86,7 +87,7 @@ class Every:
         last = LAST.fullmatch(next(lines, ""))
         if last is None:
             raise Mistake("the table has no last line where one is due")
-        members, kept, given_up, broken = (int(last[place]) for place in (1, 2, 3, 4))
+        members, kept, given_up, broken = (int(last[group]) for group in (1, 2, 3, 4))
         self.whole = Whole(base.status, members, kept, given_up, broken, int(last[5]) if last[5] else None)
 
     def outcomes(self, faults: Sequence[Fault]) -> Generator[Outcome | None, None, None]:
@@ -102,6 +103,6 @@ class Every:
 
 
 def can_say(program: Program, selection: Selection, kinds: Sequence[Fault], bases: Sequence[Scenario]) -> bool:
-    """Whether a choice over some bases is one that campaigns of the program can say by `every`."""
+    """Whether campaigns of the program can express a selection over some bases by `every`."""
     whole = is_whole(selection, kinds) and all(is_base(base, selection.part) for base in bases)
     return whole and program.has_campaign_key(KEY) and program.has_campaign_key("detail")

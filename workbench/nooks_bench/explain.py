@@ -12,7 +12,7 @@ from .program import Mistake, find_program
 from .refused import Explained, explain_asm, explain_fault, parse_fault
 from .report import parse_report
 from .scenario import read_scenario
-from .source import Node, Place, Reader, read_text
+from .source import Node, Position, Reader, read_text
 from .unstruck import strikes_of_report
 
 ABOUT = """Explains what the program wrote. FILE (- is standard input) is a report, or the line `fault ..` of a
@@ -23,24 +23,24 @@ would have broken."""
 
 
 def not_json(file: str, text: str) -> Explained:
-    """Where a text stops being JSON."""
+    """The position at which a text stops being JSON."""
     try:
         json.loads(text)
     except json.JSONDecodeError as error:
-        return Explained(Place(file, error.lineno, error.colno), f"this is no JSON: {error.msg}", "")
+        return Explained(Position(file, error.lineno, error.colno), f"this is no JSON: {error.msg}", "")
     except RecursionError:
-        return Explained(Place(file, 1, 1), "lists and objects are nested too deeply", "")
-    return Explained(Place(file, 1, 1), "the program reads no JSON here", "at most 127 levels of lists and objects")
+        return Explained(Position(file, 1, 1), "lists and objects are nested too deeply", "")
+    return Explained(Position(file, 1, 1), "the program reads no JSON here", "at most 127 levels of lists and objects")
 
 
 def refused(line: str, file: str) -> Explained:
-    """The line of a refused input, with the input."""
+    """Explains the line of a refused input, with the input."""
     fault = parse_fault(line)
     text = read_text(file)
     if fault.name == "not_json":
         return not_json(file, text)
     if fault.name == "bad_asm" and not text.lstrip().startswith("{"):
-        return explain_asm(fault, Node(text, Place(file, 1, 1), origin=file))
+        return explain_asm(fault, Node(text, Position(file, 1, 1), origin=file))
     return explain_fault(fault, Reader(text, file).whole())
 
 

@@ -6,12 +6,12 @@ from .calls import AT_ENTER, BY_DRIVER, BY_SHADOW, GONE, REFUSED, Call, calls_of
 from .facts import STATUSES as NUMBERS
 from .folding import folded_lines, short_event
 from .guards import stopped_line
-from .held import held_lines
+from .held import resource_lines
 from .report import Part, Report, Thread
 from .unstruck import Strike
 from .words import CLAUSES, cause_words, counted, short
 
-# Of what a part was left with this many lines are shown.
+# The most lines that are shown of what is left of a part.
 MOST_LEFT = 16
 
 STATUSES = {
@@ -21,9 +21,9 @@ STATUSES = {
 }
 
 
-def where(call: Call) -> str:
+def answered_text(call: Call) -> str:
     """At which event and by whom a call was answered."""
-    cuts = f", cut by a failure at event {', '.join(map(str, call.cuts))}" if call.cuts else ""
+    interrupted = f", cut by a failure at event {', '.join(map(str, call.interruptions))}" if call.interruptions else ""
     answered = {
         REFUSED: f"answered {REFUSED}, event {call.answered}",
         AT_ENTER: f"answered at its enter, event {call.answered}",
@@ -31,7 +31,7 @@ def where(call: Call) -> str:
         BY_SHADOW: f"answered by the shadow at event {call.answered}",
         GONE: f"answered {GONE}, event {call.answered}",
     }.get(call.by, "not answered")
-    return f"c{call.number} {answered}{cuts}"
+    return f"c{call.number} {answered}{interrupted}"
 
 
 def thread_lines(thread: Thread, calls: list[Call]) -> list[str]:
@@ -39,9 +39,9 @@ def thread_lines(thread: Thread, calls: list[Call]) -> list[str]:
     asked = [f"p{call.part} {short(call.text)}" for call in calls]
     given = [short(answer) for _, answer in thread.answers]
     wide = [max(map(len, texts), default=0) for texts in (asked, given)]
-    lines = [f"thread {thread.place} {thread.name}: {counted(len(calls), 'operation')}"]
+    lines = [f"thread {thread.index} {thread.name}: {counted(len(calls), 'operation')}"]
     for number, (ask, answer, call) in enumerate(zip(asked, given, calls), 1):
-        lines.append(f"  {number:3}  {ask:{wide[0]}}  {answer:{wide[1]}}  {where(call)}")
+        lines.append(f"  {number:3}  {ask:{wide[0]}}  {answer:{wide[1]}}  {answered_text(call)}")
     return lines
 
 
@@ -53,23 +53,23 @@ def answered_line(calls: list[Call]) -> str:
 
 
 def failure_lines(part: Part) -> list[str]:
-    """Each failure, with what the driver was at and why it failed."""
+    """Each failure, with what the driver was doing and why it failed."""
     asked = {event.call: short(event.text) for event in part.events if event.kind == "invoke"}
     lines: list[str] = []
     for event in part.bursts():
         if event.failed:
-            at = f"c{event.call} {asked[event.call]}" if event.call else "a stage of its start"
+            work = f"c{event.call} {asked[event.call]}" if event.call else "a stage of its start"
             if trap := part.guards.get(event.burst):
-                lines.append(stopped_line(trap, event.number, at))
+                lines.append(stopped_line(trap, event.number, work))
                 continue
-            place = f"event {event.number}, burst {event.burst}, turn {event.turns}"
+            position = f"event {event.number}, burst {event.burst}, turn {event.instructions}"
             cause = event.cause or ""
-            lines.append(f"failed at {place}, in {at}: {cause} ({cause_words(cause)})")
+            lines.append(f"failed at {position}, in {work}: {cause} ({cause_words(cause)})")
     return lines
 
 
 def recovery_lines(part: Part) -> list[str]:
-    """From which event to which the part was away."""
+    """The events of each recovery, from the stop of the driver to its resume, and at which the part was given up."""
     lines: list[str] = []
     stopped = 0
     for event in part.events:
@@ -84,7 +84,7 @@ def recovery_lines(part: Part) -> list[str]:
 
 
 def left_lines(part: Part) -> list[str]:
-    """What the device and the kernel objects were left with, what was lost, and what the driver still holds."""
+    """What is left in the device and the kernel objects, what was lost, and what the driver still holds."""
     lines: list[str] = []
     arrived = [event for event in part.events if event.kind == "arrive"]
     if arrived:
@@ -95,11 +95,11 @@ def left_lines(part: Part) -> list[str]:
     lines.extend(left[:MOST_LEFT])
     if len(left) > MOST_LEFT:
         lines.append(f".. and {len(left) - MOST_LEFT} lines more of what is left")
-    return [*lines, *held_lines(part), f"config {part.config}"]
+    return [*lines, *resource_lines(part), f"config {part.config}"]
 
 
 def contract_lines(part: Part) -> list[str]:
-    """Whether the contract was kept; a break in words with the line of its event."""
+    """Whether the contract was kept; if not, the break in words and the line of its event."""
     if part.broken is None:
         return ["contract kept"]
     number, clause = part.broken
@@ -109,7 +109,7 @@ def contract_lines(part: Part) -> list[str]:
 
 def part_lines(part: Part, strikes: list[Strike]) -> list[str]:
     """A part's summary, with its faults if the scenario is known."""
-    head = f"part {part.place} {part.name}, {part.kind}, limit {part.limit}: {counted(len(part.events), 'event')}"
+    head = f"part {part.index} {part.name}, {part.kind}, limit {part.limit}: {counted(len(part.events), 'event')}"
     lines = [f"{head}, {counted(len(part.bursts()), 'burst')}, {counted(part.failures, 'failure')}"]
     summary = [answered_line(calls_of(part)), *(strike.line for strike in strikes)]
     summary += [*failure_lines(part), *recovery_lines(part), *left_lines(part), *contract_lines(part)]
@@ -124,5 +124,5 @@ def report_lines(report: Report, strikes: dict[int, list[Strike]] | None = None)
     for thread, calls in zip(report.threads, calls_of_threads(report)):
         lines += ["", *thread_lines(thread, calls)]
     for part in report.parts:
-        lines += ["", *part_lines(part, (strikes or {}).get(part.place, []))]
+        lines += ["", *part_lines(part, (strikes or {}).get(part.index, []))]
     return lines

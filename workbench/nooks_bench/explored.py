@@ -1,4 +1,4 @@
-"""What `explore` says of a scenario: how its run can end, and an order of steps for each end."""
+"""What `explore` reports of a scenario: how its run can end, and an order of steps for each end."""
 
 from __future__ import annotations
 
@@ -14,10 +14,10 @@ from .scenario import Scenario
 FORM = "explore"
 
 # The status of an exploration that did not follow every order.
-CUT = STATUSES["cut"]
-ANSWERS = (*REPORTED, CUT)
+INCOMPLETE = STATUSES["cut"]
+ANSWERS = (*REPORTED, INCOMPLETE)
 
-# The version line of a program of which nothing is proved.
+# The end of the version line of a program of which nothing is proved.
 PLAIN = " plain, nothing proved"
 
 ROW = re.compile(r"(\d+) status (\d+) events (\d+) failures (\d+) gone (\d+) lost (\d+) picks \[([\d,]*)\]")
@@ -28,7 +28,7 @@ Picks = tuple[int, ...]
 
 @dataclass(frozen=True)
 class Found:
-    """A way in which the run can end: the numbers of a campaign's row, and the actors of the steps of such a run."""
+    """One way in which the run can end: the numbers of a campaign's row, and the actors of the steps of such a run."""
 
     row: Row
     picks: Picks
@@ -36,12 +36,12 @@ class Found:
 
 @dataclass(frozen=True)
 class Explored:
-    """The answer of `explore`. If it is a front, there are more states than it holds, and not every order was
-    followed."""
+    """The answer of `explore`. `is_prefix` says that there are more states than it can hold, and that not every order
+    was followed."""
 
     found: list[Found]
     states: int
-    is_front: bool
+    is_prefix: bool
 
 
 def parse_row(line: str) -> Found:
@@ -49,7 +49,7 @@ def parse_row(line: str) -> Found:
     words = ROW.fullmatch(line)
     if not words:
         raise Mistake(f"no row of an exploration: {line[:80]!r}")
-    status, events, failures, gone, lost = (int(words[place]) for place in range(2, 7))
+    status, events, failures, gone, lost = (int(words[group]) for group in range(2, 7))
     picks = tuple(int(word) for word in words[7].split(",") if word)
     return Found(Row(status, events, failures, gone, lost), picks)
 

@@ -1,5 +1,5 @@
 """The facts of the simulator: names, numbers, keys, limits and the memory map, from the tables that checks/tables reads
-from the sources (tables.json). No other module has one of them of its own."""
+from the sources (tables.json). No other module has its own copy of one."""
 
 from __future__ import annotations
 
@@ -22,9 +22,9 @@ TABLES = read_tables()
 
 @dataclass(frozen=True)
 class Allowed:
-    """What may stand at a key of an input: a number of a range, true or false, or a list of so many items, of which
-    `each` says what one may be if it is a number or a list again. All of it is None if an object or a name stands
-    there."""
+    """What a key of an input accepts: a number of a range, true or false, or a list. `items` has the least and the
+    greatest length of the list, and `each` says what an item may be if it is a number or a list itself. All of it is
+    None if the key has an object or a name."""
 
     least: int | None = None
     most: int | None = None
@@ -49,7 +49,7 @@ class Allowed:
 
 
 def allowed_of(row: dict[str, Any]) -> Allowed:
-    """What may stand at a key, by its row."""
+    """What a key accepts, by its row."""
     items = (row["items"][0], row["items"][1]) if "items" in row else None
     each = allowed_of(row["each"]) if "each" in row else None
     return Allowed(row.get("least"), row.get("most"), items, each, row.get("truth", False), row.get("optional", False))
@@ -74,7 +74,7 @@ class Register:
 @dataclass(frozen=True)
 class DriverClass:
     """A class of drivers: the number by which one registers, its entries, the keys of a part, and the registers. Some
-    keys may stand in scenarios of version 2 alone."""
+    keys are allowed only in scenarios of version 2."""
 
     name: str
     code: int
@@ -91,9 +91,9 @@ def class_of(row: dict[str, Any]) -> DriverClass:
     return DriverClass(row["name"], row["code"], entries, keys, later, registers)
 
 
-def numbered(table: str, told: str = "name") -> dict[int, str]:
-    """A table whose rows have numbers, each number with one of its row's texts."""
-    return {row["number"]: row[told] for row in TABLES[table]}
+def numbered(table: str, column: str = "name") -> dict[int, str]:
+    """A table whose rows have numbers: for each number, the text in a column of its row."""
+    return {row["number"]: row[column] for row in TABLES[table]}
 
 
 CLASSES: dict[str, DriverClass] = {row["name"]: class_of(row) for row in TABLES["classes"]}
@@ -107,7 +107,7 @@ OPERATIONS: dict[str, Keys] = {row["name"]: keys_of(row["keys"]) for row in TABL
 FAULT_KINDS: dict[str, Keys] = {row["name"]: keys_of(row["keys"]) for row in TABLES["fault_kinds"]}
 SCHEDULES: dict[str, Keys] = {row["name"]: keys_of(row["keys"]) for row in TABLES["schedules"]}
 
-# What may stand at the keys of each kind of object of an input.
+# What the keys of each kind of object of an input accept.
 INPUTS: dict[str, Keys] = {name: keys_of(table) for name, table in TABLES["inputs"].items()}
 
 SERVICES = numbered("services")

@@ -1,4 +1,4 @@
-"""The choice of a sweep's faults: the options that name it, and what is wrong with them before the program is asked."""
+"""The options that select a sweep's faults, and the checks that find mistakes in them before the program runs."""
 
 from __future__ import annotations
 
@@ -11,7 +11,7 @@ from .words import parse_ranges
 
 KINDS = tuple(FAULT_KINDS)
 
-# The kinds that an option about what strikes is for.
+# For each option that gives a key of a fault, the kinds that have this key.
 USERS = {option: tuple(kind for kind, keys in FAULT_KINDS.items() if option in keys)
          for option in ("address", "register", "value")}
 

@@ -13,7 +13,7 @@ DISK = re.compile(r"disk (\d+) (\[.*\])")
 
 
 def family(text: str) -> str:
-    """What neighbours that fold have in common."""
+    """What adjacent texts that fold have in common."""
     if found := PLAYED.fullmatch(text):
         return f"played {found[2]}"
     if found := DISK.fullmatch(text):
@@ -33,7 +33,7 @@ def runs_of_blocks(blocks: list[int]) -> list[str]:
 
 
 def fold_group(texts: list[str]) -> list[str]:
-    """Neighbours of one family."""
+    """The lines of adjacent texts of one family."""
     first = texts[0]
     if len(texts) == 1:
         return [short(first)]
@@ -46,7 +46,7 @@ def fold_group(texts: list[str]) -> list[str]:
 
 
 def folded_lines(texts: list[str]) -> list[str]:
-    """Acts, or the lines of what a part was left with, with equal neighbours folded and lists shortened."""
+    """Acts, or the lines of what is left of a part, with equal adjacent ones folded and lists shortened."""
     lines: list[str] = []
     for _, group in groupby(texts, family):
         lines.extend(fold_group(list(group)))
@@ -58,5 +58,5 @@ def short_event(event: Event) -> str:
     if len(event.acts) < 2:
         return short(event.line)
     acts = " | ".join(event.acts)
-    front, _, behind = event.line.partition(" | " + acts)
-    return short(front) + " | " + " | ".join(folded_lines(list(event.acts))) + short(behind)
+    before, _, after = event.line.partition(" | " + acts)
+    return short(before) + " | " + " | ".join(folded_lines(list(event.acts))) + short(after)

@@ -19,7 +19,7 @@ ABOUT = """Writes the page of each scenario of FOLDER (*.json and *.jsonc, but n
 run that breaks its contract the page of the guarded run too, and index.html, which lists them. The pages need no
 network and no server."""
 
-ENDINGS = (".json", ".jsonc")
+EXTENSIONS = (".json", ".jsonc")
 
 STYLE = f"""
 html {{ font: 15px/1.5 "DejaVu Sans", Helvetica, Arial, sans-serif; color: {BLACK}; background: {WHITE}; }}
@@ -32,7 +32,7 @@ td, th {{ text-align: left; padding: 2px 14px 2px 0; vertical-align: top; border
 
 @dataclass(frozen=True)
 class Entry:
-    """A page of the gallery: its file, the run that it is of, and how that ended."""
+    """A page of the gallery: its file, the name of its run, and how the run ended."""
 
     file: str
     name: str
@@ -40,9 +40,9 @@ class Entry:
 
 
 def scenarios_of(folder: str) -> dict[str, Scenario]:
-    """The scenarios of a folder by their names without ending."""
+    """The scenarios of a folder by their names without extension."""
     try:
-        names = sorted(name for name in os.listdir(folder) if name.endswith(ENDINGS))
+        names = sorted(name for name in os.listdir(folder) if name.endswith(EXTENSIONS))
     except OSError as error:
         raise Mistake(f"{folder}: {error.strerror}") from error
     found: dict[str, Scenario] = {}
@@ -65,11 +65,11 @@ def write(path: str, text: str) -> None:
 
 
 def pages_of(program: Program, name: str, scenario: Scenario, args: argparse.Namespace) -> list[Entry]:
-    """Writes the pages of a scenario."""
+    """Writes the pages of a scenario; returns their entries."""
     made: list[Entry] = []
-    for guard, ending in ((False, ""), (True, "-guard")):
-        data = made_data(program, scenario, guard, args.traces, f"{name}{ending}", args)
-        file = f"{name}{ending}.html"
+    for guard, suffix in ((False, ""), (True, "-guard")):
+        data = made_data(program, scenario, guard, args.traces, f"{name}{suffix}", args)
+        file = f"{name}{suffix}.html"
         write(os.path.join(args.output, file), page_text(data))
         how = f"{name}, behind a guard" if guard else name
         made.append(Entry(file, how, data["status"]))

@@ -1,4 +1,4 @@
-"""gen: work for one's own driver, operations of its class with sizes at the edges, as a scenario as people write it."""
+"""gen: writes a scenario that tries one's own driver, with operations of its class whose sizes are at the limits."""
 
 from __future__ import annotations
 
@@ -21,8 +21,8 @@ ABOUT = """Writes a scenario with operations for the driver of an assembler text
 are of the driver's class and drawn from --seed; their sizes, places and values lie at the edges of what may be asked.
 The scenario names the driver's file, from the folder of --output on, or from this folder on."""
 
-# The most words of a frame and samples of a play; and sizes of these, the least and the most, and some around a page's
-# half and end.
+# The most words of a frame and samples of a play; and the sizes that are drawn: the least, the most, and some around a
+# page's half and end.
 MOST_SIZE = LIMITS["MOST_FRAME_WORDS"]
 SIZES = (1, 2, 4, 16, MOST_SIZE // 2 - 1, MOST_SIZE // 2, MOST_SIZE // 2 + 1, MOST_SIZE - 1, MOST_SIZE)
 WORDS_OF_BLOCK = LIMITS["BLOCK_WORDS"]
@@ -55,7 +55,7 @@ class Work:
         return self.draw.choice([self.edge(0, MOST_WORD), self.draw.randint(0, 255), self.draw.randint(0, MOST_WORD)])
 
     def words(self, count: int) -> list[Any]:
-        """So many words: all the same, or each another, so that a word in a wrong place is seen."""
+        """As many words as `count`: all the same, or all different, so that a word at a wrong index is seen."""
         if self.draw.randrange(3) == 0:
             return [{"repeat": count, "of": self.word()}]
         first = self.draw.choice([self.draw.randint(0, 99), self.draw.randint(0, MOST_WORD - count)])
@@ -66,25 +66,25 @@ class Work:
         return self.draw.choice((0, MOST_SIZE + 1)) if self.is_beyond() else self.draw.choice(SIZES)
 
     def is_beyond(self) -> bool:
-        """Whether an operation asks for more than there is, which the kernel answers by itself."""
+        """Whether an operation asks for more than there is; the kernel answers such a one by itself."""
         return self.beyond and self.draw.randrange(6) == 0
 
-    def place(self, blocks: int) -> int:
+    def first_block(self, blocks: int) -> int:
         """The first block of a read or a write of this length."""
         return self.blocks if self.is_beyond() else self.edge(0, self.blocks - blocks)
 
-    def blocks_of_one(self) -> int:
+    def block_count(self) -> int:
         """How many blocks a read or a write asks for."""
         count = MOST_BLOCKS + 1 if self.is_beyond() else self.draw.choice(COUNTS)
         return min(count, self.blocks) if count <= MOST_BLOCKS else count
 
     def read(self) -> Operation:
-        count = self.blocks_of_one()
-        return {"op": "read", "first": self.place(min(count, self.blocks)), "count": count}
+        count = self.block_count()
+        return {"op": "read", "first": self.first_block(min(count, self.blocks)), "count": count}
 
     def write(self) -> Operation:
-        count = self.blocks_of_one()
-        first = self.place(min(count, self.blocks))
+        count = self.block_count()
+        first = self.first_block(min(count, self.blocks))
         return {"op": "write", "first": first, "data": self.words(count * WORDS_OF_BLOCK)}
 
     def send(self) -> Operation:
@@ -113,7 +113,7 @@ class Work:
         inside = [self.play() if self.draw.randrange(6) else self.register() for _ in range(self.draw.randint(1, 5))]
         return [{"op": "open"}, *inside, {"op": "close"}]
 
-    def some(self) -> list[Operation]:
+    def next_operations(self) -> list[Operation]:
         """The next operations of a thread."""
         if self.draw.randrange(6) == 0:
             return [self.register()]
@@ -127,7 +127,7 @@ class Work:
         """The operations of a thread."""
         made: list[Operation] = []
         while len(made) < count:
-            made += self.some()
+            made += self.next_operations()
         return [{"part": 0, **operation} for operation in made[:count]]
 
 
@@ -136,7 +136,7 @@ NAMES = {"block": "disk", "net": "link", "sound": "audio"}
 
 @dataclass(frozen=True)
 class Asked:
-    """What is asked of a scenario, beside its seed."""
+    """What the options ask of a scenario, in addition to its seed."""
 
     asm_file: str
     ops: int
@@ -149,9 +149,9 @@ class Asked:
 def scenario_of(kind: str, asked: Asked, seed: int) -> dict[str, Any]:
     """A scenario for a driver of a class, as people write it."""
     work = Work(kind, asked.blocks, asked.beyond, random.Random(seed))
-    counts = [asked.ops // asked.threads + (place < asked.ops % asked.threads) for place in range(asked.threads)]
+    counts = [asked.ops // asked.threads + (index < asked.ops % asked.threads) for index in range(asked.threads)]
     worked = [work.thread(count) for count in counts]
-    threads = [{"name": f"t{place}", "ops": each} for place, each in enumerate(worked)]
+    threads = [{"name": f"t{index}", "ops": each} for index, each in enumerate(worked)]
     part: dict[str, Any] = {
         "name": NAMES[kind],
         "class": kind,
@@ -176,7 +176,7 @@ def class_of(driver: str) -> str:
 
 
 def driver_from(driver: str, output: str | None) -> str:
-    """The path of a driver as a scenario names it: from the folder of the scenario's file on."""
+    """The path of a driver as a scenario names it: relative to the folder of the scenario's file."""
     if not output or os.path.isabs(driver):
         return driver
     return os.path.relpath(os.path.realpath(driver), os.path.realpath(os.path.dirname(output) or "."))

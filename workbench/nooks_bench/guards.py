@@ -1,8 +1,7 @@
 """The traps of a guard in words: which deed each one stopped, and which clause that deed would have broken.
 
-The lines of `guard` have the burst, the turn and the clause. The deed itself never happens in the guarded run, and so
-is in no report of it: it is looked up in the trace of that burst without the trap, in the scenario with the traps
-before."""
+The lines of `guard` have the burst, the instruction and the clause. The deed itself never happens in the guarded run,
+so no report of it has the deed: it is in the trace of that burst in the scenario that has only the traps before."""
 
 from __future__ import annotations
 
@@ -27,28 +26,28 @@ def crossing_text(end: str) -> str:
 
 
 def deed_text(trace: Trace, after: int) -> str:
-    """What a driver does in the turn that comes after some others of a burst."""
-    turn = next((turn for turn in trace.turns() if turn.number == after + 1), None)
-    if turn is None:
-        where = f"burst {trace.burst} of part {trace.part}"
-        raise Mistake(f"{where} has no turn {after + 1}: the traps are of another scenario")
-    return short(turn.acts[0]) if turn.acts else crossing_text(trace.end)
+    """What a driver does in the instruction of a burst that comes after `after` others."""
+    executed = next((each for each in trace.executed() if each.number == after + 1), None)
+    if executed is None:
+        burst = f"burst {trace.burst} of part {trace.part}"
+        raise Mistake(f"{burst} has no turn {after + 1}: the traps are of another scenario")
+    return short(executed.acts[0]) if executed.acts else crossing_text(trace.end)
 
 
-def deed_of(program: Program, scenario: Scenario, traps: list[GuardTrap], place: int) -> str:
+def deed_of(program: Program, scenario: Scenario, traps: list[GuardTrap], index: int) -> str:
     """The deed that a trap stopped, by the run with the traps before it."""
-    trap = traps[place]
-    front = with_traps(scenario, traps[:place])
+    trap = traps[index]
+    earlier = with_traps(scenario, traps[:index])
     words = ["trace", str(trap.part), str(trap.burst)]
-    return deed_text(parse_trace(program.answer(words, json.dumps(front)).out), trap.after)
+    return deed_text(parse_trace(program.answer(words, json.dumps(earlier)).out), trap.after)
 
 
 def with_deeds(program: Program, scenario: Scenario, report: Report) -> Report:
     """The report of a guarded run, each trap with its deed."""
     traps = report.guards
-    report.guards = [replace(trap, deed=deed_of(program, scenario, traps, place)) for place, trap in enumerate(traps)]
+    report.guards = [replace(trap, deed=deed_of(program, scenario, traps, index)) for index, trap in enumerate(traps)]
     for part in report.parts:
-        part.guards = {trap.burst: trap for trap in report.guards if trap.part == part.place}
+        part.guards = {trap.burst: trap for trap in report.guards if trap.part == part.index}
     return report
 
 
@@ -69,7 +68,7 @@ def would_have(trap: GuardTrap) -> str:
     return f"{by_deed}it would have {CLAUSES[trap.clause]} (clause {trap.clause})"
 
 
-def stopped_line(trap: GuardTrap, event: int, at: str = "") -> str:
-    """A line that says what a guard stopped at an event, and what the driver was at."""
-    place = f"event {event}, burst {trap.burst}, before turn {trap.after + 1}"
-    return f"stopped by the guard at {place}{', in ' if at else ''}{at}: {would_have(trap)}"
+def stopped_line(trap: GuardTrap, event: int, work: str = "") -> str:
+    """A line that says what a guard stopped at an event, and what the driver was doing."""
+    position = f"event {event}, burst {trap.burst}, before turn {trap.after + 1}"
+    return f"stopped by the guard at {position}{', in ' if work else ''}{work}: {would_have(trap)}"

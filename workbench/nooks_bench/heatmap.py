@@ -1,4 +1,4 @@
-"""map: a sweep as an SVG, bursts down and turns across."""
+"""map: draws a sweep as an SVG, bursts down and instructions across."""
 
 from __future__ import annotations
 
@@ -43,7 +43,7 @@ def read_runs(file: str) -> tuple[Runs, int]:
 
 
 def program_of(args: argparse.Namespace) -> Program | None:
-    """The program that is asked for strips; with --from there need not be one."""
+    """The program that is asked for strips. With --from there may be none."""
     try:
         return find_program(args.program)
     except Mistake:
@@ -53,14 +53,14 @@ def program_of(args: argparse.Namespace) -> Program | None:
 
 
 def made_runs(args: argparse.Namespace, program: Program, base: Scenario | None) -> Runs:
-    """The runs of the sweep that the options name. The instructions come from traces if the program writes these, and
-    else from runs with faults of the workbench's own."""
+    """The runs of the sweep that the options name. The instructions come from traces if the program writes these, else
+    from runs with faults that the workbench adds."""
     args.instructions = not args.no_instructions and not writes_traces(program)
     return [run.as_json() for run in swept(args, base)]
 
 
 def picture_of(args: argparse.Namespace, base: Scenario | None = None) -> str:
-    """The SVG of the sweep that the options name, of the scenario of the file or of another one."""
+    """The SVG of the sweep that the options name, over the scenario of the file or over `base`."""
     program = program_of(args)
     if args.from_ is not None:
         runs, part = read_runs(args.from_)
@@ -78,7 +78,7 @@ def picture_of(args: argparse.Namespace, base: Scenario | None = None) -> str:
     if not args.no_fold:
         groups = [fold_rows(group) for group in groups]
     names = ", ".join(part["name"] for part in runs[0]["base"]["parts"])
-    names += ", without a guard and behind one" if any(line.behind for group in groups for line in group.lines) else ""
+    names += ", without a guard and behind one" if any(line.guarded for group in groups for line in group.lines) else ""
     notes = caption_lines(args, program, f"scenario {hash_of(runs[0]['base'])}")
     strip = NO_STRIP if args.no_instructions else args.strip
     look = Look(room_of(args, DEFAULT_WIDTH), args.wrap, strip)

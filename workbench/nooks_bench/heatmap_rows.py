@@ -1,4 +1,4 @@
-"""The rows of a map: what became of the faults of a burst, by the turns before them."""
+"""The rows of a map: what became of the faults of a burst, by the number of instructions before them."""
 
 from __future__ import annotations
 
@@ -13,7 +13,7 @@ from .unstruck import strikes_text
 from .words import ranges_text
 
 CLAUSE = re.compile(r"clause (\d+)")
-# A label of folded rows has at most this many letters.
+# The most letters of a label of folded rows.
 LONGEST_LABEL = 46
 
 
@@ -25,7 +25,7 @@ def clause_of(outcome: str, cause: str) -> int:
 
 @dataclass
 class Cell:
-    """What became of the faults of one row and turn: the worst of them, how much was lost, and a text for each.
+    """What became of the faults of one row and instruction: the worst of them, how much was lost, and a text for each.
     `kinds` has the outcome and the clause of every fault."""
 
     outcome: str
@@ -34,7 +34,7 @@ class Cell:
     texts: list[str] = field(default_factory=list)
     kinds: list[tuple[str, int]] = field(default_factory=list)
 
-    def take(self, outcome: str, cause: str, lost: int, text: str) -> None:
+    def add(self, outcome: str, cause: str, lost: int, text: str) -> None:
         self.texts.append(text)
         self.kinds.append((outcome, clause_of(outcome, cause)))
         worse = OUTCOMES.index(outcome) > OUTCOMES.index(self.outcome)
@@ -62,23 +62,24 @@ def look_of(cells: Cells) -> CellsLook:
 
 @dataclass
 class Line:
-    """A row of the map: what strikes, and a cell for each turn; and those behind a guard, if there was one."""
+    """A row of the map: what strikes, and a cell for each instruction. `guarded` has the cells of the guarded runs, if
+    there are any."""
 
     strikes: str
     faults: list[Fault]
     cells: Cells = field(default_factory=dict)
-    behind: Cells = field(default_factory=dict)
+    guarded: Cells = field(default_factory=dict)
 
     @property
     def look(self) -> tuple[CellsLook, CellsLook]:
-        return look_of(self.cells), look_of(self.behind)
+        return look_of(self.cells), look_of(self.guarded)
 
-    def side(self, place: int) -> Cells:
-        """The cells without a guard, 0, or behind one, 1."""
-        return self.behind if place else self.cells
+    def cells_of_half(self, half: int) -> Cells:
+        """The cells without a guard, 0, or with one, 1."""
+        return self.guarded if half else self.cells
 
     def span(self) -> int:
-        """How many turns a cell covers: a sweep over each Kth turn leaves no gaps."""
+        """How many instructions a cell covers, so that a sweep over each Kth instruction has no gaps."""
         turns = sorted(self.cells)
         gaps = {after - before for before, after in zip(turns, turns[1:])}
         return gaps.pop() if len(gaps) == 1 else 1
@@ -90,7 +91,7 @@ class Group:
 
     run: int
     burst: int
-    place: str
+    label: str
     lines: list[Line] = field(default_factory=list)
 
     @property
@@ -106,7 +107,7 @@ def lost_in(entry: dict[str, Any]) -> int:
 
 
 def cell_text(entry: dict[str, Any], became: dict[str, Any]) -> str:
-    """What the pointer over a cell shows of one fault, and of what became of it."""
+    """The text that a cell's tooltip has for one fault and for what became of it."""
     cause = f": {became['cause']}" if became["cause"] else ""
     losses = became.get("losses") or {}
     lost = ", ".join(f"{name} {number}" for name, number in losses.items() if number)
@@ -114,10 +115,10 @@ def cell_text(entry: dict[str, Any], became: dict[str, Any]) -> str:
     return f"{json.dumps(entry['fault'])}\n{became['outcome']}{cause}" + (f"\nlost: {lost}" if lost else "") + at
 
 
-def take_entry(cells: Cells, entry: dict[str, Any], became: dict[str, Any]) -> None:
-    """Takes what became of a fault into the cell of its turn."""
+def add_entry(cells: Cells, entry: dict[str, Any], became: dict[str, Any]) -> None:
+    """Adds what became of a fault to the cell of its instruction."""
     cell = cells.setdefault(entry["fault"]["after"], Cell(became["outcome"]))
-    cell.take(became["outcome"], became["cause"], lost_in(became), cell_text(entry, became))
+    cell.add(became["outcome"], became["cause"], lost_in(became), cell_text(entry, became))
 
 
 def groups_of(runs: list[dict[str, Any]], together: bool) -> list[Group]:
@@ -125,18 +126,18 @@ def groups_of(runs: list[dict[str, Any]], together: bool) -> list[Group]:
     found: dict[tuple[int, int], Group] = {}
     rows: dict[tuple[int, int, str], Line] = {}
     for number, run in enumerate(runs):
-        front = f"start {run['base']['schedule']['start']}: " if len(runs) > 1 else ""
+        prefix = f"start {run['base']['schedule']['start']}: " if len(runs) > 1 else ""
         for entry in run["faults"]:
             fault = entry["fault"]
             strikes = "" if together else strikes_text(fault)
-            group = found.setdefault((number, fault["burst"]), Group(number, fault["burst"], front + entry["place"]))
+            group = found.setdefault((number, fault["burst"]), Group(number, fault["burst"], prefix + entry["place"]))
             key = (number, fault["burst"], strikes)
             if key not in rows:
                 rows[key] = Line(strikes, [fault])
                 group.lines.append(rows[key])
-            take_entry(rows[key].cells, entry, entry)
+            add_entry(rows[key].cells, entry, entry)
             if "guarded" in entry:
-                take_entry(rows[key].behind, entry, entry["guarded"])
+                add_entry(rows[key].guarded, entry, entry["guarded"])
     return [found[key] for key in sorted(found)]
 
 
@@ -145,7 +146,7 @@ def short_label(text: str) -> str:
 
 
 def target_label(kind: str, value: int, faults: list[Fault]) -> str:
-    """Several registers or addresses of one kind and value."""
+    """The label of several registers or addresses with one kind and value."""
     if kind == "reg":
         ranges = ranges_text(fault["register"] for fault in faults)
         text = re.sub(r"(\d+)", r"r\1", ranges)
@@ -172,28 +173,28 @@ def folded_label(lines: list[Line]) -> str:
 
 
 def merged(lines: list[Line]) -> Line:
-    """Rows that look the same as one."""
+    """Merges rows that look the same into one."""
     if len(lines) == 1:
         return lines[0]
     faults = [fault for line in lines for fault in line.faults]
-    sides = (merged_cells([line.side(place) for line in lines]) for place in (0, 1))
-    return Line(folded_label(lines), faults, *sides)
+    halves = (merged_cells([line.cells_of_half(half) for line in lines]) for half in (0, 1))
+    return Line(folded_label(lines), faults, *halves)
 
 
-def merged_cells(sides: list[Cells]) -> Cells:
-    """The cells of rows that look the same as one."""
+def merged_cells(rows: list[Cells]) -> Cells:
+    """Merges the cells of rows that look the same into those of one."""
     found: Cells = {}
-    others = len(sides) - 1
+    others = len(rows) - 1
     more = f"and {others} faults more that look the same" if others > 1 else "and 1 fault more that looks the same"
-    for turn, cell in sides[0].items():
-        kinds = [kind for cells in sides for kind in cells[turn].kinds]
+    for turn, cell in rows[0].items():
+        kinds = [kind for cells in rows for kind in cells[turn].kinds]
         found[turn] = Cell(cell.outcome, cell.cause, cell.lost, [*cell.texts, more], kinds)
     return found
 
 
 def fold_rows(group: Group) -> Group:
-    """The group with equal rows as one, at the place of the first of them."""
+    """The group with equal rows merged into the first of them."""
     alike: dict[tuple[CellsLook, CellsLook], list[Line]] = {}
     for line in group.lines:
         alike.setdefault(line.look, []).append(line)
-    return Group(group.run, group.burst, group.place, [merged(lines) for lines in alike.values()])
+    return Group(group.run, group.burst, group.label, [merged(lines) for lines in alike.values()])

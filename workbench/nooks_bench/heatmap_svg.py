@@ -1,5 +1,5 @@
-"""A map as an SVG. Each burst has its own turns, a strip of its instructions over them, and its rows below. With a
-guard there are two halves: on the left the faults without it, on the right the same faults behind it."""
+"""A map as an SVG. Each burst has a ruler that numbers its instructions, a strip that shows them, and its rows below.
+With a guard there are two halves: on the left the faults without it, on the right the same faults with it."""
 
 from __future__ import annotations
 
@@ -20,15 +20,15 @@ STRIP_LETTERS = 7.5
 RULER = 12
 ACT_ROW = 12
 WIDEST_CELL, READABLE_CELL, NARROWEST_CELL = 12, 8, 3
-# A burst goes on in at most this many rows before its cells get narrower.
+# The most rows in which a burst continues before its cells get narrower.
 MOST_ROWS = 4
 
-# The room between the two halves, and what stands over them.
+# The space between the two halves, and the titles over them.
 GAP = 24
 HALVES = ("without a guard", "behind a guard")
 
-# Behind the place of a burst whose turns go on in a further row.
-AGAIN = ", on"
+# Follows the label of a burst that continues in a further row.
+CONTINUED = ", on"
 
 # How much of an instruction a strip shows.
 MNEMONICS, INSTRUCTIONS, COLOURS, NO_STRIP = "mnemonics", "instructions", "colours", "none"
@@ -41,7 +41,7 @@ SHADES = (("#fbe0a8", BLACK), ("#f3b942", BLACK), ("#cf8600", BLACK), ("#955b00"
 # Hatches by which clauses differ if a number does not fit.
 HATCHES = (BLACK, "#ffffff", "#f0e442", "#56b4e9", "#e69f00", "#cc79a7")
 
-# What an instruction is about, by the background of its place in the strip.
+# The background of an instruction in the strip, by what it is about.
 KINDS = {**dict.fromkeys(("IN", "OUT"), "#cfe6f5"), **dict.fromkeys(("KCALL", "RET", "FAULT"), "#f6d9c6"),
          **dict.fromkeys(("JMP", "BEQ", "BNE", "BLT", "JAL", "JR"), "#e3e3e3"),
          **dict.fromkeys(("LD", "ST"), "#dff0e8")}
@@ -49,7 +49,7 @@ KINDS = {**dict.fromkeys(("IN", "OUT"), "#cfe6f5"), **dict.fromkeys(("KCALL", "R
 
 @dataclass(frozen=True)
 class Look:
-    """How a map is drawn: its width in units, the turns of a row if they are named, and the kind of strip."""
+    """How a map is drawn: its width in units, the instructions of a row if --wrap gives them, and the kind of strip."""
 
     width: float
     wrap: int | None
@@ -75,29 +75,29 @@ class Map:
         self.y = 12.0
         self.labelled = len({line.strikes for group in groups for line in group.lines}) > 1
         self.left = 20 + max(self.label_width(group) for group in groups)
-        self.halves = 2 if any(line.behind for group in groups for line in group.lines) else 1
+        self.halves = 2 if any(line.guarded for group in groups for line in group.lines) else 1
         self.fit, self.cell = self.sizes((look.width - self.left - 12 - GAP * (self.halves - 1)) / self.halves)
         self.shift = 0.0
         self.widest = max(self.per_row(group) for group in groups)
         cells = [cell for half in range(self.halves) for cell in self.cells(half)]
         amounts = [cell.lost for cell in cells if cell.outcome == LOSSES]
         self.amounts = sorted(set(amounts))
-        self.shades = [self.shade_fill(place) for place in range(len(SHADES))]
+        self.shades = [self.shade_fill(index) for index in range(len(SHADES))]
         self.counts = [Counter(kind for cell in self.cells(half) for kind in cell.kinds) for half in range(self.halves)]
         self.clauses = sorted({clause for counts in self.counts for name, clause in counts if name == BROKEN})
-        self.hatched = {clause: self.hatch(place) for place, clause in enumerate(self.clauses)}
+        self.hatched = {clause: self.hatch(index) for index, clause in enumerate(self.clauses)}
         self.given_up = self.canvas.stripes("given_up", BLUE, PURPLE)
 
     def cells(self, half: int) -> list[Cell]:
-        return [cell for group in self.groups for line in group.lines for cell in line.side(half).values()]
+        return [cell for group in self.groups for line in group.lines for cell in line.cells_of_half(half).values()]
 
     def label_width(self, group: Group) -> float:
         names = [text_width(line.strikes, 9) for line in group.lines] if self.labelled else []
-        again = AGAIN if self.look.wrap or group.turns > MOST_ROWS * WIDEST_CELL else ""
-        return max([text_width(group.place + again, 10), *names])
+        suffix = CONTINUED if self.look.wrap or group.turns > MOST_ROWS * WIDEST_CELL else ""
+        return max([text_width(group.label + suffix, 10), *names])
 
     def sizes(self, room: float) -> tuple[int, float]:
-        """How many turns fit side by side, and how wide a cell is."""
+        """How many instructions fit in a row, and how wide a cell is."""
         turns = max(group.turns for group in self.groups)
         if self.look.wrap:
             fit = min(self.look.wrap, turns)
@@ -108,7 +108,7 @@ class Map:
         return max(int(room / cell), 1), float(cell)
 
     def per_row(self, group: Group) -> int:
-        """How many turns of a burst stand side by side: its rows are of one length, but for --wrap."""
+        """How many instructions of a burst are in a row: all rows have the same length, except with --wrap."""
         if self.look.wrap:
             return self.fit
         return math.ceil(group.turns / math.ceil(group.turns / self.fit))
@@ -120,18 +120,18 @@ class Map:
 
     # Fills.
 
-    def shade_fill(self, place: int) -> str:
+    def shade_fill(self, index: int) -> str:
         """A shade of losses, striped if no number says how much."""
-        return SHADES[place][0] if self.readable else self.canvas.stripes(f"losses{place}", SHADES[place][0], WHITE)
+        return SHADES[index][0] if self.readable else self.canvas.stripes(f"losses{index}", SHADES[index][0], WHITE)
 
-    def hatch(self, place: int) -> str:
-        """The fill of a clause: black, with a hatch of its own if no number fits."""
-        if self.readable or place == 0:
+    def hatch(self, index: int) -> str:
+        """The fill of a clause: black, with its own hatch if no number fits."""
+        if self.readable or index == 0:
             return BLACK
-        return self.canvas.stripes(f"clause{place}", BLACK, HATCHES[place % len(HATCHES)], 4 + 2 * (place % 3))
+        return self.canvas.stripes(f"clause{index}", BLACK, HATCHES[index % len(HATCHES)], 4 + 2 * (index % 3))
 
     def shade(self, lost: int) -> int:
-        """The place of an amount among the shades."""
+        """The index of an amount's shade."""
         most = self.amounts[-1] if self.amounts else 0
         return 1 if most <= 0 or len(self.amounts) == 1 else round((len(SHADES) - 1) * max(lost, 0) / most)
 
@@ -201,16 +201,16 @@ class Map:
         return Entry(((self.hatched[clause], number),), f"{BROKEN}{words} {self.count(BROKEN, clause)}")
 
     def flow(self, entries: list[Entry]) -> None:
-        """Entries of the legend beside each other, on as many lines as they need."""
+        """Entries of the legend next to each other, on as many lines as they need."""
         x = 12.0
         for entry in entries:
-            front = 22.0 * len(entry.boxes)
-            wide = front + 20 + text_width(entry.text, 11)
+            indent = 22.0 * len(entry.boxes)
+            wide = indent + 20 + text_width(entry.text, 11)
             if x + wide > self.look.width and x > 12:
                 x, self.y = 12.0, self.y + 18
-            for place, (fill, number) in enumerate(entry.boxes):
-                self.swatch(x + 22 * place, fill, number)
-            high = self.canvas.lines(x + front + 1, self.y + 10, entry.text, self.look.width - x - front - 12)
+            for index, (fill, number) in enumerate(entry.boxes):
+                self.swatch(x + 22 * index, fill, number)
+            high = self.canvas.lines(x + indent + 1, self.y + 10, entry.text, self.look.width - x - indent - 12)
             self.y += high - 14
             x += wide
         self.y += 20
@@ -225,7 +225,7 @@ class Map:
     # Groups.
 
     def group(self, group: Group) -> None:
-        """The rows of a burst, in pieces that stand one below the other."""
+        """The rows of a burst, in pieces one below the other."""
         strip = self.strips.get((group.run, group.burst), {})
         step = self.per_row(group)
         for first in range(0, group.turns, step):
@@ -235,7 +235,7 @@ class Map:
         self.y += 6
 
     def piece(self, group: Group, strip: Strip, first: int, last: int) -> None:
-        """Some turns of a burst, in one half or in two of the same height."""
+        """Some instructions of a burst, in one half or in two of the same height."""
         top = self.y
         for half in range(self.halves):
             self.y, self.shift = top, half * (self.widest * self.cell + GAP)
@@ -246,7 +246,7 @@ class Map:
         self.shift = 0.0
 
     def half(self, group: Group, half: int, strip: Strip, first: int, last: int) -> None:
-        """Some turns of a burst, without a guard or behind one: their numbers, the strip, and the rows."""
+        """Some instructions of a burst, without a guard or with one: their numbers, the strip, and the rows."""
         steps = {turn: strip[turn] for turn in range(first, last + 1) if turn in strip}
         self.ruler(first, last)
         tops = {turn for turn, step in steps.items() if step.acts}
@@ -256,7 +256,7 @@ class Map:
                 self.act(self.x(turn, first) + self.cell / 2, self.y, steps[turn].letter, step_title(turn, steps[turn]))
             self.y += ACT_ROW
         self.strip(steps, first)
-        label = group.place + (AGAIN if first else "") if half == 0 else ""
+        label = group.label + (CONTINUED if first else "") if half == 0 else ""
         if self.labelled and label:
             self.canvas.words(10, self.y - 3, label, 10)
         for line in group.lines:
@@ -264,7 +264,7 @@ class Map:
                 self.canvas.words(10, self.y + ROW - 4, label, 10)
             if self.labelled and label:
                 self.canvas.words(self.left - 6, self.y + ROW - 4, line.strikes, 9, GREY, text_anchor="end")
-            self.line(line.side(half), line.span(), first, last)
+            self.line(line.cells_of_half(half), line.span(), first, last)
         for turn in tops:
             x = self.x(turn + 1, first)
             self.canvas.line(x, top + ACT_ROW, x, self.y, WHITE, stroke_width=2.2)
@@ -274,7 +274,7 @@ class Map:
         return self.left + self.shift + (turn - first) * self.cell
 
     def ruler(self, first: int, last: int) -> None:
-        """The turns that come before the fault."""
+        """The numbers of instructions before the fault."""
         every = next((each for each in (1, 2, 5, 10, 20, 50, 100, 200, 500) if each * self.cell >= 26), 1000)
         for turn in range(first, last + 1):
             if turn % every == 0:
@@ -301,7 +301,7 @@ class Map:
         return step.mnemonic if self.look.strip == MNEMONICS else step.words
 
     def strip(self, steps: Strip, first: int) -> None:
-        """The instructions that come after the fault."""
+        """The instructions that come next after the fault."""
         if not steps:
             return
         high = self.strip_height()
@@ -319,7 +319,7 @@ class Map:
         self.y += high
 
     def line(self, cells: Cells, wide: int, first: int, last: int) -> None:
-        """The cells of one row, each so many turns wide."""
+        """The cells of one row, each `wide` instructions wide."""
         shown = [(turn, cell) for turn, cell in sorted(cells.items()) if turn + wide > first and turn <= last]
         self.canvas.group(stroke=GREY, stroke_width=0.3)
         for turn, cell in shown:
@@ -332,7 +332,7 @@ class Map:
         self.y += ROW
 
     def numbers(self, shown: list[tuple[int, int, Cell]], first: int) -> None:
-        """The numbers in some cells, each from a turn to before another."""
+        """The numbers in some cells, each given with its first instruction and the one after its last."""
         for ink in (BLACK, WHITE):
             self.canvas.group(font_size=8, fill=ink, text_anchor="middle", pointer_events="none")
             for begin, end, cell in shown:
@@ -344,7 +344,7 @@ class Map:
 
 
 def step_title(turn: int, step: Step) -> str:
-    """What the pointer over a step shows."""
+    """The tooltip of a step."""
     acts = f"\n{step.acts[0]}" if step.acts else ""
     source = f"\n{step.source}" if step.source else ""
     return f"after {turn}: {step.instruction}{source}{acts}"

@@ -20,14 +20,14 @@ COPY_WORDS = MEMORY_MAP["OBJECT_WORDS"]
 SERVED = re.compile(r"service (\d+) (\d+) \d+ = (\d+)(?: \[.*)?")
 ALLOC, FREE, BORROWS, GIVES_BACK = (SERVICE_NUMBERS[name] for name in ("alloc", "free", "borrow", "give_back"))
 
-# Of a leak this many pieces are named.
+# The most pieces of a leak that are named.
 MOST_NAMED = 4
 
 
 @dataclass(frozen=True)
-class Held:
-    """A run of the heap or a copy of an object. `event` is where the driver took it, `call` the call that it served
-    then, 0 for its init."""
+class Resource:
+    """A run of the heap or a copy of an object. `event` is the one at which the driver took it, `call` the call that it
+    served then, 0 for its init."""
 
     kind: str
     start: int
@@ -42,56 +42,57 @@ class Held:
         return f"borrow {self.item} {self.start}" if self.kind == BORROW else f"heap {self.start} {self.words}"
 
 
-class Holding:
-    """Follows what is held."""
+class Resources:
+    """Follows what a driver holds. `by_start` has the resources by the address at which they start."""
 
     def __init__(self) -> None:
-        self.held: dict[int, Held] = {}
+        self.by_start: dict[int, Resource] = {}
 
     def see(self, event: Event) -> None:
         if event.kind == "stage" and event.text == "collect":
-            self.held = {}
+            self.by_start = {}
         if event.kind == "burst" and (found := SERVED.fullmatch(event.text)):
             service, first, result = (int(number) for number in found.groups())
             self.served(event, service, first, result)
 
     def served(self, event: Event, service: int, first: int, result: int) -> None:
         if service == ALLOC and result:
-            self.held[result] = Held(HEAP, result, first, event.number, event.call)
+            self.by_start[result] = Resource(HEAP, result, first, event.number, event.call)
         elif service == BORROWS and result:
-            self.held[result] = Held(BORROW, result, COPY_WORDS, event.number, event.call, first)
+            self.by_start[result] = Resource(BORROW, result, COPY_WORDS, event.number, event.call, first)
         elif service == FREE:
-            self.held.pop(first, None)
+            self.by_start.pop(first, None)
         elif service == GIVES_BACK:
-            self.held = {start: each for start, each in self.held.items() if (each.kind, each.item) != (BORROW, first)}
+            copy = (BORROW, first)
+            self.by_start = {start: each for start, each in self.by_start.items() if (each.kind, each.item) != copy}
 
-    def list(self) -> list[Held]:
+    def list(self) -> list[Resource]:
         """The runs by their starts, then the copies by their objects, as `stage collect` has them."""
-        return sorted(self.held.values(), key=lambda each: (each.kind != HEAP, each.item, each.start))
+        return sorted(self.by_start.values(), key=lambda each: (each.kind != HEAP, each.item, each.start))
 
 
-def held_before(part: Part, last: int) -> list[Held]:
-    """What the driver holds after an event; after the last one of the part for its end."""
-    holding = Holding()
+def resources_before(part: Part, last: int) -> list[Resource]:
+    """What the driver holds after an event, given by its number."""
+    resources = Resources()
     for event in part.events[:last]:
-        holding.see(event)
-    return holding.list()
+        resources.see(event)
+    return resources.list()
 
 
-def held_at_end(part: Part) -> list[Held]:
-    return held_before(part, len(part.events))
+def resources_at_end(part: Part) -> list[Resource]:
+    return resources_before(part, len(part.events))
 
 
-def held_lines(part: Part) -> list[str]:
+def resource_lines(part: Part) -> list[str]:
     """What the driver still holds at the end, by the operation that it served when it took it."""
     asked = {event.call: event.text.split(" ")[0] for event in part.events if event.kind == "invoke"}
-    groups: dict[str, list[Held]] = {}
-    for each in held_at_end(part):
+    groups: dict[str, list[Resource]] = {}
+    for each in resources_at_end(part):
         groups.setdefault(asked.get(each.call, ""), []).append(each)
     return [group_line(operation, group) for operation, group in groups.items()]
 
 
-def group_line(operation: str, group: list[Held]) -> str:
+def group_line(operation: str, group: list[Resource]) -> str:
     """One operation's line."""
     calls = sorted({each.call for each in group})
     named = [f"{each.text} (event {each.event})" for each in group[:MOST_NAMED]]

@@ -1,4 +1,4 @@
-"""inject: what becomes of a driver in whose code programmers made mistakes."""
+"""inject: what becomes of a driver whose code has programmers' mistakes."""
 
 from __future__ import annotations
 
@@ -73,7 +73,7 @@ class Ran:
 
 
 def questions_of(ran: Ran, guard: bool, limit: int) -> dict[str, dict[str, int]]:
-    """How often the system saw one thing, and the contract another, over all kinds but the mixed one."""
+    """How often the system saw one thing and the contract another, over all kinds except the mixed one."""
     cells = {name: dict.fromkeys(CONTRACT, 0) for name in SYSTEM}
     for population, results in zip(ran.populations, ran.results[guard]):
         for each in results if population.kind != MIXED or len(ran.populations) == 1 else []:
@@ -101,7 +101,7 @@ def trial_of(line: str) -> tuple[Trial, bool, int]:
 
 
 def again(program: Program, scenario: Scenario, args: argparse.Namespace) -> int:
-    """Runs the trials of some lines once more, or writes the scenarios of their runs."""
+    """Runs the trials of some lines again, or writes the scenarios of their runs."""
     for line in filter(None, read_text(args.again).split("\n")):
         trial, guard, limit = trial_of(line)
         setting = setting_of(program, with_limit(scenario, args.part, limit), args.part, guard)
@@ -144,7 +144,7 @@ def split(found: Sequence[dict[int, Found]], several: Sequence[Population]) -> l
 
 def run_all(program: Program, setting: Setting, trials: list[Trial], limits: tuple[int, ...],
             args: argparse.Namespace) -> list[dict[int, Found]]:
-    """The results of all trials, with a line that says how far they are."""
+    """The results of all trials. A line on standard error shows the progress."""
     if trials and trials[0].strike is not None:
         check_live(program, setting.at_limit(max(limits)))
     progress = Progress(len(trials), args.quiet, noun="guarded trials" if setting.guard else "trials")
@@ -159,7 +159,7 @@ def run_all(program: Program, setting: Setting, trials: list[Trial], limits: tup
 
 
 def experiment(program: Program, scenario: Scenario, asked: Asked, args: argparse.Namespace) -> Ran:
-    """Runs all that is asked for."""
+    """Runs the experiment that the options ask for."""
     limits = tuple(dict.fromkeys(args.limit or [scenario["parts"][args.part].get("limit", 0)]))
     setting = setting_of(program, with_limit(scenario, args.part, max(limits)), args.part, False)
     report = check_base(program, setting.base, args.part)
@@ -174,7 +174,7 @@ def experiment(program: Program, scenario: Scenario, asked: Asked, args: argpars
 
 
 def title_of(asked: Asked, guard: bool, limit: int) -> str:
-    """What a table is of."""
+    """The title of a table."""
     faults = "1 fault" if asked.every or asked.faults == 1 else f"up to {asked.faults} faults"
     when = "latent" if asked.latent else "live, at any turn" if asked.any_turn else "live"
     drawn = "every mutant" if asked.every else f"seed {asked.seed}"

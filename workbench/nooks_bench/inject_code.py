@@ -1,5 +1,5 @@
 """A driver's image as instructions: what each operand is for, where the counter goes next, and which writes of a
-register reach which reads. This is what mutants are made of; the words themselves the program reads and writes."""
+register reach which reads. Mutants are made from this; the program itself encodes and decodes the words."""
 
 from __future__ import annotations
 
@@ -46,7 +46,7 @@ RESULT = 1
 STACK_END = 14
 PASSED = {"read": (1, 2, 3), "write": (1, 2, 3), "send": (2, 3), "play": (2, 3), "get": (1, 3), "set": (1, 2)}
 
-# Where a register's word is from that the entry was passed; any other origin is an instruction's address.
+# The origin of a register's word that was passed to the entry; any other origin is an instruction's address.
 FROM_CALLER = -1
 
 # An instruction that changes nothing.
@@ -70,22 +70,22 @@ class Instruction:
         """As `dis` writes it."""
         return text_of(self.name, self.operands)
 
-    def with_operand(self, place: int, value: int) -> str:
+    def with_operand(self, index: int, value: int) -> str:
         """The instruction with another operand, as text."""
-        return text_of(self.name, (*self.operands[:place], value, *self.operands[place + 1 :]))
+        return text_of(self.name, (*self.operands[:index], value, *self.operands[index + 1 :]))
 
     def of_role(self, role: str) -> list[int]:
-        """The places of the operands that are for something."""
-        return [place for place, each in enumerate(ROLES[self.name]) if each == role]
+        """The indices of the operands with a role."""
+        return [index for index, each in enumerate(ROLES[self.name]) if each == role]
 
     def operand(self, role: str) -> int | None:
-        """The first operand that is for something."""
-        places = self.of_role(role)
-        return self.operands[places[0]] if places else None
+        """The first operand with a role."""
+        indices = self.of_role(role)
+        return self.operands[indices[0]] if indices else None
 
     def reads(self) -> set[int]:
         """The registers that it reads, those of a kernel call's arguments too."""
-        found = {self.operands[place] for role in (SOURCE, POINTER) for place in self.of_role(role)}
+        found = {self.operands[index] for role in (SOURCE, POINTER) for index in self.of_role(role)}
         if self.name in READS_DESTINATION:
             found.add(self.operands[0])
         return found | set(self.arguments())
@@ -99,7 +99,7 @@ class Instruction:
         return RESULT if self.name == "KCALL" else self.operand(DESTINATION)
 
     def next(self) -> list[int]:
-        """The addresses to which the counter may go. Whether a subroutine comes back is not known: it may."""
+        """The addresses to which the counter may go. It is not known whether a subroutine returns: it may."""
         target = self.operand(TARGET)
         if self.name == "JMP" and target is not None:
             return [target]
@@ -115,7 +115,7 @@ def text_of(name: str, operands: tuple[int, ...]) -> str:
 
 
 def parse_instruction(address: int, word: int, text: str) -> Instruction | None:
-    """The instruction of a line of `dis`; None if the word is none."""
+    """The instruction of a line of `dis`; None if the word is not an instruction."""
     name, *operands = text.split()
     if name not in ROLES:
         return None
@@ -152,7 +152,7 @@ def code_of(program: Program, driver: dict[str, Any]) -> Code:
 
 
 def encoded(program: Program, kind: str, lines: list[str]) -> list[int]:
-    """The words of some instructions, by the program's own assembler, which takes so many at a time."""
+    """The words of some instructions, from the program's assembler, which takes a limited number at a time."""
     entries = [f".entry {name} 0" for name in CLASSES[kind].entries]
     found: list[int] = []
     for start in range(0, len(lines), 2000):
@@ -181,7 +181,7 @@ class Flow:
 
 
 def at_entry(name: str) -> Origins:
-    """The origins at an entry. What is not passed is 0, and has none."""
+    """The origins at an entry. A register that is not passed is 0, and has none."""
     passed = (*PASSED.get(name, ()), STACK_END)
     return [frozenset({FROM_CALLER}) if register in passed else frozenset() for register in range(REGISTERS)]
 

@@ -29,7 +29,7 @@ FAILURES = ENDINGS[2:]
 STOPPED_KEPT = {RECOVERED: IN_TIME, LOSSES: IN_TIME_LOSSES, GIVEN_UP: GIVEN_UP_KEPT}
 OF_CONTRACT = {BROKEN: SILENT, BROKEN_FIRST: LATE, BROKEN_LATER: LATER}
 
-# The last bursts of the classes by which the time to a stop is counted; the class after them has all later ones.
+# The ends, in bursts, of the classes by which the time to a stop is counted; one more class has all longer times.
 WAITS = (0, 1, 5, 20)
 
 
@@ -45,7 +45,7 @@ def ending_of(found: Found) -> str:
 
 
 def wait_name(wait: int) -> str:
-    """The class of a number of bursts."""
+    """The name of the class of a number of bursts."""
     start = 0
     for end in WAITS:
         if wait <= end:
@@ -60,7 +60,7 @@ WAIT_NAMES = tuple(wait_name(each) for each in (0, 1, 2, 6, 21))
 @dataclass
 class Counts:
     """The trials of one kind, or of several, under one limit. `mutants` counts those of the kind, `used` those that
-    stood in a trial. `is_whole` says that no more trials are possible, so that nothing was drawn."""
+    were in a trial. `is_whole` says that no more trials are possible, so that nothing was drawn."""
 
     kind: str
     limit: int
@@ -80,7 +80,7 @@ class Counts:
     silent_seen: int = 0
 
     def take(self, found: Found) -> None:
-        """Counts a trial more."""
+        """Counts one more trial."""
         ending = ending_of(found)
         self.trials += 1
         self.endings[ending] += 1
@@ -105,7 +105,7 @@ class Counts:
 
     @property
     def in_time(self) -> int:
-        """The trials that were stopped before the contract was broken, and went on."""
+        """The trials that were stopped before the contract was broken, and recovered."""
         return self.count(IN_TIME, IN_TIME_LOSSES)
 
     @property
@@ -140,7 +140,7 @@ class Counts:
 
 
 def share_of(count: int, whole: int, is_whole: bool) -> list[int] | None:
-    """A share in whole per cent, and of drawn trials the ends of its interval; None of no trials."""
+    """A share in whole per cent, with the ends of its interval if trials were drawn; None if there are no trials."""
     if not whole:
         return None
     if is_whole:
@@ -156,7 +156,7 @@ def share_text(share: list[int] | None) -> str:
 
 
 def used_of(trials: Iterable[Trial]) -> int:
-    """How many different mutants stand in some trials."""
+    """How many different mutants some trials have."""
     return len({(mutant.kind, mutant.address, mutant.word) for trial in trials for mutant in trial.mutants})
 
 
@@ -170,7 +170,7 @@ def counts_of(population: Population, results: Sequence[dict[int, Found]], limit
 
 
 def together(several: Sequence[Counts], kind: str) -> Counts:
-    """Several kinds as one. Of drawn trials a share of all of them has an interval too, if any kind was drawn."""
+    """Several kinds as one. If the trials of any kind were drawn, the shares of all of them have intervals."""
     first = several[0]
     whole = all(each.is_whole for each in several)
     mutants, used = sum(each.mutants for each in several), sum(each.used for each in several)

@@ -15,7 +15,7 @@ PANELS_ACROSS = 2
 
 FILLS = {NOT_EXECUTED: WHITE, NO_EFFECT: PALE, OTHER: YELLOW, IN_TIME: GREEN, IN_TIME_LOSSES: SKY, GIVEN_UP_KEPT: BLUE,
          LATE: ORANGE, LATER: RED, SILENT: BLACK}
-# What a reader sees of an ending that needs more words.
+# The labels of the endings whose names need more words.
 NOTES = {IN_TIME: "recovered, contract kept", IN_TIME_LOSSES: "recovered with losses, contract kept",
          GIVEN_UP_KEPT: "given up, contract kept", OTHER: "other answers, contract kept",
          SILENT: "contract broken, never stopped", LATE: "contract broken, then stopped",
@@ -26,7 +26,7 @@ Panels = Sequence[tuple[str, Sequence[dict[str, Any]]]]
 
 
 def bar(canvas: Canvas, x: float, y: float, counts: dict[str, Any]) -> None:
-    """The bar of one kind, over its whole width."""
+    """Draws the bar of one kind, over its whole width."""
     canvas.words(x - 6, y + 10, counts["kind"], 10, text_anchor="end")
     at = x
     for name in ENDINGS:
@@ -40,10 +40,10 @@ def bar(canvas: Canvas, x: float, y: float, counts: dict[str, Any]) -> None:
 
 
 def panel(canvas: Canvas, x: float, y: float, name: str, kinds: Sequence[dict[str, Any]]) -> float:
-    """The bars of one driver; how high they are."""
+    """Draws the bars of one driver; returns their height."""
     canvas.words(x, y + 11, name, 12)
-    for place, counts in enumerate(kinds):
-        bar(canvas, x + LEFT, y + 18 + place * BAR_STEP, counts)
+    for index, counts in enumerate(kinds):
+        bar(canvas, x + LEFT, y + 18 + index * BAR_STEP, counts)
     return 18 + len(kinds) * BAR_STEP + 12
 
 
@@ -67,6 +67,6 @@ def figure(title: str, panels: Panels) -> str:
     y, across = 28.0, min(PANELS_ACROSS, len(panels))
     for start in range(0, len(panels), across):
         row = panels[start : start + across]
-        y += max(panel(canvas, 12 + place * PANEL_WIDTH, y, *each) for place, each in enumerate(row))
+        y += max(panel(canvas, 12 + index * PANEL_WIDTH, y, *each) for index, each in enumerate(row))
     legend(canvas, y, max(across * PANEL_WIDTH, 520))
     return canvas.text(title)

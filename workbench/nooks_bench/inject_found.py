@@ -65,7 +65,7 @@ class Found:
 
     @property
     def has_effect(self) -> bool:
-        """Whether anything is other than without faults."""
+        """Whether anything differs from the run without faults."""
         return (self.system, self.contract) != (NOTHING, KEPT) or not (self.same_answers and self.same_left)
 
     @property
@@ -79,7 +79,7 @@ class Found:
 
 @dataclass(frozen=True)
 class Row:
-    """A row with detail of a campaign's table, as far as it is of use here."""
+    """A row with detail of a campaign's table, with the columns that are needed here."""
 
     failures: int
     same_answers: bool
@@ -99,7 +99,7 @@ def parse_detail(line: str) -> Row:
 
 
 def by_row(row: Row) -> Found | None:
-    """What became of a trial that was not stopped. A row does not say what came first, so for any other it is None."""
+    """What became of a trial that was not stopped. None for any other, since a row does not say what came first."""
     if row.failures:
         return None
     contract = KEPT if row.clause is None else BROKEN
@@ -107,8 +107,8 @@ def by_row(row: Row) -> Found | None:
 
 
 @dataclass(frozen=True)
-class Told:
-    """What a report says that decides a trial: of the struck part its failures, the event, burst and cause of the first
+class Evidence:
+    """What a report has that decides a trial: of the struck part its failures, the event, burst and cause of the first
     one, and the event and clause of the first break; of all parts what is left and lost; and the answers."""
 
     failures: int
@@ -155,15 +155,15 @@ def lost_in(left: list[str]) -> tuple[int, ...]:
     return tuple(counts.values())
 
 
-def read_told(text: str, part: int) -> Told:
-    """What decides a trial, of a report that a guard's traps may stand before."""
+def read_evidence(text: str, part: int) -> Evidence:
+    """What decides a trial, from a report that may begin with the lines of a guard's traps."""
     traps = len(GUARD_LINE.findall(text[: text.index("part 0 ")]))
     found = sections(text)
     struck = found[part]
     failures, broken = FAILURES.search(struck), BREAK.search(struck)
     left = [left_of(each) for each in found]
     answers = text[text.index("\nthread ") : text.index("\ntap ")]
-    return Told(
+    return Evidence(
         failures=int(failures[1]) if failures else 0,
         failed=first_failure(struck),
         broken=(int(broken[1]), int(broken[2])) if broken else None,
@@ -174,35 +174,35 @@ def read_told(text: str, part: int) -> Told:
     )
 
 
-def system_of(told: Told, base: Told, limit: int) -> str:
+def system_of(evidence: Evidence, base: Evidence, limit: int) -> str:
     """What the system saw."""
-    if not told.failures:
+    if not evidence.failures:
         return NOTHING
-    if told.failures > limit:
+    if evidence.failures > limit:
         return GIVEN_UP
-    is_more = any(ours > theirs for ours, theirs in zip(told.lost, base.lost))
+    is_more = any(ours > theirs for ours, theirs in zip(evidence.lost, base.lost))
     return LOSSES if is_more else RECOVERED
 
 
-def contract_of(told: Told) -> str:
-    """What the contract saw. A driver may break it in the burst that then fails: that comes first."""
-    if told.broken is None:
+def contract_of(evidence: Evidence) -> str:
+    """What the contract saw. If a driver breaks it in the burst that then fails, the break comes first."""
+    if evidence.broken is None:
         return KEPT
-    if told.failed is None:
+    if evidence.failed is None:
         return BROKEN
-    return BROKEN_FIRST if told.broken[0] <= told.failed[0] else BROKEN_LATER
+    return BROKEN_FIRST if evidence.broken[0] <= evidence.failed[0] else BROKEN_LATER
 
 
-def by_told(told: Told, base: Told, limit: int, struck: int) -> Found:
-    """What became of a trial by its report and that of the run without faults."""
+def by_evidence(evidence: Evidence, base: Evidence, limit: int, struck: int) -> Found:
+    """What became of a trial, from its report and that of the run without faults."""
     return Found(
-        system=system_of(told, base, limit),
-        contract=contract_of(told),
-        clause=told.broken[1] if told.broken else None,
-        cause=plain_cause(told.failed[2]) if told.failed else "",
-        wait=told.failed[1] - struck if told.failed else None,
-        failures=told.failures,
-        traps=told.traps,
-        same_answers=told.answers == base.answers,
-        same_left=told.left == base.left,
+        system=system_of(evidence, base, limit),
+        contract=contract_of(evidence),
+        clause=evidence.broken[1] if evidence.broken else None,
+        cause=plain_cause(evidence.failed[2]) if evidence.failed else "",
+        wait=evidence.failed[1] - struck if evidence.failed else None,
+        failures=evidence.failures,
+        traps=evidence.traps,
+        same_answers=evidence.answers == base.answers,
+        same_left=evidence.left == base.left,
     )

@@ -21,8 +21,8 @@ COUNTING = ("LI", "ADDI", "LD", "ST")
 
 @dataclass(frozen=True)
 class Mutant:
-    """A word that stands at an address in place of another one, with both as text. Of a flipped bit the text is its
-    number, since the word may be no instruction."""
+    """A word that replaces the one at an address, with both as text. The text of a flipped bit is its number, since the
+    word may not be an instruction."""
 
     kind: str
     address: int
@@ -31,68 +31,68 @@ class Mutant:
     now: str
 
 
-# An address, and what stands there instead, as text.
-Changed = tuple[int, str]
+# An address, and the instruction that replaces the one there, as text.
+Replacement = tuple[int, str]
 
 
-def others(instruction: Instruction, place: int) -> Iterator[Changed]:
+def other_operands(instruction: Instruction, index: int) -> Iterator[Replacement]:
     """An instruction with each other register as an operand."""
     for register in range(REGISTERS):
-        if register != instruction.operands[place]:
-            yield instruction.address, instruction.with_operand(place, register)
+        if register != instruction.operands[index]:
+            yield instruction.address, instruction.with_operand(index, register)
 
 
-def other_registers(flow: Flow, role: str) -> Iterator[Changed]:
+def other_registers(flow: Flow, role: str) -> Iterator[Replacement]:
     for each in flow.code.instructions:
-        for place in each.of_role(role):
-            yield from others(each, place)
+        for index in each.of_role(role):
+            yield from other_operands(each, index)
 
 
-def sources(flow: Flow) -> Iterator[Changed]:
+def sources(flow: Flow) -> Iterator[Replacement]:
     """Another register is read."""
     return other_registers(flow, SOURCE)
 
 
-def destinations(flow: Flow) -> Iterator[Changed]:
+def destinations(flow: Flow) -> Iterator[Replacement]:
     """Another register is written."""
     return other_registers(flow, DESTINATION)
 
 
-def pointers(flow: Flow) -> Iterator[Changed]:
-    """A load or a store by another register, with a bit of its offset flipped, or without the last write of its
-    register."""
+def pointers(flow: Flow) -> Iterator[Replacement]:
+    """A load or a store uses another register, or an offset with a bit flipped, or the last write of its register is
+    left out."""
     for each in flow.code.instructions:
-        for place in each.of_role(POINTER):
-            yield from others(each, place)
+        for index in each.of_role(POINTER):
+            yield from other_operands(each, index)
             offset = each.of_role(NUMBER)[0]
             for bit in range(NUMBER_BITS):
                 yield each.address, each.with_operand(offset, each.operands[offset] ^ 1 << bit)
-            for origin in sorted(flow.of(each, each.operands[place]) - {FROM_CALLER}):
+            for origin in sorted(flow.of(each, each.operands[index]) - {FROM_CALLER}):
                 yield origin, NOTHING
 
 
-def interfaces(flow: Flow) -> Iterator[Changed]:
+def interfaces(flow: Flow) -> Iterator[Replacement]:
     """What the caller passed is read from another register; an argument of a kernel call or the status of a reply is
     not set."""
     for each in flow.code.instructions:
         for role in (SOURCE, POINTER):
-            for place in each.of_role(role):
-                if FROM_CALLER in flow.of(each, each.operands[place]):
-                    yield from others(each, place)
+            for index in each.of_role(role):
+                if FROM_CALLER in flow.of(each, each.operands[index]):
+                    yield from other_operands(each, index)
         handed = each.operands[:1] if each.name == "RET" else each.arguments()
         for origin in sorted(set().union(*(flow.of(each, register) for register in handed)) - {FROM_CALLER}):
             yield origin, NOTHING
 
 
-def branches(flow: Flow) -> Iterator[Changed]:
+def branches(flow: Flow) -> Iterator[Replacement]:
     """A jump or a branch is left out."""
     for each in flow.code.instructions:
         if each.of_role(TARGET) or each.name == "JR":
             yield each.address, NOTHING
 
 
-def loops(flow: Flow) -> Iterator[Changed]:
-    """The condition of a branch backwards is turned around. `BLT` has no opposite: its registers change places."""
+def loops(flow: Flow) -> Iterator[Replacement]:
+    """The condition of a backward branch is inverted. `BLT` has no opposite: its registers are exchanged."""
     opposite = {"BEQ": "BNE", "BNE": "BEQ", "BLT": "BLT"}
     for each in flow.code.instructions:
         if each.name in CONDITIONS and each.operands[2] <= each.address:
@@ -101,22 +101,22 @@ def loops(flow: Flow) -> Iterator[Changed]:
             yield each.address, text_of(opposite[each.name], (*registers, target))
 
 
-def left_out(flow: Flow) -> Iterator[Changed]:
+def left_out(flow: Flow) -> Iterator[Replacement]:
     """An instruction is left out."""
     for each in flow.code.instructions:
         yield each.address, NOTHING
 
 
-def off_by_one(flow: Flow) -> Iterator[Changed]:
-    """A limit, a start, a step or an index is one more or one less. What goes to the kernel alone, such as a status, is
-    none of these."""
+def off_by_one(flow: Flow) -> Iterator[Replacement]:
+    """A limit, a start, a step or an index is one more or one less. A number that only the kernel reads, such as a
+    status, is none of these."""
     for each in flow.code.instructions:
         if each.name not in COUNTING or is_handed_over(flow, each):
             continue
-        place = each.of_role(NUMBER)[0]
-        for value in (each.operands[place] - 1, each.operands[place] + 1):
+        index = each.of_role(NUMBER)[0]
+        for value in (each.operands[index] - 1, each.operands[index] + 1):
             if 0 <= value <= MOST_NUMBER:
-                yield each.address, each.with_operand(place, value)
+                yield each.address, each.with_operand(index, value)
 
 
 def is_handed_over(flow: Flow, instruction: Instruction) -> bool:
@@ -125,8 +125,8 @@ def is_handed_over(flow: Flow, instruction: Instruction) -> bool:
     return bool(readers) and all(name in ("KCALL", "RET") for name in readers)
 
 
-# The kinds of which a mutant is an instruction, by what makes them.
-MAKERS: dict[str, Callable[[Flow], Iterable[Changed]]] = {
+# The kinds whose mutants are instructions, each with the function that makes them.
+MAKERS: dict[str, Callable[[Flow], Iterable[Replacement]]] = {
     "source": sources,
     "destination": destinations,
     "pointer": pointers,

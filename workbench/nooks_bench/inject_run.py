@@ -1,5 +1,5 @@
-"""Runs trials, in batches. Live ones are the members of a campaign, whose rows say all of a trial that was not stopped;
-of one that was, the report says what came first. Latent ones stand in images of their own, and each has its report."""
+"""Runs trials, in batches. Live ones are the members of a campaign, whose rows say everything about a trial that was
+not stopped; of one that was, the report says what came first. Each latent one has its own image and its own report."""
 
 from __future__ import annotations
 
@@ -10,7 +10,7 @@ from typing import Any, Iterator, Sequence
 
 from .facts import LIMITS, STATUSES
 from .inject_code import Code, code_of, encoded
-from .inject_found import Found, Row, Told, by_row, by_told, parse_detail, read_told
+from .inject_found import Evidence, Found, Row, by_row, by_evidence, parse_detail, read_evidence
 from .inject_trials import Trial, scenario_of
 from .outcomes import Row as Summary
 from .outcomes import row_of
@@ -24,10 +24,10 @@ MOST_OPERATIONS = LIMITS["MOST_CAMPAIGN_OPS"]
 # A fault that strikes nothing: no burst has this number.
 NEVER = {"burst": 2**32 - 1, "after": 0, "kind": "trap"}
 
-# A word by which it is seen that an address is executed: it traps, and its port names the address.
+# The instruction that shows that an address was executed: it traps, and its port gives the address.
 FIRST_PORT = 1000
 TELLTALE = "IN r0 {port}"
-TOLD_BY = "trap bad_port "
+TELLTALE_CAUSE = "trap bad_port "
 
 # How many trials a worker takes at a time.
 BATCH = 100
@@ -87,25 +87,25 @@ def report_of(program: Program, setting: Setting, scenario: Scenario) -> str:
     return ended.out
 
 
-def told_of(program: Program, setting: Setting, scenario: Scenario) -> Told:
-    return read_told(report_of(program, setting, scenario), setting.part)
+def evidence_of(program: Program, setting: Setting, scenario: Scenario) -> Evidence:
+    return read_evidence(report_of(program, setting, scenario), setting.part)
 
 
-def found_by_report(program: Program, setting: Setting, trial: Trial, base: Told, limit: int) -> Found:
+def found_by_report(program: Program, setting: Setting, trial: Trial, base: Evidence, limit: int) -> Found:
     """What became of a trial by its own report."""
     scenario = scenario_of(trial, setting.base, setting.part, setting.code)
     struck = trial.strike.burst if trial.strike else 1
-    return by_told(told_of(program, setting, scenario), base, limit, struck)
+    return by_evidence(evidence_of(program, setting, scenario), base, limit, struck)
 
 
 def check_row(row: Row, found: Found, trial: Trial) -> None:
-    """A row and a report of one run have to say the same."""
+    """Raises a mistake if the row and the report of a run differ."""
     ours = (found.failures, found.same_answers, found.same_left, found.clause, found.traps)
     if ours != (row.failures, row.same_answers, row.same_left, row.clause, row.traps):
         raise Mistake(f"the row and the report of trial {trial.kind} {trial.number} differ: {row} and {found}")
 
 
-def live(program: Program, setting: Setting, trials: Sequence[Trial], base: Told, limit: int) -> list[Found]:
+def live(program: Program, setting: Setting, trials: Sequence[Trial], base: Evidence, limit: int) -> list[Found]:
     """What became of live trials under one limit."""
     rows = campaign_rows(program, setting, [trial.faults(trial.words()) for trial in trials])
     found: list[Found] = []
@@ -118,8 +118,8 @@ def live(program: Program, setting: Setting, trials: Sequence[Trial], base: Told
     return found
 
 
-def judged(program: Program, setting: Setting, trials: Sequence[Trial], base: Told, limit: int) -> list[Found]:
-    """What became of trials under one limit, but for whether a mutant was executed."""
+def judged(program: Program, setting: Setting, trials: Sequence[Trial], base: Evidence, limit: int) -> list[Found]:
+    """What became of trials under one limit, except whether a mutant was executed."""
     at_limit = setting.at_limit(limit)
     if trials and trials[0].strike is not None:
         return live(program, at_limit, trials, base, limit)
@@ -132,26 +132,26 @@ def telltales_of(setting: Setting, trial: Trial) -> dict[int, int]:
 
 
 def executed(program: Program, setting: Setting, trials: Sequence[Trial]) -> list[bool]:
-    """Whether the driver came to any of the changed words. Up to the first of them its run is that without faults, and
-    a telltale word there stops it."""
+    """For each trial whether the driver reached any of the changed words. Up to the first of them its run is that
+    without faults, and a telltale word there stops it."""
     unguarded = replace(setting.at_limit(0), guard=False)
     if not trials:
         return []
     if trials[0].strike is not None:
         members = [trial.faults(telltales_of(setting, trial)) for trial in trials]
-        return [row.cause.startswith(TOLD_BY) for row in campaign_rows(program, unguarded, members)]
+        return [row.cause.startswith(TELLTALE_CAUSE) for row in campaign_rows(program, unguarded, members)]
     found: list[bool] = []
     for trial in trials:
         scenario = scenario_of(trial, unguarded.base, setting.part, setting.code, telltales_of(setting, trial))
-        failed = told_of(program, unguarded, scenario).failed
-        found.append(failed is not None and failed[2].startswith(TOLD_BY))
+        failed = evidence_of(program, unguarded, scenario).failed
+        found.append(failed is not None and failed[2].startswith(TELLTALE_CAUSE))
     return found
 
 
 def results_of(program: Program, batch: Batch) -> Results:
-    """What became of a batch. A run with no more failures than a smaller limit is that limit's run too."""
+    """What became of a batch. A run with no more failures than a smaller limit is also that limit's run."""
     setting = batch.setting
-    base = told_of(program, setting, setting.base)
+    base = evidence_of(program, setting, setting.base)
     limits = sorted(batch.limits, reverse=True)
     results: Results = [{} for _ in batch.trials]
     for limit in limits:
@@ -159,29 +159,29 @@ def results_of(program: Program, batch: Batch) -> Results:
             known = [found for found in each.values() if found.failures <= limit]
             if known:
                 each[limit] = known[0]
-        left = [place for place, each in enumerate(results) if limit not in each]
-        found = judged(program, setting, [batch.trials[place] for place in left], base, limit)
-        for place, one in zip(left, found):
-            results[place][limit] = one
+        missing = [index for index, each in enumerate(results) if limit not in each]
+        found = judged(program, setting, [batch.trials[index] for index in missing], base, limit)
+        for index, one in zip(missing, found):
+            results[index][limit] = one
     return with_executed(program, batch, results)
 
 
 def with_executed(program: Program, batch: Batch, results: Results) -> Results:
-    """Asks of the trials without any effect whether a mutant was executed; in any other one was."""
-    quiet = [place for place, each in enumerate(results) if not any(found.has_effect for found in each.values())]
-    answers = executed(program, batch.setting, [batch.trials[place] for place in quiet])
-    for place, answer in zip(quiet, answers):
-        results[place] = {limit: replace(found, executed=answer) for limit, found in results[place].items()}
+    """Finds, for each trial without any effect, whether a mutant was executed; in any other trial one was."""
+    quiet = [index for index, each in enumerate(results) if not any(found.has_effect for found in each.values())]
+    answers = executed(program, batch.setting, [batch.trials[index] for index in quiet])
+    for index, answer in zip(quiet, answers):
+        results[index] = {limit: replace(found, executed=answer) for limit, found in results[index].items()}
     return results
 
 
 def run_batch(path: str, batch: Batch) -> Results:
-    """A batch from nothing but a path and the batch."""
+    """Runs a batch, given only the program's path."""
     return results_of(Program(path), batch)
 
 
 def check_base(program: Program, base: Scenario, part: int) -> Report:
-    """The report of the run without faults, in which nothing may go wrong."""
+    """The report of the run without faults. Raises a mistake if anything went wrong in it."""
     if not part < len(base["parts"]):
         raise Mistake(f"there is no part {part}: the scenario has {len(base['parts'])}")
     report = parse_report(program.report(base))
@@ -193,7 +193,7 @@ def check_base(program: Program, base: Scenario, part: int) -> Report:
 
 
 def check_live(program: Program, setting: Setting) -> None:
-    """Ends with a mistake if the program has no such campaigns, or refuses them for this scenario."""
+    """Raises a mistake if the program has no such campaigns, or refuses them for this scenario."""
     if operations(setting.base) > MOST_OPERATIONS:
         raise Mistake(f"live faults are members of a campaign, whose scenario has at most {MOST_OPERATIONS} operations")
     row = campaign_rows(program, setting, [[NEVER]])[0]
@@ -204,8 +204,8 @@ def check_live(program: Program, setting: Setting) -> None:
 def setting_of(program: Program, scenario: Scenario, part: int, guard: bool) -> Setting:
     """What the trials of a scenario's part share."""
     code = code_of(program, scenario["parts"][part]["driver"])
-    parts = [{**each, "driver": {"image": code.image}} if place == part else each
-             for place, each in enumerate(scenario["parts"])]
+    parts = [{**each, "driver": {"image": code.image}} if index == part else each
+             for index, each in enumerate(scenario["parts"])]
     words = len(code.image["text"])
     lines = [TELLTALE.format(port=FIRST_PORT + address) for address in range(words)]
     return Setting({**scenario, "parts": parts}, part, code, guard, tuple(encoded(program, code.kind, lines)))
@@ -213,9 +213,9 @@ def setting_of(program: Program, scenario: Scenario, part: int, guard: bool) -> 
 
 def run_trials(program: Program, setting: Setting, trials: Sequence[Trial], limits: Sequence[int],
                jobs: int) -> Iterator[tuple[int, Results]]:
-    """Runs trials; the place of the first one and the results of each batch as it is done."""
+    """Runs trials. Yields the index of the first one and the results of each batch when it is done."""
     size = max(1, min(BATCH, -(-len(trials) // (2 * jobs))))
     starts = range(0, len(trials), size)
     batches = [Batch(setting, tuple(trials[start : start + size]), tuple(limits)) for start in starts]
-    for place, results in each_done(functools.partial(run_batch, program.path), batches, jobs):
-        yield starts[place], results
+    for index, results in each_done(functools.partial(run_batch, program.path), batches, jobs):
+        yield starts[index], results

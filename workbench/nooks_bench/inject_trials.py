@@ -1,5 +1,5 @@
-"""The trials of an experiment: which mutants stand in the driver, and when they come there. All is drawn from a seed,
-each kind by itself, so that a kind has the same trials whatever other kinds are asked for."""
+"""The trials of an experiment: which mutants are in the driver, and when they get there. All is drawn from a seed, for
+each kind separately, so that a kind has the same trials whatever other kinds are asked for."""
 
 from __future__ import annotations
 
@@ -24,14 +24,14 @@ MOST_FAULTS = 16
 CODE = "code"
 assert CODE in FAULT_KINDS
 
-# How often a trial is drawn again that came before, for each trial that is wanted.
+# The most draws for each trial that is asked for, since a trial that came before is drawn again.
 REDRAWS = 50
 
 
 @dataclass(frozen=True)
 class Asked:
-    """What an experiment is of. Its faults strike at the first burst of a drawn call (live), there at a drawn turn if
-    that is asked for, or stand in the image from the beginning (latent)."""
+    """What an experiment consists of. Its faults strike at the first burst of a drawn call (live), with `any_turn` at a
+    drawn instruction of it, or are in the image from the beginning (latent)."""
 
     kinds: tuple[str, ...]
     trials: int
@@ -44,7 +44,7 @@ class Asked:
 
 @dataclass(frozen=True)
 class Strike:
-    """When the faults of a trial strike: the turns of a burst before it, and the call that the burst serves."""
+    """When the faults of a trial strike: after how many instructions of a burst, and the call that the burst serves."""
 
     call: int
     burst: int
@@ -61,21 +61,21 @@ class Trial:
     strike: Strike | None = None
 
     def words(self) -> dict[int, int]:
-        """What stands at which addresses."""
+        """The changed words by their addresses."""
         return {mutant.address: mutant.word for mutant in self.mutants}
 
     def faults(self, words: dict[int, int]) -> list[Fault]:
         """The faults that write some words when the trial strikes."""
         if self.strike is None:
             return []
-        place = {"burst": self.strike.burst, "after": self.strike.after, "kind": CODE}
-        return [{**place, "address": address, "value": word} for address, word in words.items()]
+        position = {"burst": self.strike.burst, "after": self.strike.after, "kind": CODE}
+        return [{**position, "address": address, "value": word} for address, word in words.items()]
 
 
 @dataclass(frozen=True)
 class Population:
-    """The trials of one kind. `mutants` counts those of the kind; if the trials are few enough, all of them are there
-    and nothing was drawn."""
+    """The trials of one kind. `mutants` counts those of the kind. `is_whole` says that all possible trials are there,
+    and that nothing was drawn."""
 
     kind: str
     mutants: int
@@ -89,30 +89,30 @@ def scenario_of(trial: Trial, base: Scenario, part: int, code: Code, words: dict
     if trial.strike is not None:
         return with_faults(base, part, trial.faults(written))
     changed = {**base["parts"][part], "driver": {"image": code.with_words(written)}}
-    parts = [changed if place == part else each for place, each in enumerate(base["parts"])]
+    parts = [changed if index == part else each for index, each in enumerate(base["parts"])]
     return {**base, "parts": parts}
 
 
 def strikes_of(part: Part) -> list[tuple[Strike, int]]:
-    """The first burst of each call that came to the driver, with its turns."""
+    """The first burst of each call that entered the driver, with the number of its instructions."""
     found: dict[int, tuple[Strike, int]] = {}
     for event in part.bursts():
         if event.context != SHADOW and event.call not in found:
-            found[event.call] = (Strike(event.call, event.burst), event.turns)
+            found[event.call] = (Strike(event.call, event.burst), event.instructions)
     return list(found.values())
 
 
 def one_of(draw: random.Random, items: Sequence[Item]) -> Item:
-    """An item, drawn by `random` alone: its numbers are the same in every version of Python."""
+    """An item, drawn by `random()` alone: its numbers are the same in every version of Python."""
     return items[int(draw.random() * len(items))]
 
 
 # The mutants of a kind, by their addresses.
-Places = dict[int, list[Mutant]]
+MutantsAt = dict[int, list[Mutant]]
 
 
-def by_address(mutants: Sequence[Mutant]) -> Places:
-    found: Places = {}
+def by_address(mutants: Sequence[Mutant]) -> MutantsAt:
+    found: MutantsAt = {}
     for mutant in mutants:
         found.setdefault(mutant.address, []).append(mutant)
     return found
@@ -125,13 +125,13 @@ class Draws:
 
     asked: Asked
     kind: str
-    pool: dict[str, Places]
+    pool: dict[str, MutantsAt]
     strikes: list[tuple[Strike, int]]
     draw: random.Random
 
     def size(self) -> int:
         """How many faults a trial has: not more than there are addresses."""
-        addresses = {address for places in self.pool.values() for address in places}
+        addresses = {address for mutants_at in self.pool.values() for address in mutants_at}
         return min(1 if self.asked.every else self.asked.faults, len(addresses))
 
     def moments(self) -> list[Strike | None]:
@@ -141,18 +141,18 @@ class Draws:
         strikes = self.strikes[:1] if self.asked.every else self.strikes
         if not self.asked.any_turn:
             return [strike for strike, _ in strikes]
-        return [Strike(strike.call, strike.burst, turn) for strike, turns in strikes for turn in range(turns)]
+        return [Strike(strike.call, strike.burst, turn) for strike, count in strikes for turn in range(count)]
 
     def all(self) -> Iterator[tuple[Strike | None, tuple[Mutant, ...]]]:
-        """All trials there are."""
-        places = self.pool[self.kind]
+        """All possible trials."""
+        mutants_at = self.pool[self.kind]
         for moment in self.moments():
-            for addresses in itertools.combinations(sorted(places), self.size()):
-                for mutants in itertools.product(*(places[each] for each in addresses)):
+            for addresses in itertools.combinations(sorted(mutants_at), self.size()):
+                for mutants in itertools.product(*(mutants_at[each] for each in addresses)):
                     yield moment, mutants
 
     def number(self) -> int:
-        """How many trials there are: the ways to choose addresses, and at each a mutant, at each time."""
+        """How many trials are possible: the ways to choose addresses, and a mutant at each, at each time."""
         ways = [1] + [0] * self.size()
         for mutants in self.pool[self.kind].values():
             for chosen in range(len(ways) - 1, 0, -1):
@@ -160,23 +160,25 @@ class Draws:
         return ways[-1] * len(self.moments())
 
     def mutants(self) -> tuple[Mutant, ...]:
-        """Some mutants at as many addresses: first the address is drawn, and then one there."""
+        """Mutants at different addresses: first an address is drawn, and then one of its mutants."""
         found: dict[int, Mutant] = {}
         kinds, size = list(self.pool), self.size()
         while len(found) < size:
-            places = self.pool[one_of(self.draw, kinds)]
-            free = [address for address in places if address not in found]
+            mutants_at = self.pool[one_of(self.draw, kinds)]
+            free = [address for address in mutants_at if address not in found]
             if free:
-                mutant = one_of(self.draw, places[one_of(self.draw, free)])
+                mutant = one_of(self.draw, mutants_at[one_of(self.draw, free)])
                 found[mutant.address] = mutant
         return tuple(found[address] for address in sorted(found))
 
     def moment(self) -> Strike | None:
-        """When a trial strikes: first the call is drawn, and then the turn."""
+        """When a trial strikes: first the call is drawn, and then the instruction."""
         if self.asked.latent:
             return None
-        strike, turns = one_of(self.draw, self.strikes)
-        return Strike(strike.call, strike.burst, one_of(self.draw, range(turns))) if self.asked.any_turn else strike
+        strike, instructions = one_of(self.draw, self.strikes)
+        if not self.asked.any_turn:
+            return strike
+        return Strike(strike.call, strike.burst, one_of(self.draw, range(instructions)))
 
     def drawn(self) -> Iterator[tuple[Strike | None, tuple[Mutant, ...]]]:
         """Different trials, as many as are asked for."""
@@ -190,11 +192,11 @@ class Draws:
                 return
 
     def population(self) -> Population:
-        """The trials: every one of them where they are no more than are asked for."""
+        """The trials: all possible ones if these are no more than are asked for."""
         whole = self.kind != MIXED and (self.asked.every or self.number() <= self.asked.trials)
         found = self.all() if whole else self.drawn()
         trials = tuple(Trial(self.kind, number, mutants, moment) for number, (moment, mutants) in enumerate(found))
-        in_pool = sum(len(each) for places in self.pool.values() for each in places.values())
+        in_pool = sum(len(each) for mutants_at in self.pool.values() for each in mutants_at.values())
         return Population(self.kind, in_pool, whole, trials)
 
 
@@ -202,11 +204,11 @@ def populations(asked: Asked, pool: dict[str, list[Mutant]], part: Part) -> list
     """The trials of each kind that is asked for and of which the driver has mutants."""
     strikes = strikes_of(part)
     if not strikes:
-        raise Mistake(f"no call comes to the driver of part {part.place}: its faults would have nothing to strike")
-    places = {kind: by_address(pool[kind]) for kind in KINDS if pool.get(kind)}
+        raise Mistake(f"no call comes to the driver of part {part.index}: its faults would have nothing to strike")
+    by_kind = {kind: by_address(pool[kind]) for kind in KINDS if pool.get(kind)}
     found: list[Population] = []
     for kind in asked.kinds:
-        here = places if kind == MIXED else {kind: places[kind]} if kind in places else {}
+        here = by_kind if kind == MIXED else {kind: by_kind[kind]} if kind in by_kind else {}
         if here:
             draws = Draws(asked, kind, here, strikes, random.Random(f"{asked.seed} {kind}"))
             found.append(draws.population())

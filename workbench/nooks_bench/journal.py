@@ -1,5 +1,5 @@
-"""The journal of a sweep: the outcomes that are known so far, as JSON lines, so that a long sweep may be interrupted
-and go on later. The first line says what the sweep is of; each other one has the outcomes of some faults."""
+"""The journal of a sweep: the outcomes known so far, as JSON lines, so that a long sweep can be interrupted and
+continued. The first line identifies the sweep; each further line has the outcomes of some faults."""
 
 from __future__ import annotations
 
@@ -15,7 +15,7 @@ from .program import Mistake
 
 SHORT = {name: short for short, name in SHORT_NAMES.items()}
 
-# What a journal's first line has, and what a sweep is if it has something else there.
+# The keys of a journal's first line, and how a message describes a sweep with another value.
 KEYS = {
     "journal": "of another form",
     "workbench": "by another version of the workbench",
@@ -27,14 +27,14 @@ KEYS = {
 
 
 def digest(value: Any) -> str:
-    """A number by which values are compared."""
+    """Returns a hash by which values are compared."""
     import hashlib
 
     return hashlib.sha256(json.dumps(value, sort_keys=True).encode()).hexdigest()
 
 
 def heading_of(version: str, scenario: Any, choice: dict[str, Any], faults: list[Any]) -> dict[str, Any]:
-    """The first line: what a sweep is of."""
+    """Returns the first line, which identifies a sweep."""
     named = {"journal": 1, "workbench": __version__, "program": version, "scenario": digest(scenario)}
     heading: dict[str, Any] = json.loads(json.dumps({**named, "choice": choice, "faults": digest(faults)}))
     return heading
@@ -51,21 +51,22 @@ def outcome_of(row: list[Any]) -> Outcome:
 
 
 def read_line(line: bytes) -> tuple[int, Results]:
-    """The place of the first fault of a line, and the outcomes from there on."""
+    """Returns the index of the line's first fault, and the outcomes from that index on."""
     value = json.loads(line)
     return int(value["first"]), [outcome_of(row) for row in value["outcomes"]]
 
 
 @dataclass
 class Journal:
-    """A journal that is written. `known` has what it held before, by the place of a fault."""
+    """A journal that is being written. `known` has the outcomes that the file had when it was opened, by the index of
+    the fault."""
 
     path: str
     known: dict[int, Outcome] = field(default_factory=dict)
     file: IO[bytes] | None = None
 
     def open(self, heading: dict[str, Any], resume: bool) -> None:
-        """Opens the file: a new one, or with `resume` one that goes on."""
+        """Creates the file, or with `resume` continues an existing one."""
         try:
             self.begin(heading, resume)
         except Mistake:
@@ -86,7 +87,7 @@ class Journal:
             raise Mistake(f"{self.path}: {error.strerror}") from error
 
     def read(self, heading: dict[str, Any]) -> None:
-        """Reads what is there, and takes away a last line that was not written whole."""
+        """Reads the outcomes in the file, and removes an incomplete last line."""
         assert self.file is not None
         end = 0
         for number, line in enumerate(self.file, 1):
@@ -107,7 +108,7 @@ class Journal:
             self.write(json.dumps(heading) + "\n")
 
     def compare(self, found: dict[str, Any], heading: dict[str, Any]) -> None:
-        """A journal of another sweep is a mistake."""
+        """Fails if the journal is of another sweep."""
         for key, about in KEYS.items():
             if found[key] != heading[key]:
                 shown = f" ({found[key]}; this is {heading[key]})" if key in ("workbench", "program") else ""
@@ -122,7 +123,7 @@ class Journal:
                 raise Mistake(f"{self.path}: {error.strerror}") from error
 
     def add(self, first: int, results: Results) -> None:
-        """Writes down the outcomes of the faults from a place on."""
+        """Writes the outcomes of consecutive faults, from index `first` on."""
         self.write(line_of(first, results))
 
     def close(self) -> None:

@@ -1,4 +1,4 @@
-"""JSON texts as the workbench writes them: lists of plain values on one line, the rest indented."""
+"""JSON as the workbench writes it: lists of plain values on one line, the rest indented."""
 
 from __future__ import annotations
 
@@ -9,7 +9,7 @@ WIDE = 100
 
 
 def json_text(value: Any, indent: int = 0) -> str:
-    """A value as JSON. What fits on a line, or is a list of plain values, is written on one."""
+    """Formats a value as JSON. It is on one line if it fits there, or if it is a list of plain values."""
     flat = json.dumps(value, ensure_ascii=False)
     is_plain = not isinstance(value, (dict, list)) or (
         isinstance(value, list) and not any(isinstance(item, (dict, list)) for item in value)

@@ -16,8 +16,8 @@ ENTRY = re.compile(r"\.entry (\w+) (\d+)")
 
 @dataclass
 class Source:
-    """What is known of a driver's words. `lines` has for an address the number of the line that made it, and that
-    line; of an image there are none. `names` has the labels and entries that stand at an address."""
+    """What is known about a driver's words, by address. `lines` has the line of the text that made the word, with its
+    number; it is empty for an image. `names` has the labels and entries at an address."""
 
     words: dict[int, str] = field(default_factory=dict)
     lines: dict[int, tuple[int, str]] = field(default_factory=dict)
@@ -29,12 +29,12 @@ class Source:
             known.append(text)
 
     def shown_names(self, address: int) -> list[str]:
-        """The names at an address that its line does not show itself."""
+        """Returns the names at an address that its line does not show."""
         line = self.lines.get(address, (0, ""))[1].split(";")[0]
         return [name for name in self.names.get(address, []) if not re.search(rf"\b{re.escape(name)}:", line)]
 
     def near(self, address: int) -> str:
-        """The last name at or before an address, as in `wword+2`."""
+        """Returns the last name at or before an address, with the distance, as in `wword+2`."""
         starts = [start for start in self.names if start <= address]
         if not starts:
             return ""
@@ -43,7 +43,7 @@ class Source:
 
 
 def of_text(program: Program, text: str) -> Source:
-    """The source of an assembler text, by the program's own listing."""
+    """Returns the source of an assembler text, from the program's listing."""
     source = Source()
     lines = text.split("\n")
     entries: list[tuple[int, str]] = []
@@ -64,7 +64,7 @@ def of_text(program: Program, text: str) -> Source:
 
 
 def of_image(program: Program, driver: dict[str, Any]) -> Source:
-    """The source of an image: its words as `dis` writes them, and its entries."""
+    """Returns the source of an image: its words as `dis` prints them, and its entries."""
     source = Source()
     source.words = dict(enumerate(program.listing(driver)))
     for line in program.answer(["dis"], json.dumps(driver["image"])).out.split("\n"):
@@ -74,5 +74,4 @@ def of_image(program: Program, driver: dict[str, Any]) -> Source:
 
 
 def source_of(program: Program, driver: dict[str, Any]) -> Source:
-    """The source of a scenario's driver."""
     return of_text(program, driver["asm"]) if "asm" in driver else of_image(program, driver)

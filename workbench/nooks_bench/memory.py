@@ -1,4 +1,4 @@
-"""What stands where in a driver's memory (docs/DRIVER_MACHINE.md)."""
+"""The layout of a driver's memory (docs/DRIVER_MACHINE.md)."""
 
 from __future__ import annotations
 
@@ -13,7 +13,7 @@ PAGE = MEMORY_MAP["PAGE_WORDS"]
 
 
 def area(address: int) -> str:
-    """What an address belongs to."""
+    """Names the area of memory that an address is in."""
     if address < DATA:
         return "text"
     if address < STACKS:

@@ -1,4 +1,5 @@
-"""Standard error: messages of one line. If it is closed or full, nothing is said: there is nowhere else to say it."""
+"""Messages of one line on standard error. If it is closed or full, the message is dropped: there is nowhere else to
+write it."""
 
 from __future__ import annotations
 
@@ -7,7 +8,7 @@ import sys
 
 
 def write_error(text: str) -> None:
-    """Writes a text to standard error."""
+    """Writes a text to standard error, and ignores a failure."""
     if sys.stderr is None:
         return
     with contextlib.suppress(OSError):
@@ -16,10 +17,9 @@ def write_error(text: str) -> None:
 
 
 def say(text: str) -> None:
-    """Writes a line in the command's name."""
+    """Writes a line that begins with the command's name."""
     write_error(f"nooks-bench: {text}\n")
 
 
 def is_terminal() -> bool:
-    """Whether standard error is a terminal."""
     return sys.stderr is not None and sys.stderr.isatty()

@@ -1,5 +1,5 @@
-"""What a sweep finds: an entry for each fault, and the entries of one base together. The table, the totals and the maps
-are made of these."""
+"""The results of a sweep: an entry for each fault, grouped by base. The table, the totals and the maps are made from
+them."""
 
 from __future__ import annotations
 
@@ -13,8 +13,8 @@ from .scenario import Fault, Scenario
 
 @dataclass(frozen=True)
 class Entry:
-    """One fault with what became of it. `losses` is what its run lost more than the run without it; `guarded` is what
-    became of it behind a guard, if that was asked."""
+    """A fault and its outcome. `losses` is what its run lost in addition to the run without it. `guarded` is the
+    outcome with a guard, if one was requested."""
 
     fault: Fault
     outcome: str
@@ -32,9 +32,9 @@ class Entry:
 
 @dataclass(frozen=True)
 class Swept:
-    """The sweep of one base: one scenario under one schedule. `own` is what became of the base itself, with no fault of
-    the sweep, against the scenario under its own schedule. `chosen` counts the faults of this base; an interrupted
-    sweep has fewer entries. `guarded` is the report of the base's guarded run, if a guard was asked for."""
+    """The sweep of one base: one scenario under one schedule. `own` is the outcome of the base itself, without a fault
+    of the sweep, compared with the scenario under its own schedule. `chosen` counts the faults of this base; an
+    interrupted sweep has fewer entries. `guarded` is the report of the base's guarded run, if a guard was requested."""
 
     base: Scenario
     report: Report
@@ -45,7 +45,7 @@ class Swept:
 
     @property
     def start(self) -> int | None:
-        """Where the draws of its schedule begin, if the schedule is a drawn one."""
+        """Where the draws of the base's schedule begin, None if its schedule is not drawn."""
         start = self.base.get("schedule", {}).get("start")
         return start if isinstance(start, int) else None
 

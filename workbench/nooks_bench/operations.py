@@ -1,4 +1,4 @@
-"""Operations as a report writes them: what they are about, and which of them wait for each other (docs/REPORT.md)."""
+"""Operations as a report writes them: what they apply to, and which of them wait for each other (docs/REPORT.md)."""
 
 from __future__ import annotations
 
@@ -18,7 +18,7 @@ LIST = re.compile(r"\[([0-9,]*)\]")
 
 
 def words_of(text: str) -> tuple[int, ...]:
-    """The words of a list of a report."""
+    """Returns the words in a list of a report."""
     return tuple(int(word) for word in text[1:-1].split(",")) if len(text) > 2 else ()
 
 
@@ -32,7 +32,7 @@ class Operation:
 
     @property
     def blocks(self) -> range:
-        """The blocks of a read or a write; none of any other operation."""
+        """The blocks of a read or a write; empty for any other operation."""
         if self.name == "read":
             return range(self.numbers[0], self.numbers[0] + self.numbers[1])
         if self.name == "write":
@@ -40,7 +40,7 @@ class Operation:
         return range(0)
 
     def written(self, block: int) -> tuple[int, ...] | None:
-        """The words that a write has for a block, None if it does not cover it."""
+        """Returns the words that a write has for a block, None if it does not cover the block."""
         if self.name != "write" or block not in self.blocks:
             return None
         start = (block - self.numbers[0]) * BLOCK_WORDS
@@ -49,14 +49,14 @@ class Operation:
 
 @lru_cache(maxsize=256)
 def parse_operation(text: str) -> Operation:
-    """The operation of a text as `write 9 [1,2]`."""
+    """Parses an operation such as `write 9 [1,2]`."""
     found = LIST.search(text)
     name, *numbers = LIST.sub("", text).split()
     return Operation(name, tuple(map(int, numbers)), words_of(found.group()) if found else ())
 
 
 def conflict(one: Operation, other: Operation) -> bool:
-    """Whether the later of two operations waits until the earlier is answered."""
+    """Returns whether the later of two operations waits until the earlier one is answered."""
     names = {one.name, other.name}
     if "set" in names:
         return True

@@ -1,5 +1,5 @@
-"""What became of a fault, against the run without it: by a campaign's row if that has all of it, else by the member's
-own report."""
+"""The outcome of a fault, compared with the run without it: from a campaign's row if the row is sufficient, else from
+the member's own report."""
 
 from __future__ import annotations
 
@@ -14,7 +14,7 @@ from .report import Event, Part, Report
 from .scenario import Fault, Scenario
 from .words import CLAUSES, short
 
-# The outcomes, each worse than those before it.
+# The outcomes, from the mildest to the worst.
 MISSED = "did not strike"
 NO_TRACE = "struck, no trace"
 CHANGED = "answers changed, contract kept"
@@ -27,7 +27,7 @@ OUTCOMES = (MISSED, NO_TRACE, CHANGED, RECOVERED, LOSSES, GIVEN_UP, BROKEN)
 # Their names for --fail-on.
 SHORT_NAMES = dict(zip(("missed", "no-trace", "changed", "recovered", "losses", "given-up", "broken"), OUTCOMES))
 
-# What becomes of a base under another schedule, if it is as under its own.
+# The outcome of a base under another schedule if its run has the same result as under its own.
 SAME = "the same"
 
 ROW = re.compile(r"\d+ status (\d+) events (\d+) failures (\d+) gone (\d+) lost (\d+)(?: answers (.*))?")
@@ -36,8 +36,9 @@ DETAIL = re.compile(r"(same|other) left (same|other) break (\d+|-)(?: traps \d+)
 
 @dataclass(frozen=True)
 class Detail:
-    """What a row has with `detail`: whether the answers, and what the parts were left with, are those of the base's
-    run; the clause that the struck part's driver broke, 0 for none; and why it failed first, empty if it did not."""
+    """The part of a row that `detail` adds: whether the answers, and what the parts were left with, are those of the
+    base's run; the clause that the struck part's driver broke, 0 for none; and why that driver failed first, empty if
+    it did not."""
 
     same_answers: bool
     same_left: bool
@@ -60,7 +61,7 @@ class Row:
 @dataclass(frozen=True)
 class Losses:
     """What applications lost, by kind: sends with no frame on the wire, samples not played, answers `busy`, and frames
-    lost on their way in. The losses of a fault are a difference, so that a kind may be negative."""
+    lost on their way in. The losses of a fault are a difference, so a number may be negative."""
 
     sends: int = 0
     samples: int = 0
@@ -69,14 +70,14 @@ class Losses:
 
     @property
     def is_more(self) -> bool:
-        """Whether of any kind more was lost than without the fault."""
+        """Whether more was lost of any kind than without the fault."""
         return any(number > 0 for number in self.numbers())
 
     def numbers(self) -> tuple[int, int, int, int]:
         return (self.sends, self.samples, self.busy, self.frames)
 
     def joined(self, other: Losses, joining: Callable[[int, int], int]) -> Losses:
-        """Kind by kind, of two numbers one."""
+        """Combines two losses kind by kind."""
         return Losses(*(joining(*pair) for pair in zip(self.numbers(), other.numbers())))
 
     def __add__(self, other: Losses) -> Losses:
@@ -88,13 +89,13 @@ class Losses:
 
 NOTHING_LOST = Losses()
 
-# The words of a report's lines of losses and frames, by the kind that they count.
+# The kind of loss that each word of a report's lines `losses` and `frames` counts.
 COUNTED = {"sends": "sends", "samples": "samples", "busy": "busy",
            "reset": "frames", "full_ring": "frames", "full_queue": "frames"}
 
 
 def losses_of_part(part: Part) -> Losses:
-    """The losses of a part by its lines `losses` and `frames`."""
+    """Adds up the lines `losses` and `frames` of a part."""
     found = dict.fromkeys(vars(NOTHING_LOST), 0)
     for line in part.losses:
         words = line.split(" ")
@@ -105,7 +106,7 @@ def losses_of_part(part: Part) -> Losses:
 
 
 def least_and_most(losses: Iterable[Losses]) -> tuple[Losses, Losses]:
-    """Of each kind the least and the greatest number among some losses."""
+    """Returns the least and the greatest number of each kind."""
     first, *others = losses
     least = most = first
     for each in others:
@@ -115,13 +116,13 @@ def least_and_most(losses: Iterable[Losses]) -> tuple[Losses, Losses]:
 
 
 def losses_of(report: Report) -> Losses:
-    """The losses of all parts together."""
+    """Adds up the losses of all parts."""
     return sum((losses_of_part(part) for part in report.parts), NOTHING_LOST)
 
 
 @dataclass(frozen=True)
 class Outcome:
-    """What became of a fault, why, and what was lost more than without it."""
+    """The outcome of a fault, its cause, and what was lost in addition to the run without it."""
 
     name: str
     cause: str = ""
@@ -132,7 +133,7 @@ class Outcome:
 
 
 def parse_detail(words: str) -> Detail:
-    """What a row has behind `answers`."""
+    """Parses the end of a row, after `answers`."""
     found = DETAIL.fullmatch(words)
     if not found:
         raise Mistake(f"no detail of a row: {words!r}")
@@ -144,12 +145,12 @@ def parse_row(line: str) -> Row:
     found = ROW.fullmatch(line)
     if not found:
         raise Mistake(f"no row of a table: {line!r}")
-    status, events, failures, gone, lost = (int(found[place]) for place in range(1, 6))
+    status, events, failures, gone, lost = (int(found[group]) for group in range(1, 6))
     return Row(status, events, failures, gone, lost, parse_detail(found[6]) if found[6] else None)
 
 
 def row_of(report: Report) -> Row:
-    """The row that a report's run has in a campaign's table (docs/CAMPAIGN.md says which lines make it)."""
+    """Returns the row that a campaign's table has for this run (docs/CAMPAIGN.md says from which lines)."""
     gone = sum(answer.startswith("gone") for thread in report.threads for _, answer in thread.answers)
     lines = [line for part in report.parts for line in part.losses if line.startswith("losses")]
     lost = sum(int(word) for line in lines for word in line.split(" ") if word.isdigit())
@@ -158,15 +159,15 @@ def row_of(report: Report) -> Row:
 
 
 def bursts_of(report: Report, part: int) -> dict[int, Event]:
-    """The bursts of a part by their numbers."""
+    """Returns the bursts of a part by number."""
     return {event.burst: event for event in report.parts[part].bursts()}
 
 
 @dataclass(frozen=True)
 class Judge:
-    """Judges faults of one part against the base's run. `bursts` has the part's bursts by their numbers. `is_open`
-    says that frames come from the wire, so that a row does not have all that can be lost. `hangs` has the first of the
-    part's own hangs in each burst."""
+    """Determines the outcomes of faults of one part, by comparison with the base's run. `bursts` has the part's bursts
+    by number. `is_open` says that frames arrive from the wire, so a row does not have all that can be lost. `hangs` has
+    the first of the part's own hangs in each burst."""
 
     base: Report
     part: int
@@ -175,34 +176,34 @@ class Judge:
     hangs: dict[int, int]
 
     def burst(self, fault: Fault) -> Event | None:
-        """The burst of the base's run that a fault names."""
+        """Returns the burst of the base's run that a fault names."""
         return self.bursts.get(fault["burst"])
 
     @functools.cached_property
     def base_row(self) -> Row:
-        """The row of the base's run."""
         return row_of(self.base)
 
     def reach(self, event: Event) -> int:
-        """At how many places of a burst of the base's run, from 0 on, a fault strikes: before each turn. Of a burst
-        that one of the part's own hangs ended the report does not have the turns: it says 4096. A guard's trap comes
-        behind all other faults of its place."""
+        """Returns how many instructions of a burst of the base's run, from the first one on, a fault can strike before.
+        If one of the part's own hangs ended the burst, the report does not have this number: it says 4096. A guard's
+        trap comes after all other faults before the same instruction."""
         trap = self.base.parts[self.part].guards.get(event.burst)
         if trap is not None:
             return trap.after + 1
         if event.cause == "trap hang" and event.burst in self.hangs:
             return self.hangs[event.burst]
-        return event.turns
+        return event.instructions
 
     def strikes(self, fault: Fault) -> bool:
-        """Up to a fault its run is the base's, so it strikes if the base's burst has that turn."""
+        """Returns whether a fault strikes. Up to the fault its run is the base's, so it strikes if the base's burst has
+        that instruction."""
         event = self.burst(fault)
         after: int = fault["after"]
         return event is not None and after < self.reach(event)
 
     def by_row(self, fault: Fault, row: Row) -> Outcome | None:
-        """The outcome, if the row has all of it. One without detail has it of a trap or a hang, since these stop the
-        driver and nothing else, of which nothing is lost. A row does not say what was lost."""
+        """Returns the outcome if the row is sufficient. A row without detail is sufficient for a trap or a hang, which
+        only stop the driver, if nothing is lost. A row does not say what was lost."""
         base = self.base_row
         if not self.strikes(fault):
             if row != base:
@@ -218,8 +219,8 @@ class Judge:
         return Outcome(GIVEN_UP if row.status else RECOVERED, cause)
 
     def by_detail(self, row: Row, detail: Detail) -> Outcome | None:
-        """The outcome by a row with detail, if it has all of it: of one part whose driver neither fails nor breaks its
-        contract without the fault, and of which nothing is lost."""
+        """Returns the outcome from a row with detail, if that is sufficient: there is one part, its driver neither
+        fails nor breaks its contract without the fault, and nothing is lost."""
         base = self.base_row
         if len(self.base.parts) > 1 or base.failures or base.status:
             return None
@@ -234,7 +235,7 @@ class Judge:
         return Outcome(NO_TRACE) if detail.same_answers else Outcome(CHANGED, "answers")
 
     def by_report(self, fault: Fault, report: Report) -> Outcome:
-        """The outcome by a member's report."""
+        """Returns the outcome from a member's report."""
         if not self.strikes(fault):
             return Outcome(MISSED)
         more = losses_of(report) - losses_of(self.base)
@@ -250,7 +251,7 @@ class Judge:
         return Outcome(CHANGED, changed, more) if changed else Outcome(NO_TRACE)
 
     def cause(self, fault: Fault, report: Report) -> str:
-        """Why the struck driver failed; a trap of a guard by the clause that it kept from being broken."""
+        """Returns why the struck driver failed. For a trap of a guard this is the clause that the trap protected."""
         event = self.failing(fault, report)
         if event is None:
             return ""
@@ -258,8 +259,8 @@ class Judge:
         return f"guard, clause {trap.clause}" if trap else plain_cause(event.cause or "")
 
     def failing(self, fault: Fault, report: Report) -> Event | None:
-        """The event at which the struck driver failed: that of the burst itself, or a later one if it failed more often
-        than in the base."""
+        """Returns the event at which the struck driver failed: the struck burst, or a later event if the driver failed
+        more often than in the base."""
         ours, theirs = report.parts[self.part], self.base.parts[self.part]
         struck = [event for event in ours.bursts() if event.burst == fault["burst"] and event.failed]
         base = self.burst(fault)
@@ -279,12 +280,13 @@ def clause_text(clause: int) -> str:
 
 
 def is_given_up(report: Report, base: Report) -> bool:
-    """Whether a part is given up that is not in the base's run."""
+    """Returns whether a part is given up that is not given up in the base's run."""
     return any(ours.given_up and not theirs.given_up for ours, theirs in zip(report.parts, base.parts))
 
 
 def changes(report: Report, base: Report) -> str:
-    """In what a run without a failure more differs from the base's: what was answered, lost, or left."""
+    """Names what differs from the base's run, for a run without an additional failure: what was answered, lost, or
+    left."""
     found: list[str] = []
     if [thread.answers for thread in report.threads] != [thread.answers for thread in base.threads]:
         found.append("answers")
@@ -297,19 +299,19 @@ def changes(report: Report, base: Report) -> str:
 
 
 def fresh_cause(report: Report, base: Report) -> str:
-    """The first cause of a failure that is none of the base's; empty if there is none."""
+    """Returns the first cause of a failure that the base's run does not have, empty if there is none."""
     known = causes_of(base)
     return next((plain_cause(cause) for cause in causes_of(report) if cause not in known), "")
 
 
 def causes_of(report: Report) -> list[str]:
-    """Why drivers failed, in the order of their parts and bursts."""
+    """Returns why drivers failed, in the order of their parts and bursts."""
     return [event.cause for part in report.parts for event in part.bursts() if event.cause]
 
 
 def own_outcome(report: Report, base: Report) -> Outcome:
-    """What becomes of a scenario under a schedule, with no fault more, against its run under its own schedule. A broken
-    contract counts even if the scenario breaks it under its own schedule too."""
+    """Returns the outcome of a scenario under a schedule, without an additional fault, compared with its run under its
+    own schedule. A broken contract counts even if the scenario also breaks it under its own schedule."""
     more = losses_of(report) - losses_of(base)
     for part in report.parts:
         if part.broken:
@@ -324,7 +326,7 @@ def own_outcome(report: Report, base: Report) -> Outcome:
 
 
 def plain_cause(cause: str) -> str:
-    """A cause without the address or the status, so that equal ones fold."""
+    """Removes the address or the status from a cause, so that equal causes fold."""
     return re.sub(r"^(trap (?:foreign_write|bad_read)|bad_reply) \d+$", r"\1", cause)
 
 
@@ -337,17 +339,17 @@ def judge_of(base: Report, scenario: Scenario, part: int) -> Judge:
     return Judge(base, part, bursts_of(base, part), is_open, hangs)
 
 
-def place_of(event: Event | None, base: Report, part: int, numbered: bool) -> str:
-    """What the driver does in a burst: whose call it works on, with the burst's number or, over several schedules,
-    without it."""
+def driver_work(event: Event | None, base: Report, part: int, numbered: bool) -> str:
+    """Describes what the driver does in a burst: whose call it works on, with the burst's number if `numbered`. Over
+    several schedules the number is left out, so that equal work folds."""
     if event is None:
         return "no such burst"
     events = base.parts[part].events
-    front = f"b{event.burst} " if numbered else ""
+    prefix = f"b{event.burst} " if numbered else ""
     if event.call == 0:
         stages = [each.text for each in events[: event.number] if each.kind == "stage"]
-        return f"{front}{stages[-1] if stages else 'boot'}"
-    asked = next(each for each in events if each.kind == "invoke" and each.call == event.call)
+        return f"{prefix}{stages[-1] if stages else 'boot'}"
+    invocation = next(each for each in events if each.kind == "invoke" and each.call == event.call)
     tries = [each.attempt for each in events[: event.number] if each.kind == "enter" and each.call == event.call]
     again = f" try {tries[-1]}" if tries and tries[-1] > 1 else ""
-    return f"{front}t{event.context} {short(asked.text)}{again}"
+    return f"{prefix}t{event.context} {short(invocation.text)}{again}"

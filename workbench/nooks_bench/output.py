@@ -1,4 +1,4 @@
-"""Standard output, whose failures have an exception of their own: the disk is full, or whoever reads it went away."""
+"""Standard output with a distinct exception for its failures: the disk is full, or the reader went away."""
 
 from __future__ import annotations
 
@@ -13,8 +13,6 @@ class Unwritten(Exception):
 
 
 class Output(io.TextIOBase):
-    """Writes to a stream."""
-
     def __init__(self, stream: TextIO) -> None:
         self.stream = stream
 
@@ -34,6 +32,6 @@ class Output(io.TextIOBase):
         return self.stream.isatty()
 
     def discard(self) -> None:
-        """Throws away what is still buffered, or Python reports the failure a second time at its end."""
+        """Discards what is still buffered; else Python reports the failure a second time when it exits."""
         with contextlib.suppress(OSError, ValueError):
             os.dup2(os.open(os.devnull, os.O_WRONLY), self.stream.fileno())

@@ -1,4 +1,4 @@
-"""page: a run as one HTML file, in which each event can be looked at."""
+"""page: a run as one HTML file, in which each event can be inspected."""
 
 from __future__ import annotations
 
@@ -27,20 +27,20 @@ DEFAULT_TRACES = 200
 
 
 def part_run(program: Program, scenario: Scenario, times: PartTimes, most: int) -> PartRun:
-    """A part of the run, with at most so many of its bursts traced."""
+    """Returns a part of the run, with at most `most` of its bursts traced."""
     part = times.part
-    driver = scenario["parts"][part.place]["driver"]
+    driver = scenario["parts"][part.index]["driver"]
     bursts = important(part, {strike.event for strike in times.struck()})
     if len(bursts) > most:
         about = f"{most:,} of {len(bursts):,} bursts are traced, first those that failed or were struck"
-        say(f"part {part.place} {part.name}: {about}; --traces N traces N")
+        say(f"part {part.index} {part.name}: {about}; --traces N traces N")
     traces = traces_of(program, scenario, part, bursts[:most])
     return PartRun(times, source_of(program, driver), driver.get("asm", ""), traces)
 
 
 def made_data(program: Program, scenario: Scenario, guard: bool, most: int, title: str,
               args: argparse.Namespace) -> dict[str, Any]:
-    """The data of the page of a scenario's run, with at most `most` bursts of each part traced."""
+    """Returns the page's data for a scenario's run, with at most `most` bursts of each part traced."""
     report = guarded(program, scenario) if guard else parse_report(program.report(scenario))
     times = times_of(report, strikes_of_report(report, scenario))
     shown = with_traps(scenario, report.guards)
@@ -53,7 +53,7 @@ def made_data(program: Program, scenario: Scenario, guard: bool, most: int, titl
 
 
 def data_of(args: argparse.Namespace) -> dict[str, Any]:
-    """The data of the page that the options ask for."""
+    """Returns the page's data for the options."""
     program = find_program(args.program)
     title = args.title or os.path.splitext(os.path.basename(args.file))[0]
     return made_data(program, read_scenario(args.file), args.guard, args.traces, title, args)

@@ -1,6 +1,8 @@
-"""The traced bursts of a part, as the page has them: turns with what they do, and the registers and words that change.
+"""The traced bursts of a part, as the page shows them: the instructions with their effects, and the registers and words
+that change.
 
-An item of a burst is a turn, or a fault between turns. Items are counted from 1; 0 is the burst's start."""
+An item of a burst is an executed instruction, or a fault between two of them. Items are numbered from 1; 0 is the
+burst's start."""
 
 from __future__ import annotations
 
@@ -17,15 +19,15 @@ from .report import Event, GuardTrap, Part
 from .scenario import Scenario
 from .state_rows import History
 from .trace import effect, head_lines, port_line, register_lines, since_reset, strike_text, traced
-from .trace_text import REG_FAULT, Struck, Trace, Turn
+from .trace_text import REG_FAULT, Executed, Struck, Trace
 from .words import cause_words, short
 
 WORD_FAULT = re.compile(r"(?:poke|code) (\d+) (\d+)")
 
 
 def important(part: Part, struck: set[int]) -> list[int]:
-    """The bursts of a part in the order in which they are traced: those that failed, broke the contract or were struck,
-    then all others from the first on."""
+    """Returns the bursts of a part in the order in which they are traced: first those that failed, broke the contract
+    or were struck, then all others."""
     broken = part.broken[0] if part.broken else 0
     bursts = part.bursts()
     first = [each for each in bursts if each.failed or each.number == broken or each.number in struck]
@@ -34,22 +36,22 @@ def important(part: Part, struck: set[int]) -> list[int]:
 
 
 def traces_of(program: Program, scenario: Scenario, part: Part, bursts: list[int]) -> dict[int, Trace]:
-    """The traces of some bursts of a part."""
-    return {burst: traced(program, scenario, part.place, burst) for burst in bursts}
+    return {burst: traced(program, scenario, part.index, burst) for burst in bursts}
 
 
 def source_rows(source: Source) -> dict[str, Any]:
-    """The driver's text: for each address the number of its line, its instruction and the names that stand there. Of an
-    image there are no lines, and number is 0."""
+    """Returns the driver's text: for each address the number of its line, its instruction and the names there. An image
+    has no lines; their number is 0."""
     return {
         str(address): [source.lines.get(address, (0, ""))[0], text, source.shown_names(address)]
         for address, text in source.words.items()
     }
 
 
-def item_of(item: Turn | Struck, source: Source, kind: str, trap: GuardTrap | None) -> list[Any]:
-    """A turn: number, address, what it does, and its instruction if that is not the one of the driver's text. A fault:
-    0, the turns before it, what it does, and true for the trap of a guard."""
+def item_of(item: Executed | Struck, source: Source, kind: str, trap: GuardTrap | None) -> list[Any]:
+    """Returns an item as the page shows it. For an instruction: its number, its address, what it did, and its text if
+    that differs from the driver's. For a fault: 0, the number of instructions before it, what it did, and true if it is
+    the trap of a guard."""
     if isinstance(item, Struck):
         if trap and (item.after, item.text) == (trap.after, "trap"):
             return [0, item.after, f"the guard stops the driver: {would_have(trap)}", True]
@@ -59,39 +61,39 @@ def item_of(item: Turn | Struck, source: Source, kind: str, trap: GuardTrap | No
 
 
 def changes(trace: Trace) -> Iterator[tuple[int, str, int, int]]:
-    """What each item changes: its place, `register` or `word`, which, and what it is then."""
-    for place, item in enumerate(trace.items, 1):
+    """Yields what each item changes: the item's number, `register` or `word`, which one, and its new value."""
+    for number, item in enumerate(trace.items, 1):
         if isinstance(item, Struck):
             if found := REG_FAULT.fullmatch(item.text):
-                yield place, "register", int(found[1]), int(found[2])
+                yield number, "register", int(found[1]), int(found[2])
             elif found := WORD_FAULT.fullmatch(item.text):
-                yield place, "word", int(found[1]), int(found[2])
+                yield number, "word", int(found[1]), int(found[2])
             continue
         if item.register:
-            yield place, "register", *item.register
+            yield number, "register", *item.register
         if item.stored:
-            yield place, "word", *item.stored
+            yield number, "word", *item.stored
 
 
 def changed_rows(trace: Trace) -> dict[str, Any]:
-    """The registers with their histories, and the words that change, each with what it belongs to."""
+    """Returns the registers with their histories, and the words that change with their histories and areas."""
     registers: dict[str, History] = {str(number): [(0, trace.registers.get(number, 0))] for number in range(REGISTERS)}
     words: dict[str, History] = {}
-    for place, what, which, now in changes(trace):
+    for item, what, which, now in changes(trace):
         if what == "register":
-            registers[str(which)].append((place, now))
+            registers[str(which)].append((item, now))
         else:
-            words.setdefault(str(which), []).append((place, now))
+            words.setdefault(str(which), []).append((item, now))
     return {"registers": registers, "words": words, "areas": {name: area(int(name)) for name in words}}
 
 
 def acting(trace: Trace) -> list[int]:
-    """For each act on the device the place of its turn."""
-    return [place for place, item in enumerate(trace.items, 1) if isinstance(item, Turn) for _ in item.acts]
+    """Returns, for each act on the device, the item number of its instruction."""
+    return [number for number, item in enumerate(trace.items, 1) if isinstance(item, Executed) for _ in item.acts]
 
 
-def deed_place(trace: Trace, deed: Deed | None, event: Event) -> int:
-    """The place of the turn that broke the contract, 0 if none of this burst did."""
+def deed_item(trace: Trace, deed: Deed | None, event: Event) -> int:
+    """Returns the item number of the instruction that broke the contract, 0 if no instruction of this burst did."""
     if deed is None or deed.event != event.number:
         return 0
     acts = acting(trace)
@@ -99,7 +101,7 @@ def deed_place(trace: Trace, deed: Deed | None, event: Event) -> int:
 
 
 def burst_rows(part: Part, event: Event, traces: dict[int, Trace], source: Source, deed: Deed | None) -> dict[str, Any]:
-    """All of one traced burst."""
+    """Returns all that the page shows of a traced burst."""
     trace = traces[event.burst]
     trap = part.guards.get(event.burst)
     before = since_reset(part, event)
@@ -111,5 +113,5 @@ def burst_rows(part: Part, event: Event, traces: dict[int, Trace], source: Sourc
         **changed_rows(trace),
         "end": short(event.text),
         "cause": "the guard stopped the driver" if trap else cause_words(event.cause) if event.cause else "",
-        "breaks": deed_place(trace, deed, event),
+        "breaks": deed_item(trace, deed, event),
     }

@@ -1,5 +1,5 @@
-"""What the page shows of a run, as JSON: for each part its events in words, its lanes, its state by rows, and the
-bursts that were traced. The page's script shows it and computes nothing of it."""
+"""What the page shows of a run, as JSON: for each part its events in words, its lanes, its state as rows, and its
+traced bursts. The page's script displays this and computes nothing."""
 
 from __future__ import annotations
 
@@ -12,7 +12,7 @@ from .event_words import Sentences
 from .explain_report import STATUSES, answered_line, contract_lines, failure_lines, recovery_lines
 from .folding import folded_lines, short_event
 from .guards import would_have
-from .held import held_lines
+from .held import resource_lines
 from .listing import Source
 from .page_bursts import burst_rows, source_rows
 from .ports import REGISTERS
@@ -24,7 +24,7 @@ from .trace_text import Trace
 from .unstruck import Strike
 from .words import counted, short
 
-# The letters of acts and of faults, with what they stand for.
+# The letters of acts and of faults, with their meanings.
 LETTERS = {
     "acts": {letter: name for name, letter in ACTS.items()} | {SEVERAL: "several kinds"},
     "faults": {letter: f"fault: {name}" for name, letter in STRIKES.items()} | {GUARD: "the guard stops the driver"},
@@ -33,7 +33,7 @@ LETTERS = {
 
 @dataclass(frozen=True)
 class PartRun:
-    """A part of a run: its timeline, the source of its driver and its text, and the traces of some of its bursts."""
+    """A part of a run: its timeline, the source and the text of its driver, and the traces of some of its bursts."""
 
     times: PartTimes
     source: Source
@@ -46,13 +46,13 @@ class PartRun:
 
 
 def call_lane(call: Call) -> list[Any]:
-    """A call as a lane shows it."""
+    """Returns a call as a lane shows it."""
     title = f"c{call.number} {short(call.text)}: {short(call.answer) or 'no answer'} ({call.by})"
-    return [call.number, call.invoked, call.answered, call.by, call.inside, call.cuts, title]
+    return [call.number, call.invoked, call.answered, call.by, call.inside, call.interruptions, title]
 
 
 def loaded_spans(part: Part) -> list[list[int]]:
-    """From which event to which the driver is there: from each load to a failure."""
+    """Returns the spans of events in which the driver is loaded: from each load to a failure."""
     spans: list[list[int]] = []
     begun = 0
     for event in part.events:
@@ -65,7 +65,7 @@ def loaded_spans(part: Part) -> list[list[int]]:
 
 
 def strike_marks(times: PartTimes) -> dict[str, list[str]]:
-    """The letters of the faults that struck, and of a guard that stopped the driver, by their events."""
+    """Returns the letters of the faults that struck, and of a guard that stopped the driver, by event."""
     stopped = [event.number for event in times.part.bursts() if event.burst in times.part.guards]
     marks: dict[str, list[str]] = {str(number): [GUARD] for number in stopped}
     for strike in times.struck():
@@ -74,7 +74,6 @@ def strike_marks(times: PartTimes) -> dict[str, list[str]]:
 
 
 def lane_rows(times: PartTimes) -> dict[str, Any]:
-    """The lanes of a part."""
     bursts = times.events("burst")
     acts = {event.number: [act_letter(event), len(event.acts), ", ".join(folded_lines(list(event.acts)))]
             for event in times.acting()}
@@ -95,8 +94,8 @@ def lane_rows(times: PartTimes) -> dict[str, Any]:
 
 
 def notes_of(part: Part, event: Event, deed: Deed | None, strikes: list[Strike]) -> list[list[str]]:
-    """What is said of an event beside its sentence, with its kind: faults that struck, a deed that a guard stopped, and
-    a broken contract."""
+    """Returns the notes on an event, each with its kind: faults that struck, a deed that a guard stopped, and a broken
+    contract."""
     notes = [["fault", f"A fault of the scenario struck here: {strike.text}."]
              for strike in strikes if strike.event == event.number]
     if trap := part.guards.get(event.burst):
@@ -107,7 +106,7 @@ def notes_of(part: Part, event: Event, deed: Deed | None, strikes: list[Strike])
 
 
 def event_rows(run: PartRun, states: list[PartState], deed: Deed | None) -> list[list[Any]]:
-    """Each event: its sentence, its line of the report, its burst or 0, and notes."""
+    """Returns for each event its sentence, its line of the report, its burst or 0, and its notes."""
     sentences = Sentences(run.times.names, run.part.guards)
     struck = {strike.event for strike in run.times.struck()}
     rows: list[list[Any]] = []
@@ -120,23 +119,22 @@ def event_rows(run: PartRun, states: list[PartState], deed: Deed | None) -> list
 
 
 def summary_lines(times: PartTimes) -> list[str]:
-    """What `explain` says of a part, without what the state at its last event shows."""
+    """Returns what `explain` prints of a part, without what the state after its last event shows."""
     part = times.part
     lines = [answered_line(times.calls), *(strike.line for strike in times.strikes)]
     lines += [*failure_lines(part), *recovery_lines(part)]
     if times.loss_text():
         lines.append(f"losses: {times.loss_text()}")
-    return [*lines, *held_lines(part), *contract_lines(part)]
+    return [*lines, *resource_lines(part), *contract_lines(part)]
 
 
 def part_rows(run: PartRun) -> dict[str, Any]:
-    """All of one part."""
     part = run.part
     states = states_of(part)
     deed = deed_of(part, states)
     traced = [event for event in part.bursts() if event.burst in run.traces]
     return {
-        "place": part.place,
+        "place": part.index,
         "name": part.name,
         "class": part.kind,
         "limit": part.limit,
@@ -156,7 +154,7 @@ def part_rows(run: PartRun) -> dict[str, Any]:
 
 
 def page_data(title: str, report: Report, runs: list[PartRun], made: list[str]) -> dict[str, Any]:
-    """What the page shows of a report. `made` says how it was made."""
+    """Returns what the page shows of a report. `made` says how the run was made."""
     return {
         "title": title,
         "status": f"status {report.status}: {STATUSES.get(report.status, 'unknown')}",

@@ -1,7 +1,7 @@
-"""The page as one text: its style, its script and its data stand in it, and it asks for nothing else.
+"""The page as one text that contains its style, its script and its data, and makes no requests.
 
-The script is a few modules that import each other. They are put one after the other into one module, without their
-imports and exports, so that the page needs no server to bring them."""
+The script is several modules that import each other. They are joined into one module, without their imports and
+exports, so that no server is needed to load them."""
 
 from __future__ import annotations
 
@@ -17,8 +17,8 @@ from .svg import BLACK, BLUE, GREEN, GREY, ORANGE, PALE, PURPLE, RED, SKY, WHITE
 
 FOLDER = os.path.join(os.path.dirname(os.path.abspath(__file__)), "page_files")
 
-# The modules of the script, each after those that it imports: those of each page, the one that begins a page by itself,
-# and those of the page that a server brings.
+# The modules of the script, each after those that it imports: those of every page, the one that starts a page of one
+# run, and those of the page that a server sends.
 SHARED = ("history.js", "elements.js", "events.js", "lanes.js", "state.js", "burst.js", "page.js")
 MODULES = (*SHARED, "start.js")
 SERVED_MODULES = (*SHARED, "ask.js", "editor.js", "fault.js", "map.js", "orders.js", "serve.js")
@@ -36,35 +36,34 @@ def file_text(name: str) -> str:
 
 
 def script_text(modules: tuple[str, ...] = MODULES) -> str:
-    """Some modules as one."""
+    """Joins some modules into one."""
     pieces = [EXPORT.sub("", IMPORT.sub("", file_text(name))).strip() for name in modules]
     return "\n\n".join(pieces) + "\n"
 
 
 def style_text(*files: str) -> str:
-    """The style, with the colours that timelines and maps have as well."""
+    """Returns the style, with the colours that timelines and maps use too."""
     colours = " ".join(f"--{name}: {value};" for name, value in COLOURS.items())
     return f":root {{ {colours} }}\n" + "\n".join(file_text(name) for name in ("page.css", *files))
 
 
 def data_text(data: Any) -> str:
-    """JSON that may stand in a page: nothing in it ends the element that it stands in, or begins a comment."""
+    """Returns JSON that is safe inside an element of a page: it neither ends the element nor begins a comment."""
     return json.dumps(data, ensure_ascii=False, separators=(",", ":")).replace("<", "\\u003c")
 
 
 def digest(text: str) -> str:
-    """How a policy names a text that may run."""
+    """Returns the hash by which a policy permits a script or a style."""
     return "'sha256-" + base64.b64encode(hashlib.sha256(text.encode()).digest()).decode() + "'"
 
 
 def policy_of(script: str, style: str, *more: str) -> str:
-    """A policy that lets no other script run, and no other address be asked for than what more it allows."""
+    """Returns a policy that permits no other script, and no requests but those that `more` permits."""
     rules = ["default-src 'none'", f"script-src {digest(script)}", f"style-src {digest(style)}", "img-src data:", *more]
     return "; ".join(rules)
 
 
 def html_text(title: str, policy: str, script: str, style: str, data: Any) -> str:
-    """A page with its script, its style and its data."""
     return "\n".join([
         "<!doctype html>",
         '<html lang="en">',
@@ -87,14 +86,14 @@ def html_text(title: str, policy: str, script: str, style: str, data: Any) -> st
 
 
 def page_text(data: dict[str, Any]) -> str:
-    """The whole page of a run. It asks for no address."""
+    """Returns the page of a run. It makes no requests."""
     script, style = f"\n{script_text()}", f"\n{style_text()}"
     return html_text(data["title"], policy_of(script, style), script, style, data)
 
 
 def served_page(about: dict[str, Any]) -> tuple[str, str]:
-    """The page that a server brings, which asks that server alone; and its policy as the server tells it, which may say
-    more than that in the page."""
+    """Returns the page that a server sends, which makes requests to this server only; and the policy for the response's
+    header, which can say more than the one in the page."""
     script, style = f"\n{script_text(SERVED_MODULES)}", f"\n{style_text('serve.css')}"
     policy = policy_of(script, style, "connect-src 'self'", "base-uri 'none'", "form-action 'none'")
     return html_text("nooks-bench serve", policy, script, style, about), f"{policy}; frame-ancestors 'none'"

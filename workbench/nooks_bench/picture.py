@@ -1,4 +1,4 @@
-"""What timelines and maps have in common as pictures: their size, their caption, and the file that they go to."""
+"""What timelines and maps have in common as pictures: their size, their caption and their output file."""
 
 from __future__ import annotations
 
@@ -19,17 +19,16 @@ from .output import Output, Unwritten
 from .program import Mistake, Program
 from .svg import GREY, Canvas
 
-# The size of most letters in a drawing that is not made larger.
+# The size of most letters in a drawing that is not scaled.
 LETTERS = 11
 FORMATS = ("svg", "pdf", "png")
 CHROMIUMS = ("chromium", "chromium-browser", "google-chrome")
 
-# Options that do not change the picture, and how many words each has; the caption leaves them out.
+# Options that do not change the picture, and how many words each takes; the caption omits them.
 SILENT = {"--quiet": 1, "--pdf": 1, "--jobs": 2, "--program": 2, "-o": 2, "--output": 2}
 
 
 def add_picture_options(parser: argparse.ArgumentParser, width_help: str, wrap_help: str) -> None:
-    """The options of a picture."""
     group = parser.add_argument_group("picture")
     group.add_argument("--width", type=int, metavar="N", help=width_help)
     group.add_argument("--wrap", type=int, metavar="N", help=wrap_help)
@@ -41,7 +40,7 @@ def add_picture_options(parser: argparse.ArgumentParser, width_help: str, wrap_h
 
 
 def check_picture_options(args: argparse.Namespace) -> None:
-    """Refuses sizes of which no picture can be made."""
+    """Refuses sizes for which no picture can be made."""
     if args.width is not None and not 1 <= args.width <= 100_000:
         raise Mistake("--width takes a number from 1 to 100000")
     if args.wrap is not None and args.wrap < 1:
@@ -56,51 +55,51 @@ def scale_of(args: argparse.Namespace) -> float:
 
 
 def room_of(args: argparse.Namespace, default: int) -> float:
-    """The width in the units of the drawing, before it is made larger."""
+    """Returns the width in the units of the drawing, before it is scaled."""
     return float(args.width or default) / scale_of(args)
 
 
-def caption_lines(args: argparse.Namespace, program: Program | None, of_what: str) -> list[str]:
-    """The caption of a picture: the command, the versions, and what it is drawn of."""
+def caption_lines(args: argparse.Namespace, program: Program | None, subject: str) -> list[str]:
+    """Returns the caption of a picture: the command, the versions, and what the picture shows."""
     if args.no_caption:
         return []
-    return [command_text(args), f"{version_of(program)}; {of_what}"]
+    return [command_text(args), f"{version_of(program)}; {subject}"]
 
 
 def command_text(args: argparse.Namespace) -> str:
-    """The command that made the picture, without the options that do not change it."""
+    """Returns the command that made the picture, without the options that do not change it."""
     words = list(getattr(args, "words", None) or [])
-    kept: list[str] = []
+    shown: list[str] = []
     while words:
         name = words[0].split("=")[0]
         if name in SILENT:
             words = words[1 if "=" in words[0] else SILENT[name] :]
         else:
-            kept.append(words.pop(0))
-    return shlex.join(["nooks-bench", *kept])
+            shown.append(words.pop(0))
+    return shlex.join(["nooks-bench", *shown])
 
 
 def hash_of(value: Any) -> str:
-    """The first digits of the SHA-256 of a text, or of a value as JSON with sorted keys."""
+    """Returns the first digits of the SHA-256 of a text, or of a value as JSON with sorted keys."""
     text = value if isinstance(value, str) else json.dumps(value, sort_keys=True, separators=(",", ":"))
     return hashlib.sha256(text.encode()).hexdigest()[:12]
 
 
 def version_of(program: Program | None) -> str:
-    """The versions of the workbench and, if there is one, of the program."""
+    """Returns the versions of the workbench and, if there is one, of the program."""
     version = program.version() if program else None
     return f"nooks-bench {__version__}" + (f", {version}" if version else "")
 
 
 def caption(canvas: Canvas, lines: list[str], room: float) -> None:
-    """Small lines below a drawing: how it was made, and of what."""
+    """Draws small lines below a drawing: how it was made, and what it shows."""
     y = canvas.height + 20
     for line in lines:
         y += canvas.lines(12, y, line, max(room, canvas.width) - 12, 8.5, GREY)
 
 
 def format_of(args: argparse.Namespace) -> str:
-    """The format that the options name."""
+    """Returns the format that the options select."""
     if not args.output:
         return "pdf" if args.pdf else "svg"
     ending = os.path.splitext(str(args.output))[1][1:].lower()
@@ -112,7 +111,7 @@ def format_of(args: argparse.Namespace) -> str:
 
 
 def put_picture(svg: str, args: argparse.Namespace) -> None:
-    """Writes a drawing to standard output or to the file that is named."""
+    """Writes a drawing to standard output, or to the file that the options name."""
     kind = format_of(args)
     made = svg.encode() if kind == "svg" else converted(svg, kind)
     if args.output:
@@ -128,7 +127,6 @@ def put_picture(svg: str, args: argparse.Namespace) -> None:
 
 
 def write_bytes(made: bytes) -> None:
-    """Writes bytes to standard output."""
     out: object = sys.stdout
     stream = out.stream if isinstance(out, Output) else sys.stdout
     try:
@@ -140,7 +138,7 @@ def write_bytes(made: bytes) -> None:
 
 
 def converted(svg: str, kind: str) -> bytes:
-    """The drawing in another format, by a converter of this machine."""
+    """Converts the drawing to another format, by a converter installed on this machine."""
     if found := shutil.which("rsvg-convert"):
         return output_of([found, "--format", kind], svg.encode())
     if library := cairosvg():
@@ -150,12 +148,12 @@ def converted(svg: str, kind: str) -> bytes:
     if chromium and kind == "pdf":
         return printed(chromium, svg)
     others = ", chromium" if kind == "pdf" else ""
-    wanted = f"librsvg2-bin (rsvg-convert){others} or the Python package cairosvg"
-    raise Mistake(f"nothing here makes a {kind.upper()} of an SVG: install {wanted}")
+    converters = f"librsvg2-bin (rsvg-convert){others} or the Python package cairosvg"
+    raise Mistake(f"nothing here makes a {kind.upper()} of an SVG: install {converters}")
 
 
 def cairosvg() -> Any:
-    """The Python package of that name, or None if it is not installed."""
+    """Returns the Python package of that name, None if it is not installed."""
     try:
         return importlib.import_module("cairosvg")
     except ImportError:
@@ -163,7 +161,7 @@ def cairosvg() -> Any:
 
 
 def output_of(words: list[str], given: bytes) -> bytes:
-    """What a converter writes to standard output."""
+    """Returns what a converter writes to standard output."""
     try:
         ended = subprocess.run(words, input=given, capture_output=True, check=False)
     except OSError as error:
@@ -175,7 +173,7 @@ def output_of(words: list[str], given: bytes) -> bytes:
 
 
 def printed(chromium: str, svg: str) -> bytes:
-    """A PDF of one page of the drawing's size, by a browser without a window."""
+    """Prints the drawing as a PDF of one page of its size, by a browser without a window."""
     with tempfile.TemporaryDirectory() as folder:
         page, made = (os.path.join(folder, name) for name in ("page.html", "made.pdf"))
         sides = [part.split('"')[1] for part in svg.split(">")[0].split(" ") if part.startswith(("width=", "height="))]

@@ -1,4 +1,4 @@
-"""What a sweep will run: for each base its own report and its faults."""
+"""What a sweep will run: the report and the faults of each base."""
 
 from __future__ import annotations
 
@@ -20,8 +20,8 @@ from .scenario import Fault, Scenario
 
 @dataclass(frozen=True)
 class Plan:
-    """A base with its report, the time that its run took, and the faults that it is swept with. Its faults have the
-    places from `first` on in the whole sweep. `guarded` is the report of its guarded run, if there is to be a guard."""
+    """A base with its report, the time that its run took, and the faults of its sweep. `first` is the index of its
+    first fault in the whole sweep. `guarded` is the report of its guarded run, if a guard was requested."""
 
     base: Scenario
     report: Report
@@ -32,7 +32,6 @@ class Plan:
 
 
 def plan_of(path: str, selection: Selection, guard: bool, base: Scenario) -> Plan:
-    """The plan of one base."""
     program = Program(path)
     begun = time.monotonic()
     text = program.report(base)
@@ -49,7 +48,7 @@ def plan_of(path: str, selection: Selection, guard: bool, base: Scenario) -> Pla
 def plans_of(
     path: str, selection: Selection, bases: Sequence[Scenario], jobs: int, guard: bool = False
 ) -> list[Plan]:
-    """The plans of all bases, in order."""
+    """Returns the plans of all bases, in order."""
     found = dict(each_done(functools.partial(plan_of, path, selection, guard), bases, jobs))
     plans: list[Plan] = []
     first = 0
@@ -60,7 +59,7 @@ def plans_of(
 
 
 def gaps(known: Sequence[Outcome | None], first: int, end: int) -> Iterator[tuple[int, int]]:
-    """The stretches between two places of which no outcome is known."""
+    """Yields the ranges of indices between `first` and `end` with no known outcome."""
     start = first
     while start < end:
         if known[start] is not None:
@@ -76,7 +75,8 @@ def gaps(known: Sequence[Outcome | None], first: int, end: int) -> Iterator[tupl
 def batches_of(
     plans: Sequence[Plan], part: int, known: Sequence[Outcome | None], size: int, asking: Asking = Asking()
 ) -> list[Batch]:
-    """The faults of which no outcome is known, in batches of at most a size, by their places in what is known."""
+    """Returns the faults with no known outcome, in batches of at most `size`. A batch has the index in `known` of its
+    first fault."""
     batches: list[Batch] = []
     for number, plan in enumerate(plans):
         for start, stop in gaps(known, plan.first, plan.first + len(plan.faults)):

@@ -1,8 +1,8 @@
 """Work in several processes of this machine, which end at once when the caller is interrupted.
 
-`concurrent.futures.ProcessPoolExecutor` waits at its exit for what its processes have begun, and before Python 3.14 has
-no way to end them; that of `multiprocessing.Pool` takes locks that a process may hold when it is ended. Here each
-process has a pipe of its own, and the caller waits for nothing but these."""
+`concurrent.futures.ProcessPoolExecutor` waits at its exit for the work that its processes have begun, and before Python
+3.14 cannot end them. `multiprocessing.Pool` takes locks that a process may hold when it is ended. Here each process has
+a separate pipe, and the caller waits for these pipes only."""
 
 from __future__ import annotations
 
@@ -22,7 +22,7 @@ Result = TypeVar("Result")
 
 
 def processors() -> int:
-    """How many processors this process may use."""
+    """Returns how many processors this process may use."""
     if hasattr(os, "sched_getaffinity"):
         return len(os.sched_getaffinity(0))
     return os.cpu_count() or 1
@@ -30,7 +30,7 @@ def processors() -> int:
 
 @contextlib.contextmanager
 def uninterrupted() -> Iterator[None]:
-    """Holds Ctrl-C back for as long as it takes, so that what belongs together is done whole."""
+    """Blocks Ctrl-C for the duration of its body, so that changes that belong together are all made."""
     before = signal.pthread_sigmask(signal.SIG_BLOCK, {signal.SIGINT})
     try:
         yield
@@ -44,9 +44,9 @@ def leave(*_: object) -> None:
 
 
 def serve(work: Callable[[Any], Any], tasks: Connection) -> None:
-    """A worker: does one task after the other, until there is none, or its parent is gone."""
-    # Ctrl-C reaches every process of the terminal: the parent ends the workers. A handler, unlike SIG_IGN, is not
-    # passed on to the program that a worker runs.
+    """Runs a worker: it does one task after the other, until there is none or its parent is gone."""
+    # Ctrl-C reaches every process of the terminal; the parent ends the workers. A handler, unlike SIG_IGN, is not
+    # inherited by the program that a worker runs.
     signal.signal(signal.SIGINT, lambda *_: None)
     signal.signal(signal.SIGTERM, leave)
     signal.pthread_sigmask(signal.SIG_UNBLOCK, {signal.SIGINT})
@@ -64,22 +64,22 @@ def serve(work: Callable[[Any], Any], tasks: Connection) -> None:
 
 
 class Workers:
-    """Some processes, each with the place of the item that it works on."""
+    """Processes, each with the index of the item that it works on."""
 
     def __init__(self, work: Callable[[Any], Any], number: int) -> None:
         self.pipes: dict[Connection, BaseProcess] = {}
         self.busy: dict[Connection, int] = {}
-        # A worker takes an interruption only when it has its handlers.
+        # A worker must not be interrupted before it has set its handlers.
         with uninterrupted():
             for _ in range(number):
-                ours, theirs = multiprocessing.Pipe()
-                process = multiprocessing.Process(target=serve, args=(work, theirs), daemon=True)
+                own_end, worker_end = multiprocessing.Pipe()
+                process = multiprocessing.Process(target=serve, args=(work, worker_end), daemon=True)
                 process.start()
-                theirs.close()
-                self.pipes[ours] = process
+                worker_end.close()
+                self.pipes[own_end] = process
 
     def give(self, items: Sequence[Any], first: int) -> int:
-        """Gives items to idle workers, from a place on; the place of the next one."""
+        """Gives items to idle workers, from index `first` on, and returns the index of the next one."""
         for pipe in self.pipes:
             if pipe not in self.busy and first < len(items):
                 try:
@@ -91,17 +91,17 @@ class Workers:
         return first
 
     def take(self) -> Iterator[tuple[int, Any]]:
-        """Waits for workers that are done; their places and results."""
+        """Waits for workers that are done, and yields their indices and results."""
         for ready in wait(list(self.busy)):
             assert isinstance(ready, Connection)
-            place = self.busy.pop(ready)
+            index = self.busy.pop(ready)
             try:
                 done, result = ready.recv()
             except (EOFError, OSError) as error:
                 raise Mistake("a process of this sweep ended before its work was done") from error
             if not done:
                 raise result
-            yield place, result
+            yield index, result
 
     def end(self) -> None:
         """Ends all processes, whatever they do."""
@@ -116,11 +116,11 @@ class Workers:
 
 
 def each_done(work: Callable[[Item], Result], items: Sequence[Item], jobs: int) -> Iterator[tuple[int, Result]]:
-    """Does work on each item, in as many processes as there are jobs; the place and the result of each as it is done. A
-    caller that stops to listen, by an interruption too, ends the work."""
+    """Does the work on each item in up to `jobs` processes, and yields the index and the result of each as it is done.
+    The work ends when the caller stops iterating, also by an interruption."""
     number = min(jobs, len(items))
     if number <= 1:
-        yield from ((place, work(item)) for place, item in enumerate(items))
+        yield from ((index, work(item)) for index, item in enumerate(items))
         return
     workers = Workers(work, number)
     try:

@@ -5,7 +5,7 @@ from __future__ import annotations
 from . import facts
 from .facts import CLASSES
 
-# For each class the ports that it has by direction, with what each is.
+# The ports of each class by direction, with what each is.
 PORTS: dict[str, dict[tuple[str, int], str]] = {
     "block": {
         ("OUT", 0): "command",
@@ -33,16 +33,16 @@ COMMANDS: dict[str, dict[int, str]] = {
     "sound": {},
 }
 
-# The registers of ports 8 to 11, with what they are after a reset.
+# The registers of ports 8 to 11, with their values after a reset.
 FIRST_REGISTER = facts.FIRST_REGISTER
 REGISTERS = {name: tuple((each.name, each.default) for each in kind.registers) for name, kind in CLASSES.items()}
 
-# The port whose word lasts until the next OUT or a reset, which makes it 0.
+# The port whose word lasts until the next OUT, or until a reset sets it to 0.
 LASTING: dict[str, int] = {"block": 1, "net": 1}
 
 
 def port_name(kind: str, direction: str, port: int) -> str:
-    """What a port is; empty if the device has no such port."""
+    """Returns what a port is, empty if the device has no such port."""
     registers = REGISTERS[kind]
     if FIRST_REGISTER <= port < FIRST_REGISTER + len(registers):
         number = port - FIRST_REGISTER
@@ -51,7 +51,7 @@ def port_name(kind: str, direction: str, port: int) -> str:
 
 
 def command_name(kind: str, port: int, word: int) -> str:
-    """What a word means at a port of commands; empty at any other port."""
+    """Returns what a word means at a port of commands, empty at any other port."""
     if PORTS[kind].get(("OUT", port)) != "command":
         return ""
     return COMMANDS[kind].get(word, "no command: nothing happens")

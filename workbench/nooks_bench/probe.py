@@ -1,5 +1,5 @@
-"""What happens at a turn of a burst, asked of the program by runs with faults of the workbench's own: which instruction
-comes next, and which turns are acts on the device."""
+"""Which instruction of a driver comes next in a burst, and which instructions are acts on the device. The program is
+asked by runs with additional faults."""
 
 from __future__ import annotations
 
@@ -12,8 +12,8 @@ from .program import Program
 from .report import Event, parse_report
 from .scenario import Fault, Scenario, with_faults
 
-# A word that stops the driver and names its own address: IN r0 from a port that no device has, the address added to
-# this number. So the trap `bad_port` names the address.
+# A word that stops the driver and names its address: IN r0 from a port that no device has, this number plus the
+# address. The trap `bad_port` then names the address.
 TELLTALE = OPCODES["IN"] << 24
 FIRST_PORT = 0x8000
 
@@ -30,18 +30,19 @@ class Probe:
 
     @functools.cached_property
     def listing(self) -> list[str]:
-        """The instructions of the part's driver by address."""
+        """The instructions of the part's driver, by address."""
         return self.program.listing(self.scenario["parts"][self.part]["driver"])
 
     def burst_under(self, burst: int, faults: list[Fault]) -> Event | None:
-        """The event of a burst in the run with some faults more."""
+        """Returns the event of a burst in the run with additional faults."""
         text = self.program.report(with_faults(self.scenario, self.part, faults))
         found = [event for event in parse_report(text).parts[self.part].bursts() if event.burst == burst]
         return found[0] if found else None
 
     def address(self, burst: int, after: int) -> int | None:
-        """The address of the instruction that a burst comes to after some turns; None if it is none of the image's.
-        Every word of the text is made one that names its address, as many at a time as there may be faults."""
+        """Returns the address that a burst reaches after `after` instructions, None if it is not one of the image's.
+        Every word of the text is replaced by one that names its address, as many at a time as a part may have
+        faults."""
         room = LIMITS["MOST_FAULTS"] - len(self.scenario["parts"][self.part].get("faults", []))
         if room <= 0:
             return None
@@ -49,9 +50,9 @@ class Probe:
         chunks.sort(key=lambda chunk: self.near not in chunk)
         for chunk in chunks:
             words = [{"address": at, "value": TELLTALE + FIRST_PORT + at} for at in chunk]
-            place = {"burst": burst, "after": after, "kind": "code"}
-            event = self.burst_under(burst, [{**place, **word} for word in words])
-            if event is None or event.turns != after + 1 or not (event.cause or "").startswith("trap bad_port "):
+            fault = {"burst": burst, "after": after, "kind": "code"}
+            event = self.burst_under(burst, [{**fault, **word} for word in words])
+            if event is None or event.instructions != after + 1 or not (event.cause or "").startswith("trap bad_port "):
                 continue
             port = int((event.cause or "").split(" ")[2])
             if port - FIRST_PORT in chunk:
@@ -60,22 +61,22 @@ class Probe:
         return None
 
     def instruction(self, burst: int, after: int) -> str:
-        """The address and the instruction there; empty if it is not known."""
+        """Returns the address and the instruction there, empty if it is not known."""
         address = self.address(burst, after)
         return "" if address is None else f"{address}: {self.listing[address]}"
 
     def acts_before(self, burst: int, after: int) -> int:
-        """How many acts a burst has made after some turns: those that a trap there leaves."""
+        """Returns how many acts a burst has made after `after` instructions: those that a run with a trap there has."""
         if (burst, after) not in self.counts:
             event = self.burst_under(burst, [{"burst": burst, "after": after, "kind": "trap"}])
             self.counts[burst, after] = len(event.acts) if event else 0
         return self.counts[burst, after]
 
-    def act_turns(self, event: Event) -> list[int]:
-        """For each act of a burst the turns before it, by halving."""
+    def instructions_before_acts(self, event: Event) -> list[int]:
+        """Returns for each act of a burst the number of instructions before it, by bisection."""
         found: list[int] = []
         for act in range(1, len(event.acts) + 1):
-            low, high = (found[-1] + 1 if found else 0), event.turns - 1
+            low, high = (found[-1] + 1 if found else 0), event.instructions - 1
             while low < high:
                 middle = (low + high) // 2
                 if self.acts_before(event.burst, middle + 1) >= act:
@@ -88,22 +89,22 @@ class Probe:
 
 @dataclass(frozen=True)
 class Piece:
-    """Some places, each a burst and the turns before it, with whom to ask about them."""
+    """Some points of a run, each a burst and the number of instructions before it, with the probe to ask about them."""
 
     probe: Probe
-    places: list[tuple[int, int]]
+    points: list[tuple[int, int]]
 
 
 def instructions_of(piece: Piece) -> list[str]:
-    return [piece.probe.instruction(*place) for place in piece.places]
+    return [piece.probe.instruction(*point) for point in piece.points]
 
 
-def instructions(probe: Probe, places: list[tuple[int, int]], jobs: int) -> dict[tuple[int, int], str]:
-    """The instructions at some places. They are asked for in pieces, so that one begins its search near where the one
-    before it ended."""
-    size = max(8, -(-len(places) // jobs))
-    pieces = [Piece(probe, places[at : at + size]) for at in range(0, len(places), size)]
+def instructions(probe: Probe, points: list[tuple[int, int]], jobs: int) -> dict[tuple[int, int], str]:
+    """Returns the instructions at some points. A piece has consecutive points, so that each search begins near the end
+    of the one before."""
+    size = max(8, -(-len(points) // jobs))
+    pieces = [Piece(probe, points[at : at + size]) for at in range(0, len(points), size)]
     found: dict[tuple[int, int], str] = {}
     for number, texts in each_done(instructions_of, pieces, jobs):
-        found.update(zip(pieces[number].places, texts))
+        found.update(zip(pieces[number].points, texts))
     return found

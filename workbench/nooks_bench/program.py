@@ -1,4 +1,4 @@
-"""The program `nooks`: what it is asked, and how it ends."""
+"""The program `nooks`: how it is run, and how it ends."""
 
 from __future__ import annotations
 
@@ -13,28 +13,28 @@ from .facts import STATUSES
 
 TOP = os.path.dirname(os.path.dirname(os.path.dirname(os.path.abspath(__file__))))
 
-# Where the repository's scripts leave the program that they build, from the one that is taken first.
+# Where the repository's scripts leave the program that they build, the preferred one first.
 BUILT = {
     "./nooks": os.path.join(TOP, "crates/nooks_main/out/nooks_main"),
     "./nooks-unproved": os.path.join(TOP, "out/unproved/nooks"),
     "./nooks-plain": os.path.join(TOP, "out/plain/nooks"),
 }
 
-# The statuses with which a whole report was written.
+# The statuses of a run with a complete report.
 REPORTED = (STATUSES["done"], STATUSES["given_up"], STATUSES["contract_broken"])
 REFUSED = STATUSES["bad_input"]
 USAGE = STATUSES["usage"]
 
-# How the line of a version begins: that of the program, and that of the plain one.
+# How a version line begins: that of the program, and that of the plain program.
 NAMES = ("nooks", "plain")
 
 
 class Mistake(Exception):
-    """Something that the caller of the workbench can mend; its text is written on one line."""
+    """An error that the caller of the workbench can fix; its text is written on one line."""
 
 
 class Refusal(Mistake):
-    """The program refused its input. The line is its own, `fault NUMBER NAME PATH`."""
+    """The program refused its input. The line is the program's, `fault NUMBER NAME PATH`."""
 
     def __init__(self, line: str) -> None:
         super().__init__(line)
@@ -55,12 +55,12 @@ class Ended:
 
 @dataclass(frozen=True)
 class Program:
-    """A built program by its path."""
+    """A built program, by its path."""
 
     path: str
 
     def ask(self, words: list[str], given: str) -> Ended:
-        """Runs it on words and a text; any way of ending is given back."""
+        """Runs the program on arguments and an input, and returns the result however it ends."""
         try:
             ended = subprocess.run([self.path, *words], input=given.encode(), capture_output=True, check=False)
         except OSError as error:
@@ -69,7 +69,8 @@ class Program:
         return Ended(ended.returncode, out, err)
 
     def lines(self, words: list[str], given: str) -> Iterator[str]:
-        """The lines that it writes, each as soon as it is there. A caller that stops to listen ends it."""
+        """Yields the lines that the program prints, each as soon as it is available. The program ends when the caller
+        stops iterating."""
         with unnamed_file() as file:
             file.write(given.encode())
             file.seek(0)
@@ -88,12 +89,12 @@ class Program:
             process.stdout.close()
 
     def unrun(self, error: OSError) -> Mistake:
-        """The mistake of a program that cannot be run."""
+        """Returns the mistake for a program that cannot be run."""
         return Mistake(f"{self.path} cannot be run ({error.strerror}); --program names another")
 
     def version(self) -> str | None:
-        """The program's own line of its version, None if it has none. A program that answers neither with such a line
-        nor with a usage line that names `run` is no nooks program."""
+        """Returns the line that the program prints as its version, None if it prints none. A program that answers
+        neither with such a line nor with a usage line that names `run` is not a nooks program."""
         ended = self.ask(["--version"], "")
         line = (ended.out or ended.err).strip().partition("\n")[0]
         if ended.status == 0 and line.startswith(NAMES):
@@ -103,7 +104,8 @@ class Program:
         raise Mistake(f"{self.path} is no nooks program: it does not answer --version as one does")
 
     def answer(self, words: list[str], given: str, statuses: tuple[int, ...] = (0,)) -> Ended:
-        """Runs it if only some statuses are an answer; any other is a mistake with what the program said."""
+        """Runs the program, and returns the result if its status is one of `statuses`. Any other status is a mistake
+        with what the program printed."""
         ended = self.ask(words, given)
         if ended.status == REFUSED:
             raise Refusal(ended.out.strip())
@@ -115,36 +117,36 @@ class Program:
         return ended
 
     def too_old(self, what: str) -> Mistake:
-        """The mistake of a program that does not have something yet."""
+        """Returns the mistake for a program that does not have something yet."""
         return Mistake(f"{self.path} is too old: it has no {what}; the program that ./nooks-plain builds has it")
 
     def has_campaign_key(self, key: str) -> bool:
-        """Whether a campaign may have a key: one that may not is what the program names first, and the base that is
-        missing comes after it."""
+        """Returns whether a campaign may have a key. The program reports a key that is not allowed first, before the
+        missing base."""
         return "unknown_key" not in self.ask(["campaign"], json.dumps({key: 1})).out
 
     def guard(self, scenario: Any) -> str:
-        """The traps of a guard, and the report of the guarded run."""
+        """Returns the traps of a guard, and the report of the guarded run."""
         return self.answer(["guard"], json.dumps(scenario), (STATUSES["done"], STATUSES["given_up"])).out
 
     def report(self, scenario: Any, threads: bool = False) -> str:
-        """The report of a scenario, of any status that has one."""
+        """Returns the report of a scenario, for any status that has one."""
         words = ["run", "threads"] if threads else ["run"]
         return self.answer(words, json.dumps(scenario), REPORTED).out
 
     def fault_of(self, text: str) -> str | None:
-        """The line of a scenario's first fault, or None if it is valid. Nothing is simulated: an empty report is
-        handed to `audit`, which reads the scenario first."""
+        """Returns the line of a scenario's first input error, None if it is valid. Nothing is simulated: `audit` gets
+        an empty report, and reads the scenario first."""
         size = len(text.encode())
         ended = self.ask(["audit"], f"{size}\n{text}")
         return ended.out.strip() if ended.status == REFUSED else None
 
     def fits(self, text: str, report: str) -> bool:
-        """Whether every line of a report fits the scenario, by the program's own audit."""
+        """Returns whether every line of a report fits the scenario, by the program's audit."""
         return self.ask(["audit"], f"{len(text.encode())}\n{text}{report}").status == 0
 
     def listing(self, driver: dict[str, Any]) -> list[str]:
-        """The text words of a scenario's driver as instructions, by address."""
+        """Returns the text words of a scenario's driver as instructions, by address."""
         image = json.dumps(driver["image"]) if "image" in driver else self.answer(["asm"], driver["asm"]).out
         lines = self.answer(["dis"], image).out.split("\n")
         words = len(json.loads(image)["text"])
@@ -153,14 +155,15 @@ class Program:
 
 
 def unnamed_file() -> IO[bytes]:
-    """A file without a name for an input, in memory where the system has such files."""
+    """Opens a file without a name for an input, in memory if the system has such files."""
     if hasattr(os, "memfd_create"):
         return os.fdopen(os.memfd_create("input"), "w+b")
     return tempfile.TemporaryFile()
 
 
 def installed() -> str | None:
-    """The program `nooks` on the path. The repository's script of that name, which may begin a proof, is not taken."""
+    """Returns the path of the installed `nooks`, None if there is none. The repository's script of that name is not
+    used, since it may begin a proof."""
     import shutil
 
     found = shutil.which("nooks")
@@ -171,7 +174,7 @@ def installed() -> str | None:
 
 
 def default_path() -> str:
-    """The program that is taken if none is named: the first that is built in the repository, or the installed one."""
+    """Returns the default program: the first that is built in the repository, or the installed one."""
     for path in BUILT.values():
         if os.access(path, os.X_OK):
             return path
@@ -184,8 +187,8 @@ def default_path() -> str:
 
 
 def find_program(named: str | None) -> Program:
-    """The program that is named, that of the environment's NOOKS, or the default one. It is asked whether it is a nooks
-    program."""
+    """Returns the program that is named, that of the environment's NOOKS, or the default one. Its version is asked for
+    to check that it is a nooks program."""
     path = named or os.environ.get("NOOKS") or default_path()
     if not os.access(path, os.X_OK) or os.path.isdir(path):
         raise Mistake(f"{path} is no program that can be run; --program or $NOOKS names another")

@@ -1,5 +1,5 @@
-"""How far a sweep is: one line on standard error that is written again and again; if that is no terminal, a line every
-ten seconds."""
+"""The progress of a sweep: one line on standard error that is written over, or a line every ten seconds if standard
+error is not a terminal."""
 
 from __future__ import annotations
 
@@ -14,8 +14,8 @@ WIDEST = 120
 
 @dataclass
 class Progress:
-    """`schedules` is the number of bases, if there are several; `about` comes before each line, and `noun` says what is
-    counted. Used as a context, it ends its line."""
+    """`schedules` is the number of bases, if there are several. `about` begins each line, and `noun` is what is
+    counted. As a context manager, it ends its line."""
 
     whole: int
     quiet: bool
@@ -35,7 +35,7 @@ class Progress:
         self.end()
 
     def take(self, results: Results, number: int) -> None:
-        """Takes the results of a batch, of the base with a number."""
+        """Counts the results of a batch, of base `number`."""
         self.done += len(results)
         for outcome in results:
             self.counts[outcome.name] = self.counts.get(outcome.name, 0) + 1
@@ -47,8 +47,8 @@ class Progress:
 
     def write(self, seconds: float, number: int) -> None:
         shown = ", ".join(f"{count} {name}" for name, count in sorted(self.counts.items(), key=lambda each: -each[1]))
-        front = self.about + (f"schedule {number + 1} of {self.schedules}: " if self.schedules > 1 else "")
-        line = f"{front}{self.done:,} of {self.whole:,} {self.noun} in {seconds:.1f} s: {shown}"
+        prefix = self.about + (f"schedule {number + 1} of {self.schedules}: " if self.schedules > 1 else "")
+        line = f"{prefix}{self.done:,} of {self.whole:,} {self.noun} in {seconds:.1f} s: {shown}"
         if is_terminal():
             write_error("\r\x1b[K" + line[:WIDEST])
             self.is_open = True
@@ -58,7 +58,7 @@ class Progress:
             self.end()
 
     def end(self) -> None:
-        """Ends the line, so that what comes next has its own."""
+        """Ends the line, so that the next output begins a new one."""
         if self.is_open:
             write_error("\n")
         self.is_open = False

@@ -1,4 +1,4 @@
-"""The line of a refused input, for people: what is wrong, where it stands in a file, and what is allowed there."""
+"""Explains a refused input: what is wrong, at which position in a file, and what is allowed there."""
 
 from __future__ import annotations
 
@@ -12,7 +12,7 @@ from .asm_faults import asm_fault, named_class
 from .facts import LIMITS
 from .program import Mistake
 from .schema import AnySchema, allowed, allowed_at, known_keys, of_key, schemas_at, unknown_keys
-from .source import Node, Place, deepest
+from .source import Node, Position, deepest
 
 LINE = re.compile(r"fault (\d+) (\w+)(?: (\d+) line (\d+))? (/\S*)")
 
@@ -25,7 +25,7 @@ MOST_FAULTS = LIMITS["MOST_FAULTS"]
 
 @dataclass(frozen=True)
 class FaultLine:
-    """`fault NUMBER NAME PATH`, of an assembler text with the fault's own number and line."""
+    """`fault NUMBER NAME PATH`; for an assembler text also the number of its error and the line in it."""
 
     number: int
     name: str
@@ -35,7 +35,7 @@ class FaultLine:
 
 
 def parse_fault(line: str) -> FaultLine:
-    """The parts of a line that begins with `fault`."""
+    """Parses a line that begins with `fault`."""
     found = LINE.fullmatch(line.strip())
     if not found:
         raise Mistake(f"no line of a refused input: {line.strip()!r}")
@@ -45,24 +45,24 @@ def parse_fault(line: str) -> FaultLine:
 
 @dataclass(frozen=True)
 class Explained:
-    """A fault at its place: what is wrong there, and what is allowed."""
+    """An input error at its position: what is wrong there, and what is allowed."""
 
-    place: Place
+    position: Position
     wrong: str
     allowed: str
 
     @property
     def about(self) -> str:
-        """All but the place."""
+        """The message without the position."""
         return self.wrong + (f"; expected {self.allowed}" if self.allowed else "")
 
     def __str__(self) -> str:
-        return f"{self.place}: {self.about}"
+        return f"{self.position}: {self.about}"
 
 
 @dataclass(frozen=True)
 class Refused:
-    """A fault with the input that has it."""
+    """An input error, with the input that has it."""
 
     fault: FaultLine
     whole: Node
@@ -78,7 +78,7 @@ class Refused:
 
     @property
     def scenario(self) -> dict[str, Any]:
-        """The scenario, or that of a campaign; empty if there is none."""
+        """The scenario, or the base of a campaign; empty if there is none."""
         value = self.value
         found = value.get("base", value) if isinstance(value, dict) else {}
         return found if isinstance(found, dict) else {}
@@ -89,52 +89,53 @@ class Refused:
 
     @property
     def node(self) -> Node:
-        """The deepest value of the path that is there."""
+        """The deepest value on the path that exists."""
         return deepest(self.whole, self.path)[0]
 
     @property
     def schemas(self) -> list[AnySchema]:
-        """What the schema says of the place."""
+        """The schemas of the value at the path."""
         return schemas_at(self.path, self.value)
 
     def above(self, steps: int) -> Any:
-        """The plain value some steps above the fault's place."""
-        kept = self.path.split("/")[:-steps]
-        return deepest(self.whole, "/".join(kept) or "/")[0].plain()
+        """Returns the plain value some steps above the end of the path."""
+        outer = self.path.split("/")[:-steps]
+        return deepest(self.whole, "/".join(outer) or "/")[0].plain()
 
-    def told(self, wrong: str, about: str | None = None, place: Place | None = None) -> Explained:
-        """What is wrong, after the path, with what is allowed there."""
+    def explained(self, wrong: str, about: str | None = None, position: Position | None = None) -> Explained:
+        """Returns the explanation: what is wrong, after the path, with what is allowed there."""
         name = f"{self.path}: " if self.path != "/" else ""
-        return Explained(place or self.node.place, name + wrong, allowed(self.schemas) if about is None else about)
+        allows = allowed(self.schemas) if about is None else about
+        return Explained(position or self.node.position, name + wrong, allows)
 
     @property
     def shown(self) -> str:
-        """The value at the place, cut if it is long."""
+        """The value at the path, shortened if it is long."""
         found = json.dumps(self.node.plain(), ensure_ascii=False)
         return found if len(found) <= 40 else found[:37] + "..."
 
 
 def explain_asm(fault: FaultLine, node: Node) -> Explained:
-    """A fault of an assembler text, at its line of the file if it comes from one."""
+    """Explains an error in an assembler text, at its line of the file if the text comes from one."""
     text = str(node.value)
     at = fault.asm_line or 1
     said = asm_fault(fault.asm_kind, at, text)
     lines = text.split("\n")
     quoted = f": {lines[at - 1].strip()!r}" if at <= len(lines) and lines[at - 1].strip() else ""
     if node.origin:
-        return Explained(Place(node.origin, at, said.column), said.wrong + quoted, "")
+        return Explained(Position(node.origin, at, said.column), said.wrong + quoted, "")
     where = f"line {at}, column {said.column} of this assembler text"
-    return Explained(node.place, f"{where}: {said.wrong}{quoted}", "")
+    return Explained(node.position, f"{where}: {said.wrong}{quoted}", "")
 
 
 def close_to(name: str, known: list[str]) -> str:
-    """A hint at a key that is nearly this one."""
+    """Returns a hint if a known name is spelled almost like this one."""
     close = difflib.get_close_matches(name, known, 1, 0.6)
     return f" (did you mean {json.dumps(close[0])}?)" if close else ""
 
 
 def kind_of_object(path: str, value: Any) -> str:
-    """What an object is, by the key that tells which keys it has."""
+    """Names what an object is, from the key that decides which keys it has."""
     of_kind = "a schedule of kind {}" if path.endswith("/schedule") else "a fault of kind {}"
     for key, text in (("class", "a part of class {}"), ("kind", of_kind), ("op", "the operation {}")):
         if isinstance(value, dict) and isinstance(value.get(key), str):
@@ -142,7 +143,7 @@ def kind_of_object(path: str, value: Any) -> str:
     return "this object"
 
 
-# The keys of a campaign of which just one is there, and those that the first programs with campaigns did not have.
+# The keys of a campaign of which it has exactly one, and those that the first programs with campaigns did not have.
 STRIKING = ("faults", "members", "every")
 NEWER_KEYS = ("members", "every", "guard", "detail")
 
@@ -152,143 +153,146 @@ def quoted_keys(keys: Sequence[str]) -> str:
 
 
 def campaign_key(refused: Refused) -> Explained:
-    """A key that the schema has: the second that says what strikes, or one that the program is too old for."""
+    """Explains a key that the schema has: a second one that says what strikes, or one that the program is too old
+    for."""
     named = refused.path[1:]
     if named in STRIKING:
         about = f"a campaign has one of {quoted_keys(STRIKING)}, and this one has more"
-        return Explained(refused.whole.keys.get(named, refused.whole.place), about, "")
+        return Explained(refused.whole.keys.get(named, refused.whole.position), about, "")
     newer = [key for key in NEWER_KEYS if refused.path == "/" and key in refused.node.value]
     if not newer:
-        return refused.told("unknown key")
+        return refused.explained("unknown key")
     about = f"the program is too old for {quoted_keys(newer)} in a campaign"
-    told = f"{about}; the program that ./nooks-plain builds has it"
-    return refused.told(told, "", refused.node.keys.get(newer[0]))
+    wrong = f"{about}; the program that ./nooks-plain builds has it"
+    return refused.explained(wrong, "", refused.node.keys.get(newer[0]))
 
 
 def unknown_key(refused: Refused) -> Explained:
-    """A key that may not stand there: since its version, its class or kind, or no kind has it."""
+    """Explains a key that is not allowed there: because of the version, the class or the kind, or because nothing has
+    it."""
     node = refused.node
     if isinstance(node.value, dict) and {"asm", "image"} <= set(node.value):
-        second = max((node.keys.get(key, node.place) for key in ("asm", "image")), key=lambda at: (at.line, at.column))
-        return refused.told('a driver has either "asm" or "image", and this one has both', "", second)
+        positions = (node.keys.get(key, node.position) for key in ("asm", "image"))
+        second = max(positions, key=lambda at: (at.line, at.column))
+        return refused.explained('a driver has either "asm" or "image", and this one has both', "", second)
     unknown = unknown_keys(refused.path, refused.value)
     if refused.is_campaign and refused.path.count("/") == 1:
         unknown = [key for key in unknown if key not in STRIKING]
     if not unknown and refused.is_campaign:
         return campaign_key(refused)
     if not unknown:
-        return refused.told("unknown key")
-    place = node.keys.get(unknown[0], node.place)
+        return refused.explained("unknown key")
+    position = node.keys.get(unknown[0], node.position)
     if unknown == ["bad"] and refused.scenario.get("version") == 1:
         about = '"bad" needs version 2, and this scenario has version 1: write "version": 2'
-        return refused.told(about, "", place)
+        return refused.explained(about, "", position)
     hint = close_to(unknown[0], known_keys(refused.schemas))
     keys = "unknown key" if len(unknown) == 1 else "unknown keys"
     of_object = kind_of_object(refused.path, node.plain())
-    return refused.told(f"{keys} {quoted_keys(unknown)} of {of_object}{hint}", None, place)
+    return refused.explained(f"{keys} {quoted_keys(unknown)} of {of_object}{hint}", None, position)
 
 
 def missing_key(refused: Refused) -> Explained:
-    """A key that must be there and is not."""
+    """Explains a required key that is missing."""
     node, missing = deepest(refused.whole, refused.path)
     above = refused.path.split("/")[:-1]
     if missing == ["image"] and above[-1:] == ["driver"]:
-        return Explained(node.place, 'a driver has either "asm" or "image", and this one has neither', "")
+        return Explained(node.position, 'a driver has either "asm" or "image", and this one has neither', "")
     if refused.is_campaign and refused.path == "/faults":
-        return Explained(node.place, f"a campaign has one of {quoted_keys(STRIKING)}, and this one has none", "")
+        return Explained(node.position, f"a campaign has one of {quoted_keys(STRIKING)}, and this one has none", "")
     about = allowed_at(refused.path, refused.value)
     named = missing[0] if missing else refused.path
-    return Explained(node.place, f"missing key {json.dumps(named)}", about)
+    return Explained(node.position, f"missing key {json.dumps(named)}", about)
 
 
 def wrong_kind(refused: Refused) -> Explained:
-    """No value of the kind that must stand there; or a text that is none of the names, or no name at all."""
+    """Explains a value of the wrong kind, or a text that is none of the names or no name at all."""
     value = refused.node.plain()
     if isinstance(value, str) and of_key(refused.schemas, "enum"):
         names = [each for each in of_key(refused.schemas, "enum") if isinstance(each, str)]
-        return refused.told(f"unknown name {refused.shown}{close_to(value, names)}")
+        return refused.explained(f"unknown name {refused.shown}{close_to(value, names)}")
     if isinstance(value, str) and of_key(refused.schemas, "pattern"):
-        return refused.told(f"{refused.shown} is not a valid name")
-    return refused.told(f"wrong kind of value: {refused.shown}")
+        return refused.explained(f"{refused.shown} is not a valid name")
+    return refused.explained(f"wrong kind of value: {refused.shown}")
 
 
-def places(count: int, of: str) -> str:
-    """The places of a list of this length."""
+def index_range(count: int, of: str) -> str:
+    """Names the indices of a list of this length."""
     listed = "0" if count == 1 else f"0 to {count - 1}"
     return f"{listed}, since there {'is' if count == 1 else 'are'} {count} {of}{'' if count == 1 else 's'}"
 
 
 def number_range(refused: Refused) -> Explained:
-    """A number out of its range, which another value may set; or a list with too few items."""
+    """Explains a number out of its range, which may depend on another value; or a list with too few items."""
     value = refused.node.plain()
     if isinstance(value, list):
-        return refused.told(f"the list is too short: {len(value)} items")
+        return refused.explained(f"the list is too short: {len(value)} items")
     steps = refused.path.split("/")
     about = None
     parts = refused.scenario.get("parts")
     if steps[-1] == "part" and isinstance(parts, list) and parts:
-        about = places(len(parts), "part")
+        about = index_range(len(parts), "part")
     if steps[-1] == "block" and "bad" in steps:
-        about = places(refused.above(3)["blocks"], "block")
-    return refused.told(f"{refused.shown} is out of range", about)
+        about = index_range(refused.above(3)["blocks"], "block")
+    return refused.explained(f"{refused.shown} is out of range", about)
 
 
 def too_many(refused: Refused) -> Explained:
-    """An input with too many bytes, or a list that is too long."""
+    """Explains an input with too many bytes, or a list that is too long."""
     if refused.path == "/":
         size = f"{refused.whole.size:,} bytes" if refused.whole.size is not None else "too many bytes"
-        return Explained(refused.whole.place, f"the input has {size}; at most {MOST_BYTES:,} are read", "")
+        return Explained(refused.whole.position, f"the input has {size}; at most {MOST_BYTES:,} are read", "")
     value = refused.node.plain()
     steps = refused.path.split("/")[1:]
-    # Where a list is not too long by itself, a campaign's base asks for less.
+    # If the list itself is not too long, the limit is that of a campaign's base.
     if steps[-1:] == ["threads"] and isinstance(value, list) and len(value) <= MOST_THREADS:
         count = sum(len(thread.get("ops", [])) for thread in value)
-        return refused.told(
+        return refused.explained(
             f"the threads have {count} operations together; a campaign's base has at most {MOST_MEMBER_OPS}", ""
         )
     if "parts" in steps and steps[-1] == "faults" and isinstance(value, list) and len(value) <= MOST_FAULTS:
         return no_room(refused, len(value))
-    return refused.told(f"the list is too long: {len(value):,} items")
+    return refused.explained(f"the list is too long: {len(value):,} items")
 
 
 def no_room(refused: Refused, own: int) -> Explained:
-    """The faults of a part are not too many, but with those of a member and the traps of a guard they are."""
+    """Explains faults of a part that are too many only together with those of a member and the traps of a guard."""
     asked, part = refused.value, refused.above(1)
     counts = [f"{own} of its own"]
     if refused.is_campaign and str(asked["part"]) == refused.path.split("/")[-2]:
         counts.append(f"{max(map(len, asked.get('members', [[None]])))} of a member")
     if asked.get("guard", not refused.is_campaign):
         counts.append(f"up to {part.get('limit', 0) + 1} traps of a guard")
-    return refused.told(f"a part has at most {MOST_FAULTS} faults, and this one has {', '.join(counts)}", "")
+    return refused.explained(f"a part has at most {MOST_FAULTS} faults, and this one has {', '.join(counts)}", "")
 
 
 def bad_image(refused: Refused) -> Explained:
-    """A driver of another class than its part, or a word of an image that is none."""
+    """Explains a driver of another class than its part, or a word of an image that is not a word."""
     driver = refused.node.plain()
     if not isinstance(driver, dict):
-        return refused.told(f"{refused.shown} is not a word of an image")
+        return refused.explained(f"{refused.shown} is not a word of an image")
     part = refused.above(1)
     own = driver["image"].get("class") if isinstance(driver.get("image"), dict) else named_class(str(driver.get("asm")))
     kind = part.get("class") if isinstance(part, dict) else None
-    return refused.told(f"the driver is of class {own}, the part of class {kind}", "")
+    return refused.explained(f"the driver is of class {own}, the part of class {kind}", "")
 
 
 def bad_class(refused: Refused) -> Explained:
-    """A text that is no class."""
+    """Explains a text that is not a class."""
     names = [each for each in of_key(refused.schemas, "enum") or [] if isinstance(each, str)]
-    return refused.told(f"{refused.shown} is not a class{close_to(str(refused.node.value), names)}")
+    return refused.explained(f"{refused.shown} is not a class{close_to(str(refused.node.value), names)}")
 
 
 def double_name(refused: Refused) -> Explained:
-    """A name that is there already."""
+    """Explains a name that is already used."""
     kind = "thread" if "threads" in refused.path.split("/") else "part"
-    return refused.told(f"duplicate name {refused.shown}: an earlier {kind} has it", "")
+    return refused.explained(f"duplicate name {refused.shown}: an earlier {kind} has it", "")
 
 
 def not_json(refused: Refused) -> Explained:
-    """What the workbench's own reader takes, and the program does not."""
+    """Explains what the workbench's own reader accepts and the program does not."""
     about = "the program reads exact JSON: no comment, no comma after a last item, no deeper nesting than 127"
-    return refused.told(about, "")
+    return refused.explained(about, "")
 
 
 FINDERS = {
@@ -305,10 +309,10 @@ FINDERS = {
 
 
 def explain_fault(fault: FaultLine, whole: Node) -> Explained:
-    """The fault of an input, a scenario, a campaign or an image, whose value is known with its places."""
+    """Explains an input error of a scenario, a campaign or an image. `whole` is its value with positions."""
     refused = Refused(fault, whole)
     if fault.name == "bad_asm":
         return explain_asm(fault, refused.node)
     if fault.name not in FINDERS:
-        return refused.told(f"{fault.name}: {refused.shown}")
+        return refused.explained(f"{fault.name}: {refused.shown}")
     return FINDERS[fault.name](refused)

@@ -1,4 +1,4 @@
-"""replay: from a report, the listed schedule under which `run` gives the same journals and answers. A run by threads
+"""replay: from a report, the listed schedule under which `run` gives the same journals and answers. A run with threads
 has one, since it is a scheduled run (docs/PROOFS.md, "One run of several parts")."""
 
 from __future__ import annotations
@@ -25,11 +25,11 @@ asked for both: that the report is one of the scenario's, and that the new one g
 
 
 class NoOrder(Mistake):
-    """The journals of a report have no common order. It names events that wait for one another."""
+    """The journals of a report have no common order. The text names events that wait for each other."""
 
 
 def actor_of(event: Event, part: int, threads: int) -> int:
-    """The number of whose step an event is (docs/SCENARIO.md, schedules)."""
+    """Returns the number of the actor whose step an event is (docs/SCENARIO.md, schedules)."""
     if event.kind == "arrive":
         return threads + 2 * part + 1
     if event.kind == "stage" or event.context == SHADOW:
@@ -39,7 +39,7 @@ def actor_of(event: Event, part: int, threads: int) -> int:
 
 @dataclass(frozen=True)
 class Wait:
-    """An invocation, and the event with the answer that it waits for: that of the operation before in its thread's
+    """An invocation, and the event with the answer that it waits for: that of the previous operation in its thread's
     script."""
 
     event: int
@@ -60,7 +60,7 @@ class Wait:
 
 
 def cycle_text(waits: list[Wait]) -> str:
-    """Invocations that wait for one another, in words: each for an answer that does not come before the next one, the
+    """Describes invocations that wait for each other: each for an answer that does not come before the next one, the
     last for one that does not come before the first. An operation that is answered at once has one event for both."""
     start = next(at for at, wait in enumerate(waits) if waits[at - 1].answer != wait.event)
     first, *rest = waits[start:] + waits[:start]
@@ -75,8 +75,8 @@ def cycle_text(waits: list[Wait]) -> str:
 
 @dataclass
 class Merge:
-    """Merges the journals of the parts into one order of steps: a thread invokes an operation only when the one before,
-    on whatever part, is answered."""
+    """Merges the journals of the parts into one order of steps. A thread invokes an operation only after its previous
+    one, on whatever part, is answered."""
 
     report: Report
     picks: list[int] = field(default_factory=list)
@@ -87,7 +87,7 @@ class Merge:
         self.calls = calls_of_threads(self.report)
 
     def may_invoke(self, event: Event, part: int) -> bool:
-        """Whether a thread's next operation is this one, and the one before is answered by now."""
+        """Returns whether this is a thread's next operation, and its previous one is answered by now."""
         calls, next_one = self.calls[event.context], self.begun[event.context]
         if next_one >= len(calls) or (calls[next_one].part, calls[next_one].number) != (part, event.call):
             return False
@@ -95,7 +95,7 @@ class Merge:
         return before is None or 0 < before.answered <= self.done[before.part]
 
     def advance(self, part: int) -> bool:
-        """Takes as many events of a part as may come next; whether there was one."""
+        """Takes as many events of a part as may come next, and returns whether there was one."""
         events = self.report.parts[part].events
         start = self.done[part]
         while self.done[part] < len(events):
@@ -109,7 +109,7 @@ class Merge:
         return self.done[part] > start
 
     def whole(self) -> list[int]:
-        """The picks of all events."""
+        """Returns the picks of all events."""
         while any([self.advance(part) for part in range(len(self.done))]):
             pass
         left = [index for index, part in enumerate(self.report.parts) if self.done[index] < len(part.events)]
@@ -118,7 +118,7 @@ class Merge:
         return self.picks
 
     def wait_of(self, part: int) -> Wait:
-        """What the next event of a part waits for, if it may not come next."""
+        """Returns what the next event of a part waits for, if it may not come next."""
         event = self.report.parts[part].event(self.done[part] + 1)
         calls = self.calls[event.context]
         before = next(at for at, call in enumerate(calls[1:]) if (call.part, call.number) == (part, event.call))
@@ -127,7 +127,7 @@ class Merge:
         return Wait(event.number, part, event.context, before + 2, calls[before].answered, calls[before].part)
 
     def cycle(self, part: int) -> list[Wait]:
-        """Invocations that wait for one another, found from a part of which events are left: the answer that its next
+        """Returns invocations that wait for each other, found from a part with events left: the answer that its next
         one waits for comes after the next one of another such part."""
         waits: dict[int, Wait] = {}
         while part not in waits:
@@ -137,12 +137,13 @@ class Merge:
 
 
 def journals_and_answers(report: str) -> list[str]:
-    """A report without the lines of its listeners."""
+    """Returns the lines of a report without those of its listeners."""
     return [line for line in report.split("\n") if not line.startswith("tap ")]
 
 
 def no_order_of(report: str) -> NoOrder | None:
-    """That the journals of a report have no common order, if they have none. It may be no report at all."""
+    """Returns why the journals of a report have no common order, None if they have one. The text may not be a
+    report."""
     try:
         Merge(parse_report(report)).whole()
     except NoOrder as found:
@@ -153,7 +154,7 @@ def no_order_of(report: str) -> NoOrder | None:
 
 
 def replayed(program: Program, scenario: Scenario, report: str) -> Scenario:
-    """The scenario with the schedule of a report; a mistake if there is none."""
+    """Returns the scenario with the schedule of a report; if there is none, this is a mistake."""
     text = json.dumps(scenario)
     refused = program.fault_of(text)
     if refused:

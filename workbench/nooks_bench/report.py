@@ -1,5 +1,5 @@
-"""A report of the program, line by line (docs/REPORT.md; the grammar is in docs/AUDIT.md), and the lines that `guard`
-writes before one (docs/GUARD.md)."""
+"""Parses a report of the program (docs/REPORT.md; the grammar is in docs/AUDIT.md), and the lines that `guard` prints
+before one (docs/GUARD.md)."""
 
 from __future__ import annotations
 
@@ -27,7 +27,7 @@ GUARD = re.compile(r"guard (\d+) burst (\d+) after (\d+) clause (\d+)")
 
 @dataclass(frozen=True)
 class Event:
-    """One event of a part. What a kind does not have is 0, empty or None."""
+    """One event of a part. A field that its kind does not have is 0, empty or None."""
 
     number: int
     kind: str
@@ -38,7 +38,7 @@ class Event:
     text: str = ""
     answer: str | None = None
     burst: int = 0
-    turns: int = 0
+    instructions: int = 0
     acts: tuple[str, ...] = ()
     cause: str | None = None
     replies: tuple[tuple[int, str], ...] = ()
@@ -50,8 +50,8 @@ class Event:
 
 @dataclass(frozen=True)
 class GuardTrap:
-    """A trap of a guard: so many turns of a burst come before the deed that would have broken a clause. `deed` has the
-    deed in the words of a report, if the program was asked."""
+    """A trap of a guard: `after` instructions of a burst come before the deed that would have broken a clause. `deed`
+    has the deed in the words of a report, if the program was asked for it."""
 
     part: int
     burst: int
@@ -63,9 +63,9 @@ class GuardTrap:
 @dataclass
 class Part:
     """A part's section. `left` has the lines of objects and of the device, `losses` those of losses and frames, and
-    `guards` the traps of a guard, by their bursts."""
+    `guards` the traps of a guard by burst."""
 
-    place: int
+    index: int
     name: str
     kind: str
     limit: int
@@ -92,14 +92,14 @@ class Part:
 class Thread:
     """A thread's section: the part and the answer of each operation."""
 
-    place: int
+    index: int
     name: str
     answers: list[tuple[int, str]] = field(default_factory=list)
 
 
 @dataclass
 class Report:
-    """A report. `guards` has the traps of a guard in the order of the run, if it is one of a guarded run."""
+    """A report. If it is one of a guarded run, `guards` has the traps of the guard in the order of the run."""
 
     guards: list[GuardTrap] = field(default_factory=list)
     parts: list[Part] = field(default_factory=list)
@@ -109,7 +109,7 @@ class Report:
 
 
 def parse_event(line: str) -> Event | None:
-    """The event of a line, or None if it is none."""
+    """Parses the line of an event, None if it is another line."""
     found = EVENT.fullmatch(line)
     if not found:
         return None
@@ -117,11 +117,11 @@ def parse_event(line: str) -> Event | None:
     if kind == "invoke" and (match := INVOKE.fullmatch(rest)):
         return Event(number, kind, line, call=int(match[1]), context=int(match[2]), text=match[3], answer=match[4])
     if kind == "enter" and (match := ENTER.fullmatch(rest)):
-        call, context, attempt = (int(match[place]) for place in (1, 2, 3))
+        call, context, attempt = (int(match[group]) for group in (1, 2, 3))
         return Event(number, kind, line, call=call, context=context, attempt=attempt, answer=match[4])
     if kind == "burst" and (match := BURST.fullmatch(rest)):
         end, *acts = match[5].split(" | ")
-        x, c, b, n = (int(match[place]) for place in (1, 2, 3, 4))
+        x, c, b, n = (int(match[group]) for group in (1, 2, 3, 4))
         return Event(number, kind, line, c, x, 0, end, match[6], b, n, tuple(acts), match[7])
     if kind == "stage" and (match := STAGE.fullmatch(rest)):
         replies = tuple((int(call), answer) for call, answer in REPLY.findall(match[2]))
@@ -132,13 +132,13 @@ def parse_event(line: str) -> Event | None:
 
 
 class Lines:
-    """Takes a report's lines, one after the other."""
+    """Builds a report from its lines."""
 
     def __init__(self) -> None:
         self.report = Report()
 
     def take(self, line: str) -> None:
-        """Puts a line where it belongs; one that is none of a report is a mistake."""
+        """Adds a line to its section. A line that no report has is a mistake."""
         words = line.split(" ")
         if found := PART.fullmatch(line):
             self.report.parts.append(self.part(int(found[1]), found[2], found[3], int(found[4])))
@@ -158,9 +158,9 @@ class Lines:
         else:
             raise Mistake(f"no line of a report: {line[:80]!r}")
 
-    def part(self, place: int, name: str, kind: str, limit: int) -> Part:
-        guards = {trap.burst: trap for trap in self.report.guards if trap.part == place}
-        return Part(place, name, kind, limit, guards=guards)
+    def part(self, index: int, name: str, kind: str, limit: int) -> Part:
+        guards = {trap.burst: trap for trap in self.report.guards if trap.part == index}
+        return Part(index, name, kind, limit, guards=guards)
 
     def answer(self, line: str) -> None:
         found = ANSWER.fullmatch(line)
@@ -188,7 +188,7 @@ class Lines:
 
 
 def parse_report(text: str) -> Report:
-    """The report of a text; a mistake if it is none."""
+    """Parses a report. A text that is not one is a mistake."""
     lines = Lines()
     for line in text.split("\n"):
         if line:

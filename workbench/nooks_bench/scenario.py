@@ -1,4 +1,4 @@
-"""Scenarios as values: reading them, and copies with a fault, a schedule or a limit more."""
+"""Scenarios as values: reading them, and copies with more faults, another schedule or another limit."""
 
 from __future__ import annotations
 
@@ -14,7 +14,7 @@ Fault = dict[str, Any]
 
 
 def read_scenario(file: str) -> Scenario:
-    """The scenario of a file, which is exact JSON or as `build` takes it."""
+    """Reads the scenario of a file, which is exact JSON or as `build` takes it."""
     value = built(file).plain()
     if not isinstance(value, dict) or not isinstance(value.get("parts"), list):
         is_campaign = isinstance(value, dict) and "base" in value
@@ -23,7 +23,7 @@ def read_scenario(file: str) -> Scenario:
 
 
 def with_faults(scenario: Scenario, part: int, faults: list[Fault]) -> Scenario:
-    """The scenario with faults after a part's own."""
+    """Returns the scenario with faults added after a part's own."""
     struck = dict(scenario["parts"][part])
     struck["faults"] = [*struck.get("faults", []), *faults]
     parts = list(scenario["parts"])
@@ -32,7 +32,7 @@ def with_faults(scenario: Scenario, part: int, faults: list[Fault]) -> Scenario:
 
 
 def with_traps(scenario: Scenario, traps: Iterable[GuardTrap]) -> Scenario:
-    """The scenario with the traps of a guard after its parts' own faults."""
+    """Returns the scenario with the traps of a guard added after its parts' own faults."""
     for trap in traps:
         fault = {"burst": trap.burst, "after": trap.after, "kind": "trap"}
         scenario = with_faults(scenario, trap.part, [fault])
@@ -44,12 +44,12 @@ def with_schedule(scenario: Scenario, schedule: dict[str, Any]) -> Scenario:
 
 
 def with_limit(scenario: Scenario, part: int, limit: int) -> Scenario:
-    """The scenario in which a part is recovered up to that many times."""
+    """Returns the scenario in which a part is recovered up to `limit` times."""
     changed = copy.deepcopy(scenario)
     changed["parts"][part]["limit"] = limit
     return changed
 
 
 def operations(scenario: Scenario) -> int:
-    """How many operations all threads have together."""
+    """Returns how many operations all threads have together."""
     return sum(len(thread["ops"]) for thread in scenario["threads"])

@@ -29,8 +29,8 @@ from .ways import Ways
 
 MOST_TRIES = 1_000_000
 
-# What --fail-on takes, each worse than the one before: orders that were not followed, and the statuses of outcomes.
-CUT, GIVEN, BREAKS = "cut", "given-up", "broken"
+# The values of --fail-on, each worse than the one before: orders that were not followed, and the statuses of outcomes.
+INCOMPLETE, GIVEN, BREAKS = "cut", "given-up", "broken"
 FAILURES = {GIVEN: STATUSES["given_up"], BREAKS: STATUSES["contract_broken"]}
 
 ABOUT = """Follows every order in which the steps of the scenario FILE can happen, whatever its own schedule is, and
@@ -40,32 +40,32 @@ from an actor that could go on, then those with one, and so on. That proves noth
 
 
 def end_by_path(path: str, scenario: Scenario, found: Found) -> End:
-    """An outcome from nothing but a path, as a worker makes it."""
+    """Returns an outcome given only a path, as a worker does."""
     return end_of(Program(path), scenario, found)
 
 
 def ends_of(program: Program, scenario: Scenario, found: list[Found], jobs: int) -> list[End]:
-    """The outcomes of an exploration, in the order of its rows."""
+    """Returns the outcomes of an exploration, in the order of its rows."""
     work = functools.partial(end_by_path, program.path, scenario)
     ends = dict(each_done(work, found, jobs))
-    return [ends[place] for place in range(len(found))]
+    return [ends[index] for index in range(len(found))]
 
 
 def outcome_of(end: End) -> Outcome:
-    """An outcome by its worst, as the line of progress counts them."""
+    """Returns what the progress line counts for an outcome."""
     names = {STATUSES["given_up"]: GIVEN_UP, STATUSES["contract_broken"]: BROKEN}
     return Outcome(names.get(end.found.row.status, "kept"))
 
 
 def searched(program: Program, scenario: Scenario, known: list[End], args: argparse.Namespace) -> Search:
-    """Runs orders by their preemptions."""
+    """Searches orders by their preemptions."""
     progress = Progress(args.tries, args.quiet, noun="switches")
 
-    def told(tried: int, ends: list[End]) -> None:
+    def report_wave(tried: int, ends: list[End]) -> None:
         without = [Outcome("without a step")] * (tried - len(ends))
         progress.take([outcome_of(end) for end in ends] + without, 0)
 
-    search = Search(program, setting_of(program, scenario), args.tries, args.jobs, told)
+    search = Search(program, setting_of(program, scenario), args.tries, args.jobs, report_wave)
     search.found = {end.key: end for end in known}
     with progress:
         search.run(args.preemptions)
@@ -73,20 +73,20 @@ def searched(program: Program, scenario: Scenario, known: list[End], args: argpa
 
 
 def ways_of(args: argparse.Namespace) -> Ways:
-    """All that the options ask for."""
+    """Finds the outcomes that the options ask for."""
     program = find_program(args.program)
     ways = Ways(scenario_of(program, args.file), program)
     if not args.search:
         ways.explored = explored(program, ways.scenario)
         ways.ends = ends_of(program, ways.scenario, ways.explored.found, args.jobs)
-    if args.search or (ways.explored and ways.explored.is_front and args.tries):
+    if args.search or (ways.explored and ways.explored.is_prefix and args.tries):
         ways.search = searched(program, ways.scenario, ways.ends, args)
         ways.ends = list(ways.search.found.values())
     return ways
 
 
 def timeline_of(ways: Ways, number: int) -> str:
-    """The run of an outcome as lanes."""
+    """Draws the run of an outcome as lanes."""
     scenario = ways.chosen(number)
     report = parse_report(ways.program.report(scenario))
     wide = shutil.get_terminal_size((100, 24)).columns
@@ -94,7 +94,7 @@ def timeline_of(ways: Ways, number: int) -> str:
 
 
 def written(ways: Ways, args: argparse.Namespace) -> str:
-    """What the options ask to be written."""
+    """Returns what the options ask to be written."""
     if args.json:
         return json.dumps(ways.as_json())
     if args.schedule is not None:
@@ -107,10 +107,11 @@ def written(ways: Ways, args: argparse.Namespace) -> str:
 
 
 def fails(ways: Ways, named: str) -> bool:
-    """Whether an outcome is as bad as the named one or worse; `cut` fails too if not every order is covered."""
+    """Returns whether an outcome is as bad as the named one or worse. `cut` also fails if not every order is
+    covered."""
     least = FAILURES.get(named, min(FAILURES.values()))
-    is_cut = named == CUT and not ways.is_whole
-    return is_cut or any(end.found.row.status >= least for end in ways.ends)
+    is_incomplete = named == INCOMPLETE and not ways.is_whole
+    return is_incomplete or any(end.found.row.status >= least for end in ways.ends)
 
 
 def run(args: argparse.Namespace) -> int:
@@ -134,8 +135,9 @@ def add_to(commands: argparse._SubParsersAction[argparse.ArgumentParser]) -> Non
     shown.add_argument("--timeline", type=int, metavar="K", help="write the run of outcome K as lanes")
     shown.add_argument("--json", action="store_true", help="write JSON for tools")
     shown.add_argument("--all", action="store_true", help="leave out no outcome and no value")
-    parser.add_argument("--fail-on", choices=(CUT, *FAILURES), metavar="WHAT",
-                        help=f"end with status 1 on `{BREAKS}`, `{GIVEN}` or `{CUT}` (not every order), or worse")
+    parser.add_argument("--fail-on", choices=(INCOMPLETE, *FAILURES), metavar="WHAT",
+                        help=f"end with status 1 on `{BREAKS}`, `{GIVEN}` or `{INCOMPLETE}` (not every order), "
+                             "or worse")
     parser.add_argument("--jobs", type=int, default=processors(), metavar="J",
                         help="how many runs at a time (default: one for each processor)")
     parser.add_argument("--quiet", action="store_true", help="no progress on standard error")
@@ -144,7 +146,7 @@ def add_to(commands: argparse._SubParsersAction[argparse.ArgumentParser]) -> Non
 
 
 def add_search(parser: argparse.ArgumentParser) -> None:
-    """The options of the search."""
+    """Adds the options of the search."""
     group = parser.add_argument_group("search", "if there are too many states to follow every order")
     group.add_argument("--search", action="store_true", help="search, whatever the number of states")
     group.add_argument("--tries", type=int, default=4000, metavar="N", help="switches to try (default 4000; 0: none)")

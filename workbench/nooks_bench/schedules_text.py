@@ -1,4 +1,4 @@
-"""The outcomes of every order as tables for people."""
+"""The outcomes of every order, as tables for people."""
 
 from __future__ import annotations
 
@@ -13,7 +13,7 @@ from .preemptions import Search
 from .ways import Ways
 from .words import counted, ranges_text, short
 
-# How many outcomes the table shows, and how many values of a thing, if not all are asked for.
+# How many outcomes the table shows, and how many values of a thing, unless all are requested.
 MOST_ROWS = 20
 MOST_VALUES = 8
 
@@ -26,23 +26,23 @@ HEAD: Row = ["outcome", "status", "steps", "failures", "gone", "lost"]
 
 
 def clipped(text: str, most: int) -> str:
-    """A text with its end left out if it is too long."""
+    """Shortens a text that is too long."""
     return text if len(text) <= most else text[:most].rstrip() + " .."
 
 
 def statuses_text(ends: Sequence[End]) -> str:
-    """How many outcomes have which status."""
+    """Returns how many outcomes have each status."""
     counts = Counter(end.found.row.status for end in ends)
     names = {STATUSES["done"]: "kept", STATUSES["given_up"]: "given up", STATUSES["contract_broken"]: "broken"}
     return ", ".join(f"{counts[status]} {name}" for status, name in names.items() if counts[status])
 
 
 def covered_lines(ways: Ways) -> list[str]:
-    """What was followed, and by which program."""
+    """Describes what was followed, and by which program."""
     by = "the plain program, of which nothing is proved" if is_plain(ways.program) else "the program"
     lines = [f"run by {by}, {ways.program.path}"]
     found = ways.explored
-    if found and found.is_front:
+    if found and found.is_prefix:
         lines.append(f"NOT every order: there are more than {found.states:,} states, so longer runs were not followed")
     elif found:
         lines.append(f"every order of the steps: {found.states:,} states")
@@ -51,7 +51,7 @@ def covered_lines(ways: Ways) -> list[str]:
 
 
 def outcome_lines(ends: Sequence[End], most: int) -> list[str]:
-    """A row an outcome."""
+    """Returns a table with a row for each outcome."""
     rows = [HEAD]
     for number, end in enumerate(ends[:most], 1):
         row = end.found.row
@@ -61,13 +61,13 @@ def outcome_lines(ends: Sequence[End], most: int) -> list[str]:
 
 
 def shortened(values: Sequence[str]) -> list[str]:
-    """Some values on few characters; whole, if two of them would look the same."""
+    """Shortens some values, unless two of them would then look the same."""
     found = [clipped(short(value), LONGEST_VALUE) or "nothing" for value in values]
     return found if len({*found}) == len(found) else [value or "nothing" for value in values]
 
 
 def value_lines(thing: Differing, most: int) -> list[str]:
-    """A thing that differs: its values, each with its outcomes."""
+    """Returns a thing that differs: its values, each with its outcomes."""
     lists = [clipped(ranges_text(numbers), LONGEST_LIST) for numbers in thing.values.values()][:most]
     values = shortened(list(thing.values)[:most])
     wide = max(len(numbers) for numbers in lists)
@@ -77,13 +77,13 @@ def value_lines(thing: Differing, most: int) -> list[str]:
 
 
 def worst(ends: Sequence[End]) -> int:
-    """The number of the first outcome with the worst status."""
+    """Returns the number of the first outcome with the worst status."""
     statuses = [end.found.row.status for end in ends]
     return statuses.index(max(statuses)) + 1
 
 
 def worst_lines(ways: Ways) -> list[str]:
-    """An order for the worst outcome, and its schedule to paste; nothing if all outcomes have status 0."""
+    """Returns an order for the worst outcome, and its schedule to paste; nothing if all outcomes have status 0."""
     number = worst(ways.ends)
     end = ways.end(number)
     if not end.found.row.status:
@@ -97,14 +97,14 @@ def worst_lines(ways: Ways) -> list[str]:
 
 
 def listed_picks(end: End) -> list[int]:
-    """The picks of an outcome's schedule."""
+    """Returns the picks of an outcome's schedule."""
     picks = listed(end.found.picks)["picks"]
     assert isinstance(picks, list)
     return picks
 
 
 def search_lines(search: Search) -> list[str]:
-    """What a search covered."""
+    """Describes what a search covered."""
     rows: list[Row] = [["preemptions", "tried", "orders", "new outcomes", "covered"]]
     for level in search.levels:
         numbers = [str(each) for each in (level.preemptions, level.tried, level.orders, level.fresh)]
@@ -116,7 +116,7 @@ def search_lines(search: Search) -> list[str]:
 
 
 def verdict_lines(ways: Ways) -> list[str]:
-    """What holds of every order, if every order was followed."""
+    """Returns what holds for every order, if every order was followed."""
     worst_status = max((end.found.row.status for end in ways.ends), default=0)
     if not ways.is_whole:
         return []
@@ -127,7 +127,6 @@ def verdict_lines(ways: Ways) -> list[str]:
 
 
 def text_of(ways: Ways, file: str, is_all: bool) -> str:
-    """All of it."""
     rows = len(ways.ends) if is_all else MOST_ROWS
     threads, parts = (counted(len(ways.scenario[f"{name}s"]), name) for name in ("thread", "part"))
     lines = [f"{file}: {threads}, {parts}"]

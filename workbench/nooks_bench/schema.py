@@ -1,7 +1,7 @@
-"""What a scenario or a campaign may have at a path, as the schemas say it.
+"""What a scenario or a campaign may have at a path, according to the schemas.
 
-Of JSON Schema this reads what the two schemas use: references, `allOf`, and if/then/else over keys that are there, or
-that have one value."""
+Of JSON Schema this supports what the two schemas use: references, `allOf`, and if/then/else over keys that are present
+or have one value."""
 
 from __future__ import annotations
 
@@ -13,7 +13,7 @@ from typing import Any, Sequence, Union
 from .source import steps_of
 
 Schema = dict[str, Any]
-# A schema, or false: nothing may stand there.
+# A schema, or false: nothing is allowed there.
 AnySchema = Union[Schema, bool]
 
 SCENARIO = "scenario.schema.json"
@@ -22,33 +22,32 @@ CAMPAIGN = "campaign.schema.json"
 
 @functools.cache
 def schema_file(name: str) -> Schema:
-    """A schema of the package by its file's name, read once."""
+    """Reads a schema of the package, once."""
     text = resources.files(__package__).joinpath("schemas", name).read_text(encoding="utf-8")
     read: Schema = json.loads(text)
     return read
 
 
 def scenario_schema() -> Schema:
-    """The schema of a scenario."""
     return schema_file(SCENARIO)
 
 
 def campaign_schema() -> Schema:
-    """The schema of a campaign."""
     return schema_file(CAMPAIGN)
 
 
 def referred(reference: str) -> Schema:
-    """The schema that a reference names: `#/$defs/NAME` of the scenario's schema, or a file and such a place in it."""
-    file, _, place = reference.partition("#")
+    """Returns the schema that a reference names: `#/$defs/NAME` of the scenario's schema, or a file and such a fragment
+    of it."""
+    file, _, fragment = reference.partition("#")
     found: Schema = schema_file(file or SCENARIO)
-    for step in steps_of(place):
+    for step in steps_of(fragment):
         found = found[step]
     return found
 
 
 def holds(condition: Schema, value: Any) -> bool:
-    """Whether the condition of an if/then, keys that are there or have one value each, holds of a value."""
+    """Returns whether the condition of an if/then holds for a value: keys are present, or have one value each."""
     if not isinstance(value, dict):
         return False
     has_keys = all(key in value for key in condition.get("required", []))
@@ -57,7 +56,7 @@ def holds(condition: Schema, value: Any) -> bool:
 
 
 def applying(schema: AnySchema, value: Any) -> list[AnySchema]:
-    """The schemas that a value must meet together: this one, what it refers to, and each `then` whose `if` holds, or
+    """Returns the schemas that a value must all meet: this one, what it refers to, and each `then` whose `if` holds, or
     its `else`."""
     if isinstance(schema, bool):
         return [schema]
@@ -72,7 +71,7 @@ def applying(schema: AnySchema, value: Any) -> list[AnySchema]:
 
 
 def inner(value: Any, step: str) -> Any:
-    """The value at a step of a path; None if there is none."""
+    """Returns the value at a step of a path, None if there is none."""
     if isinstance(value, dict):
         return value.get(step)
     if isinstance(value, list) and step.isdigit() and int(step) < len(value):
@@ -81,7 +80,7 @@ def inner(value: Any, step: str) -> Any:
 
 
 def below(schema: AnySchema, value: Any, step: str) -> AnySchema | None:
-    """The schema of the value at a step; None if this schema has none."""
+    """Returns the schema of the value at a step, None if this schema has none."""
     if isinstance(schema, bool):
         return None
     found: AnySchema | None = schema.get("items") if isinstance(value, list) else schema.get("properties", {}).get(step)
@@ -89,14 +88,14 @@ def below(schema: AnySchema, value: Any, step: str) -> AnySchema | None:
 
 
 def root_schema(value: Any) -> Schema:
-    """The schema of a whole input: a campaign has a base, an image has entries."""
+    """Returns the schema of a whole input: a campaign has a base, an image has entries."""
     if isinstance(value, dict) and "base" in value:
         return campaign_schema()
     return referred("#/$defs/image") if isinstance(value, dict) and "entries" in value else scenario_schema()
 
 
 def schemas_at(path: str, value: Any) -> list[AnySchema]:
-    """The schemas that the value at a path must meet all together; none if the path leads out of the schema."""
+    """Returns the schemas that the value at a path must all meet, none if the path leaves the schema."""
     found = applying(root_schema(value), value)
     for step in steps_of(path):
         lower = [below(each, value, step) for each in found]
@@ -106,12 +105,12 @@ def schemas_at(path: str, value: Any) -> list[AnySchema]:
 
 
 def of_key(schemas: Sequence[AnySchema], key: str) -> Any:
-    """The first value that some schemas give to a keyword."""
+    """Returns the first value that the schemas give to a keyword."""
     return next((each[key] for each in schemas if isinstance(each, dict) and key in each), None)
 
 
 def known_keys(schemas: Sequence[AnySchema]) -> list[str]:
-    """The keys that an object may have by schemas that it must meet all together."""
+    """Returns the keys that an object may have if it must meet all of the schemas."""
     tables = [each["properties"] for each in schemas if isinstance(each, dict) and "properties" in each]
     closed = [
         each["properties"] for each in schemas if isinstance(each, dict) and each.get("additionalProperties") is False
@@ -121,18 +120,18 @@ def known_keys(schemas: Sequence[AnySchema]) -> list[str]:
 
 
 def needed_keys(schemas: Sequence[AnySchema]) -> list[str]:
-    """The keys that an object must have by schemas that it must meet all together."""
+    """Returns the keys that an object needs to meet all of the schemas."""
     lists = [each["required"] for each in schemas if isinstance(each, dict) and "required" in each]
     return list(dict.fromkeys(key for each in lists for key in each))
 
 
 def counted(least: int, most: int | None) -> str:
-    """How many items a list may have."""
+    """Describes how many items a list may have."""
     return f"{least} to {most}" if least else f"up to {most}"
 
 
 def allowed_keys(schemas: Sequence[AnySchema]) -> str:
-    """The keys of an object, in words."""
+    """Describes the keys of an object."""
     known = known_keys(schemas)
     if of_key(schemas, "maxProperties") == 1:
         return "an object with either " + " or ".join(known)
@@ -142,7 +141,7 @@ def allowed_keys(schemas: Sequence[AnySchema]) -> str:
 
 
 def allowed(schemas: Sequence[AnySchema]) -> str:
-    """What schemas allow all together, in words; empty if they say nothing of it."""
+    """Describes what all of the schemas allow, empty if they say nothing about it."""
     about = of_key(schemas, "description")
     note = f": {about}" if about else ""
     constant, names, kind = (of_key(schemas, key) for key in ("const", "enum", "type"))
@@ -163,12 +162,12 @@ def allowed(schemas: Sequence[AnySchema]) -> str:
 
 
 def allowed_at(path: str, value: Any) -> str:
-    """What may stand at a path of a scenario or a campaign, in words; empty if the schema does not tell."""
+    """Describes what is allowed at a path of a scenario or a campaign, empty if the schema does not say."""
     return allowed(schemas_at(path, value))
 
 
 def unknown_keys(path: str, value: Any) -> list[str]:
-    """The keys of the object at a path that its schema does not have."""
+    """Returns the keys of the object at a path that its schema does not have."""
     known = known_keys(schemas_at(path, value))
     for step in steps_of(path):
         value = inner(value, step)

@@ -26,7 +26,7 @@ DEFAULT_SECONDS = 30.0
 
 
 def serve(args: argparse.Namespace) -> Server:
-    """The server that the options ask for, listening."""
+    """Returns the server that the options ask for, which listens already."""
     if not 0 <= args.port <= 65_535:
         raise Mistake("--port takes a number from 0 to 65535")
     if not 0 < args.seconds <= 86_400:

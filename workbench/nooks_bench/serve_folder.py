@@ -1,7 +1,7 @@
-"""The folder of `serve`: the only place from which it reads texts, and the only one in which it writes files.
+"""The folder of `serve`: the server reads texts and writes files only there.
 
-A path is taken step by step from the open folder on, and no step is a symbolic link, so that a link in the folder leads
-nowhere, also if it is put there between two steps."""
+A path is followed step by step from the open folder, and no step is a symbolic link. A link in the folder therefore
+leads nowhere, even if it is created between two steps."""
 
 from __future__ import annotations
 
@@ -17,10 +17,10 @@ from typing import Iterator
 from .program import Mistake
 from .source import decoded
 
-# A step of a path: no `..`, no name that begins with a dot, and nothing that a shell or a terminal takes for more.
+# A step of a path: no `..`, no name that begins with a dot, and no character with a meaning for a shell or a terminal.
 STEP = re.compile(r"\w[\w.+ -]{0,99}")
 
-# The files that are read, and those that are written: what the command line takes and makes.
+# The endings of files that are read, and of those that are written: what the command line takes and makes.
 READ = (".json", ".jsonc", ".asm")
 WRITTEN = (*READ, ".report", ".html", ".svg")
 
@@ -33,16 +33,16 @@ FOLDER = os.O_RDONLY | os.O_DIRECTORY | NO_LINK
 
 
 class Outside(Mistake):
-    """A path that is no file of the folder."""
+    """A path that does not name a file of the folder."""
 
 
 def digest_of(text: str) -> str:
-    """What distinguishes a text from others."""
+    """Returns a hash that identifies a text."""
     return hashlib.sha256(text.encode()).hexdigest()
 
 
 def steps_of(name: str, endings: tuple[str, ...]) -> list[str]:
-    """The steps of a path in the folder."""
+    """Splits a path in the folder into its steps."""
     steps = name.split("/")
     if len(steps) > MOST_STEPS or not all(STEP.fullmatch(step) for step in steps):
         raise Outside(f"{name!r} is no path in the folder: names of letters, digits and _.+-, with / between them")
@@ -52,7 +52,7 @@ def steps_of(name: str, endings: tuple[str, ...]) -> list[str]:
 
 
 class Folder:
-    """A folder by its path, which may be a link itself; what is in it may not."""
+    """A folder by its path. The path may be a link; what is in the folder may not."""
 
     def __init__(self, path: str) -> None:
         self.path = os.path.realpath(path)
@@ -61,7 +61,7 @@ class Folder:
 
     @contextlib.contextmanager
     def opened(self, steps: list[str]) -> Iterator[int]:
-        """The folder that some steps lead to, open."""
+        """Opens the folder that some steps lead to."""
         at = os.open(self.path, FOLDER)
         try:
             for step in steps:
@@ -73,7 +73,6 @@ class Folder:
             os.close(at)
 
     def read(self, name: str) -> str:
-        """The text of a file."""
         steps = steps_of(name, READ)
         try:
             with self.opened(steps[:-1]) as at:
@@ -82,7 +81,7 @@ class Folder:
             raise Outside(f"{name}: {about(error)}") from error
 
     def bytes_of(self, at: int, step: str, name: str) -> bytes:
-        """The bytes of a file that is no link, no pipe and not too large."""
+        """Returns the bytes of a file that is not a link, not a pipe and not too large."""
         file = os.open(step, os.O_RDONLY | os.O_NONBLOCK | NO_LINK, dir_fd=at)
         with os.fdopen(file, "rb") as opened:
             known = os.fstat(file)
@@ -93,7 +92,7 @@ class Folder:
             return opened.read(MOST_READ + 1)
 
     def exists(self, name: str) -> bool:
-        """Whether anything has this name."""
+        """Returns whether anything has this name."""
         steps = steps_of(name, WRITTEN)
         try:
             with self.opened(steps[:-1]) as at:
@@ -105,8 +104,8 @@ class Folder:
         return True
 
     def write(self, name: str, text: str, was: str | None) -> str:
-        """Writes a file, whole or not at all; what distinguishes its text. `was` is what distinguished the text that
-        the writer knows of, empty for a file that is new; None if any may be written over."""
+        """Writes a file, whole or not at all, and returns the hash of its text. `was` is the hash of the text that the
+        writer knows, empty for a new file; None if any file may be overwritten."""
         steps = steps_of(name, WRITTEN)
         try:
             with self.opened(steps[:-1]) as at:
@@ -117,7 +116,7 @@ class Folder:
         return digest_of(text)
 
     def check_known(self, at: int, step: str, name: str, was: str | None) -> None:
-        """Refuses to write over what is no plain file, or what the writer does not know."""
+        """Refuses to overwrite what is not a plain file, or what the writer does not know."""
         try:
             mode = os.stat(step, dir_fd=at, follow_symlinks=False).st_mode
         except FileNotFoundError:
@@ -130,11 +129,11 @@ class Folder:
             raise Mistake(f"{name} was changed by another program since it was opened; open it again")
 
     def files(self) -> list[str]:
-        """The files that can be opened, those of the folder itself first."""
+        """Returns the files that can be opened, those of the folder itself first."""
         found: list[str] = []
         for path, folders, names in os.walk(self.path):
-            front = os.path.relpath(path, self.path)
-            steps = [] if front == "." else front.split("/")
+            inner = os.path.relpath(path, self.path)
+            steps = [] if inner == "." else inner.split("/")
             folders[:] = sorted(each for each in folders if STEP.fullmatch(each)) if len(steps) < MOST_STEPS - 1 else []
             shown = [each for each in sorted(names) if STEP.fullmatch(each) and each.endswith(READ)]
             found += ["/".join([*steps, each]) for each in shown if is_plain(os.path.join(path, each))]
@@ -144,7 +143,7 @@ class Folder:
 
 
 def about(error: OSError) -> str:
-    """Why a path leads to no file."""
+    """Describes why a path leads to no file."""
     if isinstance(error, (NotADirectoryError, FileNotFoundError)):
         return "there is no such file in the folder"
     if error.errno == errno.ELOOP:
@@ -160,8 +159,8 @@ def is_plain(path: str) -> bool:
 
 
 def replace(at: int, step: str, data: bytes) -> None:
-    """Puts a file in the place of another, with its rights, so that nobody sees a part of it. A link of that name is
-    not followed."""
+    """Replaces a file and keeps its permissions, so that nobody sees a part of it. A link of that name is not
+    followed."""
     made = f".{step[:80]}.{secrets.token_hex(8)}"
     file = os.open(made, os.O_WRONLY | os.O_CREAT | os.O_EXCL | NO_LINK, 0o666, dir_fd=at)
     try:

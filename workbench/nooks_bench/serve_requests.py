@@ -1,4 +1,5 @@
-"""What the server of `serve` answers: the page to who knows the token, and JSON to that page alone."""
+"""The requests that the server of `serve` answers: the page for anyone who knows the token, and JSON for that page
+only."""
 
 from __future__ import annotations
 
@@ -15,7 +16,7 @@ from .program import Mistake
 from .serve_folder import READ, Folder, Outside, steps_of
 from .serve_runs import Ended, Gone, Runs
 
-# What a run may be asked for; serve_work.py does it.
+# The tasks of a run; serve_work.py does them.
 TASKS = ("open", "check", "run", "place", "schedule", "map", "explore", "make")
 
 ADDRESS = "127.0.0.1"
@@ -24,15 +25,15 @@ NAMES = (ADDRESS, "localhost")
 # The most bytes of a request: a scenario, and the texts of its drivers.
 MOST_BODY = 4 * 2**20
 
-# How much of a request that is too large is read and thrown away, so that its sender gets the answer.
+# How much of a request that is too large is read and discarded, so that its sender gets the answer.
 MOST_DRAINED = 64 * 2**20
 
-# How long a request may take to come, in seconds.
+# How long a request may take to arrive, in seconds.
 PATIENCE = 20
 
 TOKEN = "X-Nooks-Token"
 
-# What every answer says to the browser.
+# The headers of every answer.
 HEADERS = {
     "Cache-Control": "no-store",
     "X-Content-Type-Options": "nosniff",
@@ -44,7 +45,7 @@ HEADERS = {
 
 
 class Refused(Exception):
-    """A request that is not answered, with its status of HTTP."""
+    """A request that is refused, with the status of HTTP."""
 
     def __init__(self, status: int, text: str) -> None:
         super().__init__(text)
@@ -63,7 +64,7 @@ class Served:
 
 
 def split_address(address: str) -> SplitResult:
-    """The parts of a request's address."""
+    """Splits a request's address."""
     try:
         return urlsplit(address)
     except ValueError as error:
@@ -71,7 +72,7 @@ def split_address(address: str) -> SplitResult:
 
 
 class Server(ThreadingHTTPServer):
-    """Listens on this machine's own address alone."""
+    """Listens on this machine's own address only."""
 
     daemon_threads = True
     allow_reuse_address = False
@@ -85,7 +86,7 @@ class Server(ThreadingHTTPServer):
         return f"http://{ADDRESS}:{self.server_port}/?token={self.served.token}"
 
     def handle_error(self, request: Any, client_address: Any) -> None:
-        """A connection that breaks is no error of the server."""
+        """Ignores a connection that breaks, which is not an error of the server."""
 
 
 class Requests(BaseHTTPRequestHandler):
@@ -101,7 +102,7 @@ class Requests(BaseHTTPRequestHandler):
         return self.server.served
 
     def log_message(self, format: str, *args: Any) -> None:
-        """Nothing is logged: addresses have the token."""
+        """Logs nothing, since addresses have the token."""
 
     def do_GET(self) -> None:
         try:
@@ -126,7 +127,7 @@ class Requests(BaseHTTPRequestHandler):
             return
         self.put(status, "application/json", json.dumps(made))
 
-    # What is checked before anything else.
+    # Checks that come before everything else.
 
     def check_sender(self) -> None:
         """Refuses another host's name, which a page elsewhere may have given to this address, and another origin."""
@@ -142,7 +143,7 @@ class Requests(BaseHTTPRequestHandler):
             raise Refused(403, "the token is missing, or is not this server's: open the address that it printed")
 
     def body(self) -> dict[str, Any]:
-        """The JSON of a request."""
+        """Returns the JSON of a request."""
         if self.headers.get("Content-Type", "").split(";")[0].strip() != "application/json":
             raise Refused(415, "a request is JSON")
         length = self.headers.get("Content-Length", "")
@@ -163,7 +164,7 @@ class Requests(BaseHTTPRequestHandler):
         return given
 
     def drain(self, length: int) -> None:
-        """Reads what is still to come of a request, a piece at a time, and keeps none of it."""
+        """Reads and discards the rest of a request, a piece at a time."""
         left, ends = min(length, MOST_DRAINED), time.monotonic() + PATIENCE
         try:
             while left > 0 and time.monotonic() < ends and (more := self.rfile.read(min(left, 1 << 16))):
@@ -171,10 +172,10 @@ class Requests(BaseHTTPRequestHandler):
         except OSError:
             return
 
-    # What is answered.
+    # Answers.
 
     def made(self, path: str, given: dict[str, Any]) -> tuple[int, dict[str, Any]]:
-        """What is answered to a request, with its status of HTTP."""
+        """Returns the answer to a request, with its status of HTTP."""
         try:
             if path == "/files":
                 return 200, {"made": {"files": self.served.folder.files()}}
@@ -191,14 +192,14 @@ class Requests(BaseHTTPRequestHandler):
         raise Refused(404, "there is nothing of this name")
 
     def saved(self, given: dict[str, Any]) -> dict[str, Any]:
-        """A file that was written, with what distinguishes its text."""
+        """Writes a file, and returns the hash that identifies its text."""
         name, text, was = (given.get(key) for key in ("name", "text", "was"))
         if not isinstance(name, str) or not isinstance(text, str) or not isinstance(was, (str, type(None))):
             raise Refused(400, "a file has a name and a text")
         return {"name": name, "was": self.served.folder.write(name, text, was)}
 
     def worked(self, given: dict[str, Any]) -> dict[str, Any]:
-        """What a run answers; what it makes as a file is written here."""
+        """Returns what a run answers. A file that it makes is written here."""
         file, texts = given.get("file"), given.get("texts")
         if given.get("task") not in TASKS or not isinstance(file, str) or not isinstance(texts, dict):
             raise Refused(400, "a run has a task, a file and texts")
@@ -217,7 +218,7 @@ class Requests(BaseHTTPRequestHandler):
         return made
 
     def put(self, status: int, kind: str, text: str, more: dict[str, str] | None = None) -> None:
-        """Writes an answer; nobody may be there to read it."""
+        """Writes an answer. The reader may be gone."""
         data = text.encode()
         try:
             self.send_response(status)

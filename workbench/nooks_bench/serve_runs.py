@@ -1,5 +1,5 @@
-"""The runs of `serve`: each is a process with a separate group, which is ended when it takes too long, answers with too
-much, or nobody waits for its answer any more."""
+"""The runs of `serve`. Each is a process with a separate group, which is ended if it takes too long, if its answer is
+too large, or if nobody waits for its answer any more."""
 
 from __future__ import annotations
 
@@ -17,13 +17,13 @@ from typing import Any
 
 from .program import Mistake
 
-# How many runs may be under way; others wait for their turn.
+# How many runs may be active; others wait.
 MOST_RUNS = 3
 
 # The most bytes of an answer.
 MOST_ANSWER = 96 * 2**20
 
-# How often a run that waits for its turn looks whether the page is still there, in seconds.
+# How often a run that waits checks whether the page is still connected, in seconds.
 LOOK_EVERY = 0.1
 
 ABOVE = os.path.dirname(os.path.dirname(os.path.abspath(__file__)))
@@ -31,7 +31,7 @@ CHILD = "import sys; sys.path.insert(0, sys.argv[1]); from nooks_bench.serve_wor
 
 
 class Gone(Exception):
-    """The page went away."""
+    """The page has gone away."""
 
 
 class Ended(Mistake):
@@ -39,24 +39,24 @@ class Ended(Mistake):
 
 
 class Runs:
-    """Runs with a limit of seconds, and the processes that are under way."""
+    """Runs with a limit of seconds, and the processes that are active."""
 
     def __init__(self, program: str, folder: str, seconds: float) -> None:
         self.about = {"program": program, "folder": folder}
         self.seconds = seconds
-        self.turns = threading.BoundedSemaphore(MOST_RUNS)
+        self.slots = threading.BoundedSemaphore(MOST_RUNS)
         self.lock = threading.Lock()
         self.processes: set[subprocess.Popen[bytes]] = set()
 
     def answer(self, given: dict[str, Any], page: socket.socket) -> dict[str, Any]:
-        """What a process answers to what is asked for; `page` is the connection to the page that waits for it."""
-        while not self.turns.acquire(timeout=LOOK_EVERY):
+        """Returns what a process answers to a request. `page` is the connection to the page that waits for it."""
+        while not self.slots.acquire(timeout=LOOK_EVERY):
             if is_gone(page):
                 raise Gone
         try:
             return self.answered({**given, **self.about}, page)
         finally:
-            self.turns.release()
+            self.slots.release()
 
     def answered(self, given: dict[str, Any], page: socket.socket) -> dict[str, Any]:
         process = self.begin()
@@ -82,7 +82,7 @@ class Runs:
         return process
 
     def listen(self, process: subprocess.Popen[bytes], page: socket.socket) -> bytes:
-        """Reads what a process writes until it ends, as long as it may."""
+        """Reads what a process writes until it ends, for as long as it may run."""
         assert process.stdout is not None
         ends = time.monotonic() + self.seconds
         found = bytearray()
@@ -104,7 +104,7 @@ class Runs:
                 raise Ended(f"the run gives more than {MOST_ANSWER >> 20} MB, and was ended")
 
     def end(self, process: subprocess.Popen[bytes]) -> None:
-        """Ends a process with all that it began."""
+        """Ends a process with all that it started."""
         with contextlib.suppress(ProcessLookupError, PermissionError):
             os.killpg(process.pid, signal.SIGKILL)
         with contextlib.suppress(OSError):
@@ -121,7 +121,7 @@ class Runs:
 
 
 def is_gone(page: socket.socket) -> bool:
-    """Whether a page closed its connection."""
+    """Returns whether a page closed its connection."""
     ready, _, _ = select.select([page], [], [], 0)
     if not ready:
         return False

@@ -1,7 +1,7 @@
 """What the server of `serve` asks for, done in a separate process, so that it can be ended at any time.
 
-The process gets one line of JSON on standard input, answers with one JSON value, and ends itself with all that it began
-when standard input is closed: then the server is gone, or has no more use for the answer."""
+The process gets one line of JSON on standard input, and answers with one JSON value. When standard input is closed, the
+server is gone or no longer needs the answer: the process then ends itself with all that it started."""
 
 from __future__ import annotations
 
@@ -35,20 +35,21 @@ from .svg import FONT
 
 Answer = dict[str, Any]
 
-# The most bytes of memory that a run may take, and the most that it may write to a file.
+# The most bytes of memory that a run may use, and the most that it may write to a file.
 MOST_MEMORY = 4 * 2**30
 MOST_WRITTEN = 256 * 2**20
 
-# The most bursts of a part that are traced for the page that is shown; for a page that is made, as many as `page` does.
+# The most bursts of a part that are traced for the page that is shown. A page that is saved has as many as `page`
+# traces.
 SHOWN_TRACES = 100
 
-# The options of a map that the page has.
+# The options of a map that the page offers.
 MAP_OPTIONS = ("part", "burst", "kind", "register", "address", "value", "width")
 
 
 @dataclass(frozen=True)
 class Asked:
-    """What is asked for: the texts as they are in the page, saved or not."""
+    """A request, with the texts as they are in the page, saved or not."""
 
     program: Program
     folder: Folder
@@ -67,18 +68,18 @@ class Asked:
         return text
 
     def read(self, name: str) -> str:
-        """The text of a file that the scenario names, as it is in the page, or in the folder."""
+        """Returns the text of a file that the scenario names, from the page or else from the folder."""
         texts = self.given["texts"]
         return str(texts[name]) if name in texts else self.folder.read(name)
 
     def node(self) -> Node:
-        """The scenario with its places, which the program takes."""
+        """Returns the scenario with positions, if the program accepts it."""
         made = built(self.file, self.text, self.read)
         check(self.program, made, json.dumps(made.plain()))
         return made
 
     def scenario(self) -> Scenario:
-        """The scenario as the program reads it."""
+        """Returns the scenario as the program reads it."""
         value: Scenario = self.node().plain()
         if not isinstance(value.get("parts"), list):
             about = "a campaign: its base is the scenario" if "base" in value else "no scenario"
@@ -94,29 +95,29 @@ class Asked:
         return os.path.splitext(os.path.basename(self.file))[0]
 
     def words(self, subcommand: str, *options: str) -> list[str]:
-        """The words of the command line that does the same."""
+        """Returns the arguments of the command that does the same."""
         return [subcommand, self.file, *options, *(["--guard"] if self.guard else [])]
 
 
 def page_data_of(asked: Asked, most: int) -> Answer:
-    """The data of the page, with at most `most` bursts of each part traced."""
+    """Returns the page's data, with at most `most` bursts of each part traced."""
     args = argparse.Namespace(words=asked.words("page"))
     return made_data(asked.program, asked.scenario(), asked.guard, most, asked.title, args)
 
 
 def run_task(asked: Asked) -> Answer:
-    """The run of the scenario, as the page shows it."""
+    """Returns the run of the scenario, as the page shows it."""
     return {"data": page_data_of(asked, SHOWN_TRACES)}
 
 
 def check_task(asked: Asked) -> Answer:
-    """Whether the program takes the texts; a fault is answered as a refusal."""
+    """Checks whether the program accepts the texts. An input error is answered as a refusal."""
     asked.scenario()
     return {}
 
 
-def place_task(asked: Asked) -> Answer:
-    """The scenario's text with a fault more."""
+def fault_task(asked: Asked) -> Answer:
+    """Returns the scenario's text with a fault added."""
     part, fault = asked.given.get("part"), asked.given.get("fault")
     if not isinstance(part, int) or not isinstance(fault, dict):
         raise Mistake("a fault is placed in a part")
@@ -124,7 +125,7 @@ def place_task(asked: Asked) -> Answer:
 
 
 def schedule_task(asked: Asked) -> Answer:
-    """The scenario's text with another schedule."""
+    """Returns the scenario's text with another schedule."""
     schedule = asked.given.get("schedule")
     if not isinstance(schedule, dict):
         raise Mistake("a schedule is an object")
@@ -132,19 +133,19 @@ def schedule_task(asked: Asked) -> Answer:
 
 
 def explore_task(asked: Asked) -> Answer:
-    """The outcomes of all orders."""
+    """Returns the outcomes of all orders."""
     return every_order(asked.program, asked.scenario())
 
 
 def map_words(asked: Asked) -> list[str]:
-    """The words of the command line that draws the map."""
+    """Returns the arguments of the command that draws the map."""
     given = {name: asked.given.get(name) for name in MAP_OPTIONS}
     options = [f"--{name}={value}" for name, value in given.items() if value not in (None, "")]
     return asked.words("map", *options)
 
 
 def map_args(asked: Asked) -> argparse.Namespace:
-    """The options of a map; one that is no option of it is a mistake."""
+    """Returns the options of a map. An unknown option is a mistake."""
     words = map_words(asked)
     with contextlib.redirect_stderr(io.StringIO()) as said:
         try:
@@ -156,47 +157,48 @@ def map_args(asked: Asked) -> argparse.Namespace:
 
 
 def map_text(asked: Asked) -> str:
-    """The SVG of a map."""
     args = map_args(asked)
     args.program = asked.program.path
     return heatmap.picture_of(args, asked.scenario())
 
 
 def map_task(asked: Asked) -> Answer:
-    """A map that the page draws; its font is that of the page, since the page takes no other style."""
+    """Returns a map for the page. It is drawn in the page's font, since the page accepts no other style."""
     svg = map_text(asked).replace(f' style="{FONT}"', "", 1)
     return {"svg": svg, "command": shlex.join(["nooks-bench", *map_words(asked)])}
 
 
 def open_task(asked: Asked) -> Answer:
-    """The texts of a scenario, each driver's in a separate file, and what distinguishes the files as they are."""
+    """Returns the texts of a scenario, each driver's in a separate file, and hashes that identify the files as they
+    are."""
     return opened(asked.folder, asked.file)
 
 
 def free_name(folder: Folder, stem: str, ending: str) -> str:
-    """A name that nothing has."""
+    """Returns a name that no file has."""
     names = (f"{stem}{'' if number == 1 else f'-{number}'}{ending}" for number in range(1, 1000))
     return next((name for name in names if not folder.exists(name)), f"{stem}-new{ending}")
 
 
 def text_of(text: str, known: str | None) -> dict[str, Any]:
-    """A text, what distinguishes the file as it is, empty for none, and whether it is saved."""
+    """Returns a text, a hash that identifies the file as it is (empty if there is none), and whether the text is
+    saved."""
     return {"text": text, "was": "" if known is None else digest_of(known), "saved": text == known}
 
 
 def opened(folder: Folder, file: str) -> Answer:
-    """The texts of a scenario's file: its own, and those of its drivers. A text that is no scenario is opened alone, to
-    be mended."""
+    """Returns the texts of a scenario's file: its own, and those of its drivers. A text that is not a scenario is
+    opened alone, so that it can be fixed."""
     text = folder.read(file)
-    front, _, name = file.rpartition("/")
+    parent, _, name = file.rpartition("/")
     stem = os.path.splitext(name)[0]
-    beside = f"{front}/" if front else ""
+    prefix = f"{parent}/" if parent else ""
     taken: dict[str, str] = {}
 
     def name_of(asm: str) -> str:
-        """The file of a text: one that has it already, or a new one."""
+        """Returns the file of a text: one that has it already, or a new one."""
         if asm not in taken:
-            first = f"{beside}{stem}{'' if not taken else f'-driver-{len(taken) + 1}'}"
+            first = f"{prefix}{stem}{'' if not taken else f'-driver-{len(taken) + 1}'}"
             known = f"{first}.asm"
             is_same = folder.exists(known) and folder.read(known) == asm
             taken[asm] = known if is_same else free_name(folder, first, ".asm")
@@ -209,10 +211,10 @@ def opened(folder: Folder, file: str) -> Answer:
         return {"file": file, "texts": {file: text_of(text, text)}}
     scenario = file
     if made and not file.endswith(".jsonc"):
-        scenario = free_name(folder, f"{beside}{stem}", ".jsonc")
+        scenario = free_name(folder, f"{prefix}{stem}", ".jsonc")
     texts = {scenario: text_of(changed, text if scenario == file else None)}
     for each in named:
-        path = os.path.normpath(os.path.join(front, each))
+        path = os.path.normpath(os.path.join(parent, each))
         with contextlib.suppress(Outside):
             known = folder.read(path) if folder.exists(path) else None
             texts[path] = text_of(made.get(path, "") if known is None else known, known)
@@ -220,7 +222,7 @@ def opened(folder: Folder, file: str) -> Answer:
 
 
 def make_task(asked: Asked) -> Answer:
-    """The text of a file that is made of the scenario."""
+    """Returns the text of a file that is made from the scenario."""
     makes = asked.given.get("makes")
     if not isinstance(makes, str) or makes not in MAKERS:
         raise Mistake(f"nothing is called {makes!r} that is made of a scenario")
@@ -244,31 +246,31 @@ def page_file(asked: Asked) -> str:
     return page_text(page_data_of(asked, DEFAULT_TRACES))
 
 
-# What can be made of a scenario as a file.
+# What can be made from a scenario as a file.
 MAKERS: dict[str, Callable[[Asked], str]] = {
     "exact": exact_text, "report": report_text, "guarded": guarded_text, "page": page_file, "map": map_text,
 }
 
 TASKS: dict[str, Callable[[Asked], Answer]] = {
-    "run": run_task, "check": check_task, "place": place_task, "schedule": schedule_task, "explore": explore_task,
+    "run": run_task, "check": check_task, "place": fault_task, "schedule": schedule_task, "explore": explore_task,
     "map": map_task, "open": open_task, "make": make_task,
 }
 
 
 def refusal(mistake: Mistake, asked: Asked | None) -> Answer:
-    """A mistake as the page shows it, in the words of `explain`, with its place if it has one."""
+    """Returns a mistake as the page shows it, in the words of `explain`, with its position if it has one."""
     if isinstance(mistake, Misplaced):
-        place = mistake.place
-        return {"text": str(mistake), "file": place.file, "line": place.line, "column": place.column}
+        position = mistake.position
+        return {"text": str(mistake), "file": position.file, "line": position.line, "column": position.column}
     if isinstance(mistake, Refusal) and asked is not None:
         explained = explain_fault(parse_fault(mistake.line), built(asked.file, asked.text, asked.read))
-        place = explained.place
-        return {"text": str(explained), "file": place.file, "line": place.line, "column": place.column}
+        position = explained.position
+        return {"text": str(explained), "file": position.file, "line": position.line, "column": position.column}
     return {"text": str(mistake)}
 
 
 def answer(given: dict[str, Any]) -> Answer:
-    """What is answered: what was made, or why it was refused."""
+    """Does the task of a request, and returns what it made or why it was refused."""
     asked = None
     try:
         asked = Asked(Program(given["program"]), Folder(given["folder"]), given)
@@ -282,13 +284,13 @@ def answer(given: dict[str, Any]) -> Answer:
 
 
 def end_with_server() -> None:
-    """Ends this process, and all that it began, when standard input is closed."""
+    """Ends this process, with all that it started, when standard input is closed."""
     os.read(0, 1)
     os.killpg(os.getpgrp(), signal.SIGKILL)
 
 
 def limit() -> None:
-    """Sets what the process, and each that it begins, may take."""
+    """Limits what the process, and each that it starts, may use."""
     limits = {resource.RLIMIT_AS: MOST_MEMORY, resource.RLIMIT_FSIZE: MOST_WRITTEN, resource.RLIMIT_CORE: 0}
     for what, most in limits.items():
         hard = resource.getrlimit(what)[1]
@@ -296,7 +298,7 @@ def limit() -> None:
 
 
 def read_line() -> bytes:
-    """The line of standard input, and nothing after it."""
+    """Reads the line of standard input, and nothing after it."""
     found = bytearray()
     while not found.endswith(b"\n"):
         more = os.read(0, 1 << 16)

@@ -1,4 +1,4 @@
-"""shrink: of a scenario of which a predicate holds, a smaller one of which it still holds."""
+"""shrink: makes a scenario smaller as long as a predicate holds for it."""
 
 from __future__ import annotations
 
@@ -20,14 +20,14 @@ both."""
 
 @dataclass
 class Shrinker:
-    """Tries smaller scenarios; `best` is the smallest so far of which the predicate holds."""
+    """Tries smaller scenarios; `best` is the smallest so far for which the predicate holds."""
 
     best: Scenario
     holds: Callable[[Scenario], bool]
     tries: int = 0
 
     def take(self, smaller: Scenario) -> bool:
-        """Tries one; it is the best from now on if the predicate holds of it."""
+        """Tries a scenario, which is the best from now on if the predicate holds for it."""
         self.tries += 1
         if not self.holds(smaller):
             return False
@@ -35,7 +35,8 @@ class Shrinker:
         return True
 
     def shorten(self, path: tuple[Any, ...], least: int, unit: int) -> bool:
-        """Takes pieces out of a list, large ones first; whether one could go. Its length stays a multiple of a unit."""
+        """Removes pieces of a list, large ones first, and returns whether one could be removed. The length stays a
+        multiple of `unit`."""
         changed = False
         size = max(len(at(self.best, path)) // unit // 2, 1) * unit
         while size >= unit:
@@ -51,14 +52,14 @@ class Shrinker:
         return changed
 
     def drop(self, count: Callable[[Scenario], int], without: Callable[[Scenario, int], Scenario]) -> bool:
-        """Takes out parts or threads, one by one from the last on; whether one could go."""
+        """Removes parts or threads, one by one from the last on, and returns whether one could be removed."""
         changed = False
         for number in reversed(range(count(self.best))):
             changed |= self.take(without(self.best, number))
         return changed
 
     def simplify(self) -> bool:
-        """Tries other values that are simpler."""
+        """Tries simpler values, and returns whether one was taken."""
         changed = False
         for change in list(simpler_values(self.best)):
             changed |= self.take_change(change)
@@ -75,35 +76,35 @@ class Shrinker:
         return self.take(replaced(self.best, path, value))
 
     def once(self) -> bool:
-        """All ways once; whether one made it smaller."""
+        """Tries everything once, and returns whether the scenario became smaller."""
         changed = len(self.best["parts"]) > 1 and self.drop(lambda each: len(each["parts"]), without_part)
         changed |= self.drop(lambda each: len(each["threads"]), without_thread)
         for path, least, unit in list(lists_of(self.best)):
             changed |= self.shorten(path, least, unit)
         return changed | self.simplify()
 
-    def whole(self, told: Callable[[Shrinker], None]) -> Scenario:
-        """Until nothing makes it smaller."""
+    def whole(self, report: Callable[[Shrinker], None]) -> Scenario:
+        """Repeats until nothing makes the scenario smaller. `report` is called after each round."""
         while self.once():
-            told(self)
+            report(self)
         return self.best
 
 
 def at(value: Any, path: tuple[Any, ...]) -> Any:
-    """The value at a path."""
+    """Returns the value at a path."""
     for step in path:
         value = value[step]
     return value
 
 
 def is_smaller(value: Any, now: Any) -> bool:
-    """Whether a number is less, or a list or a text shorter, than the value that is there by now."""
+    """Returns whether a number is less, or a list or a text shorter, than the present value."""
     return bool(value < now) if isinstance(value, int) else len(value) < len(now)
 
 
 @dataclass(frozen=True)
 class Predicate:
-    """What has to hold of a scenario's run."""
+    """What must hold for a scenario's run."""
 
     program: Program
     status: int | None
@@ -116,22 +117,23 @@ class Predicate:
 
 
 def size_text(scenario: Scenario) -> str:
-    """How large a scenario is, on one line."""
+    """Describes the size of a scenario on one line."""
     faults = sum(len(part.get("faults", [])) for part in scenario["parts"])
     return (f"{len(scenario['parts'])} parts, {len(scenario['threads'])} threads, {operations(scenario)} operations, "
             f"{faults} faults, {len(json.dumps(scenario))} bytes")
 
 
 def shrunk(scenario: Scenario, holds: Callable[[Scenario], bool], quiet: bool) -> Scenario:
-    """The smallest scenario that was found; a mistake if the predicate does not hold of the whole."""
+    """Returns the smallest scenario that was found. If the predicate does not hold for the given one, this is a
+    mistake."""
     if not holds(scenario):
         raise Mistake("what is asked does not hold of the scenario itself")
 
-    def told(shrinker: Shrinker) -> None:
+    def print_size(shrinker: Shrinker) -> None:
         if not quiet:
             print(f"{shrinker.tries} tries: {size_text(shrinker.best)}", file=sys.stderr)
 
-    return Shrinker(scenario, holds).whole(told)
+    return Shrinker(scenario, holds).whole(print_size)
 
 
 def run(args: argparse.Namespace) -> int:

@@ -1,4 +1,4 @@
-"""Ways to make a scenario smaller. Each gives a scenario of its own; whether it is a valid one the program says."""
+"""Ways to make a scenario smaller. Each returns a new scenario; the program decides whether it is valid."""
 
 from __future__ import annotations
 
@@ -7,7 +7,7 @@ from typing import Any, Iterator
 from .facts import LIMITS
 from .scenario import Scenario
 
-# A place in a scenario, and what is to stand there.
+# The path of a value in a scenario, and its new value.
 Path = tuple[Any, ...]
 Change = tuple[Path, Any]
 
@@ -15,7 +15,7 @@ WORDS_OF_BLOCK = LIMITS["BLOCK_WORDS"]
 
 
 def replaced(value: Any, path: Path, new: Any) -> Any:
-    """The value with another at a path; None takes a key away."""
+    """Returns the value with another one at a path. None removes a key."""
     if not path:
         return new
     step, rest = path[0], path[1:]
@@ -23,11 +23,11 @@ def replaced(value: Any, path: Path, new: Any) -> Any:
         if not rest and new is None:
             return {key: each for key, each in value.items() if key != step}
         return {**value, step: replaced(value.get(step), rest, new)}
-    return [replaced(each, rest, new) if place == step else each for place, each in enumerate(value)]
+    return [replaced(each, rest, new) if index == step else each for index, each in enumerate(value)]
 
 
 def picked(scenario: Scenario, numbers: dict[int, int]) -> Scenario:
-    """The scenario with new numbers for those who take steps, if its schedule lists them."""
+    """Returns the scenario with new numbers for the actors, if its schedule lists them."""
     schedule = scenario.get("schedule")
     if not schedule or schedule.get("kind") != "listed":
         return scenario
@@ -36,48 +36,47 @@ def picked(scenario: Scenario, numbers: dict[int, int]) -> Scenario:
 
 
 def without_thread(scenario: Scenario, number: int) -> Scenario:
-    """The scenario without a thread."""
     threads = scenario["threads"]
     whole = len(threads) + 2 * len(scenario["parts"])
     numbers = {each: each - (each > number) for each in range(whole) if each != number}
     return picked({**scenario, "threads": threads[:number] + threads[number + 1 :]}, numbers)
 
 
-def without_part(scenario: Scenario, place: int) -> Scenario:
-    """The scenario without a part and the operations on it."""
+def without_part(scenario: Scenario, index: int) -> Scenario:
+    """Returns the scenario without a part and the operations on it."""
     threads = len(scenario["threads"])
-    first = threads + 2 * place
+    first = threads + 2 * index
     whole = threads + 2 * len(scenario["parts"])
     numbers = {each: each - 2 * (each > first) for each in range(whole) if each not in (first, first + 1)}
-    kept = []
+    remaining = []
     for thread in scenario["threads"]:
-        ops = [{**op, "part": op["part"] - (op["part"] > place)} for op in thread["ops"] if op["part"] != place]
-        kept.append({**thread, "ops": ops})
-    parts = scenario["parts"][:place] + scenario["parts"][place + 1 :]
-    return picked({**scenario, "parts": parts, "threads": kept}, numbers)
+        ops = [{**op, "part": op["part"] - (op["part"] > index)} for op in thread["ops"] if op["part"] != index]
+        remaining.append({**thread, "ops": ops})
+    parts = scenario["parts"][:index] + scenario["parts"][index + 1 :]
+    return picked({**scenario, "parts": parts, "threads": remaining}, numbers)
 
 
 def lists_of(scenario: Scenario) -> Iterator[tuple[Path, int, int]]:
-    """The lists that may get shorter: where, how short at least, and in which steps."""
-    for place in range(len(scenario["threads"])):
-        yield ("threads", place, "ops"), 0, 1
-    for place, part in enumerate(scenario["parts"]):
+    """Yields the lists that may become shorter: the path, the least length, and the unit of the length."""
+    for index in range(len(scenario["threads"])):
+        yield ("threads", index, "ops"), 0, 1
+    for index, part in enumerate(scenario["parts"]):
         for key in ("faults", "arrivals", "bad"):
             if key in part:
-                yield ("parts", place, key), 0, 1
-        yield from driver_lists(part, ("parts", place, "driver"))
+                yield ("parts", index, key), 0, 1
+        yield from driver_lists(part, ("parts", index, "driver"))
     if scenario.get("schedule", {}).get("kind") == "listed":
         yield ("schedule", "picks"), 0, 1
 
 
 def driver_lists(part: dict[str, Any], path: Path) -> Iterator[tuple[Path, int, int]]:
-    """A driver's initial words, if it is an image."""
+    """Yields the list of a driver's initial words, if it is an image."""
     if "image" in part["driver"]:
         yield (*path, "image", "data"), 0, 1
 
 
 def shorter_words(words: list[int], unit: int) -> Iterator[list[int]]:
-    """Shorter fronts of a list of words, the shortest first."""
+    """Yields prefixes of a list of words, the shortest first."""
     length = unit
     while length < len(words):
         yield words[:length]
@@ -85,11 +84,11 @@ def shorter_words(words: list[int], unit: int) -> Iterator[list[int]]:
 
 
 def simpler_values(scenario: Scenario) -> Iterator[Change]:
-    """Values that may get simpler, one by one."""
+    """Yields values that may become simpler, one by one."""
     if "schedule" in scenario:
         yield ("schedule",), None
-    for place, part in enumerate(scenario["parts"]):
-        path = ("parts", place)
+    for index, part in enumerate(scenario["parts"]):
+        path = ("parts", index)
         for key in ("faults", "arrivals", "bad"):
             if key in part and not part[key]:
                 yield (*path, key), None
@@ -102,13 +101,13 @@ def simpler_values(scenario: Scenario) -> Iterator[Change]:
         yield from driver_values(part["driver"], (*path, "driver"))
         for number, frame in enumerate(part.get("arrivals", [])):
             yield from (((*path, "arrivals", number), words) for words in shorter_words(frame, 1))
-    for place, thread in enumerate(scenario["threads"]):
+    for index, thread in enumerate(scenario["threads"]):
         for number, op in enumerate(thread["ops"]):
-            yield from operation_values(op, ("threads", place, "ops", number))
+            yield from operation_values(op, ("threads", index, "ops", number))
 
 
 def driver_values(driver: dict[str, Any], path: Path) -> Iterator[Change]:
-    """A driver's text with fewer initial words, and without comments."""
+    """Yields a driver's text with fewer initial words, and without comments."""
     text = driver.get("asm")
     if text is None:
         return
@@ -121,7 +120,7 @@ def driver_values(driver: dict[str, Any], path: Path) -> Iterator[Change]:
 
 
 def operation_values(op: dict[str, Any], path: Path) -> Iterator[Change]:
-    """An operation with shorter words, fewer blocks, or equal words."""
+    """Yields values that give an operation shorter words, fewer blocks, or equal words."""
     for key, unit in (("data", WORDS_OF_BLOCK), ("frame", 1), ("samples", 1)):
         for words in shorter_words(op.get(key, []), unit):
             yield (*path, key), words

@@ -1,4 +1,4 @@
-"""JSON as people write it: comments, trailing commas, and each value with its place."""
+"""JSON as people write it: comments, trailing commas, and the position of each value."""
 
 from __future__ import annotations
 
@@ -10,7 +10,7 @@ from typing import Any, Iterator
 
 from .program import Mistake
 
-# How deep lists and objects may be nested, so that a bad file ends in a mistake with a place.
+# How deep lists and objects may be nested, so that a bad file ends in a mistake with a position.
 DEEPEST = 200
 
 BLANK = re.compile(r"(?:[ \t\r\n]+|//[^\n]*)*")
@@ -20,8 +20,8 @@ WORDS = {"true": True, "false": False, "null": None}
 
 
 @dataclass(frozen=True)
-class Place:
-    """A place in a file: lines and columns count from 1."""
+class Position:
+    """A position in a file: lines and columns count from 1."""
 
     file: str
     line: int
@@ -32,27 +32,27 @@ class Place:
 
 
 class Misplaced(Mistake):
-    """A mistake at a place of a file."""
+    """A mistake at a position of a file."""
 
-    def __init__(self, place: Place, text: str) -> None:
-        super().__init__(f"{place}: {text}")
-        self.place = place
+    def __init__(self, position: Position, text: str) -> None:
+        super().__init__(f"{position}: {text}")
+        self.position = position
 
 
 @dataclass
 class Node:
-    """A value with its place: `value` is a dict of nodes, a list of nodes, or a plain value. Of a dict, `keys` has the
-    places of the keys. `origin` is a file of lines from which a text was taken. Of a whole input, `size` is the number
-    of its bytes."""
+    """A value with its position: `value` is a dict of nodes, a list of nodes, or a plain value. `keys` has the
+    positions of a dict's keys. `origin` is a file of lines from which a text was taken. `size` is the number of bytes
+    of a whole input."""
 
     value: Any
-    place: Place
-    keys: dict[str, Place] = field(default_factory=dict)
+    position: Position
+    keys: dict[str, Position] = field(default_factory=dict)
     origin: str | None = None
     size: int | None = None
 
     def plain(self) -> Any:
-        """The value without places."""
+        """Returns the value without positions."""
         if isinstance(self.value, dict):
             return {key: node.plain() for key, node in self.value.items()}
         if isinstance(self.value, list):
@@ -60,18 +60,18 @@ class Node:
         return self.value
 
     def get(self, key: str) -> Node | None:
-        """The node under a key, if this is an object that has it."""
+        """Returns the node under a key, None if this is not an object that has it."""
         found: Node | None = self.value.get(key) if isinstance(self.value, dict) else None
         return found
 
 
 def steps_of(path: str) -> list[str]:
-    """The steps of a path as the program writes it: `/parts/0/blocks`; `/` has none."""
+    """Splits a path as the program prints it, such as `/parts/0/blocks`; `/` has no steps."""
     return [step for step in path.split("/") if step]
 
 
 def deepest(node: Node, path: str) -> tuple[Node, list[str]]:
-    """The deepest value on a path, and the steps that are not there."""
+    """Returns the deepest value on a path, and the steps that do not exist."""
     steps = steps_of(path)
     for done, step in enumerate(steps):
         if isinstance(node.value, dict) and step in node.value:
@@ -84,25 +84,25 @@ def deepest(node: Node, path: str) -> tuple[Node, list[str]]:
 
 
 class Reader:
-    """Reads one text from its front to its end."""
+    """Reads one text from its beginning to its end."""
 
     def __init__(self, text: str, file: str) -> None:
         self.text = text
         self.file = file
         self.at = 0
-        self.starts = [0] + [place + 1 for place, letter in enumerate(text) if letter == "\n"]
+        self.starts = [0] + [offset + 1 for offset, letter in enumerate(text) if letter == "\n"]
 
-    def place(self, at: int | None = None) -> Place:
-        """The place of an offset, or of the next letter to read."""
+    def position(self, at: int | None = None) -> Position:
+        """Returns the position of an offset, or of the next letter to read."""
         at = self.at if at is None else at
         low, high = 0, len(self.starts)
         while high - low > 1:
             middle = (low + high) // 2
             low, high = (middle, high) if self.starts[middle] <= at else (low, middle)
-        return Place(self.file, low + 1, at - self.starts[low] + 1)
+        return Position(self.file, low + 1, at - self.starts[low] + 1)
 
     def fail(self, text: str) -> Misplaced:
-        return Misplaced(self.place(), text)
+        return Misplaced(self.position(), text)
 
     def skip(self) -> None:
         found = BLANK.match(self.text, self.at)
@@ -133,14 +133,14 @@ class Reader:
             return self.object(depth)
         if first == "[":
             return self.list(depth)
-        place = self.place()
+        position = self.position()
         if first == '"':
-            return Node(self.string(), place)
+            return Node(self.string(), position)
         for word, value in WORDS.items():
             if self.text.startswith(word, self.at):
                 self.at += len(word)
-                return Node(value, place)
-        return Node(self.number(), place)
+                return Node(value, position)
+        return Node(self.number(), position)
 
     def number(self) -> int | float:
         found = NUMBER.match(self.text, self.at)
@@ -162,7 +162,7 @@ class Reader:
         return value
 
     def items(self, closing: str, where: str) -> Iterator[None]:
-        """Stops at each item of a list or an object; a comma may stand after the last one."""
+        """Yields at each item of a list or an object. A comma may follow the last one."""
         self.at += 1
         while self.peek() != closing:
             yield
@@ -172,32 +172,32 @@ class Reader:
         self.at += 1
 
     def list(self, depth: int) -> Node:
-        place = self.place()
+        position = self.position()
         found: list[Node] = []
         for _ in self.items("]", "between the items of the list"):
             found.append(self.node(depth + 1))
-        return Node(found, place)
+        return Node(found, position)
 
     def object(self, depth: int) -> Node:
-        place = self.place()
+        position = self.position()
         found: dict[str, Node] = {}
-        keys: dict[str, Place] = {}
+        keys: dict[str, Position] = {}
         for _ in self.items("}", "between the keys of the object"):
-            key_place = self.place()
+            key_position = self.position()
             if self.peek() != '"':
                 raise self.fail("expected a key in double quotes")
             key = self.string()
             if key in found:
-                raise Misplaced(key_place, f"duplicate key {key!r}")
+                raise Misplaced(key_position, f"duplicate key {key!r}")
             self.take(":", "after a key")
             found[key] = self.node(depth + 1)
-            keys[key] = key_place
-        return Node(found, place, keys)
+            keys[key] = key_position
+        return Node(found, position, keys)
 
 
 SAVE = "save it as UTF-8 without a byte order mark"
 
-# Byte order marks, and how an editor names what begins with them. That of UTF-32 begins with that of UTF-16.
+# Byte order marks, and what editors call the encoding. That of UTF-32 comes first, since it begins with that of UTF-16.
 MARKS = (
     (codecs.BOM_UTF8, "begins with a byte order mark"),
     (codecs.BOM_UTF32_LE, "is UTF-32"),
@@ -208,20 +208,21 @@ MARKS = (
 
 
 def decoded(data: bytes, file: str) -> str:
-    """The text of bytes; a mistake if an editor saved them in another encoding than UTF-8, or with a mark."""
+    """Decodes a text. If an editor saved it in another encoding than UTF-8 or with a byte order mark, this is a
+    mistake."""
     for mark, about in MARKS:
         if data.startswith(mark):
-            raise Misplaced(Place(file, 1, 1), f"the file {about}: {SAVE}")
+            raise Misplaced(Position(file, 1, 1), f"the file {about}: {SAVE}")
     try:
         return data.decode()
     except UnicodeDecodeError as error:
         before = data[: error.start]
         line, column = before.count(b"\n") + 1, len(before) - before.rfind(b"\n")
-        raise Misplaced(Place(file, line, column), f"byte {error.start} is not UTF-8: {SAVE}") from error
+        raise Misplaced(Position(file, line, column), f"byte {error.start} is not UTF-8: {SAVE}") from error
 
 
 def read_text(file: str) -> str:
-    """The text of a file; `-` is standard input."""
+    """Returns the text of a file; `-` is standard input."""
     try:
         with open(0 if file == "-" else file, "rb", closefd=file != "-") as opened:
             data = opened.read()
@@ -231,5 +232,5 @@ def read_text(file: str) -> str:
 
 
 def read_source(file: str, text: str | None = None) -> Node:
-    """The value of a file with the places in it."""
+    """Returns the value of a file, with positions."""
     return Reader(read_text(file) if text is None else text, file).whole()

@@ -1,32 +1,32 @@
-"""The state of a part after each event, computed from its events, and nowhere else.
+"""The state of a part after each event, computed from its events; nothing else computes it.
 
-Everything here follows from the lines of a report (docs/REPORT.md). What a report does not tell, such as the words of
-the driver's memory or the block register of a disk, is no part of it."""
+Everything here follows from the lines of a report (docs/REPORT.md). What a report does not say, such as the words of
+the driver's memory or the block register of a disk, is not part of it."""
 
 from __future__ import annotations
 
 from dataclasses import dataclass, field, replace
 
-from .held import COPY_WORDS, Held, Holding
+from .held import COPY_WORDS, Resource, Resources
 from .operations import BUFFERS, Operation, conflict, parse_operation
 from .ports import REGISTERS
 from .report import SHADOW, Event, Part
 from .times import BOOT, GIVEN_UP, RECOVERS, SERVES
 
-# The stage that comes after one, where it does not depend on the record.
+# The stage that follows each one, if it does not depend on the record.
 NEXT_STAGE = {"stop": "collect", "collect": "reset", "reset": "load", "load": "init"}
 
 NET_RX = "service 6 "
 
-# Where an open call is: it waits; it is in the driver; a failure cut it, and the stage `stop` has yet to deal with it.
+# Where an open call is: it waits, it is in the driver, or a failure interrupted it and `stop` has not come yet.
 HELD = "held"
 INSIDE = "inside"
-CUT = "cut"
+INTERRUPTED = "cut"
 
 
 @dataclass(frozen=True)
 class OpenCall:
-    """A call that is not answered. `sent` and `played` count the frames and samples of its bursts; `behind` has the
+    """A call that is not answered. `sent` and `played` count the frames and samples of its bursts; `waits_for` has the
     earlier open calls that it waits for."""
 
     number: int
@@ -38,11 +38,11 @@ class OpenCall:
     bursts: int = 0
     sent: int = 0
     played: int = 0
-    behind: tuple[int, ...] = ()
+    waits_for: tuple[int, ...] = ()
 
 
 @dataclass(frozen=True)
-class Told:
+class LastAnswer:
     """The last answer that a thread got from the part, and at which event."""
 
     call: int
@@ -53,8 +53,9 @@ class Told:
 
 @dataclass(frozen=True)
 class PartState:
-    """What is so after an event. `stage` is the stage that is due in a boot or a recovery, as `busy` tells it; while
-    the shadow is inside the driver for it, `shadow` is true. Blocks, frames and objects are lists as in a report."""
+    """The state after an event. `stage` is the stage that is due in a boot or a recovery, as an answer `busy` names it;
+    `shadow` is true while the shadow is inside the driver for this stage. Blocks, frames and objects are lists as in a
+    report."""
 
     mode: str
     stage: str
@@ -63,7 +64,7 @@ class PartState:
     shadow: bool = False
     failures: int = 0
     calls: tuple[OpenCall, ...] = ()
-    told: dict[int, Told] = field(default_factory=dict)
+    last_answers: dict[int, LastAnswer] = field(default_factory=dict)
     blocks: dict[int, str] = field(default_factory=dict)
     ring: tuple[str, ...] = ()
     popped: tuple[str, ...] = ()
@@ -72,7 +73,7 @@ class PartState:
     holder: int | None = None
     played: tuple[int, str] = (0, "")
     objects: dict[int, str] = field(default_factory=dict)
-    held: tuple[Held, ...] = ()
+    resources: tuple[Resource, ...] = ()
     lent: tuple[tuple[int, str], ...] = ()
     losses: tuple[tuple[str, int], ...] = ()
     broken: tuple[int, int] | None = None
@@ -86,7 +87,7 @@ class Following:
 
     def __init__(self, part: Part) -> None:
         self.part = part
-        self.holding = Holding()
+        self.resources = Resources()
         self.defaults = tuple(value for _, value in REGISTERS[part.kind])
         self.losses: dict[str, int] = {}
         self.now = PartState(BOOT, "load", self.defaults, self.defaults)
@@ -95,14 +96,14 @@ class Following:
         self.now = replace(self.now, **fields)
 
     def see(self, event: Event) -> PartState:
-        """The state after an event."""
+        """Processes an event, and returns the state after it."""
         {"invoke": self.invoke, "enter": self.enter, "burst": self.burst, "stage": self.stage,
          "arrive": self.arrive}[event.kind](event)
         if event.kind in ("burst", "stage"):
-            self.holding.see(event)
-            held = tuple(self.holding.list())
-            if held != self.now.held:
-                self.change(held=held)
+            self.resources.see(event)
+            resources = tuple(self.resources.list())
+            if resources != self.now.resources:
+                self.change(resources=resources)
         if self.part.broken and self.part.broken[0] == event.number:
             self.change(broken=self.part.broken)
         return self.now
@@ -113,8 +114,8 @@ class Following:
         operation = parse_operation(event.text)
         call = OpenCall(event.call, event.context, event.text, operation)
         if event.answer is None:
-            behind = (each.number for each in self.now.calls if conflict(each.operation, operation))
-            call = replace(call, behind=tuple(behind))
+            waits_for = (each.number for each in self.now.calls if conflict(each.operation, operation))
+            call = replace(call, waits_for=tuple(waits_for))
         self.change(calls=(*self.now.calls, call))
         self.answered(event, event.call, event.answer)
 
@@ -127,18 +128,18 @@ class Following:
         self.answered(event, event.call, event.answer)
 
     def put(self, call: OpenCall) -> None:
-        """Puts a changed call in its place."""
+        """Replaces the call of the same number."""
         self.change(calls=tuple(call if each.number == call.number else each for each in self.now.calls))
 
     def answered(self, event: Event, number: int, answer: str | None) -> None:
-        """A call is open no more, if there is an answer, and what its answer does to the kernel's side."""
+        """Closes a call if there is an answer, and applies what the answer does to the kernel's side."""
         call = self.now.call(number)
         if answer is None or call is None:
             return
-        rest = (replace(each, behind=tuple(other for other in each.behind if other != number))
+        rest = (replace(each, waits_for=tuple(other for other in each.waits_for if other != number))
                 for each in self.now.calls if each.number != number)
-        told = Told(number, call.text, answer, event.number)
-        self.change(calls=tuple(rest), told={**self.now.told, call.thread: told})
+        last = LastAnswer(number, call.text, answer, event.number)
+        self.change(calls=tuple(rest), last_answers={**self.now.last_answers, call.thread: last})
         if answer.startswith("frame "):
             self.change(queue=self.now.queue[1:])
         if answer.startswith("busy "):
@@ -166,12 +167,12 @@ class Following:
         if event.failed:
             self.fail(event)
         elif event.context == SHADOW and event.text.startswith("reply "):
-            self.go_on()
+            self.next_stage()
         elif call and event.answer is not None:
             self.replied(event, call)
 
     def act(self, number: int, act: str) -> None:
-        """What an act changes."""
+        """Applies an act."""
         name, _, rest = act.partition(" ")
         call = self.now.call(number)
         if name == "store":
@@ -196,9 +197,9 @@ class Following:
                 self.put(replace(call, played=call.played + 1))
 
     def moved(self, text: str) -> None:
-        """A service moved words: a frame that was handed up, or a kernel object that was given back."""
-        front, _, words = text.rpartition(" ")
-        numbers = front.split(" ")
+        """Applies a service that moved words: a frame was handed up, or a kernel object was given back."""
+        prefix, _, words = text.rpartition(" ")
+        numbers = prefix.split(" ")
         if text.startswith(NET_RX):
             self.change(popped=self.now.popped[1:])
             if numbers[5] == "1":
@@ -210,7 +211,7 @@ class Following:
             self.change(objects={each: now for each, now in objects.items() if now != first_words(each)})
 
     def replied(self, event: Event, call: OpenCall) -> None:
-        """The driver's reply to a call was accepted."""
+        """Applies a reply of the driver that was accepted."""
         operation = call.operation
         if event.answer == "done" and operation.name == "set":
             key, value = operation.numbers
@@ -222,9 +223,9 @@ class Following:
         self.answered(event, call.number, event.answer)
 
     def fail(self, event: Event) -> None:
-        cut = (replace(call, where=CUT) if call.where == INSIDE else call for call in self.now.calls)
+        calls = tuple(replace(call, where=INTERRUPTED) if call.where == INSIDE else call for call in self.now.calls)
         shadow = self.now.shadow and event.context != SHADOW
-        self.change(calls=tuple(cut), failures=self.now.failures + 1, mode=RECOVERS, stage="stop", shadow=shadow)
+        self.change(calls=calls, failures=self.now.failures + 1, mode=RECOVERS, stage="stop", shadow=shadow)
 
     # Stages.
 
@@ -254,8 +255,8 @@ class Following:
             self.answered(event, number, answer)
         self.change(calls=tuple(replace(call, where=HELD, bursts=0) for call in self.now.calls))
 
-    def go_on(self) -> None:
-        """The shadow's call is done: the next stage is due."""
+    def next_stage(self) -> None:
+        """Makes the next stage due, since the shadow's call is done."""
         key = int(self.now.stage.split(" ")[1]) + 1 if self.now.stage.startswith("replay_set") else 0
         replays = [f"replay_set {each} {self.now.record[each]}" for each in range(key, len(self.defaults))
                    if self.now.record[each] != self.defaults[each]]
@@ -274,11 +275,11 @@ class Following:
 
 
 def first_words(number: int) -> str:
-    """The words of a kernel object at the beginning: its number, and zeros."""
+    """Returns the initial words of a kernel object: its number, followed by zeros."""
     return f"[{number}{',0' * (COPY_WORDS - 1)}]"
 
 
 def states_of(part: Part) -> list[PartState]:
-    """The states of a part: that before the first event, and that after each event."""
+    """Returns the states of a part: before the first event, and after each event."""
     following = Following(part)
     return [following.now, *(following.see(event) for event in part.events)]

@@ -1,17 +1,17 @@
-"""The states of a part as rows of text, each with its history: from which event on it says what."""
+"""The states of a part as rows of text, each with its history: what it says from which event on."""
 
 from __future__ import annotations
 
 from typing import Any, Callable
 
 from .event_words import waits_for
-from .held import Held
-from .state import CUT, INSIDE, OpenCall, PartState, Told
+from .held import Resource
+from .state import INSIDE, INTERRUPTED, LastAnswer, OpenCall, PartState
 from .times import LOSSES
 from .words import CLAUSES, counted, short
 
-# A section has rows by their names, and a row has what it says at each event at which that changes; null is a row that
-# is not there.
+# A section has rows by name, and a row has what it says at each event at which that changes. Null
+# represents an absent row.
 Rows = dict[str, Any]
 History = list[tuple[int, Any]]
 Sections = dict[str, dict[str, History]]
@@ -23,35 +23,35 @@ def mode_rows(now: PartState) -> Rows:
 
 
 def call_words(call: OpenCall, now: PartState) -> str:
-    """Where an open call is."""
+    """Describes where an open call is."""
     tries = f"try {call.attempts}"
     if call.where == INSIDE:
         return f"inside the driver, context {call.thread}, {tries}, {counted(call.bursts, 'burst')}"
-    if call.where == CUT:
+    if call.where == INTERRUPTED:
         return f"cut by the failure in its {tries}"
     again = f", after {tries} was cut" if call.attempts else ""
     return f"held {waits_for(call, now)}{again}"
 
 
 def call_rows(now: PartState) -> Rows:
-    """A row for each thread: its open call, or its last one that was answered."""
-    rows: Rows = {str(thread): told_row(told) for thread, told in now.told.items()}
+    """Returns a row for each thread: its open call, or its last one that was answered."""
+    rows: Rows = {str(thread): answered_row(last) for thread, last in now.last_answers.items()}
     for call in now.calls:
         where = call.where
         rows[str(call.thread)] = [where, f"c{call.number}", short(call.text), call_words(call, now)]
     return rows
 
 
-def told_row(told: Told) -> list[str]:
-    return ["answered", f"c{told.call}", short(told.text), f"answered at event {told.event}: {short(told.answer)}"]
+def answered_row(last: LastAnswer) -> list[str]:
+    return ["answered", f"c{last.call}", short(last.text), f"answered at event {last.event}: {short(last.answer)}"]
 
 
 def number_rows(numbers: tuple[int, ...]) -> Rows:
-    return {str(place): str(number) for place, number in enumerate(numbers)}
+    return {str(index): str(number) for index, number in enumerate(numbers)}
 
 
 def list_rows(lists: dict[int, str]) -> Rows:
-    """Lists of words by their numbers: shortened, and in full."""
+    """Returns lists of words by number: shortened, and in full."""
     return {str(number): [short(words), words] for number, words in lists.items()}
 
 
@@ -72,9 +72,9 @@ def stream_rows(now: PartState) -> Rows:
     return {"holder": holder, "played": counted_row(now.played, "sample")}
 
 
-def held_words(held: tuple[Held, ...], lent: tuple[tuple[int, str], ...]) -> list[str]:
-    """What the driver holds, as `stage collect` names it."""
-    return [*(each.text for each in held), *(f"buffer {context} {right}" for context, right in lent)]
+def resource_words(resources: tuple[Resource, ...], lent: tuple[tuple[int, str], ...]) -> list[str]:
+    """Names what the driver holds, as `stage collect` does."""
+    return [*(each.text for each in resources), *(f"buffer {context} {right}" for context, right in lent)]
 
 
 def loss_rows(now: PartState) -> Rows:
@@ -88,10 +88,10 @@ def broken_rows(now: PartState) -> Rows:
     return {"": f"broken at event {number}, clause {clause}: the driver {CLAUSES[clause]}"}
 
 
-# For each section the fields that it is made of, and how.
+# The fields that each section is made from, and how.
 SECTIONS: dict[str, tuple[tuple[str, ...], Callable[[PartState], Rows]]] = {
     "part": (("mode", "stage", "shadow", "failures"), mode_rows),
-    "calls": (("calls", "told", "mode"), call_rows),
+    "calls": (("calls", "last_answers", "mode"), call_rows),
     "record": (("record",), lambda now: number_rows(now.record)),
     "registers": (("registers",), lambda now: number_rows(now.registers)),
     "blocks": (("blocks",), lambda now: list_rows(now.blocks)),
@@ -99,7 +99,7 @@ SECTIONS: dict[str, tuple[tuple[str, ...], Callable[[PartState], Rows]]] = {
     "wire": (("wire",), lambda now: {"": counted_row(now.wire, "frame")}),
     "stream": (("holder", "played"), stream_rows),
     "objects": (("objects",), lambda now: list_rows(now.objects)),
-    "holds": (("held", "lent"), lambda now: {"": held_words(now.held, now.lent)}),
+    "holds": (("resources", "lent"), lambda now: {"": resource_words(now.resources, now.lent)}),
     "losses": (("losses",), loss_rows),
     "contract": (("broken",), broken_rows),
 }
@@ -113,18 +113,18 @@ WITHOUT = {
 
 
 def note(history: dict[str, History], event: int, rows: Rows) -> None:
-    """Writes down what rows say from an event on."""
-    for name, told in rows.items():
+    """Records what rows say from an event on."""
+    for name, value in rows.items():
         known = history.setdefault(name, [])
-        if not known or known[-1][1] != told:
-            known.append((event, told))
+        if not known or known[-1][1] != value:
+            known.append((event, value))
     for name, known in history.items():
         if name not in rows and known[-1][1] is not None:
             known.append((event, None))
 
 
 def histories(states: list[PartState], kind: str) -> Sections:
-    """The sections of a part of a class, by its states."""
+    """Returns the sections of a part of a class, from its states."""
     found: Sections = {name: {} for name in SECTIONS if name not in WITHOUT[kind]}
     for name in found:
         fields, rows_of = SECTIONS[name]

@@ -1,4 +1,4 @@
-"""What a burst does at each turn: the strip over the cells of a map."""
+"""What a burst does at each instruction: the strip above the cells of a map."""
 
 from __future__ import annotations
 
@@ -15,7 +15,8 @@ from .times import ACTS
 
 @dataclass(frozen=True)
 class Step:
-    """One turn: its instruction as `address: INSTRUCTION`, what it did to the device, and the line that made it."""
+    """One executed instruction: its text as `address: INSTRUCTION`, what it did to the device, and the line that made
+    it."""
 
     instruction: str
     acts: tuple[str, ...] = ()
@@ -37,37 +38,37 @@ class Step:
 
 
 Strip = dict[int, Step]
-# The strips of a map, by the place of the run and the burst.
+# The strips of a map, by the index of the run and the burst.
 Strips = dict[tuple[int, int], Strip]
 
 
 def line_of(source: Source, address: int) -> str:
-    """The line of the text that made a word."""
+    """Returns the line of the text that made a word."""
     number, line = source.lines.get(address, (0, ""))
     return f"line {number}: {line.strip()}" if number else ""
 
 
 def strip_by_trace(program: Program, scenario: Scenario, part: int, burst: int, source: Source) -> Strip | None:
-    """The turns of a burst by the program's trace, which comes before the turn of that number counted from 0; None if
-    there is no such burst, or the program writes no traces."""
+    """Returns the executed instructions of a burst, counted from 0, from the program's trace; None if there is no such
+    burst, or the program writes no traces."""
     ended = program.ask(["trace", str(part), str(burst)], json.dumps(scenario))
     if ended.status:
         return None
     found: Strip = {}
-    for turn in parse_trace(ended.out).turns():
-        instruction = f"{turn.address}: {turn.instruction}"
-        found[turn.number - 1] = Step(instruction, turn.acts, line_of(source, turn.address))
+    for executed in parse_trace(ended.out).executed():
+        instruction = f"{executed.address}: {executed.instruction}"
+        found[executed.number - 1] = Step(instruction, executed.acts, line_of(source, executed.address))
     return found
 
 
 def strip_by_entries(entries: list[dict[str, Any]], burst: int) -> Strip:
-    """The turns of a burst as far as a sweep asked for its instructions."""
+    """Returns the instructions of a burst, as far as a sweep asked for them."""
     known = [entry for entry in entries if entry["fault"]["burst"] == burst and entry["instruction"]]
     return {entry["fault"]["after"]: Step(entry["instruction"]) for entry in known}
 
 
 def strips_of(program: Program | None, runs: list[dict[str, Any]], part: int) -> Strips:
-    """The strips of all bursts of some runs."""
+    """Returns the strips of all bursts of some runs."""
     found: Strips = {}
     for number, run in enumerate(runs):
         source = source_of(program, run["base"]["parts"][part]["driver"]) if program else Source()
@@ -80,8 +81,8 @@ def strips_of(program: Program | None, runs: list[dict[str, Any]], part: int) ->
 
 
 def writes_traces(program: Program) -> bool:
-    """Whether the program has the form `trace`: then it refuses an input that is no scenario, and does not write its
-    usage line."""
+    """Returns whether the program has the subcommand `trace`: it then refuses an input that is no scenario, and does
+    not print its usage line."""
     return program.ask(["trace", "0", "1"], "").status == REFUSED
 
 

@@ -1,30 +1,30 @@
-"""SVG texts: a canvas, and colours that differ without colour vision."""
+"""SVG texts: a canvas, and colours that differ for all kinds of colour vision."""
 
 from __future__ import annotations
 
 from dataclasses import dataclass, field
 from xml.sax.saxutils import escape, quoteattr
 
-# A palette of eight that stay apart for all kinds of colour vision, and in grey by their lightness.
+# A palette of eight colours that differ for all kinds of colour vision, and in grey by their lightness.
 BLACK, GREY, PALE = "#1a1a1a", "#8c8c8c", "#e8e8e8"
 BLUE, SKY, GREEN, YELLOW = "#0072b2", "#56b4e9", "#009e73", "#f0e442"
 ORANGE, RED, PURPLE = "#e69f00", "#d55e00", "#cc79a7"
 WHITE = "#ffffff"
 
 FONT = "font-family:'DejaVu Sans','Helvetica',sans-serif"
-# How wide letters are in the first of these fonts, as parts of its size; the others are no wider.
+# The widths of letters in the first of these fonts, relative to its size; the others are no wider.
 LETTER = 0.62
 WIDTHS = {**dict.fromkeys("ijl|'", 0.3), **dict.fromkeys("fIt.,:;()[]/ -", 0.4), **dict.fromkeys("mwMW", 0.97),
           **dict.fromkeys("ABCDGHNOQRUVXYZ=+<>", 0.76)}
 
 
 def text_width(text: str, size: float) -> float:
-    """About how wide a text is; the fonts differ."""
+    """Estimates the width of a text; the fonts differ."""
     return sum(WIDTHS.get(letter, LETTER) for letter in text) * size
 
 
 def fitted(text: str, size: float, room: float) -> list[str]:
-    """A text in lines that fit into some room, as far as its words do."""
+    """Splits a text between words into lines that fit into some room, as far as possible."""
     lines: list[str] = []
     for word in text.split(" "):
         if lines and text_width(f"{lines[-1]} {word}", size) <= room:
@@ -36,7 +36,7 @@ def fitted(text: str, size: float, room: float) -> list[str]:
 
 @dataclass
 class Canvas:
-    """A drawing that grows by elements. Coordinates are in pixels."""
+    """A drawing to which elements are added. Coordinates are in pixels."""
 
     parts: list[str] = field(default_factory=list)
     definitions: list[str] = field(default_factory=list)
@@ -47,7 +47,7 @@ class Canvas:
         self.width, self.height = max(self.width, x), max(self.height, y)
 
     def add(self, tag: str, title: str = "", inner: str = "", /, **attributes: object) -> None:
-        """An element; a title is what is shown under the pointer."""
+        """Adds an element; a title is shown under the pointer."""
         written = attributes_text(attributes)
         body = (f"<title>{escape(title)}</title>" if title else "") + escape(inner)
         self.parts.append(f"<{tag}{written}>{body}</{tag}>" if body else f"<{tag}{written}/>")
@@ -57,7 +57,7 @@ class Canvas:
         self.add("rect", title, x=x, y=y, width=wide, height=high, fill=fill, **more)
 
     def group(self, **attributes: object) -> None:
-        """Begins a group, whose elements share what is named; `end_group` ends it."""
+        """Begins a group, whose elements share attributes; `end_group` ends it."""
         written = attributes_text(attributes)
         self.parts.append(f"<g{written}>")
 
@@ -76,11 +76,11 @@ class Canvas:
         self.add("text", title, text, x=x, y=y, font_size=size, fill=fill, **more)
 
     def grouped_words(self, x: float, y: float, text: str, **more: object) -> None:
-        """Words whose size and colour are those of the group around them."""
+        """Adds words with the size and the colour of the group around them."""
         self.add("text", "", text, x=x, y=y, **more)
 
     def lines(self, x: float, y: float, text: str, room: float, size: float = 11, fill: str = BLACK) -> float:
-        """A text in lines that fit into some room; how high they are."""
+        """Adds a text in lines that fit into some room, and returns their height."""
         written = fitted(text, size, room)
         for number, line in enumerate(written):
             self.words(x, y + number * (size + 3), line, size, fill)
@@ -89,10 +89,10 @@ class Canvas:
     def shape(self, path: str, fill: str, title: str = "", **more: object) -> None:
         self.add("path", title, d=path, fill=fill, **more)
 
-    def stripes(self, name: str, back: str, front: str, step: int = 6) -> str:
-        """A fill of stripes, so that a state differs by more than its colour."""
-        ground = f'<rect width="{step}" height="{step}" fill="{back}"/>'
-        inner = f'{ground}<path d="M0,0 L0,{step}" stroke="{front}" stroke-width="2"/>'
+    def stripes(self, name: str, background: str, foreground: str, step: int = 6) -> str:
+        """Adds a fill of stripes, so that a state differs by more than its colour."""
+        ground = f'<rect width="{step}" height="{step}" fill="{background}"/>'
+        inner = f'{ground}<path d="M0,0 L0,{step}" stroke="{foreground}" stroke-width="2"/>'
         self.definitions.append(
             f'<pattern id="{name}" width="{step}" height="{step}" patternUnits="userSpaceOnUse" '
             f'patternTransform="rotate(45)">{inner}</pattern>'
@@ -100,7 +100,7 @@ class Canvas:
         return f"url(#{name})"
 
     def text(self, title: str, scale: float = 1.0) -> str:
-        """The whole drawing; the scale makes all of it larger, the letters too."""
+        """Returns the whole drawing; the scale applies to all of it, including letters."""
         wide, high = shown(self.width + 12), shown(self.height + 12)
         sizes = [shown((side + 12) * scale) for side in (self.width, self.height)]
         size = f'width="{sizes[0]}" height="{sizes[1]}" viewBox="0 0 {wide} {high}"'
@@ -111,12 +111,12 @@ class Canvas:
 
 
 def attributes_text(attributes: dict[str, object]) -> str:
-    """Attributes as SVG writes them."""
+    """Formats attributes as SVG does."""
     return "".join(f" {name.replace('_', '-')}={quoteattr(shown(value))}" for name, value in attributes.items())
 
 
 def shown(value: object) -> str:
-    """A number with at most one decimal, or a text."""
+    """Formats a number with at most one decimal, or a text."""
     if isinstance(value, float):
         return f"{value:.1f}".rstrip("0").rstrip(".")
     return str(value)
@@ -128,7 +128,7 @@ def diamond(x: float, y: float, r: float) -> str:
 
 
 def triangle(x: float, y: float, r: float) -> str:
-    """A triangle that points down."""
+    """Returns a triangle that points down."""
     return f"M{shown(x - r)},{shown(y - r)} L{shown(x + r)},{shown(y - r)} L{shown(x)},{shown(y + r)} Z"
 
 

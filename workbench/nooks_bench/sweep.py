@@ -1,4 +1,4 @@
-"""sweep: over a set of faults, what becomes of each against the run without it."""
+"""sweep: the outcome of each of a set of faults, compared with the run without it."""
 
 from __future__ import annotations
 
@@ -34,7 +34,8 @@ them as JSON. FILE is exact JSON, or a scenario as `build` takes it."""
 
 
 def scenario_of(program: Program, file: str) -> Scenario:
-    """The scenario of a file: exact JSON, or as `build` takes it. A refused one is reported with its place."""
+    """Returns the scenario of a file: exact JSON, or as `build` takes it. An input error is reported with its
+    position."""
     text = read_text(file)
     try:
         value = json.loads(text)
@@ -52,7 +53,7 @@ def scenario_of(program: Program, file: str) -> Scenario:
 
 
 def check_options(args: argparse.Namespace) -> None:
-    """What can be checked before the program is asked."""
+    """Checks what can be checked before the program is asked."""
     limit = INPUTS["part"]["limit"].ends
     for option, ends in {"limit": limit, "schedules": (1, MOST_WORD), "jobs": (1, 4096)}.items():
         check_range(option, getattr(args, option), ends)
@@ -66,14 +67,14 @@ def check_options(args: argparse.Namespace) -> None:
 
 
 def bases_of(args: argparse.Namespace, base: Scenario) -> list[Scenario]:
-    """The scenario itself, or under as many drawn schedules as are asked for."""
+    """Returns the scenario itself, or as many copies under drawn schedules as requested."""
     if args.schedules is None:
         return [base]
     return [with_schedule(base, {"kind": "drawn", "start": args.seed + each}) for each in range(args.schedules)]
 
 
 def open_journal(args: argparse.Namespace, sweep: Sweep, base: Scenario) -> None:
-    """Opens the journal, and takes what it has."""
+    """Opens the journal, and takes the outcomes in it."""
     choice = {**vars(sweep.selection), "schedules": args.schedules, **({"guard": True} if args.guard else {})}
     faults = [plan.faults for plan in sweep.plans]
     version = sweep.program.version() or "no version"
@@ -108,7 +109,7 @@ def sweep_of(args: argparse.Namespace, base: Scenario | None = None) -> Sweep:
 
 
 def swept(args: argparse.Namespace, base: Scenario | None = None) -> list[Swept]:
-    """The whole sweep that the options ask for; an interrupted one is no whole."""
+    """Returns the whole sweep that the options ask for. An interrupted sweep is not whole."""
     sweep = sweep_of(args, base)
     if sweep.interrupted:
         raise KeyboardInterrupt
@@ -116,13 +117,13 @@ def swept(args: argparse.Namespace, base: Scenario | None = None) -> list[Swept]
 
 
 def base_line(report: Report) -> str:
-    """What a run was like, in numbers."""
+    """Describes a run in numbers."""
     row = row_of(report)
     return f"status {row.status}, {row.events} events, {row.failures} failures, {row.gone} gone, {row.lost} lost"
 
 
 def base_lines(report: Report) -> list[str]:
-    """What the run without a fault more was like."""
+    """Describes the run without an additional fault."""
     lines = [f"without: {base_line(report)}"]
     for part in report.parts:
         if part.broken:
@@ -132,13 +133,12 @@ def base_lines(report: Report) -> list[str]:
 
 
 def guarded_base_lines(runs: Sequence[Swept]) -> list[str]:
-    """What the guarded run without a fault more was like, if the guard stopped anything there."""
+    """Describes the guarded run without an additional fault, if the guard stopped anything there."""
     guarded = [run.guarded for run in runs if run.guarded and run.guarded.guards]
     return [f"without, behind a guard: {base_line(each)}, {counted(len(each.guards), 'trap')}" for each in guarded]
 
 
 def as_json(sweep: Sweep, runs: list[Swept], args: argparse.Namespace) -> dict[str, Any]:
-    """A sweep for tools."""
     entries = [entry for run in runs for entry in run.entries]
     counts = counts_of(entries)
     shown: dict[str, Any] = {
@@ -163,7 +163,6 @@ def as_json(sweep: Sweep, runs: list[Swept], args: argparse.Namespace) -> dict[s
 
 
 def as_text(sweep: Sweep, runs: list[Swept], args: argparse.Namespace) -> str:
-    """A sweep for people."""
     lines = base_lines(sweep.first) + guarded_base_lines(runs)
     if args.schedules is not None:
         lines += own_lines(runs)
@@ -180,8 +179,8 @@ def as_text(sweep: Sweep, runs: list[Swept], args: argparse.Namespace) -> str:
 
 
 def fails(runs: Sequence[Swept], named: str) -> bool:
-    """Whether an outcome is as bad as the named one or worse: that of a fault, or of a base without one. With a guard
-    those behind it count."""
+    """Returns whether an outcome is as bad as the named one or worse: that of a fault, or of a base without one. With a
+    guard the outcomes with it count."""
     least = OUTCOMES.index(SHORT_NAMES[named])
     names = {entry.guarded.name if entry.guarded else entry.outcome for run in runs for entry in run.entries}
     names |= {run.own.name for run in runs if run.own.name != SAME and run.guarded is None}
@@ -189,7 +188,7 @@ def fails(runs: Sequence[Swept], named: str) -> bool:
 
 
 def interrupted_text(sweep: Sweep) -> str:
-    """How far an interrupted sweep came."""
+    """Describes how far an interrupted sweep came."""
     done, chosen = sweep.done(), len(sweep.known)
     text = f"interrupted: {done:,} of {chosen:,} faults"
     if done == chosen:
@@ -214,7 +213,7 @@ def run(args: argparse.Namespace) -> int:
 
 
 def add_sweep_options(parser: argparse.ArgumentParser, needed: bool = True) -> None:
-    """The options of a sweep, which `map` takes too."""
+    """Adds the options of a sweep, which `map` takes too."""
     about = "a scenario, as exact JSON or as `build` takes it; - is standard input"
     if needed:
         parser.add_argument("file", metavar="FILE", help=about)

@@ -1,4 +1,4 @@
-"""A sweep that is run: its bases and their faults, and what is known of each so far."""
+"""A sweep that is run: its bases and their faults, and the outcomes that are known so far."""
 
 from __future__ import annotations
 
@@ -13,7 +13,7 @@ from .every import Every, Whole, can_say
 from .faults import Selection
 from .journal import Journal
 from .model import Entry, Swept
-from .outcomes import BROKEN, Outcome, bursts_of, judge_of, own_outcome, place_of
+from .outcomes import BROKEN, Outcome, bursts_of, driver_work, judge_of, own_outcome
 from .plans import Plan, batches_of
 from .pool import uninterrupted
 from .probe import Probe, instructions
@@ -24,7 +24,7 @@ from .report import Report
 
 @dataclass(frozen=True)
 class How:
-    """How a sweep is run, beside its faults. With `guard` each fault is tried behind a guard too."""
+    """How a sweep is run, apart from its faults. With `guard` each fault is also tried with a guard."""
 
     jobs: int
     quiet: bool
@@ -39,9 +39,9 @@ Known = list[Outcome | None]
 
 @dataclass
 class Sweep:
-    """A sweep that is run: what is known of each fault so far, by its place in the whole, and `behind` a guard. `first`
-    is the report of the scenario under its own schedule. `wholes` has what the tables of campaigns with `every` came
-    to, without a guard and with one."""
+    """A sweep that is run. `known` has the outcome of each fault so far, by its index in the whole sweep, and `guarded`
+    the outcome with a guard. `first` is the report of the scenario under its own schedule. `wholes` has the totals of
+    the tables of campaigns with `every`, without a guard and with one."""
 
     program: Program
     selection: Selection
@@ -50,51 +50,51 @@ class Sweep:
     first: Report
     journal: Journal | None = None
     known: Known = field(default_factory=list)
-    behind: Known = field(default_factory=list)
+    guarded: Known = field(default_factory=list)
     wholes: dict[bool, Whole] = field(default_factory=dict)
     texts: dict[tuple[int, int, int], str] = field(default_factory=dict)
     interrupted: bool = False
 
     def start(self, known: dict[int, Outcome]) -> None:
-        """Begins with what is known already, by its place in a journal: that behind a guard comes after all else."""
+        """Begins with the outcomes that a journal has, by index. Those with a guard come after all others."""
         chosen = sum(len(plan.faults) for plan in self.plans)
-        self.known = [known.get(place) for place in range(chosen)]
-        self.behind = [known.get(chosen + place) for place in range(chosen if self.how.guard else 0)]
+        self.known = [known.get(index) for index in range(chosen)]
+        self.guarded = [known.get(chosen + index) for index in range(chosen if self.how.guard else 0)]
 
     def batches(self, known: Known, asking: Asking) -> list[Batch]:
-        """The work that is left."""
+        """Returns the work that is left."""
         seconds = max(plan.seconds for plan in self.plans)
         size = CLUSTER_BATCH if self.how.dask else local_size(len(known), self.how.jobs, seconds)
         return batches_of(self.plans, self.selection.part, known, size, asking)
 
     def results(self, batches: list[Batch]) -> Iterator[tuple[int, Results]]:
-        """The place and the results of each batch as it is done."""
+        """Yields the index and the results of each batch as it is done."""
         if self.how.dask:
             return run_dask(self.how.dask, self.how.dask_program or self.program.path, batches)
         return run_local(self.program.path, batches, self.how.jobs)
 
     def take(self, known: Known, first: int, results: Results, number: int, progress: Progress) -> None:
-        """Takes some results of a base from a place on, and writes them down."""
+        """Takes results of a base, for the faults from index `first` on, and writes them to the journal."""
         if not results:
             return
         with uninterrupted():
             known[first : first + len(results)] = results
             if self.journal:
-                self.journal.add(first + (len(self.known) if known is self.behind else 0), results)
+                self.journal.add(first + (len(self.known) if known is self.guarded else 0), results)
         progress.take(results, number)
 
     def run(self) -> None:
-        """Runs what is left; an interruption ends it with what is known so far."""
+        """Runs what is left. An interruption ends it with the outcomes that are known so far."""
         try:
-            self.run_before()
+            self.run_unguarded()
             if self.how.guard:
-                self.run_behind()
+                self.run_guarded()
             if self.how.instructions:
                 self.ask_instructions()
         except KeyboardInterrupt:
             self.interrupted = True
 
-    def run_before(self) -> None:
+    def run_unguarded(self) -> None:
         """Tries the faults without a guard."""
         with Progress(len(self.known), self.how.quiet, len(self.plans)) as progress:
             progress.take([outcome for outcome in self.known if outcome], 0)
@@ -102,28 +102,27 @@ class Sweep:
             asking = Asking(by_rows=not asked, detail=self.program.has_campaign_key("detail"))
             self.run_batches(self.known, asking, progress)
 
-    def run_behind(self) -> None:
-        """Tries the faults behind a guard. If the base keeps its contract, a fault that breaks none has no trap."""
+    def run_guarded(self) -> None:
+        """Tries the faults with a guard. If the base keeps its contract, a fault that breaks none has no trap."""
         for plan in self.plans:
             if plan.guarded is not None and not plan.guarded.guards:
-                for place in range(plan.first, plan.first + len(plan.faults)):
-                    outcome = self.known[place]
-                    self.behind[place] = outcome if outcome and outcome.name != BROKEN else self.behind[place]
-        with Progress(self.behind.count(None), self.how.quiet, len(self.plans), "behind a guard: ") as progress:
-            self.run_batches(self.behind, Asking(guarded=True), progress)
+                for index in range(plan.first, plan.first + len(plan.faults)):
+                    outcome = self.known[index]
+                    self.guarded[index] = outcome if outcome and outcome.name != BROKEN else self.guarded[index]
+        with Progress(self.guarded.count(None), self.how.quiet, len(self.plans), "behind a guard: ") as progress:
+            self.run_batches(self.guarded, Asking(guarded=True), progress)
         if False in self.wholes and self.program.has_campaign_key("guard"):
             self.wholes[True] = self.guarded_whole()
 
     def run_batches(self, known: Known, asking: Asking, progress: Progress) -> None:
-        """Runs what is left in batches."""
         batches = self.batches(known, asking)
-        for place, results in self.results(batches):
-            self.take(known, batches[place].first, results, batches[place].number, progress)
+        for index, results in self.results(batches):
+            self.take(known, batches[index].first, results, batches[index].number, progress)
 
     def run_every(self, progress: Progress) -> bool:
-        """Asks for all faults by campaigns with `every`, if the choice is one that these can say and nothing is known
-        yet. Those whose rows do not have all are left. Whether it has asked. What a table comes to is not written down,
-        so that a sweep with a journal does not have it, whether it was interrupted or not."""
+        """Asks for all faults by campaigns with `every`, if these can express the selection and no outcome is known
+        yet. Faults with a row that is not sufficient are left. Returns whether it has asked. The totals of a table are
+        not written to the journal, so a sweep with a journal does not have them, whether it was interrupted or not."""
         kinds = templates(self.selection)
         bases = [plan.base for plan in self.plans]
         if self.how.dask or any(self.known) or not can_say(self.program, self.selection, kinds, bases):
@@ -137,19 +136,19 @@ class Sweep:
         return True
 
     def fill(self, every: Every, plan: Plan, number: int, progress: Progress) -> None:
-        """Takes the outcomes of a plan's faults from a campaign, as far as its rows have them, some at a time."""
+        """Takes the outcomes of a plan's faults from a campaign, as far as its rows are sufficient, some at a time."""
         results: Results = []
         first = plan.first
         with contextlib.closing(every.outcomes(plan.faults)) as outcomes:
-            for place, outcome in enumerate(outcomes, plan.first):
+            for index, outcome in enumerate(outcomes, plan.first):
                 results += [outcome] if outcome else []
                 if outcome is None or len(results) == MOST_LOCAL:
                     self.take(self.known, first, results, number, progress)
-                    results, first = [], place + 1
+                    results, first = [], index + 1
         self.take(self.known, first, results, number, progress)
 
     def guarded_whole(self) -> Whole:
-        """What the table of the guarded campaign with `every` comes to; of one plan."""
+        """Returns the totals of the guarded campaign with `every`, which is over one plan."""
         plan = self.plans[0]
         judge = judge_of(plan.guarded or plan.report, plan.base, self.selection.part)
         kinds = templates(self.selection)
@@ -160,40 +159,40 @@ class Sweep:
         return every.whole
 
     def ask_instructions(self) -> None:
-        """Asks which instruction stands at each place that was struck."""
+        """Asks for the instruction at each point that was struck."""
         for number, plan in enumerate(self.plans):
             judge = judge_of(plan.report, plan.base, self.selection.part)
             struck = [fault for fault in plan.faults if judge.strikes(fault)]
-            places = sorted({(fault["burst"], fault["after"]) for fault in struck})
+            points = sorted({(fault["burst"], fault["after"]) for fault in struck})
             probe = Probe(self.program, plan.base, self.selection.part)
-            for (burst, after), text in instructions(probe, places, self.how.jobs).items():
+            for (burst, after), text in instructions(probe, points, self.how.jobs).items():
                 self.texts[number, burst, after] = text
 
     def done(self) -> int:
-        """Of how many faults all is known that is asked for."""
-        behind = self.behind or self.known
-        return sum(None not in pair for pair in zip(self.known, behind))
+        """Returns for how many faults all that was requested is known."""
+        guarded = self.guarded or self.known
+        return sum(None not in pair for pair in zip(self.known, guarded))
 
     def entries(self, number: int) -> list[Entry]:
-        """The faults of a base of which the outcome is known."""
+        """Returns the faults of a base with a known outcome."""
         plan = self.plans[number]
         bursts = bursts_of(plan.report, self.selection.part)
-        places: dict[int, str] = {}
+        work: dict[int, str] = {}
         entries: list[Entry] = []
         for at, fault in enumerate(plan.faults, plan.first):
             burst = fault["burst"]
-            if burst not in places:
+            if burst not in work:
                 event, is_alone = bursts.get(burst), len(self.plans) == 1
-                places[burst] = place_of(event, plan.report, self.selection.part, is_alone)
-            outcome, behind = self.known[at], self.behind[at] if self.how.guard else None
-            if outcome is not None and (behind is not None or not self.how.guard):
+                work[burst] = driver_work(event, plan.report, self.selection.part, is_alone)
+            outcome, guarded = self.known[at], self.guarded[at] if self.how.guard else None
+            if outcome is not None and (guarded is not None or not self.how.guard):
                 text = self.texts.get((number, burst, fault["after"]), "")
-                told = (outcome.name, outcome.cause, places[burst], text, outcome.losses)
-                entries.append(Entry(fault, *told, guarded=behind))
+                fields = (outcome.name, outcome.cause, work[burst], text, outcome.losses)
+                entries.append(Entry(fault, *fields, guarded=guarded))
         return entries
 
     def runs(self) -> list[Swept]:
-        """What is known, base by base."""
+        """Returns what is known, base by base."""
         found: list[Swept] = []
         for number, plan in enumerate(self.plans):
             own = own_outcome(plan.report, self.first)

@@ -1,5 +1,5 @@
-"""The table of a sweep: entries of one outcome, cause, place and kinds of losses in one row; and behind a guard of one
-outcome, cause and kinds of losses, too."""
+"""The table of a sweep. Entries with one outcome, cause, work of the driver and kinds of losses are in one row; with a
+guard their outcomes, causes and kinds of losses with it are the same too."""
 
 from __future__ import annotations
 
@@ -15,13 +15,13 @@ from .program import Mistake
 from .scenario import Fault, Scenario, with_faults
 from .words import counted, ranges_text
 
-# A list of turns is shortened if its text is longer.
+# A list of instructions is shortened if its text is longer.
 LONGEST_LIST = 60
 
 
 @dataclass
-class Behind:
-    """What became of a row's faults behind a guard."""
+class GuardedOutcome:
+    """The outcome of a row's faults with a guard."""
 
     outcome: str
     cause: str
@@ -35,10 +35,15 @@ class Behind:
         return {"outcome": self.outcome, "cause": self.cause, "losses": losses_json(self.least, self.most)}
 
 
+def guarded_outcome(outcome: Outcome | None) -> GuardedOutcome | None:
+    return GuardedOutcome(outcome.name, outcome.cause, outcome.losses, outcome.losses) if outcome else None
+
+
 @dataclass
 class Folded:
-    """A row: how many faults, one of them, the turns at which they strike, what they lose at least and at most, and
-    the starts of the schedules under which they come. `behind` is there if there was a guard."""
+    """A row: the number of its faults, one of them, the numbers of instructions after which they strike, what they lose
+    at least and at most, and the starts of the schedules under which they come. `guarded` is set if there was a
+    guard."""
 
     outcome: str
     cause: str
@@ -48,40 +53,40 @@ class Folded:
     base: Scenario
     least: Losses
     most: Losses
-    behind: Behind | None = None
+    guarded: GuardedOutcome | None = None
     count: int = 0
     after: list[int] = field(default_factory=list)
     starts: list[int] = field(default_factory=list)
 
     def take(self, entry: Entry, start: int | None) -> None:
-        """Takes an entry more."""
+        """Adds an entry."""
         self.count += 1
         self.least, self.most = least_and_most((self.least, self.most, entry.losses))
-        if self.behind and entry.guarded:
-            self.behind.take(entry.guarded.losses)
+        if self.guarded and entry.guarded:
+            self.guarded.take(entry.guarded.losses)
         self.after.append(entry.fault["after"])
         if start is not None and start not in self.starts[-1:]:
             self.starts.append(start)
 
     def as_json(self) -> dict[str, Any]:
-        shown = {key: value for key, value in vars(self).items() if key not in ("base", "least", "most", "behind")}
+        shown = {key: value for key, value in vars(self).items() if key not in ("base", "least", "most", "guarded")}
         whole = {**shown, "losses": losses_json(self.least, self.most), "schedule": self.base.get("schedule")}
-        return {**whole, "guarded": self.behind.as_json()} if self.behind else whole
+        return {**whole, "guarded": self.guarded.as_json()} if self.guarded else whole
 
 
 def amounts_key(losses: Losses, by_amount: bool) -> tuple[int, ...]:
-    """By what losses are told apart: by what is lost, or by how much of it too."""
+    """Returns what distinguishes losses: what is lost, and with `by_amount` also how much of it."""
     return losses.numbers() if by_amount else tuple(int(number != 0) for number in losses.numbers())
 
 
 def guarded_key(outcome: Outcome | None, by_amount: bool) -> tuple[Any, ...]:
-    """By what the outcomes behind a guard are told apart."""
+    """Returns what distinguishes outcomes with a guard."""
     return (outcome.name, outcome.cause, *amounts_key(outcome.losses, by_amount)) if outcome else ()
 
 
 def fold(runs: Sequence[Swept], by_amount: bool = False) -> list[Folded]:
-    """The rows, from the worst outcome on, in the order of their first faults. Faults that lose other kinds of things
-    are in rows of their own; with `by_amount` those that lose other amounts, too."""
+    """Returns the rows, from the worst outcome on, in the order of their first faults. Faults that lose other kinds of
+    things are in separate rows; with `by_amount` also those that lose other amounts."""
     rows: dict[tuple[Any, ...], Folded] = {}
     for run in runs:
         for entry in run.entries:
@@ -89,8 +94,7 @@ def fold(runs: Sequence[Swept], by_amount: bool = False) -> list[Folded]:
             texts = (entry.outcome, entry.cause, entry.place, entry.instruction)
             key = (*texts, *amounts_key(losses, by_amount), *guarded_key(guarded, by_amount))
             if key not in rows:
-                behind = Behind(guarded.name, guarded.cause, guarded.losses, guarded.losses) if guarded else None
-                rows[key] = Folded(*texts, entry.fault, run.base, losses, losses, behind)
+                rows[key] = Folded(*texts, entry.fault, run.base, losses, losses, guarded_outcome(guarded))
             rows[key].take(entry, run.start)
     for row in rows.values():
         row.after = sorted(set(row.after))
@@ -98,18 +102,18 @@ def fold(runs: Sequence[Swept], by_amount: bool = False) -> list[Folded]:
 
 
 def spans(least: Losses, most: Losses) -> list[tuple[str, int, int]]:
-    """The kinds of which anything is lost, with the least and the greatest amount."""
+    """Returns the kinds of which anything is lost, with the least and the greatest amount."""
     named = zip(vars(NOTHING_LOST), least.numbers(), most.numbers())
     return [(kind, low, high) for kind, low, high in named if low or high]
 
 
 def losses_json(least: Losses, most: Losses) -> dict[str, list[int]]:
-    """For tools: of each kind of which anything is lost the least and the greatest amount."""
+    """Returns the least and the greatest amount of each kind of which anything is lost."""
     return {kind: [low, high] for kind, low, high in spans(least, most)}
 
 
 def losses_text(least: Losses, most: Losses) -> str:
-    """What is lost: `samples 4-7, busy 1`."""
+    """Describes what is lost: `samples 4-7, busy 1`."""
     pieces = []
     for kind, low, high in spans(least, most):
         joined = f"{low}-{high}" if low >= 0 else f"{low} to {high}"
@@ -118,7 +122,7 @@ def losses_text(least: Losses, most: Losses) -> str:
 
 
 def after_text(after: list[int]) -> str:
-    """The turns of a row; a long list by its ends and its length."""
+    """Describes the instructions of a row; a long list by its ends and its length."""
     text = ranges_text(after)
     return text if len(text) <= LONGEST_LIST else f"{after[0]}-{after[-1]} ({len(after)} of these turns)"
 
@@ -138,26 +142,26 @@ def write_members(rows: Sequence[Folded], part: int, folder: str) -> None:
         raise Mistake(f"{folder}: {error.strerror}") from error
 
 
-def behind_lines(row: Folded) -> list[str]:
-    """What became of a row's faults behind a guard; a fault that breaks no contract has the same run there."""
-    behind = row.behind
-    if behind is None:
+def guarded_row_lines(row: Folded) -> list[str]:
+    """Describes the outcome of a row's faults with a guard. A fault that breaks no contract has the same run there."""
+    guarded = row.guarded
+    if guarded is None:
         return []
-    if (behind.outcome, behind.cause) == (row.outcome, row.cause):
+    if (guarded.outcome, guarded.cause) == (row.outcome, row.cause):
         return ["        behind a guard: the same"]
-    lost = losses_text(behind.least, behind.most)
-    told = behind.outcome + (f": {behind.cause}" if behind.cause else "")
-    return [f"        behind a guard: {told}", *([f"        lost there: {lost}"] if lost else [])]
+    lost = losses_text(guarded.least, guarded.most)
+    text = guarded.outcome + (f": {guarded.cause}" if guarded.cause else "")
+    return [f"        behind a guard: {text}", *([f"        lost there: {lost}"] if lost else [])]
 
 
 def row_lines(row: Folded, schedules: int) -> list[str]:
-    """A row as text; with the schedules, if there are several."""
+    """Returns the lines of a row, with the schedules if there are several."""
     at = f", at {row.instruction}" if row.instruction else ""
     lost = losses_text(row.least, row.most)
     lines = [
         f"{row.count:6}  {row.outcome}" + (f": {row.cause}" if row.cause else ""),
         *([f"        lost: {lost}"] if lost else []),
-        *behind_lines(row),
+        *guarded_row_lines(row),
         f"        {row.place}{at}, after {after_text(row.after)}",
         f"        {json.dumps(row.fault)}",
     ]
@@ -168,7 +172,6 @@ def row_lines(row: Folded, schedules: int) -> list[str]:
 
 
 def table_lines(rows: Sequence[Folded], schedules: int, folder: str | None) -> list[str]:
-    """The rows as text."""
     lines: list[str] = []
     for number, row in enumerate(rows, 1):
         lines.extend(row_lines(row, schedules))

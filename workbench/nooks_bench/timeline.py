@@ -1,4 +1,4 @@
-"""timeline: a report as lanes, one a thread, as an SVG or as text."""
+"""timeline: a report as lanes, one for each thread, as an SVG or as text."""
 
 from __future__ import annotations
 
@@ -28,30 +28,31 @@ DEFAULT_WIDTH = 1500
 
 
 def windowed(times: list[PartTimes], text: str) -> list[PartTimes]:
-    """The timelines with some of their events alone; parts without any of these are left out."""
+    """Returns the timelines with some of their events only, without the parts that have none of these."""
     found = re.fullmatch(r"(\d+)(?:-(\d+))?", text)
     first, last = (int(found[1]), int(found[2] or found[1])) if found else (0, 0)
     if not 1 <= first <= last:
         raise Mistake(f"--events takes A-B, two numbers of events from 1 on: {text!r}")
-    kept = [each for each in times if first <= each.last]
-    if not kept:
+    shown = [each for each in times if first <= each.last]
+    if not shown:
         raise Mistake(f"no part has an event {first}")
-    for each in kept:
+    for each in shown:
         each.first, each.last = first, min(last, each.last)
-    return kept
+    return shown
 
 
 def chosen(args: argparse.Namespace, times: list[PartTimes]) -> list[PartTimes]:
-    """The parts and the events that the options name."""
+    """Returns the parts and the events that the options name."""
     if args.part is not None:
-        times = [each for each in times if each.part.place == args.part]
+        times = [each for each in times if each.part.index == args.part]
         if not times:
             raise Mistake(f"the report has no part {args.part}")
     return windowed(times, args.events) if args.events else times
 
 
-def told(args: argparse.Namespace) -> tuple[Report, dict[int, list[Strike]] | None, str]:
-    """The report that the options name, what became of the faults if the scenario is known, and what a caption says."""
+def drawn_run(args: argparse.Namespace) -> tuple[Report, dict[int, list[Strike]] | None, str]:
+    """Returns the report that the options name, what became of its faults if the scenario is known, and what a caption
+    says."""
     if args.guard:
         scenario = read_scenario(args.file)
         report = guarded(find_program(args.program), scenario)
@@ -64,13 +65,13 @@ def told(args: argparse.Namespace) -> tuple[Report, dict[int, list[Strike]] | No
 
 def run(args: argparse.Namespace) -> int:
     check_picture_options(args)
-    report, strikes, of_what = told(args)
+    report, strikes, subject = drawn_run(args)
     times = chosen(args, times_of(report, strikes))
     if args.text:
         wide = args.width or shutil.get_terminal_size((100, 24)).columns
         print("\n".join(text_lines(times, max(wide, 40), args.wrap)))
         return 0
-    notes = caption_lines(args, None, f"{of_what}, status {report.status}")
+    notes = caption_lines(args, None, f"{subject}, status {report.status}")
     put_picture(drawing(times, room_of(args, DEFAULT_WIDTH), args.wrap, notes, scale_of(args)), args)
     return 0
 

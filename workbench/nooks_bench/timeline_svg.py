@@ -1,4 +1,4 @@
-"""A timeline as an SVG. Long reports go on in further rows, each with all lanes."""
+"""A timeline as an SVG. A long report is drawn in several rows, each with all lanes."""
 
 from __future__ import annotations
 
@@ -20,8 +20,8 @@ LOW_LANE = 26
 BAR = 16
 BETWEEN = 20
 
-# How wide an event is drawn: at most, so that names of stages fit, and at least, so that single
-# letters do.
+# The greatest width of an event, in which names of stages fit, and the least, in which single
+# letters fit.
 WIDEST, NARROWEST = 34, 18
 FEWEST_PIXELS = 9
 
@@ -36,14 +36,14 @@ ANSWERS = {
     REFUSED: "answered at once, as a wrong operation",
     GONE: "gone: the part is given up",
 }
-# Acts that reach beyond the device: what they did cannot be taken back.
+# Acts that reach beyond the device and cannot be undone.
 OUTWARD = "stpr"
 
 Mark = Callable[[float, float, str], None]
 
 
 def rows_of(count: int, room: float, wrap: int | None) -> tuple[int, float]:
-    """How many events stand side by side, and how wide each is."""
+    """Returns how many events a row has, and how wide each is."""
     per_row = wrap
     if per_row is None:
         rows = max(1, math.ceil(count * NARROWEST / room))
@@ -74,7 +74,7 @@ class Drawing:
         return self.left(event) + self.step / 2
 
     def bounds(self, first: int, last: int) -> tuple[float, float]:
-        """Where events begin and how wide they are, as far as this row shows them."""
+        """Returns the left edge and the width of some events, as far as this row shows them."""
         first, last = max(first, self.first), min(last, self.last)
         return self.left(first), (last - first + 1) * self.step
 
@@ -84,24 +84,24 @@ class Drawing:
     # The legend.
 
     def legend(self) -> None:
-        """What the colours, the marks and the letters mean."""
+        """Draws what the colours, the marks and the letters mean."""
         modes = {span.mode for each in self.times for span in each.spans}
         self.flow([(self.filled(fill), text) for fill, text in
                    [(self.held, "held"), (BLUE, "inside the driver"),
                     *((fill, mode) for mode, fill in MODES.items() if mode in modes)]])
         by = {call.by for each in self.times for call in each.calls}
         marks = [(mark, ANSWERS[whose]) for whose, mark in self.answer_marks().items() if whose in by]
-        if any(call.cuts for each in self.times for call in each.calls):
-            marks.append((self.mark_cut, "cut by a failure"))
+        if any(call.interruptions for each in self.times for call in each.calls):
+            marks.append((self.mark_interrupted, "cut by a failure"))
         marks.append((self.mark_burst, "burst"))
         if any(each.events("arrive") for each in self.times):
-            marks += [(self.mark_kept, "frame kept"), (self.mark_lost, "frame lost")]
+            marks += [(self.mark_delivered, "frame kept"), (self.mark_lost, "frame lost")]
         self.flow(marks)
         self.flow(self.letters())
         self.y += 14
 
     def letters(self) -> list[tuple[Mark, str]]:
-        """The letters that are drawn, as a key."""
+        """Returns the letters that are drawn, with their meanings."""
         key: list[tuple[Mark, str]] = []
         stages = {event.text.split(" ")[0] for each in self.times for event in each.events("stage")}
         key += [(self.lettered(letter, PALE), name) for name, letter in STAGES.items()
@@ -116,7 +116,7 @@ class Drawing:
         return key
 
     def flow(self, entries: list[tuple[Mark, str]]) -> None:
-        """Entries of the legend beside each other, on as many lines as they need."""
+        """Draws entries of the legend next to each other, on as many lines as they need."""
         x = 12.0
         for mark, text in entries:
             wide = 38 + text_width(text, 11)
@@ -134,7 +134,7 @@ class Drawing:
         return mark
 
     def lettered(self, letter: str, fill: str, ink: str = BLACK) -> Mark:
-        """A letter in a box."""
+        """Returns a mark that is a letter in a box."""
         def mark(x: float, y: float, title: str) -> None:
             wide = min(self.step - 1, 13)
             self.canvas.box(x - wide / 2, y - 6.5, wide, 13, fill, title, stroke=GREY, stroke_width=0.6, rx=2)
@@ -159,14 +159,14 @@ class Drawing:
     def mark_gone(self, x: float, y: float, title: str) -> None:
         self.canvas.box(x - 4, y - 4, 8, 8, BLACK, title, stroke=WHITE)
 
-    def mark_cut(self, x: float, y: float, title: str) -> None:
+    def mark_interrupted(self, x: float, y: float, title: str) -> None:
         self.canvas.shape(cross(x, y, 5), "none", stroke=WHITE, stroke_width=5)
         self.canvas.shape(cross(x, y, 5), "none", title, stroke=RED, stroke_width=2.5)
 
     def mark_burst(self, x: float, y: float, title: str) -> None:
         self.canvas.box(x - 1.5, y - 5, 3, 10, WHITE, title, stroke=BLACK, stroke_width=0.5)
 
-    def mark_kept(self, x: float, y: float, title: str) -> None:
+    def mark_delivered(self, x: float, y: float, title: str) -> None:
         self.canvas.shape(triangle(x, y, 5), BLUE, title)
 
     def mark_lost(self, x: float, y: float, title: str) -> None:
@@ -178,9 +178,9 @@ class Drawing:
     # Parts.
 
     def part(self, times: PartTimes) -> None:
-        """All of one part: its head, its rows, and what the lanes do not say."""
+        """Draws all of one part: its head, its rows, and what the lanes do not say."""
         part = times.part
-        head = f"part {part.place} {part.name}, {part.kind}: {counted(part.failures, 'failure')}, limit {part.limit}"
+        head = f"part {part.index} {part.name}, {part.kind}: {counted(part.failures, 'failure')}, limit {part.limit}"
         self.canvas.words(12, self.y + 4, head, 13, font_weight="bold")
         self.y += 12
         for first in range(times.first, times.last + 1, self.per_row):
@@ -192,7 +192,7 @@ class Drawing:
         self.y += BETWEEN
 
     def row(self, times: PartTimes) -> None:
-        """All lanes, over as many events as stand side by side."""
+        """Draws all lanes, over as many events as a row has."""
         broken = times.broken()
         broken = broken if broken and self.shows(broken.number) else None
         self.y += 15 if broken else 0
@@ -221,7 +221,7 @@ class Drawing:
         self.y += 8
 
     def broken(self, times: PartTimes, event: Event, top: float, low: float) -> None:
-        """A break of the contract: a line through all lanes, with a flag over it."""
+        """Draws a break of the contract: a line through all lanes, with a flag over it."""
         clause = times.part.broken[1] if times.part.broken else 0
         text = f"contract broken, clause {clause}"
         title = f"{text}\n{short_event(event)}"
@@ -232,7 +232,7 @@ class Drawing:
         self.canvas.words(flag + 4, top - 19, text, 9, WHITE, title)
 
     def ruler(self) -> None:
-        """Numbers of events."""
+        """Draws the numbers of events."""
         every = next((each for each in (1, 2, 5, 10, 20, 50, 100, 200, 500) if each * self.step >= 28), 1000)
         for event in range(self.first, self.last + 1):
             if event % every == 0 or event == self.first:
@@ -240,7 +240,7 @@ class Drawing:
         self.y += 14
 
     def stage_text(self, stage: str) -> str:
-        """A stage by its name if that and the common names fit into an event, else by its letter."""
+        """Returns a stage's name if that and the common names fit into an event, else its letter."""
         fits = all(text_width(name, STAGE_SIZE) <= self.step for name in ("collect", "resume", stage))
         return stage if fits else STAGES[stage]
 
@@ -272,7 +272,7 @@ class Drawing:
         self.y += LANE
 
     def call(self, times: PartTimes, call: Call) -> None:
-        """A call: striped while it is held, solid while it is inside, and marks for what happens to it."""
+        """Draws a call: striped while it is held, solid while it is inside, with marks for what happens to it."""
         last = call.answered or times.last
         asked = f"c{call.number} {short(call.text)}"
         title = f"{asked}: {short(call.answer) or 'no answer'} ({call.by})"
@@ -293,14 +293,14 @@ class Drawing:
             self.canvas.words(x + 1, self.y + BAR + 9, label, 8.5, title=title)
 
     def marks(self, times: PartTimes, call: Call, asked: str) -> None:
-        """A call's bursts and cuts."""
+        """Draws a call's bursts and interruptions."""
         for number in call.bursts:
-            if self.shows(number) and number != call.answered and number not in call.cuts:
+            if self.shows(number) and number != call.answered and number not in call.interruptions:
                 self.mark_burst(self.middle(number), self.y + BAR / 2, short_event(times.part.event(number)))
-        for number in call.cuts:
+        for number in call.interruptions:
             if self.shows(number):
-                cut = f"{asked}: cut at event {number}: {times.part.event(number).cause}"
-                self.mark_cut(self.middle(number), self.y + BAR / 2, cut)
+                title = f"{asked}: cut at event {number}: {times.part.event(number).cause}"
+                self.mark_interrupted(self.middle(number), self.y + BAR / 2, title)
 
     def answer_marks(self) -> dict[str, Mark]:
         return {
@@ -312,7 +312,7 @@ class Drawing:
         }
 
     def device(self, times: PartTimes) -> None:
-        """What each burst did to the device: a letter, and how often if more than once."""
+        """Draws what each burst did to the device: a letter, and how often if more than once."""
         self.lane_name("device")
         for event in times.acting():
             if self.shows(event.number):
@@ -325,7 +325,7 @@ class Drawing:
         self.y += LOW_LANE
 
     def faults(self, times: PartTimes) -> None:
-        """The faults that struck, at the events of their bursts."""
+        """Draws the faults that struck, at the events of their bursts."""
         self.lane_name("faults")
         texts: dict[int, list[str]] = {}
         for strike in times.struck():
@@ -338,7 +338,7 @@ class Drawing:
         self.y += LOW_LANE
 
     def guards(self, times: PartTimes) -> None:
-        """Where a guard stopped the driver."""
+        """Draws where a guard stopped the driver."""
         self.lane_name("guard")
         for event, _ in times.guarded():
             if self.shows(event.number):
@@ -350,20 +350,20 @@ class Drawing:
         self.lane_name("frames")
         for event in times.events("arrive"):
             if self.shows(event.number):
-                mark = self.mark_kept if event.answer == "kept" else self.mark_lost
+                mark = self.mark_delivered if event.answer == "kept" else self.mark_lost
                 mark(self.middle(event.number), self.y + BAR / 2, short(event.line))
         self.y += LOW_LANE
 
 
 def act_fill(letter: str) -> str:
-    """Acts that reach beyond the device are blue, a failed command is red, and reading is white."""
+    """Returns blue for acts that reach beyond the device, red for a failed command, and white for reading."""
     if letter == ACTS["failed"]:
         return "#f6c9b0"
     return "#cfe6f5" if letter in OUTWARD else WHITE
 
 
 def drawing(times: list[PartTimes], width: float, wrap: int | None, notes: list[str], scale: float) -> str:
-    """The SVG of some parts' timelines, with a caption."""
+    """Returns the SVG of some parts' timelines, with a caption."""
     made = Drawing(times, width, wrap)
     made.legend()
     for each in times:

@@ -1,4 +1,4 @@
-"""A timeline as text: a column an event, cut into pieces that fit a terminal."""
+"""A timeline as text: a column for each event, split into pieces that fit a terminal."""
 
 from __future__ import annotations
 
@@ -43,7 +43,7 @@ class Lane:
 
 
 def call_onto(lane: Lane, call: Call, last: int) -> None:
-    """Writes one call's letters."""
+    """Writes one call's letters onto a lane."""
     lane.fill(call.invoked, call.answered or last, ".")
     for first, end in call.inside:
         lane.fill(first, end, "=")
@@ -51,14 +51,14 @@ def call_onto(lane: Lane, call: Call, last: int) -> None:
     for number in call.bursts:
         lane.put(number, "b")
     lane.put(call.invoked, "i")
-    for number in call.cuts:
+    for number in call.interruptions:
         lane.put(number, "X")
     if call.answered:
         lane.put(call.answered, ANSWERED[call.by])
 
 
 def part_lane(times: PartTimes) -> str:
-    """The modes and the stages."""
+    """Returns the lane of modes and stages."""
     lane = Lane(times)
     for span in times.spans:
         lane.fill(span.first, span.last, MODES[span.mode])
@@ -75,7 +75,7 @@ def thread_lane(times: PartTimes, thread: int) -> str:
 
 
 def marks_of(times: PartTimes) -> list[tuple[str, dict[int, str]]]:
-    """The lanes of single marks: a name, and the letter at some events."""
+    """Returns the lanes of single marks: a name, and the letter at some events."""
     struck: dict[int, str] = {}
     for strike in times.struck():
         letter = STRIKES[strike.fault["kind"]]
@@ -93,7 +93,7 @@ def marks_of(times: PartTimes) -> list[tuple[str, dict[int, str]]]:
 
 
 def lanes_of(times: PartTimes) -> list[tuple[str, str]]:
-    """The lanes of a part: a name, and a letter for each event."""
+    """Returns the lanes of a part: a name, and a letter for each event."""
     lanes = [("part", part_lane(times))]
     lanes += [(times.names.get(thread, str(thread)), thread_lane(times, thread)) for thread in times.threads]
     for name, marks in marks_of(times):
@@ -106,7 +106,7 @@ def lanes_of(times: PartTimes) -> list[tuple[str, str]]:
 
 
 def ruler(first: int, last: int) -> str:
-    """Numbers of events, each tenth over its column."""
+    """Returns the numbers of events, each tenth over its column."""
     line = [" "] * (last - first + 12)
     for event in range(first, last + 1):
         if event % 10 == 0 or event == first:
@@ -117,9 +117,9 @@ def ruler(first: int, last: int) -> str:
 
 
 def part_text(times: PartTimes, wide: int, wrap: int | None) -> list[str]:
-    """The lines of one part."""
+    """Returns the lines of one part."""
     part = times.part
-    lines = [f"part {part.place} {part.name}, {part.kind}: {counted(part.failures, 'failure')}, limit {part.limit}"]
+    lines = [f"part {part.index} {part.name}, {part.kind}: {counted(part.failures, 'failure')}, limit {part.limit}"]
     lanes = lanes_of(times)
     margin = max(len(name) for name, _ in lanes) + 2
     step = wrap or max(wide - margin, 10)
@@ -136,7 +136,7 @@ def part_text(times: PartTimes, wide: int, wrap: int | None) -> list[str]:
 
 
 def text_lines(times: list[PartTimes], wide: int, wrap: int | None = None) -> list[str]:
-    """All parts, one below the other, and the legend of the lanes that there are."""
+    """Returns all parts, one below the other, and the legend of the lanes that they have."""
     lines: list[str] = []
     for each in times:
         lines += [*part_text(each, wide, wrap), ""]

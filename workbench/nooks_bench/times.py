@@ -1,4 +1,4 @@
-"""What a timeline shows of a report: the modes of its parts, their calls, and what befell them."""
+"""What a timeline shows of a report: the modes of its parts, their calls, and what happened to them."""
 
 from __future__ import annotations
 
@@ -6,18 +6,18 @@ from dataclasses import dataclass, field
 
 from .calls import Call, calls_of
 from .guards import stopped_line
-from .held import held_lines
+from .held import resource_lines
 from .report import Event, GuardTrap, Part, Report
 from .unstruck import Strike
 from .words import CLAUSES, cause_words
 
-# What a part is at.
+# The modes of a part.
 BOOT = "starts"
 SERVES = "serves"
 RECOVERS = "recovers"
 GIVEN_UP = "given up"
 
-# The counts of a report that are losses, and what they are called here.
+# The counts of a report that are losses, and their names here.
 LOSSES = {
     "sends": "sends",
     "samples": "samples",
@@ -37,7 +37,7 @@ GUARD = "G"
 
 @dataclass(frozen=True)
 class Span:
-    """Some events of a part, first and last, in one mode."""
+    """Consecutive events of a part in one mode, by the first and the last."""
 
     mode: str
     first: int
@@ -46,8 +46,8 @@ class Span:
 
 @dataclass
 class PartTimes:
-    """What a timeline shows of a part: its events from `first` to `last`. `strikes` has what became of the faults of
-    the scenario, if that is known."""
+    """What a timeline shows of a part: its events from `first` to `last`. `strikes` has what became of the scenario's
+    faults, if that is known."""
 
     part: Part
     names: dict[int, str]
@@ -68,7 +68,7 @@ class PartTimes:
         return [call for call in self.shown_calls() if call.thread == thread]
 
     def shown_calls(self) -> list[Call]:
-        """The calls that are open in the events that are shown."""
+        """Returns the calls that are open in the events that are shown."""
         return [call for call in self.calls if call.invoked <= self.last and (call.answered or self.last) >= self.first]
 
     def events(self, kind: str) -> list[Event]:
@@ -78,26 +78,26 @@ class PartTimes:
         return [event for event in self.events("burst") if event.failed]
 
     def acting(self) -> list[Event]:
-        """The bursts with acts on the device."""
+        """Returns the bursts with acts on the device."""
         return [event for event in self.events("burst") if event.acts]
 
     def guarded(self) -> list[tuple[Event, GuardTrap]]:
-        """The failures that a guard made, each with its trap."""
+        """Returns the failures that a guard caused, each with its trap."""
         guards = self.part.guards
         return [(event, guards[event.burst]) for event in self.failures() if event.burst in guards]
 
     def broken(self) -> Event | None:
-        """The event that broke the contract, if it is shown."""
+        """Returns the event that broke the contract, if it is shown."""
         if self.part.broken and self.shows(self.part.broken[0]):
             return self.part.event(self.part.broken[0])
         return None
 
     def struck(self) -> list[Strike]:
-        """The faults that struck in the events that are shown."""
+        """Returns the faults that struck in the events that are shown."""
         return [strike for strike in self.strikes if strike.event and self.shows(strike.event)]
 
     def loss_text(self) -> str:
-        """What was lost, of that which is not nothing."""
+        """Describes what was lost, empty if nothing was."""
         losses: list[str] = []
         for line in self.part.losses:
             words = line.split(" ")
@@ -106,7 +106,8 @@ class PartTimes:
         return ", ".join(losses)
 
     def notes(self) -> list[str]:
-        """What the lanes do not say in words: causes, the broken clause, losses, faults that missed, and a leak."""
+        """Returns in words what the lanes do not show: causes, the broken clause, losses, faults that missed, and a
+        leak."""
         lines = [failure_note(self.part, event) for event in self.failures()]
         if self.part.broken:
             number, clause = self.part.broken
@@ -114,24 +115,24 @@ class PartTimes:
         if self.loss_text():
             lines.append(f"losses: {self.loss_text()}")
         lines.extend(strike.line for strike in self.strikes if strike.why)
-        return [*lines, *held_lines(self.part)]
+        return [*lines, *resource_lines(self.part)]
 
 
 def failure_note(part: Part, event: Event) -> str:
-    """Why a driver failed at an event, or which deed a guard stopped there."""
+    """Describes why a driver failed at an event, or which deed a guard stopped there."""
     if trap := part.guards.get(event.burst):
         return stopped_line(trap, event.number)
     return f"failure at event {event.number}: {event.cause} ({cause_words(event.cause or '')})"
 
 
 def act_letter(event: Event) -> str:
-    """The letter of a burst's acts: that of their kind, or the one for several kinds."""
+    """Returns the letter of a burst's acts: that of their kind, or the one for several kinds."""
     kinds = {act.split(" ")[0] for act in event.acts}
     return ACTS[kinds.pop()] if len(kinds) == 1 else SEVERAL
 
 
 def spans_of(part: Part) -> list[Span]:
-    """The modes of a part: it starts until the first resume, and is away from each stop to the next resume."""
+    """Returns the modes of a part: it starts until the first resume, and is away from each stop to the next resume."""
     spans: list[Span] = []
     mode, first = BOOT, 1
     stops = [event.number for event in part.events if event.kind == "stage" and event.text == "stop"]
@@ -152,10 +153,10 @@ def spans_of(part: Part) -> list[Span]:
 
 
 def times_of(report: Report, strikes: dict[int, list[Strike]] | None = None) -> list[PartTimes]:
-    """The timelines of a report's parts, each with all of its events."""
-    names = {thread.place: thread.name for thread in report.threads}
+    """Returns the timelines of a report's parts, each with all of its events."""
+    names = {thread.index: thread.name for thread in report.threads}
     known = strikes or {}
     return [
-        PartTimes(part, names, calls_of(part), spans_of(part), 1, len(part.events), known.get(part.place, []))
+        PartTimes(part, names, calls_of(part), spans_of(part), 1, len(part.events), known.get(part.index, []))
         for part in report.parts
     ]

@@ -1,5 +1,5 @@
-"""The totals of a sweep: how often each outcome came, in parts of a hundred, which turns were struck, what became of
-the bases under their schedules, and the counts of each call, register or other group."""
+"""The totals of a sweep: how often each outcome occurred, with its share in percent, which instructions were struck,
+the outcomes of the bases under their schedules, and the counts for each call, register or other group."""
 
 from __future__ import annotations
 
@@ -14,18 +14,18 @@ from .report import Event
 from .table import losses_json, losses_text
 from .words import counted, ranges_text
 
-# The deviation of a normal distribution within which 95 of 100 lie.
+# 95 % of a normal distribution are within this many standard deviations.
 NORMAL_95 = 1.959964
 
 
 def counts_of(entries: Iterable[Entry]) -> dict[str, int]:
-    """How often each outcome came, from the mildest to the worst."""
+    """Returns how often each outcome occurred, from the mildest to the worst."""
     names = [entry.outcome for entry in entries]
     return {name: names.count(name) for name in OUTCOMES if name in names}
 
 
 def wilson(count: int, whole: int) -> tuple[float, float]:
-    """The 95 % interval of a share that was seen `count` times among `whole` draws (E. B. Wilson, 1927)."""
+    """Returns the 95 % interval of a share that was seen `count` times among `whole` draws (E. B. Wilson, 1927)."""
     share, square = count / whole, NORMAL_95**2
     centre = share + square / (2 * whole)
     wide = NORMAL_95 * math.sqrt(share * (1 - share) / whole + square / (4 * whole**2))
@@ -39,7 +39,7 @@ def percent(share: float) -> str:
 
 @dataclass(frozen=True)
 class Coverage:
-    """How many turns were struck, of how many that the struck bursts have."""
+    """How many instructions were struck, of how many that the struck bursts have."""
 
     struck: int
     turns: int
@@ -47,31 +47,31 @@ class Coverage:
 
 
 def coverage_of(runs: Sequence[Swept], part: int) -> Coverage:
-    """The turns at which a fault struck, over all bases together."""
-    struck = turns = bursts = 0
+    """Counts the instructions before which a fault struck, over all bases together."""
+    struck = instructions = bursts = 0
     for run in runs:
         bursts_here = bursts_of(run.report, part)
-        places = {(each.fault["burst"], each.fault["after"]) for each in run.entries if each.outcome != MISSED}
-        named = {burst for burst, _ in places}
-        struck += len(places)
-        turns += sum(bursts_here[burst].turns for burst in named)
+        points = {(each.fault["burst"], each.fault["after"]) for each in run.entries if each.outcome != MISSED}
+        named = {burst for burst, _ in points}
+        struck += len(points)
+        instructions += sum(bursts_here[burst].instructions for burst in named)
         bursts += len(named)
-    return Coverage(struck, turns, bursts)
+    return Coverage(struck, instructions, bursts)
 
 
 def guarded_counts(entries: Iterable[Entry]) -> dict[str, int]:
-    """How often each outcome came behind a guard, from the mildest to the worst."""
+    """Returns how often each outcome occurred with a guard, from the mildest to the worst."""
     names = [entry.guarded.name for entry in entries if entry.guarded]
     return {name: names.count(name) for name in OUTCOMES if name in names}
 
 
 def share_cell(count: int, whole: int) -> str:
-    """How many, and which part of all."""
+    """Formats a count with its share in percent."""
     return f"{count:6} {percent(count / whole):>5} %"
 
 
 def guarded_lines(runs: Sequence[Swept]) -> list[str]:
-    """The outcomes before and behind a guard, side by side."""
+    """Returns the outcomes without a guard and with one, in two columns."""
     entries = [entry for run in runs for entry in run.entries]
     sides = [counts_of(entries), guarded_counts(entries)]
     lines = [f"{'before':>16}{'behind':>16}  a guard"]
@@ -83,12 +83,12 @@ def guarded_lines(runs: Sequence[Swept]) -> list[str]:
 
 
 def whole_lines(wholes: dict[bool, Whole]) -> list[str]:
-    """What campaigns over every place came to."""
+    """Describes the totals of campaigns over every instruction."""
     lines: list[str] = []
     for guarded, whole in wholes.items():
-        behind = "behind a guard: " if guarded else ""
+        prefix = "behind a guard: " if guarded else ""
         traps = f", {whole.traps:,} traps" if whole.traps is not None else ""
-        lines.append(f"{behind}{whole.members:,} faults at every burst and turn, those of the shadow's bursts too: "
+        lines.append(f"{prefix}{whole.members:,} faults at every burst and turn, those of the shadow's bursts too: "
                      f"{whole.given_up:,} given up, {whole.broken:,} broken{traps}")
         if whole.all_kept:
             lines.append("        so no single fault of these, wherever it strikes, ends with another status than 0")
@@ -96,7 +96,7 @@ def whole_lines(wholes: dict[bool, Whole]) -> list[str]:
 
 
 def total_lines(runs: Sequence[Swept], part: int, is_drawn: bool) -> list[str]:
-    """The outcomes with their shares; of drawn faults with the interval of each."""
+    """Returns the outcomes with their shares; for drawn faults with the interval of each."""
     counts = counts_of(entry for run in runs for entry in run.entries)
     done, chosen = sum(counts.values()), sum(run.chosen for run in runs)
     wide = max((len(name) for name in counts), default=0)
@@ -118,7 +118,7 @@ def total_lines(runs: Sequence[Swept], part: int, is_drawn: bool) -> list[str]:
 
 @dataclass
 class Own:
-    """What became of some bases without a fault: all of one outcome, cause and losses."""
+    """The outcome of some bases without a fault, if they all have one outcome, cause and losses."""
 
     outcome: str
     cause: str
@@ -130,7 +130,7 @@ class Own:
 
 
 def own_groups(runs: Sequence[Swept]) -> list[Own]:
-    """The bases under drawn schedules by what became of them, from the worst on."""
+    """Returns the bases under drawn schedules, grouped by outcome, from the worst on."""
     groups: dict[tuple[Any, ...], Own] = {}
     for run in runs:
         own = run.own
@@ -142,7 +142,7 @@ def own_groups(runs: Sequence[Swept]) -> list[Own]:
 
 
 def own_lines(runs: Sequence[Swept]) -> list[str]:
-    """What became of the bases under drawn schedules, with no fault of the sweep."""
+    """Describes the outcomes of the bases under drawn schedules, without a fault of the sweep."""
     lines = [f"the same under {counted(len(runs), 'drawn schedule')}:"]
     for group in own_groups(runs):
         lost = losses_text(group.losses, group.losses)
@@ -156,7 +156,7 @@ def own_lines(runs: Sequence[Swept]) -> list[str]:
 
 
 def starts_text(starts: list[int], most: int = 60) -> str:
-    """Where the draws of some schedules begin; of many the first ones."""
+    """Returns where the draws of some schedules begin; of many only the first ones."""
     text = ranges_text(starts)
     if len(text) <= most:
         return text
@@ -164,24 +164,25 @@ def starts_text(starts: list[int], most: int = 60) -> str:
 
 
 def call_of(run: Swept, entry: Entry, event: Event | None) -> str:
-    """The call that a fault strikes, without the burst and the attempt; with its number, if there is one base."""
+    """Returns the call that a fault strikes, without the burst and the attempt; with its number if there is one
+    base."""
     if event is None or event.call == 0:
         return "no call"
     text = entry.place.partition(" try ")[0]
-    front, _, rest = text.partition(" ")
-    return f"c{event.call} {rest}" if front == f"b{event.burst}" else text
+    first, _, rest = text.partition(" ")
+    return f"c{event.call} {rest}" if first == f"b{event.burst}" else text
 
 
-# The name of the group of an entry of a base, with the burst that its fault names.
+# Returns the group of an entry of a base, given the burst that its fault names.
 Key = Callable[[Swept, Entry, Optional[Event]], str]
 
 
 def named_key(key: str) -> Key:
-    """A group for each number of a fault's key."""
+    """Groups faults by the value of a key."""
     return lambda run, entry, event: str(entry.fault.get(key, f"no {key}"))
 
 
-# What a sweep's faults may be grouped by.
+# How a sweep's faults may be grouped.
 GROUPS: dict[str, Key] = {
     "call": call_of,
     "burst": lambda run, entry, event: entry.place,
@@ -202,7 +203,7 @@ class Group:
     entries: list[Entry] = field(default_factory=list)
 
     def losses(self) -> tuple[Losses, Losses]:
-        """Of each kind the least and the most that a fault of the group lost."""
+        """Returns the least and the most of each kind that a fault of the group lost."""
         return least_and_most(entry.losses for entry in self.entries)
 
     def as_json(self) -> dict[str, Any]:
@@ -211,7 +212,7 @@ class Group:
 
 
 def groups_of(runs: Sequence[Swept], part: int, by: str) -> list[Group]:
-    """The groups in the order in which they come."""
+    """Returns the groups in the order in which they occur."""
     found: dict[str, Group] = {}
     for run in runs:
         bursts = bursts_of(run.report, part)
@@ -224,7 +225,7 @@ def groups_of(runs: Sequence[Swept], part: int, by: str) -> list[Group]:
 
 
 def group_lines(runs: Sequence[Swept], part: int, by: str) -> list[str]:
-    """A row for each group, a column for each outcome that came."""
+    """Returns a row for each group, with a column for each outcome that occurred."""
     groups = groups_of(runs, part, by)
     came = counts_of(entry for group in groups for entry in group.entries)
     short = {name: word for word, name in SHORT_NAMES.items() if name in came}

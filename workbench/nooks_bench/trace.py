@@ -1,4 +1,4 @@
-"""trace: one burst, turn by turn, beside the driver's source."""
+"""trace: one burst, instruction by instruction, next to the driver's source."""
 
 from __future__ import annotations
 
@@ -13,7 +13,7 @@ from .ports import LASTING, REGISTERS, command_name, port_name
 from .program import Mistake, Program, Refusal, find_program
 from .report import Event, Part, parse_report
 from .scenario import Scenario
-from .trace_text import Struck, Trace, Turn, parse_trace
+from .trace_text import Executed, Struck, Trace, parse_trace
 from .unstruck import Strike, strikes_of
 from .words import cause_words, service_name, short
 
@@ -21,15 +21,15 @@ ABOUT = """Shows burst B of part P turn by turn: the instruction, the words that
 and comes from the device's ports, and beside it the line of the driver's text that made it. SCENARIO is exact JSON
 or as `build` takes it. The turns are those of the program's own `trace P B`."""
 
-# How far back the last word of a port is looked for.
+# How many bursts back the last word of a port is searched for.
 MOST_BURSTS_BACK = 256
 COMPARED = {"BEQ": "=", "BNE": "!=", "BLT": "<"}
-# Where the source begins at the latest; a turn that says more than fits moves its own.
+# The last column at which the source begins; an instruction with a longer text moves its own source.
 MOST_WIDE = 72
 
 
 def traced(program: Program, scenario: Scenario, part: int, burst: int) -> Trace:
-    """The trace of a burst; a mistake if the run has none of that number."""
+    """Returns the trace of a burst. A burst that the run does not have is a mistake."""
     words = ["trace", str(part), str(burst)]
     try:
         return parse_trace(program.answer(words, json.dumps(scenario)).out)
@@ -40,7 +40,7 @@ def traced(program: Program, scenario: Scenario, part: int, burst: int) -> Trace
 
 
 def since_reset(part: Part, event: Event) -> list[Event]:
-    """The bursts of a part before an event, back to the last reset of the device."""
+    """Returns the bursts of a part before an event, back to the last reset of the device."""
     found: list[Event] = []
     for each in part.events[: event.number - 1]:
         if each.kind == "stage" and each.text == "reset":
@@ -51,7 +51,7 @@ def since_reset(part: Part, event: Event) -> list[Event]:
 
 
 def register_lines(part: Part, before: list[Event]) -> list[str]:
-    """The device's registers that are not as a reset leaves them, by the acts of the report."""
+    """Returns the registers of the device that differ from those after a reset, by the acts of the report."""
     known: dict[int, tuple[int, int]] = {}
     for event in before:
         for act in event.acts:
@@ -64,8 +64,8 @@ def register_lines(part: Part, before: list[Event]) -> list[str]:
 
 
 def port_line(part: Part, before: list[Event], trace_of: Callable[[int], Trace | None]) -> list[str]:
-    """The word that a lasting port got last, by the traces of the bursts before. `trace_of` has none of a burst that is
-    not looked at."""
+    """Returns the last word of a port that keeps its word, by the traces of the bursts before. `trace_of` returns None
+    for a burst without a trace."""
     port = LASTING.get(part.kind)
     if port is None:
         return []
@@ -74,50 +74,52 @@ def port_line(part: Part, before: list[Event], trace_of: Callable[[int], Trace |
         trace = trace_of(event.burst)
         if trace is None:
             return [f"{name}: not known, since burst {event.burst} is not traced"]
-        for turn in reversed(trace.turns()):
-            if turn.mnemonic == "OUT" and turn.operands[1] == str(port):
-                return [f"{name} = {turn.value(0)} (set in b{event.burst}, context {event.context})"]
+        for executed in reversed(trace.executed()):
+            if executed.mnemonic == "OUT" and executed.operands[1] == str(port):
+                return [f"{name} = {executed.value(0)} (set in b{event.burst}, context {event.context})"]
     if len(before) > MOST_BURSTS_BACK:
         return [f"{name}: not set in the {MOST_BURSTS_BACK} bursts before"]
     return [f"{name} = 0 (not set since the reset)"]
 
 
-def effect(turn: Turn, kind: str) -> str:
-    """What a turn did, with the words that it read."""
+def effect(executed: Executed, kind: str) -> str:
+    """Describes what an instruction did, with the words that it read."""
     pieces: list[str] = []
-    mnemonic, operands = turn.mnemonic, turn.operands
+    mnemonic, operands = executed.mnemonic, executed.operands
     if mnemonic == "OUT":
-        pieces.append(out_text(turn, kind))
-    elif mnemonic == "IN" and turn.register:
+        pieces.append(out_text(executed, kind))
+    elif mnemonic == "IN" and executed.register:
         name = port_name(kind, "IN", int(operands[1]))
-        pieces.append(f"{operands[0]} = {turn.register[1]} from {name}")
+        pieces.append(f"{operands[0]} = {executed.register[1]} from {name}")
     elif mnemonic == "KCALL":
-        first, second = (turn.before.get(register, 0) for register in (1, 2))
+        first, second = (executed.before.get(register, 0) for register in (1, 2))
         pieces.append(f"calls {service_name(int(operands[0]))}, r1 = {first}, r2 = {second}")
     elif mnemonic == "RET":
-        pieces.append(f"replies {turn.value(0)}")
+        pieces.append(f"replies {executed.value(0)}")
     elif mnemonic in COMPARED:
-        compared = f"{turn.value(0)} {COMPARED[mnemonic]} {turn.value(1)}"
-        pieces.append(compared if turn.goto is not None else f"not {compared}")
-    elif mnemonic in ("LD", "ST") and not turn.register and not turn.stored:
-        pieces.append(refused_text(turn))
-    elif turn.register:
-        pieces.append(f"r{turn.register[0]} = {turn.register[1]}")
-    if turn.stored:
-        pieces.append(f"[{turn.stored[0]}] = {turn.stored[1]}")
-    if turn.goto is not None:
-        pieces.append(f"goto {turn.goto}")
-    return ", ".join(pieces) + "".join(f" | {short(act)}" for act in turn.acts)
+        compared = f"{executed.value(0)} {COMPARED[mnemonic]} {executed.value(1)}"
+        pieces.append(compared if executed.goto is not None else f"not {compared}")
+    elif mnemonic in ("LD", "ST") and not executed.register and not executed.stored:
+        pieces.append(refused_text(executed))
+    elif executed.register:
+        pieces.append(f"r{executed.register[0]} = {executed.register[1]}")
+    if executed.stored:
+        pieces.append(f"[{executed.stored[0]}] = {executed.stored[1]}")
+    if executed.goto is not None:
+        pieces.append(f"goto {executed.goto}")
+    return ", ".join(pieces) + "".join(f" | {short(act)}" for act in executed.acts)
 
 
-def refused_text(turn: Turn) -> str:
-    """A load or a store that stopped the driver."""
-    address = (turn.value(1) + int(turn.operands[2])) % 2**32
-    return f"would store {turn.value(0)} at {address}" if turn.mnemonic == "ST" else f"would load from {address}"
+def refused_text(executed: Executed) -> str:
+    """Describes a load or a store that stopped the driver."""
+    address = (executed.value(1) + int(executed.operands[2])) % 2**32
+    if executed.mnemonic == "ST":
+        return f"would store {executed.value(0)} at {address}"
+    return f"would load from {address}"
 
 
 def strike_text(text: str) -> str:
-    """A fault of a trace in words."""
+    """Describes a fault of a trace."""
     kind, *words = text.split(" ")
     refused = ", refused: nothing is changed" if words[-1:] == ["refused"] else ""
     if kind == "reg":
@@ -129,9 +131,9 @@ def strike_text(text: str) -> str:
     return kind
 
 
-def out_text(turn: Turn, kind: str) -> str:
-    """The word that an OUT gives, and to what."""
-    port, word = int(turn.operands[1]), turn.value(0)
+def out_text(executed: Executed, kind: str) -> str:
+    """Describes the word that an OUT writes, and where to."""
+    port, word = int(executed.operands[1]), executed.value(0)
     name = port_name(kind, "OUT", port)
     if not name:
         return f"{word} to port {port}, which the device does not have"
@@ -139,20 +141,20 @@ def out_text(turn: Turn, kind: str) -> str:
     return f"{word} to {name}" + (f" ({means})" if means else "")
 
 
-def source_text(turn: Turn, source: Source) -> str:
-    """The line that made a turn's word; and the word itself where it is another one now."""
-    made = source.words.get(turn.address)
-    number, line = source.lines.get(turn.address, (0, ""))
-    text = f"{number:4}  {line}" if number else "      " + (source.words.get(turn.address, ""))
-    if made is not None and made != turn.instruction:
+def source_text(executed: Executed, source: Source) -> str:
+    """Returns the line that made an instruction's word, and the word itself if it was overwritten."""
+    made = source.words.get(executed.address)
+    number, line = source.lines.get(executed.address, (0, ""))
+    text = f"{number:4}  {line}" if number else "      " + (source.words.get(executed.address, ""))
+    if made is not None and made != executed.instruction:
         text += f"   <- overwritten: the text has {made} here"
-    elif made is None and turn.instruction != "-":
+    elif made is None and executed.instruction != "-":
         text += "outside the driver's text"
     return text
 
 
 def rows_of(trace: Trace, source: Source, kind: str) -> list[tuple[str, str]]:
-    """The lines: what stands on the left, and the source beside it."""
+    """Returns the lines: the executed instruction on the left, and the source next to it."""
     rows: list[tuple[str, str]] = []
     for item in trace.items:
         if isinstance(item, Struck):
@@ -165,7 +167,7 @@ def rows_of(trace: Trace, source: Source, kind: str) -> list[tuple[str, str]]:
 
 
 def end_lines(trace: Trace, event: Event, strikes: list[Strike]) -> list[str]:
-    """How the burst ended, and the faults of it that did not strike."""
+    """Describes how the burst ended, and the faults of it that did not strike."""
     lines = [f"end   {short_event(event)}"]
     if event.cause:
         lines.append(f"      {event.cause}: {cause_words(event.cause)}")
@@ -174,7 +176,7 @@ def end_lines(trace: Trace, event: Event, strikes: list[Strike]) -> list[str]:
 
 
 def head_lines(trace: Trace, part: Part, event: Event, source: Source) -> list[str]:
-    """What the burst is, and the registers as it begins."""
+    """Describes the burst, and the registers at its beginning."""
     asked = next((each.text for each in part.events if each.kind == "invoke" and each.call == trace.call), "")
     whose = f"c{trace.call} {short(asked)}" if trace.call else "a stage of its start"
     registers = "".join(f", r{number} = {word}" for number, word in trace.registers.items())
@@ -187,19 +189,18 @@ def head_lines(trace: Trace, part: Part, event: Event, source: Source) -> list[s
     ]
 
 
-def trace_lines(program: Program, scenario: Scenario, place: int, burst: int) -> list[str]:
-    """The whole text."""
+def trace_lines(program: Program, scenario: Scenario, index: int, burst: int) -> list[str]:
     report = parse_report(program.report(scenario))
-    if not 0 <= place < len(report.parts):
-        raise Mistake(f"there is no part {place}")
-    part = report.parts[place]
+    if not 0 <= index < len(report.parts):
+        raise Mistake(f"there is no part {index}")
+    part = report.parts[index]
     event = next((each for each in part.bursts() if each.burst == burst), None)
     if event is None:
-        raise Mistake(f"the run has no burst {burst} of part {place}: it has {len(part.bursts())}")
-    trace = traced(program, scenario, place, burst)
-    source = source_of(program, scenario["parts"][place]["driver"])
+        raise Mistake(f"the run has no burst {burst} of part {index}: it has {len(part.bursts())}")
+    trace = traced(program, scenario, index, burst)
+    source = source_of(program, scenario["parts"][index]["driver"])
     before = since_reset(part, event)
-    device = [*port_line(part, before, lambda number: traced(program, scenario, place, number)),
+    device = [*port_line(part, before, lambda number: traced(program, scenario, index, number)),
               *register_lines(part, before)]
     lines = head_lines(trace, part, event, source)
     lines += [f"device: {'; '.join(device)}"] if device else []
@@ -207,7 +208,7 @@ def trace_lines(program: Program, scenario: Scenario, place: int, burst: int) ->
     wide = min(max((len(left) for left, _ in rows), default=0), MOST_WIDE)
     rows = [("turn    at  instruction       what it does", "line  source"), *rows]
     lines += ["", *(f"{left:{wide}}  {right}".rstrip() for left, right in rows), ""]
-    return lines + end_lines(trace, event, strikes_of(part, scenario["parts"][place].get("faults", [])))
+    return lines + end_lines(trace, event, strikes_of(part, scenario["parts"][index].get("faults", [])))
 
 
 def run(args: argparse.Namespace) -> int:

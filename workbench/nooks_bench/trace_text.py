@@ -1,4 +1,4 @@
-"""A trace of the program, line by line (docs/TRACE.md)."""
+"""Parses a trace of the program (docs/TRACE.md)."""
 
 from __future__ import annotations
 
@@ -9,7 +9,7 @@ from .program import Mistake
 
 HEAD = re.compile(r"trace (\d+) (\w+) burst (\d+) context (\d+) call (\d+)")
 START = re.compile(r"start (\d+)((?: r\d+ \d+)*)")
-TURN = re.compile(r"(\d+) (\d+) (.+)")
+EXECUTED = re.compile(r"(\d+) (\d+) (.+)")
 SET = re.compile(r"r(\d+) (\d+)")
 STORED = re.compile(r"\[(\d+)\] (\d+)")
 GOTO = re.compile(r"goto (\d+)")
@@ -18,8 +18,8 @@ REG_FAULT = re.compile(r"reg (\d+) (\d+)")
 
 
 @dataclass(frozen=True)
-class Turn:
-    """One instruction: `before` has the registers before it. `acts` is what it did to the device."""
+class Executed:
+    """One executed instruction: `before` has the registers before it, and `acts` is what it did to the device."""
 
     number: int
     address: int
@@ -39,13 +39,13 @@ class Turn:
         return self.instruction.split(" ")[1:]
 
     def value(self, operand: int) -> int:
-        """The word of the register that an operand names."""
+        """Returns the word of the register that an operand names."""
         return self.before.get(int(self.operands[operand][1:]), 0)
 
 
 @dataclass(frozen=True)
 class Struck:
-    """A fault at its place."""
+    """A fault, with the number of instructions before it."""
 
     after: int
     text: str
@@ -53,7 +53,7 @@ class Struck:
 
 @dataclass
 class Trace:
-    """The trace of a burst: its turns, with the faults between them."""
+    """The trace of a burst: its executed instructions, with the faults between them."""
 
     part: int
     name: str
@@ -62,18 +62,18 @@ class Trace:
     call: int
     counter: int = 0
     registers: dict[int, int] = field(default_factory=dict)
-    items: list[Turn | Struck] = field(default_factory=list)
+    items: list[Executed | Struck] = field(default_factory=list)
     end: str = ""
     unstruck: list[str] = field(default_factory=list)
 
-    def turns(self) -> list[Turn]:
-        return [item for item in self.items if isinstance(item, Turn)]
+    def executed(self) -> list[Executed]:
+        return [item for item in self.items if isinstance(item, Executed)]
 
 
-def turn_of(line: str, registers: dict[int, int]) -> Turn:
-    """The turn of a line, in which the registers become those after it."""
-    front, *effects = line.split(" | ")
-    found = TURN.fullmatch(front)
+def executed_of(line: str, registers: dict[int, int]) -> Executed:
+    """Parses the line of an executed instruction, and updates the registers to those after it."""
+    start, *effects = line.split(" | ")
+    found = EXECUTED.fullmatch(start)
     if not found:
         raise Mistake(f"no line of a trace: {line[:80]!r}")
     before = dict(registers)
@@ -89,17 +89,17 @@ def turn_of(line: str, registers: dict[int, int]) -> Turn:
             goto = int(match[1])
         else:
             acts.append(effect)
-    return Turn(int(found[1]), int(found[2]), found[3], before, register, stored, goto, tuple(acts))
+    return Executed(int(found[1]), int(found[2]), found[3], before, register, stored, goto, tuple(acts))
 
 
 def parse_trace(text: str) -> Trace:
-    """The trace of a text; a mistake if it is none."""
+    """Parses a trace. A text that is not one is a mistake."""
     lines = [line for line in text.split("\n") if line]
     head = HEAD.fullmatch(lines[0]) if lines else None
     start = START.fullmatch(lines[1]) if len(lines) > 1 else None
     if not head or not start:
         raise Mistake("the program wrote no trace")
-    part, burst, context, call = (int(head[place]) for place in (1, 3, 4, 5))
+    part, burst, context, call = (int(head[group]) for group in (1, 3, 4, 5))
     trace = Trace(part, head[2], burst, context, call, int(start[1]))
     words = start[2].split()
     trace.registers = {int(name[1:]): int(word) for name, word in zip(words[::2], words[1::2])}
@@ -114,7 +114,7 @@ def parse_trace(text: str) -> Trace:
             if match := REG_FAULT.fullmatch(found[2]):
                 now[int(match[1])] = int(match[2])
         else:
-            trace.items.append(turn_of(line, now))
+            trace.items.append(executed_of(line, now))
     if not trace.end:
         raise Mistake("the trace has no line of its end: it is not whole")
     return trace

@@ -1,4 +1,4 @@
-"""How the run of a scenario can end, as far as it was looked at."""
+"""How the run of a scenario can end, as far as it was explored."""
 
 from __future__ import annotations
 
@@ -25,17 +25,17 @@ class Ways:
     @property
     def is_whole(self) -> bool:
         """Whether every order is covered."""
-        is_followed = self.explored is not None and not self.explored.is_front
+        is_followed = self.explored is not None and not self.explored.is_prefix
         return is_followed or (self.search is not None and self.search.is_whole)
 
     def end(self, number: int) -> End:
-        """The outcome with a number, from 1."""
+        """Returns the outcome with a number, from 1."""
         if not 1 <= number <= len(self.ends):
             raise Mistake(f"there is no outcome {number}: there are {len(self.ends)}")
         return self.ends[number - 1]
 
     def chosen(self, number: int) -> Scenario:
-        """The scenario with the schedule of an outcome."""
+        """Returns the scenario with the schedule of an outcome."""
         return with_schedule(self.scenario, listed(self.end(number).found.picks))
 
     def as_json(self) -> dict[str, Any]:
@@ -48,12 +48,12 @@ class Ways:
                                  "every_order": self.is_whole, "outcomes": outcomes,
                                  "differs": [each.as_json() for each in differing(self.ends)]}
         if self.explored:
-            shown["explored"] = {"states": self.explored.states, "front": self.explored.is_front}
+            shown["explored"] = {"states": self.explored.states, "front": self.explored.is_prefix}
         if self.search:
             shown["search"] = [vars(level) for level in self.search.levels]
         return shown
 
 
 def row_json(found: Found) -> dict[str, int]:
-    """The numbers of an outcome."""
+    """Returns the numbers of an outcome."""
     return {key: value for key, value in vars(found.row).items() if key != "detail"}

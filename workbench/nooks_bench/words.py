@@ -1,4 +1,4 @@
-"""Words of the workbench's texts: ranges, shortened lists, and the clauses of the contracts."""
+"""Wording of the workbench's texts: ranges, shortened lists, the clauses of the contracts, and causes of failures."""
 
 from __future__ import annotations
 
@@ -8,11 +8,11 @@ from typing import Iterable
 from . import facts
 from .program import Mistake
 
-# What the driver did that broke its class's contract, by the clause's number; and the kernel's services.
+# What a driver did that broke its class contract, by the clause's number; and the kernel's services.
 CLAUSES = facts.CLAUSES
 SERVICES = facts.SERVICES
 
-# docs/REPORT.md has these: why a driver failed. Each number of a cause has its name in braces.
+# Why a driver failed, by the causes of docs/REPORT.md. Each number of a cause has its name in braces.
 CAUSES = {
     "trap bad_opcode": "a word was no instruction",
     "trap bad_fetch": "its counter went past the end of the text",
@@ -33,7 +33,7 @@ LIST = re.compile(r"\[([0-9,]*)\]")
 
 
 def parse_ranges(text: str) -> list[int]:
-    """The numbers of `3`, `4-9` or `1,5-7`, in that order."""
+    """Returns the numbers of `3`, `4-9` or `1,5-7`, in that order."""
     found: list[int] = []
     for piece in text.split(","):
         ends = re.fullmatch(r"(0x[0-9a-fA-F]+|\d+)(?:-(0x[0-9a-fA-F]+|\d+))?", piece)
@@ -48,8 +48,8 @@ def parse_ranges(text: str) -> list[int]:
 
 
 def ranges_text(numbers: Iterable[int]) -> str:
-    """Numbers as `0-23, 30`; the inverse of parse_ranges, with each number once and in order. Three or more numbers of
-    one step are `0-170 by 5`."""
+    """Formats numbers as `0-23, 30`: the inverse of parse_ranges, with each number once and in order. Three or more
+    numbers with one step are `0-170 by 5`."""
     rest = sorted(set(numbers))
     pieces: list[str] = []
     while rest:
@@ -68,7 +68,7 @@ def ranges_text(numbers: Iterable[int]) -> str:
 
 
 def folded(words: list[str]) -> list[str]:
-    """Equal neighbours as one: `7 x16`. Rising ones are left out in the middle: `1 to 16`."""
+    """Joins equal neighbours, as in `7 x16`, and omits the middle of rising ones, as in `1 to 16`."""
     pieces: list[str] = []
     at = 0
     while at < len(words):
@@ -90,7 +90,7 @@ def folded(words: list[str]) -> list[str]:
 
 
 def short_list(words: list[str]) -> str:
-    """A list of words on few characters."""
+    """Formats a list of words with few characters."""
     pieces = folded(words)
     if len(pieces) > 8:
         pieces = pieces[:3] + [f".. {len(words)} words"]
@@ -98,22 +98,22 @@ def short_list(words: list[str]) -> str:
 
 
 def short(text: str) -> str:
-    """A text of a report with its lists shortened."""
+    """Shortens the lists in a text of a report."""
     return LIST.sub(lambda found: short_list(found[1].split(",") if found[1] else []), text)
 
 
 def cause_pattern(form: str) -> str:
-    """The regular expression of a cause's form."""
+    """Returns the regular expression of a cause's form."""
     return re.sub(r"\{(\w+)\}", r"(?P<\1>\\d+)", form)
 
 
 def service_name(number: int) -> str:
-    """A service by its name, or by its number if there is none of that number."""
+    """Returns the name of a service, or its number if there is none of that number."""
     return SERVICES.get(number, str(number))
 
 
 def cause_words(cause: str) -> str:
-    """Why a driver failed, in words; the cause itself if it is none of the known ones."""
+    """Describes why a driver failed. Returns the cause itself if it is unknown."""
     forms = sorted(CAUSES, key=lambda form: form.count("{"))
     for form in forms:
         if found := re.fullmatch(cause_pattern(form), cause):
@@ -128,6 +128,6 @@ def counted(number: int, noun: str) -> str:
 
 
 def either(names: Iterable[str]) -> str:
-    """Names of which one may stand: `block, net or sound`."""
+    """Joins names of which one is allowed: `block, net or sound`."""
     *others, last = names
     return f"{', '.join(others)} or {last}" if others else last

@@ -17,7 +17,7 @@ def is_able(tried: Program) -> bool:
 
 
 def able_program() -> Program | None:
-    """The program that is tested with, if it is able; else the plain one, if it is built."""
+    """The tested program if it has them; otherwise the plain one, if it is built."""
     plain = BUILT["./nooks-plain"]
     tried = [program()] + ([Program(plain)] if os.access(plain, os.X_OK) else [])
     return next((each for each in tried if is_able(each)), None)

@@ -1,4 +1,4 @@
-"""A browser without a window, driven through a pipe: Debian's chromium, and nothing else."""
+"""A headless chromium, driven through a pipe without any other tool."""
 
 from __future__ import annotations
 
@@ -17,7 +17,7 @@ from typing import Any
 CHROMIUM = next((path for path in map(shutil.which, ("chromium", "chromium-browser", "google-chrome")) if path), None)
 MISSING = "no browser is installed here: apt-get install chromium"
 
-# Puts two pipes where the browser looks for them, and becomes it.
+# The browser expects its pipes as descriptors 3 and 4: moves them there and executes it.
 LAUNCHER = "import os,sys; [os.dup2(int(sys.argv[at]), at + 2) for at in (1, 2)]; os.execv(sys.argv[3], sys.argv[3:])"
 
 OPTIONS = ["--headless", "--no-sandbox", "--disable-gpu", "--disable-dev-shm-usage", "--no-first-run", "--hide-scrollbars",
@@ -28,24 +28,24 @@ KEYS = {"ArrowLeft": 37, "ArrowUp": 38, "ArrowRight": 39, "ArrowDown": 40, "Home
 
 
 def high(fd: int) -> int:
-    """The same pipe under a number that is not in the way."""
+    """Moves a pipe to a descriptor of 20 or more, so that the launcher can overwrite 3 and 4."""
     made = fcntl.fcntl(fd, fcntl.F_DUPFD, 20)
     os.close(fd)
     return made
 
 
 class Browser:
-    """One tab of one browser. `asked` has the addresses that it asked for."""
+    """A tab of a browser. `asked` lists the addresses that it requested since it was last opened."""
 
     def __init__(self, width: int = 1280, height: int = 900) -> None:
         self.folder = tempfile.TemporaryDirectory(ignore_cleanup_errors=True)
-        given, self.write = map(high, os.pipe())
-        self.read, told = map(high, os.pipe())
+        requests, self.write = map(high, os.pipe())
+        self.read, answers = map(high, os.pipe())
         words = [str(CHROMIUM), *OPTIONS, f"--user-data-dir={self.folder.name}", f"--window-size={width},{height}", "about:blank"]
-        self.process = subprocess.Popen([sys.executable, "-c", LAUNCHER, str(given), str(told), *words], pass_fds=(given, told),
+        self.process = subprocess.Popen([sys.executable, "-c", LAUNCHER, str(requests), str(answers), *words], pass_fds=(requests, answers),
                                         stdin=subprocess.DEVNULL, stdout=subprocess.DEVNULL, stderr=subprocess.DEVNULL)
-        os.close(given)
-        os.close(told)
+        os.close(requests)
+        os.close(answers)
         self.left = b""
         self.numbers = itertools.count(1)
         self.asked: list[str] = []
@@ -85,21 +85,21 @@ class Browser:
         return json.loads(text)
 
     def note(self, message: dict[str, Any]) -> None:
-        """What the browser tells by itself."""
-        method, told = message.get("method", ""), message.get("params", {})
+        """Records an event that the browser sends unasked."""
+        method, params = message.get("method", ""), message.get("params", {})
         if method == "Network.requestWillBeSent":
-            self.asked.append(told["request"]["url"])
+            self.asked.append(params["request"]["url"])
         elif method == "Page.loadEventFired":
             self.loaded += 1
         elif method == "Runtime.exceptionThrown":
-            self.errors.append(told["exceptionDetails"].get("exception", {}).get("description", str(told)))
+            self.errors.append(params["exceptionDetails"].get("exception", {}).get("description", str(params)))
         elif method == "Log.entryAdded":
-            self.errors.append(told["entry"]["text"])
+            self.errors.append(params["entry"]["text"])
         elif method == "Page.javascriptDialogOpening":
             self.send("Page.handleJavaScriptDialog", accept=True)
 
     def send(self, method: str, **given: Any) -> int:
-        """Asks for something; the number of the answer."""
+        """Sends a request and returns its number, which the answer repeats."""
         number = next(self.numbers)
         message = {"id": number, "method": method, "params": given}
         if self.session:
@@ -118,11 +118,11 @@ class Browser:
             self.note(answer)
 
     def open(self, path: str, fragment: str = "") -> None:
-        """Opens a file, and waits until it is there."""
+        """Opens a file and waits until it is loaded."""
         self.visit(f"file://{os.path.abspath(path)}{fragment}")
 
     def visit(self, address: str) -> None:
-        """Opens an address, and waits until it is there."""
+        """Opens an address and waits until it is loaded."""
         for each in ("about:blank", address):
             before = self.loaded
             self.asked = []
@@ -131,14 +131,13 @@ class Browser:
                 self.note(self.message())
 
     def value(self, script: str) -> Any:
-        """What an expression is in the page."""
+        """The value of an expression in the page."""
         answer = self.call("Runtime.evaluate", expression=script, returnByValue=True, awaitPromise=True)
         if "exceptionDetails" in answer:
             raise AssertionError(answer["exceptionDetails"].get("exception", {}).get("description", script))
         return answer["result"].get("value")
 
     def press(self, key: str, times: int = 1, shift: bool = False, ctrl: bool = False) -> None:
-        """Presses a key."""
         code = KEYS.get(key, ord(key.upper()[0]))
         text = {"text": key} if len(key) == 1 else {"text": "\r"} if key == "Enter" else {}
         about = {"key": key, "windowsVirtualKeyCode": code, "modifiers": (8 if shift else 0) + (2 if ctrl else 0)}
@@ -149,20 +148,20 @@ class Browser:
             self.call("Input.dispatchKeyEvent", type="keyUp", **about)
 
     def type(self, text: str) -> None:
-        """Types a text where the focus is."""
+        """Types a text into the focused element."""
         self.call("Input.insertText", text=text)
 
     def click(self, script: str) -> None:
-        """Clicks with the pointer on the middle of an element."""
+        """Clicks with the pointer on the centre of an element."""
         box = self.value(f"(() => {{ const one = {script}; one.scrollIntoView({{ block: 'center' }}); "
                          "const box = one.getBoundingClientRect(); return [box.left + box.width / 2, box.top + box.height / 2]; })()")
-        place = {"x": box[0], "y": box[1]}
-        self.call("Input.dispatchMouseEvent", type="mouseMoved", **place)
+        position = {"x": box[0], "y": box[1]}
+        self.call("Input.dispatchMouseEvent", type="mouseMoved", **position)
         for kind in ("mousePressed", "mouseReleased"):
-            self.call("Input.dispatchMouseEvent", type=kind, button="left", clickCount=1, **place)
+            self.call("Input.dispatchMouseEvent", type=kind, button="left", clickCount=1, **position)
 
     def until(self, script: str, seconds: float = 120) -> Any:
-        """What an expression is as soon as it is true."""
+        """Waits until an expression is true and returns its value."""
         ends = time.monotonic() + seconds
         while not (found := self.value(script)):
             if time.monotonic() > ends:
@@ -171,7 +170,7 @@ class Browser:
         return found
 
     def busy(self) -> float:
-        """How many seconds of a processor the page's thread has taken: not how long one waited for it."""
+        """The processor time of the page's thread in seconds, not the elapsed time."""
         return next(each["value"] for each in self.call("Performance.getMetrics")["metrics"] if each["name"] == "TaskDuration")
 
     def picture(self, path: str, whole: bool = False) -> None:

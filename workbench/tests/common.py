@@ -23,7 +23,7 @@ EXAMPLES = os.path.join(TOP, "examples")
 
 
 def program() -> Program:
-    """The program that is tested with: NOOKS of the environment, or the built one."""
+    """The tested program: NOOKS of the environment, or else the built one."""
     return find_program(None)
 
 
@@ -49,7 +49,7 @@ def schema_file(name: str) -> dict[str, Any]:
 
 
 def bench(*words: str) -> tuple[int, str, str]:
-    """Runs the command: its status, and what it wrote to standard output and error."""
+    """Runs the command; returns its status, its standard output and its standard error."""
     out, err = io.StringIO(), io.StringIO()
     with contextlib.redirect_stdout(out), contextlib.redirect_stderr(err):
         status = main(list(words))
@@ -58,7 +58,7 @@ def bench(*words: str) -> tuple[int, str, str]:
 
 @contextlib.contextmanager
 def file_of(value: Any, ending: str = ".json"):
-    """A file with a value as JSON, or with a text, for as long as it is used."""
+    """A temporary file with a text, or with another value as JSON."""
     with tempfile.TemporaryDirectory() as folder:
         path = os.path.join(folder, "input" + ending)
         with open(path, "w", encoding="utf-8") as file:

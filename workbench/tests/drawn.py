@@ -12,13 +12,13 @@ def driver(kind: str) -> dict[str, str]:
     return {"asm": example_text(f"{kind}.asm")}
 
 
-def part(draw: random.Random, place: int, kind: str) -> dict[str, Any]:
-    """A part with a few faults that it survives or not."""
+def part(draw: random.Random, index: int, kind: str) -> dict[str, Any]:
+    """A part with up to three faults, which may be more than its limit."""
     faults = [
         {"burst": draw.randint(3, 20), "after": draw.randint(0, 30), "kind": draw.choice(["trap", "hang"])}
         for _ in range(draw.randint(0, 3))
     ]
-    made: dict[str, Any] = {"name": f"p{place}", "class": kind, "limit": draw.choice([1, 3]), "driver": driver(kind), "faults": faults}
+    made: dict[str, Any] = {"name": f"p{index}", "class": kind, "limit": draw.choice([1, 3]), "driver": driver(kind), "faults": faults}
     if kind == "block":
         made["blocks"] = 8
     if kind == "net":
@@ -26,10 +26,10 @@ def part(draw: random.Random, place: int, kind: str) -> dict[str, Any]:
     return made
 
 
-def operation(draw: random.Random, place: int, kind: str) -> dict[str, Any]:
+def operation(draw: random.Random, index: int, kind: str) -> dict[str, Any]:
     """An operation of a part."""
     name = draw.choice({"block": ["read", "write"], "net": ["send", "recv"], "sound": ["open", "play", "close"]}[kind] + ["get", "set"])
-    made: dict[str, Any] = {"part": place, "op": name}
+    made: dict[str, Any] = {"part": index, "op": name}
     more = {
         "read": {"first": draw.randint(0, 8), "count": 1},
         "write": {"first": draw.randint(0, 7), "data": [draw.randint(0, 99)] * 16},
@@ -46,9 +46,9 @@ def scenario(seed: int) -> dict[str, Any]:
     """A scenario of one to three parts and one to four threads."""
     draw = random.Random(seed)
     kinds = [draw.choice(["block", "net", "sound"]) for _ in range(draw.randint(1, 3))]
-    places = range(len(kinds))
+    indices = range(len(kinds))
     threads = []
     for number in range(draw.randint(1, 4)):
-        asked = [draw.choice(places) for _ in range(draw.randint(1, 10))]
-        threads.append({"name": f"t{number}", "ops": [operation(draw, place, kinds[place]) for place in asked]})
-    return {"version": 1, "parts": [part(draw, place, kinds[place]) for place in places], "threads": threads}
+        asked = [draw.choice(indices) for _ in range(draw.randint(1, 10))]
+        threads.append({"name": f"t{number}", "ops": [operation(draw, index, kinds[index]) for index in asked]})
+    return {"version": 1, "parts": [part(draw, index, kinds[index]) for index in indices], "threads": threads}

@@ -15,7 +15,7 @@ from serving import site
 
 WIDE, HIGH = 1280, 900
 
-# The word in hand is wrong just before it is stored.
+# The fault changes a word just before the driver stores it.
 WRONG = {"burst": 3, "after": 6, "kind": "reg", "register": 8, "value": 2}
 
 DRAWN = "new Promise((done) => requestAnimationFrame(() => requestAnimationFrame(() => done(0))))"
@@ -31,7 +31,7 @@ def wrong_scenario() -> dict[str, Any]:
 
 
 def of_page(browser: Browser, folder: str, path: str, name: str, *words: str) -> None:
-    """A picture of a page at the first place where something went wrong."""
+    """A picture of a page at the first event that went wrong."""
     with tempfile.TemporaryDirectory() as holder:
         made = os.path.join(holder, "page.html")
         status, _, err = bench("page", path, "-o", made, *words)
@@ -43,7 +43,7 @@ def of_page(browser: Browser, folder: str, path: str, name: str, *words: str) ->
 
 
 def of_race(browser: Browser, folder: str) -> None:
-    """A picture of the served page at a race that `explore` found."""
+    """A picture of the served page that shows a race found by `explore`."""
     with site() as served:
         served.put("race.json", json.dumps(racing_scenario()))
         browser.visit(f"{served.address}&open=race.json")

@@ -1,5 +1,5 @@
-"""What became of a trial of `inject`, told from the full reports of its run and of the run without faults, line by line
-and with nothing of the workbench."""
+"""The outcome of a trial of `inject`, read line by line from the full reports of its run and of the run without faults,
+without any code of the workbench."""
 
 from __future__ import annotations
 
@@ -15,7 +15,7 @@ def ran(path: str, words: list[str], given: str) -> str:
 
 
 def member(base: dict, part: int, trial: dict, words: dict[int, int]) -> dict:
-    """The scenario of a trial, with some words at the addresses of its mutants."""
+    """The scenario of a trial, with `words` at the addresses of its mutants."""
     made = json.loads(json.dumps(base))
     struck = made["parts"][part]
     struck["limit"] = trial["limit"]
@@ -31,7 +31,7 @@ def member(base: dict, part: int, trial: dict, words: dict[int, int]) -> dict:
 
 
 class Read:
-    """A report by its lines."""
+    """What a report says, read line by line; `struck` is the part that the faults are for."""
 
     def __init__(self, text: str, struck: int) -> None:
         self.left: list[str] = []
@@ -76,7 +76,7 @@ class Read:
 
 
 def outcome(base: Read, own: Read, limit: int, struck: int) -> dict:
-    """The fields of a trial's line that tell what became of it."""
+    """The fields of a trial's line that describe its outcome."""
     if own.failures == 0:
         system = "nothing"
     elif own.failures > limit:
@@ -107,8 +107,8 @@ def outcome(base: Read, own: Read, limit: int, struck: int) -> dict:
     }
 
 
-def told(path: str, base: dict, part: int, trial: dict) -> dict:
-    """What became of the trial of a line, by reports alone. `base` is the scenario without faults, whose driver is an
+def outcome_by_reports(path: str, base: dict, part: int, trial: dict) -> dict:
+    """The outcome of the trial of a line, from reports alone. `base` is the scenario without faults, whose driver is an
     image."""
     form = ["guard"] if trial["guard"] else ["run"]
     words = {mutant["address"]: mutant["word"] for mutant in trial["faults"]}
@@ -124,7 +124,7 @@ def told(path: str, base: dict, part: int, trial: dict) -> dict:
 
 
 def comes_to(path: str, base: dict, part: int, trial: dict, addresses: list[int]) -> bool:
-    """Whether the driver comes to one of some addresses: FAULT there stops it, if it does."""
+    """Whether the driver executes one of these addresses: a FAULT there would stop it."""
     member_of = member(base, part, {**trial, "limit": 0}, dict.fromkeys(addresses, 0x18000000))
     report = Read(ran(path, ["run"], json.dumps(member_of)), part)
     return report.failed is not None and report.failed[2] == "trap explicit"

@@ -1,5 +1,5 @@
-"""A net driver that races: between the transmit length and the words it yields, so that another send may set its own
-length. Under round robin the two sends of the scenario never meet; under some drawn schedules they do."""
+"""A net driver with a race: it yields between the transmit length and the words, so that another send may set its own
+length. Under round robin the two sends of the scenario never overlap; under some drawn schedules they do."""
 
 from __future__ import annotations
 
@@ -18,7 +18,7 @@ def racing_driver() -> str:
 
 
 def failing_driver() -> str:
-    """One that fails if a send comes while another is between its length and its words: it keeps a flag."""
+    """A driver that fails, by a flag, if a send enters while another is between its length and its words."""
     text = racing_driver()
     flag = """send:   LI r4 2048
         LD r5 r4 0
@@ -39,7 +39,7 @@ def get(key: int) -> dict[str, Any]:
 
 
 def racing_scenario() -> dict[str, Any]:
-    """Three words are sent by one thread; one word by another, which asks for three registers first."""
+    """One thread sends three words; another reads three registers, then sends one word."""
     part = {"name": "link", "class": "net", "limit": 1, "driver": {"asm": racing_driver()}}
     first = {"name": "long", "ops": [send(1, 2, 3)]}
     second = {"name": "short", "ops": [get(0), get(1), get(2), send(4)]}

@@ -50,7 +50,7 @@ class Site:
             return file.read()
 
     def request(self, method: str, path: str, body: bytes | None = None, **headers: str | None) -> tuple[int, str]:
-        """A request with some other headers, None for one that is left out; the status and the text."""
+        """Sends a request with changed headers, None to omit one; returns the status and the text."""
         named = {name.replace("_", "-"): value for name, value in headers.items()}
         sent = {"Host": self.host, "X-Nooks-Token": self.token, "Content-Type": "application/json", **named}
         connection = http.client.HTTPConnection("127.0.0.1", self.server.server_port, timeout=300)
@@ -74,7 +74,7 @@ class Site:
         return status, json.loads(text)
 
     def work(self, task: str, file: str = "", **more: Any) -> dict[str, Any]:
-        """What a run answers, of a file of the folder if no texts are given."""
+        """The answer to a task, on a file of the folder if no texts are given."""
         texts = more.pop("texts", None)
         if texts is None:
             texts = {file: self.text(file)} if task != "open" else {}
@@ -85,7 +85,7 @@ class Site:
 
 @contextlib.contextmanager
 def site(*examples: str, seconds: float = 240.0) -> Iterator[Site]:
-    """A server of a new folder with some examples."""
+    """A server on a new folder with copies of some examples."""
     with tempfile.TemporaryDirectory() as above:
         folder = os.path.join(above, "folder")
         os.mkdir(folder)

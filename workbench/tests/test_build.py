@@ -1,4 +1,4 @@
-"""build: what it writes is what the program takes, and mistakes are told at their places."""
+"""build: the program accepts what it writes, and mistakes are reported at their line and column."""
 
 import json
 import os
@@ -24,7 +24,7 @@ def handmade() -> str:
 
 
 def mistake(text: str) -> str:
-    """The line that is told of a text, without its file."""
+    """The message about a refused text, without the name of its file."""
     with file_of(text) as path:
         status, out, err = bench("build", path)
         assert status == 2 and out == "", (status, out)
@@ -59,10 +59,10 @@ class Build(unittest.TestCase):
             ('[]', "1:1: a scenario is an object"),
             ("[" * 300, "1:202: lists and objects are nested too deep"),
         ]
-        for text, told in cases:
-            self.assertEqual(mistake(text), told)
+        for text, message in cases:
+            self.assertEqual(mistake(text), message)
 
-    def test_mistakes_that_the_program_tells(self):
+    def test_mistakes_that_the_program_reports(self):
         cases = [
             ('"limit": 2', '"limit": 22', "10:60: /parts/0/limit: 22 is out of range; expected a whole number from 0 to 16"),
             ('"blocks": 8, ', "", '10:5: missing key "blocks"; expected a whole number from 1 to 256'),
@@ -73,10 +73,10 @@ class Build(unittest.TestCase):
             ('"op": "recv"', '"op": "receive"', '19:27: /threads/0/ops/2/op: unknown name "receive" (did you mean "recv"?); expected "read" or'),
             ('"part": 1', '"part": 2', "19:18: /threads/0/ops/2/part: 2 is out of range; expected 0 to 1, since there are 2 parts"),
         ]
-        for old, new, told in cases:
-            self.assertEqual(mistake(handmade().replace("../../..", TOP).replace(old, new))[: len(told)], told)
+        for old, new, message in cases:
+            self.assertEqual(mistake(handmade().replace("../../..", TOP).replace(old, new))[: len(message)], message)
 
-    def test_a_fault_of_an_assembler_file_is_told_there(self):
+    def test_an_assembler_error_names_its_file(self):
         with file_of(".class block\n.entry init init\ninit: LI r1\n", ".asm") as asm:
             text = handmade().replace("../../../examples/block.asm", asm).replace("../../..", TOP)
             with file_of(text) as path:
@@ -87,7 +87,7 @@ class Build(unittest.TestCase):
 
 @unittest.skipUnless(hypothesis, "python3-hypothesis is not installed")
 class Texts(unittest.TestCase):
-    """Whatever the value, the writer's text is JSON of it, and the reader reads it as Python's own does."""
+    """The writer's text of any value is JSON, and the reader reads it as Python's own reader does."""
 
     def test_any_value_comes_back(self):
         texts = strategies.text(strategies.characters(blacklist_categories=["Cs"]), max_size=9)
@@ -105,7 +105,7 @@ class Texts(unittest.TestCase):
 
         holds()
 
-    def test_any_text_is_read_or_refused_with_a_place_in_it(self):
+    def test_any_text_is_read_or_refused_at_a_position_in_it(self):
         pieces = strategies.sampled_from(['{"a": ', "[1", ", ", "]", "}", '"', "// x\n", "\n", "nul", "true", "-0", "1e9", "\\u00", " "])
 
         @hypothesis.settings(max_examples=200, deadline=None)
@@ -115,8 +115,8 @@ class Texts(unittest.TestCase):
                 Reader(text, "f").whole()
             except Misplaced as mistake:
                 lines = text.split("\n")
-                self.assertLessEqual(mistake.place.line, len(lines))
-                self.assertLessEqual(mistake.place.column, len(lines[mistake.place.line - 1]) + 1)
+                self.assertLessEqual(mistake.position.line, len(lines))
+                self.assertLessEqual(mistake.position.column, len(lines[mistake.position.line - 1]) + 1)
 
         holds()
 

@@ -1,5 +1,5 @@
-"""The command itself: standard output that cannot be written, options out of their range, versions, and which program
-is taken."""
+"""The command itself: standard output that cannot be written, options out of range, versions, and the choice of the
+program."""
 
 import ast
 import os
@@ -22,7 +22,7 @@ PACKAGE = os.path.join(TOP, "workbench", "nooks_bench")
 BLOCK = example_path("block.json")
 REPORT = example_path("block.report")
 
-# A call of each subcommand that writes something; any other subcommand writes its help.
+# For these subcommands, a call that writes something; the others are called with --help.
 CALLS = {
     "build": ["build", BLOCK],
     "sweep": ["sweep", BLOCK, "--every", "50", "--quiet"],
@@ -66,7 +66,7 @@ class StandardOutput(unittest.TestCase):
                 self.unwritten(asked(words, stdout=pipe), words, ": Broken pipe")
 
     def test_status_of_fail_on(self):
-        """A table that --fail-on fails, and that cannot be written, is the latter."""
+        """If --fail-on applies and the table cannot be written, the status is that of the output."""
         words = ["sweep", BLOCK, "--every", "50", "--quiet", "--fail-on", "missed"]
         self.assertEqual(asked(words, stdout=subprocess.DEVNULL).returncode, 1)
         self.assertEqual(asked(words, preexec_fn=lambda: os.close(1)).returncode, 5)
@@ -74,7 +74,7 @@ class StandardOutput(unittest.TestCase):
 
 class Options(unittest.TestCase):
     def refused(self, words: list[str], about: str) -> None:
-        """A mistake of one line that says something, before the program is asked."""
+        """The options are refused in one line that has `about`, before the program runs."""
         with mock.patch.object(program_module.Program, "ask", side_effect=AssertionError("the program was asked")):
             status, out, err = bench("sweep", BLOCK, *words)
         self.assertEqual((status, out), (2, ""), words)
@@ -142,8 +142,8 @@ class Programs(unittest.TestCase):
         for path in ("/", "/etc/passwd", "/not/there"):
             self.assertIn(f"{path} is no program that can be run", bench("sweep", BLOCK, "--program", path)[2])
 
-    def test_which_one_is_taken(self):
-        """That of --program, of NOOKS, the first of the built ones, the installed one."""
+    def test_which_program_is_taken(self):
+        """In order: --program, NOOKS, the first that is built, the installed one."""
         with tempfile.TemporaryDirectory() as folder:
             names = ["named", "environment", "proved", "unproved", "plain", "nooks"]
             paths = {name: os.path.join(folder, name) for name in names}
@@ -164,8 +164,8 @@ class Programs(unittest.TestCase):
             self.assertEqual((status, out), (0, f"nooks-bench {__version__}\n"))
             self.assertIn("no program is built", err)
 
-    def test_a_refusal_is_told_once(self):
-        """A refusal that comes from another process, too."""
+    def test_a_refusal_is_reported_once(self):
+        """A refusal that is passed on from another process has its text once."""
         line = "fault 5 number_range /faults/0/register"
         self.assertEqual(str(Refusal(*Refusal(line).args)), f"the program refuses the input: {line}")
 
@@ -184,7 +184,7 @@ class Imports(unittest.TestCase):
         self.assertEqual(parser([]).format_help(), parser().format_help())
 
     def test_no_cycles(self):
-        """No module imports one that imports it, in a function or for its types neither."""
+        """No modules import each other, not even in a function or for their types."""
         imports = {}
         for file in filter(lambda name: name.endswith(".py"), os.listdir(PACKAGE)):
             with open(os.path.join(PACKAGE, file), encoding="utf-8") as opened:
@@ -199,7 +199,7 @@ class Imports(unittest.TestCase):
 
 
 class People(unittest.TestCase):
-    """sweep takes what build takes."""
+    """sweep reads what build reads."""
 
     def test_the_same_table(self):
         words = ["--call", "1", "--every", "9", "--quiet"]
@@ -209,7 +209,7 @@ class People(unittest.TestCase):
         with file_of(bench("build", path)[1]) as exact:
             self.assertEqual(bench("sweep", exact, *words), (0, out, ""))
 
-    def test_a_refused_one_is_told_at_its_place(self):
+    def test_a_refused_scenario_is_reported_at_its_position(self):
         text = '{"version": 1,\n "parts": [],\n "threads": [] // none\n}\n'
         for whole in (text, text.replace(" // none", "")):
             with file_of(whole) as path:

@@ -1,4 +1,4 @@
-"""cost: counts made by hand over three examples, counts of a large run by another way, and models."""
+"""cost: three examples counted by hand, a large run counted from its report, and models."""
 
 from __future__ import annotations
 
@@ -28,7 +28,7 @@ BY_HAND = {
         "get": (1, 0, 1, 2, 0, 0, 1, 128, 4, 0, 0, 6, 0),
         "boot": (0, 0, 0, 4, 1, 0, 0, 0, 0, 115, 0, 4, 0),
     },
-    # c1 opens, c8 is answered by the shadow. c7 plays 8 samples and is cut after 24 instructions, c10 plays 2.
+    # c1 opens, c8 is answered by the shadow. c7 plays 8 samples and is interrupted after 24 instructions, c10 plays 2.
     # c2, c4 and c6 get; c3, c5 and c9 set. The recovery: two bursts of init, two replayed sets, one replayed open.
     "sound-skips.json": {
         "open": (2, 0, 1, 2, 0, 0, 0, 0, 0, 0, 0, 1, 0),
@@ -38,7 +38,8 @@ BY_HAND = {
         "boot": (0, 0, 0, 4, 1, 0, 0, 0, 0, 115, 0, 4, 0),
         "recovery": (1, 0, 0, 10, 1, 0, 0, 0, 0, 115, 1, 2 + 2 + 8 + 4 + 1, 2),
     },
-    # Three sends of one word; each borrows object 7, which copies 64 words, and two give it back. c2 is cut. c3 sets.
+    # Three sends of one word; each borrows object 7, which copies 64 words, and two give it back. c2 is interrupted.
+    # c3 sets.
     "borrowed-object.json": {
         "send": (3, 0, 3, 16, 5, 0, 3 * 1 + 5 * 64, 3 * 127, 0, 0, 0, 10 + 6 + 1 + 10 + 4 + 10 + 6 + 1, 3),
         "set": (1, 0, 1, 2, 0, 0, 0, 0, 0, 0, 0, 6, 1),
@@ -55,10 +56,10 @@ def shown(*words: str) -> list[dict]:
 
 
 def by_lines(text: str) -> dict[str, int]:
-    """The sums of a report, by its lines alone."""
+    """The totals of a report, counted over its lines."""
     bursts = re.findall(r"(?m)^\d+ burst x\d+ c\d+ b\d+ n(\d+) (.*)$", text)
     return {
-        "instructions": sum(int(turns) for turns, _ in bursts),
+        "instructions": sum(int(instructions) for instructions, _ in bursts),
         "crossings": 2 * len(bursts),
         "kernel_calls": sum(rest.startswith("service ") for _, rest in bursts),
         "acts": sum(rest.count(" | ") for _, rest in bursts),
@@ -79,7 +80,7 @@ class CountsByHand(unittest.TestCase):
             self.assertLessEqual(len(cost["recoveries"]), 1)
 
     def test_a_lent_buffer_that_a_failure_takes_back(self):
-        """A get of examples/block.json is cut: its two pages are lent, and taken back by the collect."""
+        """A get of examples/block.json is interrupted: its two pages are lent, and the collect takes them back."""
         base = example("block.json")
         base["parts"][0].update(limit=1, faults=[{"burst": 6, "after": 2, "kind": "trap"}])
         with file_of(base) as path:
@@ -88,7 +89,7 @@ class CountsByHand(unittest.TestCase):
         self.assertEqual(cost["recoveries"][0]["rights"], 2)
         self.assertEqual(cost["operations"]["get"]["instructions"], 2)
 
-    def test_a_hang_of_a_fault_has_the_turns_of_its_trace(self):
+    def test_an_injected_hang_counts_its_instructions(self):
         base = example("block.json")
         base["parts"][0].update(limit=1, faults=[{"burst": 3, "after": 7, "kind": "hang"}])
         with file_of(base) as path:
@@ -108,7 +109,7 @@ class ALargeRun(unittest.TestCase):
         for cost in costs:
             for row in (cost["all"], cost["boot"], *cost["recoveries"]):
                 for name in whole:
-                    # A recovery counts itself as its call.
+                    # A recovery is counted as one call of itself.
                     whole[name] += 0 if name == "calls" and row in cost["recoveries"] else row[name]
         self.assertFalse(any(fault["kind"] == "hang" for part in scenario["parts"] for fault in part.get("faults", [])))
         self.assertEqual(whole, sums)

@@ -1,4 +1,4 @@
-"""schedules: the outcomes of every order against `run` itself, and the search against an enumeration of its own."""
+"""schedules: the outcomes of every order against `run` itself, and the search against a separate enumeration."""
 
 import json
 import os
@@ -13,7 +13,7 @@ from race import racing_scenario
 
 from nooks_bench import explored
 from nooks_bench.ends import differing, end_of, order_text
-from nooks_bench.explored import CUT, is_plain
+from nooks_bench.explored import INCOMPLETE, is_plain
 from nooks_bench.preemptions import Search, Switch, Walk, follow, setting_of
 from nooks_bench.program import Mistake
 from nooks_bench.report import parse_report
@@ -28,7 +28,7 @@ ACTED = re.compile(r"(?m)^\d+ (?:invoke c\d+ t(\d+)|(?:enter c\d+|burst) x(\d+)|
 
 
 def schedules(name: str, *words: str) -> tuple[int, str, str]:
-    """The command over an example."""
+    """Runs the command on an example."""
     path = name if os.path.exists(name) else example_path(name + ".json")
     return bench("schedules", path, "--quiet", *words)
 
@@ -39,7 +39,7 @@ def report(scenario: dict, picks=None) -> str:
 
 
 def outcome(text: str) -> str:
-    """What of a report says how its run ended."""
+    """The lines of a report that say how its run ended."""
     lines = [line for line in text.split("\n") if not ACTED.match(line) and not line.startswith("tap ")]
     return "\n".join(re.sub(r"broken event \d+", "broken", line) for line in lines)
 
@@ -51,7 +51,7 @@ def rows(scenario: dict) -> list[tuple[int, list[int]]]:
 
 
 def actors(text: str, threads: int) -> list[int]:
-    """Whose step each event of a report of one part is."""
+    """The actor of each event, from the report of a scenario with one part."""
     found = []
     for invoked, context, other in ACTED.findall(text):
         if other:
@@ -62,20 +62,20 @@ def actors(text: str, threads: int) -> list[int]:
 
 
 def every_order(scenario: dict) -> dict[int, dict[tuple[int, ...], str]]:
-    """All orders of a scenario of one part, by their preemptions, each with its outcome: an order is tried step by step,
-    each actor at each step."""
+    """All orders of a scenario with one part, by the number of their preemptions, each with its outcome. The enumeration
+    tries each actor at each step."""
     threads = len(scenario["threads"])
     found: dict[int, dict[tuple[int, ...], str]] = {}
     waiting = [((), 0)]
     while waiting:
-        front, preemptions = waiting.pop()
-        runs = {actor: report(scenario, (*front, actor)) for actor in range(threads + 2)}
-        able = [actor for actor, text in runs.items() if actors(text, threads)[: len(front) + 1] == [*front, actor]]
+        prefix, preemptions = waiting.pop()
+        runs = {actor: report(scenario, (*prefix, actor)) for actor in range(threads + 2)}
+        able = [actor for actor, text in runs.items() if actors(text, threads)[: len(prefix) + 1] == [*prefix, actor]]
         if not able:
-            found.setdefault(preemptions, {})[front] = outcome(runs[0])
+            found.setdefault(preemptions, {})[prefix] = outcome(runs[0])
         for actor in able:
-            more = bool(front) and actor != front[-1] and front[-1] in able
-            waiting.append(((*front, actor), preemptions + more))
+            more = bool(prefix) and actor != prefix[-1] and prefix[-1] in able
+            waiting.append(((*prefix, actor), preemptions + more))
     return found
 
 
@@ -86,7 +86,7 @@ def searched(scenario: dict, tries: int, most=None) -> Search:
 
 
 def tiny() -> dict:
-    """A link to which a frame comes, and a thread that asks for it: it comes before that or not."""
+    """A link with one frame to arrive, and a thread that asks for it, before or after it arrives."""
     scenario = racing_scenario()
     scenario["parts"][0]["arrivals"] = [[7]]
     scenario["threads"] = [{"name": "app", "ops": [{"part": 0, "op": "recv"}]}]
@@ -147,12 +147,12 @@ class EveryOrder(unittest.TestCase):
         reports = [report(scenario, picks) for _, picks in found]
         received = [re.search(r"(?m)^frames .* received (\d+)", text)[1] for text in reports]
         values = next(each["values"] for each in shown["differs"] if each["what"] == "frames of wire, received")
-        told = {number: value["value"] for value in values for number in value["outcomes"]}
-        self.assertEqual([told[number] for number in range(1, len(found) + 1)], received)
+        received_of = {number: value["value"] for value in values for number in value["outcomes"]}
+        self.assertEqual([received_of[number] for number in range(1, len(found) + 1)], received)
         self.assertEqual(len({*received}), len(values))
 
     def test_what_differs_is_all_that_differs(self):
-        """Outcomes that agree in all things that are told to differ are the same outcome, and no other thing differs."""
+        """Outcomes differ exactly in the things that the table lists as different."""
         scenario = example("sound-skips.json")
         found = [end_of(EXPLORER, scenario, each) for each in explored.explored(EXPLORER, scenario).found]
         names = [each.name for each in differing(found)]
@@ -170,7 +170,7 @@ class EveryOrder(unittest.TestCase):
         self.assertEqual(len(re.findall(r"(?m)^\d+ +\d+ +\d+ +\d+ +\d+ +\d+$", whole)), count)
 
     def test_values_that_look_the_same(self):
-        """Long values are shortened, but not so far that two of them cannot be told apart."""
+        """Long values are shortened only as far as they remain distinct."""
         lists = ["[" + ",".join(str(word * word) for word in range(64)) + f",{last}]" for last in (1, 2, 3)]
         self.assertEqual(shortened(lists), lists)
         self.assertEqual(shortened([lists[0], "", "done"]), ["[0, 1, 4, .. 65 words]", "nothing", "done"])
@@ -187,11 +187,11 @@ class EveryOrder(unittest.TestCase):
         self.assertEqual(schedules("net", "--fail-on", "cut", "--search", "--tries", "5")[0], 1)
 
     def test_mistakes(self):
-        for words, told in [(["--schedule", "3"], "no outcome 3: there are 2"), (["--timeline", "0"], "no outcome 0"),
-                            (["--search", "--tries", "0"], "nothing to run"), (["--tries", "-1"], "--tries")]:
+        for words, message in [(["--schedule", "3"], "no outcome 3: there are 2"), (["--timeline", "0"], "no outcome 0"),
+                               (["--search", "--tries", "0"], "nothing to run"), (["--tries", "-1"], "--tries")]:
             status, out, err = schedules("read-ahead", *words)
             self.assertEqual((status, out), (2, ""))
-            self.assertIn(told, err)
+            self.assertIn(message, err)
         with file_of({**example("net.json"), "version": 3}) as path:
             status, out, err = schedules(path)
         self.assertEqual((status, out), (2, ""))
@@ -201,7 +201,7 @@ class EveryOrder(unittest.TestCase):
             self.assertRaises(Mistake, explored.parse_explored, text)
 
     def test_the_program(self):
-        """One that has no such form is refused, but for a search."""
+        """A program without `explore` is refused, except for a search."""
         with tempfile.TemporaryDirectory() as folder:
             old = os.path.join(folder, "nooks")
             with open(old, "w", encoding="utf-8") as file:
@@ -217,62 +217,61 @@ class EveryOrder(unittest.TestCase):
 
 class ByPreemptions(unittest.TestCase):
     def test_against_all_orders(self):
-        """Each order is run once, at the level of its preemptions, and the outcomes are those of every order."""
+        """Each order is run once, at the level of its preemptions, and no outcome is missing."""
         scenario = tiny()
-        wanted = every_order(scenario)
+        all_orders = every_order(scenario)
         search = searched(scenario, 10**6)
         self.assertTrue(search.is_whole)
         counts = {level.preemptions: level.orders for level in search.levels if level.orders}
-        self.assertEqual(counts, {preemptions: len(orders) for preemptions, orders in wanted.items()})
+        self.assertEqual(counts, {preemptions: len(orders) for preemptions, orders in all_orders.items()})
         self.assertGreater(len(counts), 2)
-        outcomes = {text for orders in wanted.values() for text in orders.values()}
+        outcomes = {text for orders in all_orders.values() for text in orders.values()}
         self.assertEqual({outcome(report(scenario, end.found.picks)) for end in search.found.values()}, outcomes)
         self.assertEqual(len(rows(scenario)), len(outcomes))
         known: set[str] = set()
         for level in search.levels[:-1]:
-            fresh = {*wanted[level.preemptions].values()} - known
+            fresh = {*all_orders[level.preemptions].values()} - known
             self.assertEqual(level.fresh, len(fresh))
             known |= fresh
 
     def test_several_parts(self):
-        """The picks of a run are found again in the journals of two parts."""
+        """The journals of two parts allow the picks of their run."""
         scenario = example("mirror-outlives.json")
         for _, picks in rows(scenario):
             walk = Walk(parse_report(report(scenario, picks)))
-            for place, pick in enumerate(picks):
-                # The orders in which another step comes here are other ones.
+            for index, pick in enumerate(picks):
                 self.assertFalse(walk.is_over)
-                self.assertTrue(walk.take(pick), place)
+                self.assertTrue(walk.take(pick), index)
             self.assertTrue(walk.is_over)
             self.assertFalse(any(walk.take(actor) for actor in range(-1 + len(scenario["threads"]), 9)))
 
-    def test_a_step_that_is_none(self):
-        """A pick without a step is not taken, and the run after it is that of the picks without it."""
+    def test_a_pick_without_a_step(self):
+        """A switch to an actor that has no step is refused; any other switch gives an order that starts with it."""
         scenario = example("read-ahead.json")
         setting = setting_of(EXPLORER, scenario)
-        front = tuple(rows(scenario)[1][1])
-        refused = [actor for actor in range(4) if follow(EXPLORER, setting, Switch(front[:9], actor)) is None]
-        able = [actor for actor in range(4) if actors(report(scenario, (*front[:9], actor)), 2)[:10] == [*front[:9], actor]]
+        prefix = tuple(rows(scenario)[1][1])
+        refused = [actor for actor in range(4) if follow(EXPLORER, setting, Switch(prefix[:9], actor)) is None]
+        able = [actor for actor in range(4) if actors(report(scenario, (*prefix[:9], actor)), 2)[:10] == [*prefix[:9], actor]]
         self.assertEqual(sorted(refused + able), [0, 1, 2, 3])
-        order, end = follow(EXPLORER, setting, Switch(front[:9], front[9]))
-        self.assertEqual(order.picks[:10], front[:10])
+        order, end = follow(EXPLORER, setting, Switch(prefix[:9], prefix[9]))
+        self.assertEqual(order.picks[:10], prefix[:10])
         self.assertEqual(actors(report(scenario, order.picks), 2), list(order.picks))
         self.assertEqual(end.found.row.status, 7)
 
-    def test_no_actor_is_interrupted_that_was_not_asked_for(self):
-        """What is asked for has one preemption, and the rest of the order none: each actor goes on as long as it can."""
+    def test_no_actor_is_interrupted_unasked(self):
+        """After the switch that is asked for, each actor continues as long as it has a step."""
         scenario = example("two-sends.json")
         setting = setting_of(EXPLORER, scenario)
         root, _ = follow(EXPLORER, setting, Switch())
         for order in (root, follow(EXPLORER, setting, Switch((0, 1, 2, 2, 2, 2, 2, 0), 1))[0]):
-            for place in range(order.asked, len(order.picks)):
-                before = order.picks[place - 1] if place else None
-                if before is not None and before != order.picks[place]:
-                    text = report(scenario, (*order.picks[:place], before))
-                    self.assertNotEqual(actors(text, 2)[: place + 1], [*order.picks[:place], before])
+            for index in range(order.asked, len(order.picks)):
+                before = order.picks[index - 1] if index else None
+                if before is not None and before != order.picks[index]:
+                    text = report(scenario, (*order.picks[:index], before))
+                    self.assertNotEqual(actors(text, 2)[: index + 1], [*order.picks[:index], before])
 
     def test_a_run_in_pieces(self):
-        """With few picks for each actor a run is made in several, and is the same."""
+        """With few picks for each actor, the order is found in several runs, and is the same."""
         scenario = example("read-ahead.json")
         setting = setting_of(EXPLORER, scenario)
         whole, _ = follow(EXPLORER, setting, Switch())
@@ -290,9 +289,9 @@ class ByPreemptions(unittest.TestCase):
         self.assertEqual((short.levels[0].tried, short.levels[0].is_whole, short.left), (7, False, 0))
 
     def test_past_the_limit(self):
-        """Many states: the front is told, and orders are run."""
+        """With more states than the limit, this is reported, and the search runs some orders."""
         scenario = example("link-loses.json")
-        self.assertEqual(EXPLORER.ask(["explore"], json.dumps(scenario)).status, CUT)
+        self.assertEqual(EXPLORER.ask(["explore"], json.dumps(scenario)).status, INCOMPLETE)
         status, out, err = bench("schedules", example_path("link-loses.json"), "--tries", "120", "--fail-on", "cut")
         self.assertEqual(status, 1)
         self.assertIn("NOT every order: there are more than 65,536 states", out)

@@ -1,4 +1,4 @@
-"""explain: reports and lines of refused inputs, for people."""
+"""explain: reports and refused inputs in words."""
 
 import json
 import os
@@ -11,17 +11,17 @@ from nooks_bench.folding import folded_lines
 from nooks_bench.words import CLAUSES, SERVICES, cause_words, folded, parse_ranges, ranges_text, short
 
 
-def told(scenario: str, words: list[str]) -> str:
-    """What is explained of an input that the program refuses, without the file."""
+def explained(scenario: str, words: list[str]) -> str:
+    """The explanation of an input that the program refuses, without the name of its file."""
     line = program().ask(words, scenario).out
-    with file_of(scenario) as path, file_of(line, ".line") as told_path:
-        status, out, err = bench("explain", told_path, "--input", path)
+    with file_of(scenario) as path, file_of(line, ".line") as line_path:
+        status, out, err = bench("explain", line_path, "--input", path)
         assert (status, err) == (0, ""), err
         return out.replace(f"{path}:", "").strip()
 
 
 class Explains(unittest.TestCase):
-    def test_calls_and_where_they_were_answered(self):
+    def test_calls_and_who_answered_them(self):
         status, out, _ = bench("explain", example_path("write-cut.report"))
         self.assertEqual(status, 0)
         for line in [
@@ -62,7 +62,7 @@ class Explains(unittest.TestCase):
             status, out, _ = bench("explain", example_path(name + ".report"))
             self.assertEqual((status, "not answered" in out), (0, False))
 
-    def test_faults_at_their_places(self):
+    def test_input_errors_at_their_positions(self):
         text = json.dumps(example("write-cut.json"), indent=1)
         cases = [
             ('"limit": 2', '"limit": null', '/parts/0/limit: wrong kind of value: null; expected a whole number from 0 to 16'),
@@ -73,7 +73,7 @@ class Explains(unittest.TestCase):
         ]
         for old, new, words in cases:
             changed = text.replace(old, new, 1)
-            line, column, rest = told(changed, ["run"]).split(":", 2)
+            line, column, rest = explained(changed, ["run"]).split(":", 2)
             self.assertTrue(rest.strip().startswith(words), rest)
             spot = changed.split("\n")[int(line) - 1][int(column) - 1 :]
             self.assertTrue(spot, (line, column))
@@ -81,16 +81,16 @@ class Explains(unittest.TestCase):
     def test_campaigns_images_and_texts(self):
         campaign = example("campaign-block.json")
         campaign["faults"][2]["kind"] = "trip"
-        self.assertIn('/faults/2/kind: unknown name "trip" (did you mean "trap"?); expected "trap"', told(json.dumps(campaign), ["campaign"]))
+        self.assertIn('/faults/2/kind: unknown name "trip" (did you mean "trap"?); expected "trap"', explained(json.dumps(campaign), ["campaign"]))
         campaign = example("campaign-block.json")
         campaign["base"]["parts"][0]["blocks"] = 0
-        self.assertIn("/parts/0/blocks: 0 is out of range", told(json.dumps(campaign), ["campaign"]))
+        self.assertIn("/parts/0/blocks: 0 is out of range", explained(json.dumps(campaign), ["campaign"]))
         image = json.loads(example_text("block.image"))
         image["text"][1] = "1600003"
-        self.assertIn('/text/1: "1600003" is not a word of an image', told(json.dumps(image), ["dis"]))
-        self.assertIn("5:1: 'nope' is not a mnemonic", told(".class block\n\n\n\nnope r1\n", ["asm"]))
+        self.assertIn('/text/1: "1600003" is not a word of an image', explained(json.dumps(image), ["dis"]))
+        self.assertIn("5:1: 'nope' is not a mnemonic", explained(".class block\n\n\n\nnope r1\n", ["asm"]))
 
-    def test_a_fault_line_wants_its_input(self):
+    def test_an_input_error_needs_its_input(self):
         with file_of("fault 1 not_json /\n", ".line") as path:
             self.assertEqual(bench("explain", path)[0], 2)
 

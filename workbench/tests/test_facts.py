@@ -1,4 +1,4 @@
-"""The tables of the sources: the file is current, and what the workbench says of a thing it says of each and of no other."""
+"""The tables made of the sources: the file is current, and the workbench has words for exactly what the tables list."""
 
 import os
 import re
@@ -19,8 +19,8 @@ class Tables(unittest.TestCase):
         self.assertEqual((ended.returncode, ended.stderr), (0, ""), ended.stdout)
 
     def test_help_is_that_of_the_program(self):
-        told = re.findall(r"(?m)^nooks (\S+(?: \S+)*)  +(\S.*)$", program().ask(["--help"], "").out)
-        self.assertEqual([(row["words"], row["about"]) for row in facts.TABLES["forms"]], told)
+        printed = re.findall(r"(?m)^nooks (\S+(?: \S+)*)  +(\S.*)$", program().ask(["--help"], "").out)
+        self.assertEqual([(row["words"], row["about"]) for row in facts.TABLES["forms"]], printed)
         statuses = re.findall(r"(?m)^status (\d+) +(\S.*)$", program().ask(["--help"], "").out)
         self.assertEqual([(str(row["number"]), row["means"]) for row in facts.TABLES["statuses"]], statuses)
 
@@ -67,7 +67,7 @@ class EachAndNoOther(unittest.TestCase):
     def test_losses(self):
         self.assertEqual(set(times.LOSSES), set(COUNTED))
 
-    def test_faults_of_an_input(self):
+    def test_input_errors(self):
         of_scenarios = {name for number, name in facts.FAULT_LINES.items() if number <= 10}
         self.assertEqual({*refused.FINDERS, "bad_asm"}, of_scenarios)
         self.assertEqual(tuple(asm_faults.FINDERS), tuple(facts.ASM_FAULTS.values()))

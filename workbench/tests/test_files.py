@@ -1,4 +1,4 @@
-"""The schemas and the editors' files: held against the program, the documents and the examples."""
+"""The schemas and the editors' files, compared with the program, the documents and the examples."""
 
 import copy
 import glob
@@ -26,7 +26,7 @@ except ImportError:
 EDITORS = os.path.join(TOP, "workbench/editors")
 ODD = [None, True, "", "x", -1, 2**32, 2**64, [], {}, 1.5, 0, 300]
 
-# Faults that a schema cannot tell: they are about two values, or about the inside of a text.
+# Input errors that a schema cannot find: they depend on two values, or on the contents of a text.
 BEYOND = ("bad_asm", "double_name", "bad_image")
 
 
@@ -34,7 +34,7 @@ WRITTEN = "written.schema.json"
 
 
 def nodes(value, path=()):
-    """All places in a value."""
+    """The paths of all values in a value."""
     yield path
     inner = value.items() if isinstance(value, dict) else enumerate(value) if isinstance(value, list) else []
     for key, each in inner:
@@ -42,14 +42,13 @@ def nodes(value, path=()):
 
 
 def set_at(value, path, new) -> None:
-    """Puts a value at a path."""
     for step in path[:-1]:
         value = value[step]
     value[path[-1]] = new
 
 
 def damaged(draw, scenario):
-    """A scenario with one value changed, taken away or added."""
+    """A copy of a scenario with one value changed, removed or added."""
     made = copy.deepcopy(scenario)
     path = draw.choice([path for path in nodes(made) if path])
     holder = made
@@ -66,19 +65,18 @@ def damaged(draw, scenario):
 
 
 def holds(value, name: str = SCENARIO) -> bool:
-    """Whether a schema of the package allows a value, by the tests' own validator."""
+    """Whether a schema of the package accepts a value, by the validator of these tests."""
     return valid(schema_file(name), value, name)
 
 
 def damaged_scenarios(count: int):
-    """Scenarios with one damage each."""
     draw = random.Random(5)
     for number in range(count):
         yield damaged(draw, example("media-errors.json") if number % 2 else drawn.scenario(number))
 
 
 def keywords(schema):
-    """All keywords of a schema."""
+    """The keywords of a schema and of the schemas in it."""
     if isinstance(schema, dict):
         yield from schema
     for each in schema.values() if isinstance(schema, dict) else schema if isinstance(schema, list) else []:
@@ -86,14 +84,14 @@ def keywords(schema):
 
 
 def campaigns():
-    """Small campaigns, as many as the program has ways to say what strikes."""
+    """Small campaigns, one for each way to give the faults that the program has."""
     whole = example("campaign-sound.json")
     faults = whole.pop("faults")[:9]
-    places = ("burst", "after")
+    times = ("burst", "after")
     strikes = [{"faults": faults}]
     if program().has_campaign_key("every"):
         strikes.append({"members": [faults[:2], faults[2:5]], "guard": True})
-        strikes.append({"every": [{key: fault[key] for key in fault if key not in places} for fault in faults[:1]], "detail": False})
+        strikes.append({"every": [{key: fault[key] for key in fault if key not in times} for fault in faults[:1]], "detail": False})
     return [{**whole, **each} for each in strikes]
 
 
@@ -165,7 +163,7 @@ class Schema(unittest.TestCase):
 
 @unittest.skipUnless(jsonschema, "python3-jsonschema is not installed")
 class OfTheLibrary(unittest.TestCase):
-    """The same by python3-jsonschema, whose messages a user reads."""
+    """The same checks with python3-jsonschema, whose messages users read in editors."""
 
     def errors(self, value, name: str = SCENARIO):
         store = {each: schema_file(each) for each in (SCENARIO, CAMPAIGN)}
@@ -179,7 +177,7 @@ class OfTheLibrary(unittest.TestCase):
         for name in (SCENARIO, CAMPAIGN, WRITTEN):
             jsonschema.Draft202012Validator.check_schema(schema_file(name))
 
-    def test_a_message_is_at_its_place(self):
+    def test_a_message_has_its_path(self):
         cases = [
             (("parts", 0, "limit"), 99, "parts/0/limit", "99 is greater than the maximum of 16"),
             (("parts", 0, "limmit"), 1, "parts/0", "'limmit' was unexpected"),
@@ -188,14 +186,14 @@ class OfTheLibrary(unittest.TestCase):
             (("parts", 0, "class"), "blok", "parts/0/class", "'blok' is not one of ['block', 'net', 'sound']"),
             (("schedule",), {"kind": "drawn"}, "schedule", "'start' is a required property"),
         ]
-        for path, value, place, message in cases:
+        for path, value, shown_path, message in cases:
             given = example("block.json")
             set_at(given, path, value)
-            told = self.errors(given)
-            self.assertEqual([where for where, _ in told], [place])
-            self.assertIn(message, told[0][1])
+            errors = self.errors(given)
+            self.assertEqual([where for where, _ in errors], [shown_path])
+            self.assertIn(message, errors[0][1])
 
-    def test_a_campaigns_message_is_at_its_place(self):
+    def test_a_campaigns_message_has_its_path(self):
         given = example("campaign-block.json")
         given["base"]["parts"][0]["limit"] = 99
         given["faults"][3]["kind"] = "tarp"
@@ -213,7 +211,7 @@ class Editors(unittest.TestCase):
             return file.read()
 
     def mnemonics(self) -> set[str]:
-        """The instructions of the document of the machine."""
+        """The mnemonics that docs/DRIVER_MACHINE.md lists."""
         with open(os.path.join(TOP, "docs/DRIVER_MACHINE.md"), encoding="utf-8") as file:
             rows = re.findall(r"(?m)^\| [0-9A-F][0-9A-F, ]* \| (.*?) \|", file.read())
         return {name for row in rows for name in re.findall(r"\b[A-Z]{2,5}\b", row)}
@@ -235,7 +233,7 @@ class Editors(unittest.TestCase):
                     for rule in rules:
                         line = rule.sub(" ", line)
                     names |= set(re.findall(r"[^\s,]+", line))
-        # What is left are names of entries and labels that are gone to.
+        # Only the names of entries and of labels as operands are left.
         self.assertTrue(all(re.fullmatch(r"[a-z_][a-z0-9_]*", name) for name in names), names)
         json.loads(self.read("vscode/language-configuration.json"))
 
@@ -245,7 +243,7 @@ class Editors(unittest.TestCase):
             path = os.path.join(EDITORS, "vscode", each["url"])
             with open(path, encoding="utf-8") as file:
                 self.assertEqual(json.load(file), schema_file(name))
-            # An extension reaches no file outside its folder, and the repository has no links: so it has copies.
+            # An extension cannot read files outside its folder, and the repository has no links, so there are copies.
             self.assertTrue(filecmp.cmp(path, os.path.join(SCHEMAS, name), shallow=False), name)
             self.assertTrue(each["fileMatch"])
 

@@ -1,4 +1,4 @@
-"""gallery: a page for each scenario of a folder, and one that lists them."""
+"""gallery: a page for each scenario of a folder, and an index."""
 
 import json
 import os

@@ -1,4 +1,4 @@
-"""gen: what it makes is a valid scenario of each class that runs, and the same for the same seed."""
+"""gen: its scenarios of each class are valid and run, and depend only on the seed."""
 
 import contextlib
 import json
@@ -19,7 +19,7 @@ def generated(kind: str, *words: str) -> dict:
 
 
 def built(scenario: dict) -> dict:
-    """The scenario as the program reads it, which `build` has asked the program about."""
+    """The scenario as the program reads it, after `build` had the program check it."""
     with file_of(scenario) as path:
         status, out, err = bench("build", path)
         assert (status, err) == (0, ""), err
@@ -86,8 +86,8 @@ class Generates(unittest.TestCase):
             (("--blocks", "0"), "--blocks 0: allowed is a number from 1 to 256"),
             (("--output", "/nowhere/x.json"), "/nowhere/x.json: No such file or directory"),
         ]
-        for words, told in cases:
-            self.assertEqual(bench("gen", disk, *words), (2, "", f"nooks-bench: {told}\n"))
+        for words, message in cases:
+            self.assertEqual(bench("gen", disk, *words), (2, "", f"nooks-bench: {message}\n"))
         with file_of("LI r1 0\n", ".asm") as path:
             self.assertIn("no line names a class", bench("gen", path)[2])
 

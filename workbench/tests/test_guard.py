@@ -1,4 +1,4 @@
-"""Guarded runs: what sweeps, maps, timelines, pages and explanations say of them, against `guard` and `run` themselves."""
+"""Guarded runs in sweeps, maps, timelines, pages and explanations, compared with `guard` and `run` themselves."""
 
 import json
 import os
@@ -30,7 +30,7 @@ HAS_EVERY = program().has_campaign_key("every")
 
 
 def guard(scenario: dict) -> tuple[list[tuple[int, ...]], str]:
-    """The traps and the report that `guard` writes of a scenario, read here."""
+    """The traps and the report that `guard` writes, parsed by these tests."""
     text = program().guard(scenario)
     return [tuple(map(int, found)) for found in TRAP.findall(text)], TRAP.sub("", text)
 
@@ -42,7 +42,7 @@ def swept(path: str, *words: str) -> dict:
 
 
 def old_program(folder: str) -> str:
-    """A program as those were that had no guard: it writes its usage line for that, and refuses the keys of a campaign."""
+    """A program like an old one without a guard: it prints its usage for `guard`, and refuses the campaign keys."""
     path = os.path.join(folder, "nooks")
     with open(path, "w", encoding="utf-8") as file:
         file.write(f"""#!/bin/sh
@@ -58,7 +58,7 @@ exec '{program().path}' "$@"
 
 
 @unittest.skipUnless(HAS_GUARD, "the program has no guard")
-class Told(unittest.TestCase):
+class Reported(unittest.TestCase):
     def test_the_lines_of_guard(self):
         for name in GUARDED:
             report = parse_report(example_text(name + ".guard"))
@@ -68,23 +68,23 @@ class Told(unittest.TestCase):
             self.assertEqual(report.status, int(re.search(r"(?m)^status (\d+)$", text)[1]))
             for trap in report.guards:
                 burst = next(each for each in report.parts[trap.part].bursts() if each.burst == trap.burst)
-                self.assertEqual((burst.turns, burst.cause), (trap.after, "trap injected"))
+                self.assertEqual((burst.instructions, burst.cause), (trap.after, "trap injected"))
                 self.assertIs(report.parts[trap.part].guards[trap.burst], trap)
 
-    def test_no_line_of_guard_stands_within_a_report(self):
+    def test_a_guard_line_within_a_report_is_refused(self):
         with file_of(example_text("block.report") + "guard 0 burst 3 after 4 clause 5\n", ".report") as path:
             self.assertEqual(bench("explain", path)[0], 2)
 
     def test_explained(self):
-        """The deed is the first that breaks, with its clause; and the same without the scenario, but for the deed."""
+        """The explanation has the first deed that would break the contract; without the scenario, only its clause."""
         for name, deed in DEEDS.items():
             status, out, err = bench("explain", "--guard", example_path(name + ".json"))
             self.assertEqual((status, err), (0, ""))
             self.assertIn(f"  {deed}\n", out)
             self.assertIn("\nbehind a guard, which stopped drivers 1 time\n", out)
             self.assertNotIn("a fault of the scenario", out)
-            _, told, _ = bench("explain", example_path(name + ".guard"))
-            self.assertIn("  " + re.sub(r': by ".*?" it would', ": it would", deed) + "\n", told)
+            _, explained, _ = bench("explain", example_path(name + ".guard"))
+            self.assertIn("  " + re.sub(r': by ".*?" it would', ": it would", deed) + "\n", explained)
 
     def test_drawn(self):
         for name, deed in DEEDS.items():
@@ -98,7 +98,7 @@ class Told(unittest.TestCase):
             self.assertEqual(len("guard " + lane) - len("part" + wide), event)
             _, svg, _ = bench("timeline", "--guard", example_path(name + ".json"))
             titles = [each.text or "" for each in ElementTree.fromstring(svg).iter() if each.tag.endswith("title")]
-            # The letter and its box, and the line of the failure.
+            # Three elements have the title: the letter, its box, and the line of the failure.
             self.assertEqual(titles.count(short), 3)
             self.assertIn("stopped by a guard", drawn_words(svg))
         self.assertNotIn("guard", bench("timeline", "--text", example_path("block.report"))[1])
@@ -114,32 +114,32 @@ class Told(unittest.TestCase):
             self.assertEqual(notes, [["fault", f"The guard stopped the driver here, before turn {turn}: {would}."]])
             self.assertIn(deed, data["parts"][0]["summary"])
 
-    def test_own_faults_behind_the_trap(self):
-        """A fault of the scenario that a guard's trap comes before did not strike, and it is said why."""
+    def test_own_faults_after_the_trap(self):
+        """A fault of the scenario after the guard's trap does not strike, and the reason is given."""
         report = parse_report(example_text("stale-read.guard"))
         trap = report.guards[0]
-        place = {"burst": trap.burst, "kind": "reg", "register": 4, "value": 0}
-        faults = [{**place, "after": trap.after}, {**place, "after": trap.after + 1}, {**place, "after": 0, "kind": "trap", "burst": 99}]
+        fault = {"burst": trap.burst, "kind": "reg", "register": 4, "value": 0}
+        faults = [{**fault, "after": trap.after}, {**fault, "after": trap.after + 1}, {**fault, "after": 0, "kind": "trap", "burst": 99}]
         strikes = strikes_of(report.parts[0], faults)
         self.assertTrue(strikes[0].event and not strikes[0].why)
         self.assertEqual(strikes[1].why, f"the guard's trap after {trap.after} turns, ended the burst before")
 
-    def test_several_traps_each_by_the_run_before_it(self):
-        """A driver that is always wrong: each of its traps has the deed of its own burst."""
+    def test_several_traps(self):
+        """A driver that is always wrong has several traps; each is explained by the deed of that burst."""
         scenario = with_limit(example("contract-broken.json"), 0, 2)
         with file_of(scenario) as path:
             _, out, _ = bench("explain", "--guard", path)
         traps, _ = guard(scenario)
         self.assertEqual(len(traps), 3)
         for _, burst, after, clause in traps:
-            told = f"burst {burst}, before turn {after + 1}, in c1 write 1 [51 x16, 52 x16]: by \"reply 0 -> done\" " \
+            line = f"burst {burst}, before turn {after + 1}, in c1 write 1 [51 x16, 52 x16]: by \"reply 0 -> done\" " \
                    f"it would have {CLAUSES[clause]} (clause {clause})"
-            self.assertIn(told, out)
+            self.assertIn(line, out)
         self.assertIn("behind a guard, which stopped drivers 3 times", out)
         self.assertIn("given up", out)
 
 
-# What is said of the guarded examples, worked out from their drivers: the stop, what the driver was at, and the deed.
+# The lines about the guarded examples, worked out from their drivers: the stop, the call, and the deed.
 DEEDS = {
     "stale-read": 'stopped by the guard at event 17, burst 6, before turn 90, in c4 read 2 1: by "reply 0 -> data [55 x16]" '
     "it would have replied that a read is done, with other words than the disk's (clause 4)",
@@ -153,7 +153,7 @@ DEEDS = {
 @unittest.skipUnless(HAS_GUARD, "the program has no guard")
 class Swept(unittest.TestCase):
     def one_for_one(self, path: str, scenario: dict, *words: str) -> list[dict]:
-        """Compares each outcome behind a guard with that of the guarded run, told from the texts; gives the entries."""
+        """Compares each guarded outcome with that of a guarded run, read from its text; returns the entries."""
         found = swept(path, *words)
         base_traps, base = guard(scenario)
         limits = [part.get("limit", 0) for part in scenario["parts"]]
@@ -190,7 +190,7 @@ class Swept(unittest.TestCase):
                 self.assertEqual({key: entry[key] for key in ("outcome", "cause", "losses")}, entry["guarded"])
 
     def test_a_base_that_breaks_its_contract(self):
-        """What strikes is judged against the guarded base, of which the trap's own place is struck too."""
+        """Outcomes are relative to the guarded base. Faults strike up to the instruction of its trap, not after it."""
         scenario = with_limit(example("plays-on.json"), 0, 3)
         traps, _ = guard(scenario)
         burst, after = traps[0][1:3]
@@ -225,19 +225,19 @@ class Swept(unittest.TestCase):
             for entry in run["faults"]:
                 self.assertNotEqual(entry["guarded"]["outcome"], "contract broken")
 
-    def test_a_journal_goes_on(self):
+    def test_a_journal_is_continued(self):
         words = [example_path("sound.json"), "--limit", "1", "--quiet", "--guard", "--kind", "reg", "--register", "2,8", "--value", "2"]
         status, out, err = bench("sweep", *words)
-        # What a table over every place comes to is not in a journal.
+        # A journal has no results of a table over every instruction.
         whole = (status, re.sub(r"\n\n[\d,]+ faults at every burst(?s:.*)", "\n", out), err)
         with tempfile.TemporaryDirectory() as folder:
             journal = os.path.join(folder, "journal")
             self.assertEqual(bench("sweep", *words, "--journal", journal), whole)
             with open(journal, encoding="utf-8") as file:
                 lines = file.readlines()
-            for kept in (1, 2, len(lines) - 1):
+            for count in (1, 2, len(lines) - 1):
                 with open(journal, "w", encoding="utf-8") as file:
-                    file.writelines(lines[:kept])
+                    file.writelines(lines[:count])
                 self.assertEqual(bench("sweep", *words, "--journal", journal, "--resume"), whole)
             unguarded = [word for word in words if word != "--guard"]
             status, _, err = bench("sweep", *unguarded, "--journal", journal, "--resume")
@@ -260,12 +260,12 @@ class Mapped(unittest.TestCase):
         self.assertEqual((status, err), (0, ""))
         found = swept(*self.words[:1], *self.words[1:])
         entries = found["runs"][0]["faults"]
-        told = [cell.split("\n")[:2] for cell in cells(out)]
+        shown = [cell.split("\n")[:2] for cell in cells(out)]
         for entry in entries:
             fault = json.dumps(entry["fault"])
-            outcomes = [outcome.partition(":")[0] for first, outcome in told if first == fault]
+            outcomes = [outcome.partition(":")[0] for first, outcome in shown if first == fault]
             self.assertEqual(outcomes, [entry["outcome"], entry["guarded"]["outcome"]])
-        self.assertEqual(len(told), 2 * len(entries))
+        self.assertEqual(len(shown), 2 * len(entries))
         words = drawn_words(out)
         for name in set(found["outcomes"]) | set(found["guarded"]) - {"contract broken"}:
             if name != "contract broken":
@@ -282,23 +282,23 @@ class Mapped(unittest.TestCase):
                   for more in ([], ["--guard"])]
         self.assertEqual(labels[0], labels[1])
 
-    def test_halves_do_not_meet(self):
-        """The cells of the two halves are drawn beside each other, in the same rows."""
+    def test_halves_do_not_overlap(self):
+        """The cells of the two halves are drawn next to each other, in the same rows."""
         _, out, _ = bench("map", *self.words, "--guard", "--quiet", "--no-fold")
         boxes = [each for each in ElementTree.fromstring(out).iter() if each.tag.endswith("rect")]
         cell_boxes = [each for each in boxes if any((inner.text or "").startswith("{") for inner in each)]
         rows: dict[str, list[float]] = {}
         for each in cell_boxes:
             rows.setdefault(each.get("y"), []).append(float(each.get("x")))
-        for places in rows.values():
-            self.assertEqual(len(places) % 2, 0)
-            half = len(places) // 2
-            self.assertLess(max(places[:half]) + 12, min(places[half:]))
+        for lefts in rows.values():
+            self.assertEqual(len(lefts) % 2, 0)
+            half = len(lefts) // 2
+            self.assertLess(max(lefts[:half]) + 12, min(lefts[half:]))
 
 
 @unittest.skipUnless(HAS_EVERY, "the program has no campaigns with `every`")
 class Whole(unittest.TestCase):
-    """A choice of every burst of a call is asked for by one campaign, and the table is the same as by lists."""
+    """A choice of all faults is one campaign with `every`; its table is the same as that of listed faults."""
 
     def tables(self, *words: str) -> list[dict]:
         found = []
@@ -324,7 +324,7 @@ class Whole(unittest.TestCase):
         by_every.pop("every")
         self.assertEqual(by_every, by_lists)
 
-    def test_it_is_asked_for_whole_choices_alone(self):
+    def test_it_is_used_for_whole_choices_only(self):
         with mock.patch.object(Sweep, "fill", side_effect=AssertionError("asked")):
             for words in [("--burst", "3-6"), ("--every", "2"), ("--call", "1"), ("--at-acts",), ("--random", "9")]:
                 self.assertEqual(bench("sweep", example_path("sound.json"), "--quiet", *words)[0], 0)
@@ -332,7 +332,7 @@ class Whole(unittest.TestCase):
                 bench("sweep", example_path("sound.json"), "--quiet")
 
     def test_the_last_line(self):
-        """The counts are those of the program's own table, the shadow's bursts among them."""
+        """The counts are those of the program's own table, which includes the shadow's bursts."""
         base = with_limit(example("sound.json"), 0, 16)
         kinds = [{"kind": "reg", "register": register, "value": 2} for register in range(16)]
         for guarded in (False, True):
@@ -346,20 +346,20 @@ class Whole(unittest.TestCase):
                           f"{int(given_up):,} given up, {int(broken):,} broken", line)
             self.assertEqual("so no single fault of these" in out, guarded)
 
-    def test_those_that_are_kept(self):
-        """docs/guard has the whole tables of a link and a stream, and for each class what the workbench makes of them."""
+    def test_the_tables_of_the_documents(self):
+        """docs/guard has the whole tables of net and sound, and the table of the workbench for each class."""
         kinds = [{"kind": "reg", "register": register, "value": 2} for register in range(16)]
         for name in ("net", "sound"):
             base = with_limit(example(name + ".json"), 0, 16)
             campaign = {"base": base, "part": 0, "every": kinds, "guard": True, "detail": True}
             found = program().ask(["campaign"], json.dumps(campaign)).out
-            self.assertEqual(found, kept_text(f"{name}.table"))
+            self.assertEqual(found, documented(f"{name}.table"))
         for name in ("block", "net", "sound"):
             words = [example_path(name + ".json"), "--limit", "16", *REGISTERS, "--guard", "--quiet"]
-            self.assertEqual(bench("sweep", *words), (0, kept_text(f"{name}.txt"), ""))
+            self.assertEqual(bench("sweep", *words), (0, documented(f"{name}.txt"), ""))
 
 
-def kept_text(name: str) -> str:
+def documented(name: str) -> str:
     with open(os.path.join(TOP, "docs/guard", name), encoding="utf-8") as file:
         return file.read()
 
@@ -372,7 +372,7 @@ class Old(unittest.TestCase):
         self.addCleanup(folder.cleanup)
         self.path = old_program(folder.name)
 
-    def test_it_is_said(self):
+    def test_it_is_reported(self):
         scenario = example_path("sound.json")
         for words in (["sweep", scenario, "--guard"], ["map", scenario, "--guard"], ["explain", "--guard", scenario],
                       ["timeline", "--guard", scenario], ["page", "--guard", scenario]):

@@ -1,11 +1,11 @@
-"""What a driver still holds: by the kernel calls of a report, against what the kernel takes back at a failure."""
+"""The resources that a driver holds, by the kernel calls of a report and by what the kernel takes back at a failure."""
 
 import os
 import unittest
 
 from common import DATA, bench, file_of, program
 
-from nooks_bench.held import held_at_end, held_before
+from nooks_bench.held import resources_at_end, resources_before
 from nooks_bench.report import parse_report
 
 
@@ -28,10 +28,10 @@ class Holds(unittest.TestCase):
         self.assertIn(leak, out)
         self.assertIn("holds at the end 64 words of the heap, taken in 1 call of open: borrow 7 2064 (event 9)", out)
 
-    def test_what_is_given_back_is_not_held(self):
+    def test_a_resource_that_is_given_back_is_not_reported(self):
         report = parse_report(program().report(scenario([], [{"part": 0, "op": "close"}])))
-        held = [each.text for each in held_at_end(report.parts[0])]
-        self.assertEqual(held, ["heap 2048 16", "heap 2128 3", "heap 2131 2"])
+        resources = [each.text for each in resources_at_end(report.parts[0])]
+        self.assertEqual(resources, ["heap 2048 16", "heap 2128 3", "heap 2131 2"])
 
     def test_as_the_kernel_takes_it_back(self):
         looked = 0
@@ -41,18 +41,18 @@ class Holds(unittest.TestCase):
                 part = parse_report(program().report(scenario([fault], [{"part": 0, "op": "close"}]))).parts[0]
                 for event in part.events:
                     if event.kind == "stage" and event.text == "collect":
-                        told = event.line.partition(" collect")[2].partition(" buffer ")[0]
-                        held = "".join(f" {each.text}" for each in held_before(part, event.number - 1))
-                        self.assertEqual(held, told, fault)
-                        looked += bool(told)
+                        collected = event.line.partition(" collect")[2].partition(" buffer ")[0]
+                        resources = "".join(f" {each.text}" for each in resources_before(part, event.number - 1))
+                        self.assertEqual(resources, collected, fault)
+                        looked += bool(collected)
         self.assertGreater(looked, 20)
 
-    def test_nothing_is_held_after_giving_up(self):
+    def test_a_part_that_is_given_up_holds_nothing(self):
         given = scenario([{"burst": 8, "after": 0, "kind": "trap"}], [])
         given["parts"][0]["limit"] = 0
         part = parse_report(program().report(given)).parts[0]
         self.assertTrue(part.given_up)
-        self.assertEqual(held_at_end(part), [])
+        self.assertEqual(resources_at_end(part), [])
 
 
 if __name__ == "__main__":

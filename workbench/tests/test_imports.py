@@ -1,4 +1,4 @@
-"""No module of the workbench needs itself: imports in functions and for types count too."""
+"""No modules of the workbench import each other, not even in functions or for types."""
 
 import ast
 import builtins
@@ -15,7 +15,7 @@ def modules() -> list[str]:
 
 
 def imported(name: str) -> set[str]:
-    """The modules of the package that a module imports, at any place of its text."""
+    """The modules of the package that a module imports, anywhere in its text."""
     with open(os.path.join(PACKAGE, name + ".py"), encoding="utf-8") as file:
         tree = ast.parse(file.read())
     found: set[str] = set()
@@ -26,7 +26,7 @@ def imported(name: str) -> set[str]:
 
 
 def cycle(graph: dict[str, set[str]]) -> list[str]:
-    """Some modules that import each other in a ring; empty if there is none."""
+    """The modules that are in import cycles or import such modules; empty if there are none."""
     left = {name: set(below) for name, below in graph.items()}
     while True:
         free = [name for name, below in left.items() if not below]

@@ -1,4 +1,4 @@
-"""inject: mutants of each kind, draws, outcomes against a second script over full reports, and lines run again."""
+"""inject: the mutants of each kind, draws, outcomes compared with those of full reports, and repeated trials."""
 
 from __future__ import annotations
 
@@ -10,7 +10,7 @@ from collections import Counter
 
 from able import ABLE, WHY_NOT
 from common import EXAMPLES, TOP, bench, example, file_of, program
-from plain_trials import told
+from plain_trials import outcome_by_reports
 
 from nooks_bench.build import built
 from nooks_bench.inject_code import FROM_CALLER, code_of, flow_of
@@ -40,12 +40,12 @@ MUTANTS = {
 
 
 def load(name: str) -> dict:
-    """The scenario of a driver's work."""
+    """The scenario that exercises a driver."""
     return built(LOADS[name]).plain()
 
 
 def injected(*words: str) -> list[dict]:
-    """The lines of an experiment."""
+    """The lines that an experiment writes."""
     status, out, err = bench("inject", *words, "--program", ABLE.path, "--quiet", "--json")
     assert (status, err) == (0, ""), err
     return [json.loads(line) for line in out.splitlines()]
@@ -128,10 +128,10 @@ class Trials(unittest.TestCase):
                 for trial in population.trials:
                     self.assertEqual(len({mutant.address for mutant in trial.mutants}), len(trial.mutants))
 
-    def test_a_kind_has_the_same_trials_beside_any_other(self):
+    def test_a_kind_has_the_same_trials_with_any_other(self):
         alone = self.trials("net", Asked(("nop",), 30, 2, 9))["nop"]
-        beside = self.trials("net", Asked(("source", "nop", "text"), 30, 2, 9))["nop"]
-        self.assertEqual(alone, beside)
+        together = self.trials("net", Asked(("source", "nop", "text"), 30, 2, 9))["nop"]
+        self.assertEqual(alone, together)
         self.assertNotEqual(alone.trials, self.trials("net", Asked(("nop",), 30, 2, 10))["nop"].trials)
 
     def test_every_mutant(self):
@@ -141,7 +141,7 @@ class Trials(unittest.TestCase):
 
 
 class Loads(unittest.TestCase):
-    """The work that the drivers are put to."""
+    """The scenarios that exercise the drivers."""
 
     def test_sizes(self):
         for name in LOADS:
@@ -163,14 +163,14 @@ class Loads(unittest.TestCase):
 
 @unittest.skipUnless(ABLE, WHY_NOT)
 class Outcomes(unittest.TestCase):
-    """The outcomes that `inject` tells are those that a second script finds in full reports."""
+    """The outcomes that `inject` writes are those that a separate script finds in full reports."""
 
     def compared(self, name: str, *words: str) -> list[dict]:
         scenario = load(name)
         base = setting_of(ABLE, scenario, 0, False).base
         lines = injected(LOADS[name], *words)
         for line in lines:
-            expected = told(ABLE.path, base, 0, line)
+            expected = outcome_by_reports(ABLE.path, base, 0, line)
             self.assertEqual({key: line[key] for key in expected}, expected, line)
         return lines
 
@@ -181,7 +181,7 @@ class Outcomes(unittest.TestCase):
             self.assertGreater(len(lines), 50)
             self.assertGreater(len({line["ending"] for line in lines}), 3)
 
-    def test_a_turn_and_a_guard(self):
+    def test_any_instruction_and_a_guard(self):
         for name in LOADS:
             lines = self.compared(name, "--trials", "4", "--seed", "8", "--any-turn", "--guard", "both")
             guarded = [line for line in lines if line["guard"]]
@@ -196,7 +196,7 @@ class Outcomes(unittest.TestCase):
             self.assertEqual({line["limit"] for line in lines}, {0, 2})
             self.compared(name, "--trials", "1", "--latent", "--guard", "yes", "--limit", "3")
 
-    def test_smaller_limits_are_runs_of_their_own(self):
+    def test_each_limit_has_its_own_runs(self):
         words = ["--trials", "10", "--faults", "2", "--latent", "--kind", "nop", "--kind", "text"]
         several = injected(LOADS["net"], *words, "--limit", "0", "--limit", "1", "--limit", "16")
         for limit in (0, 1, 16):
@@ -238,8 +238,8 @@ class Outcomes(unittest.TestCase):
         self.assertEqual(status, 0)
         base = setting_of(ABLE, load("block"), 0, False).base
         base["parts"][0]["limit"] = 2
-        place = {"burst": line["strike"]["burst"], "after": 0, "kind": "code"}
-        faults = [{**place, "address": mutant["address"], "value": mutant["word"]} for mutant in line["faults"]]
+        strike = {"burst": line["strike"]["burst"], "after": 0, "kind": "code"}
+        faults = [{**strike, "address": mutant["address"], "value": mutant["word"]} for mutant in line["faults"]]
         self.assertEqual(json.loads(out), with_faults(base, 0, faults))
 
     def test_counts_are_those_of_the_lines(self):
@@ -264,7 +264,7 @@ class Outcomes(unittest.TestCase):
             self.assertEqual({key: number for key, number in shown.items() if number}, dict(cells))
 
     def assert_counts(self, kind: dict, lines: list[dict]) -> None:
-        """The counts of a kind, from its lines alone."""
+        """Compares the counts of a kind with those of its lines."""
         self.assertEqual(kind["trials"], len(lines))
         endings = Counter(line["ending"] for line in lines)
         self.assertEqual(kind["endings"], {name: endings[name] for name in ENDINGS})

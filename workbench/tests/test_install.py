@@ -1,4 +1,4 @@
-"""The installed tree of `make install`, and the package that pip installs."""
+"""The tree that `make install` makes, and the package that pip installs."""
 
 import glob
 import gzip
@@ -16,7 +16,7 @@ from common import TOP, example_path, program
 
 from nooks_bench import __version__
 
-# Where Debian has the wheels that a package is built with, so that no network is needed.
+# Debian's folder of the wheels that build a package; with them no network is needed.
 WHEELS = "/usr/share/python-wheels"
 
 FILES = """
@@ -86,7 +86,7 @@ class Installed(unittest.TestCase):
             name, mode = line.split(" ")
             self.assertEqual(oct(stat.S_IMODE(os.stat(self.path(name)).st_mode)), f"0o{mode}", name)
 
-    def test_nothing_stands_elsewhere(self):
+    def test_nothing_is_installed_elsewhere(self):
         for name in self.files():
             self.assertTrue(name.startswith(tuple(f"usr/{folder}/" for folder in FOLDERS)), name)
             self.assertNotIn("__pycache__", name)
@@ -152,8 +152,8 @@ class Installed(unittest.TestCase):
         listed = run([os.path.join(TOP, "workbench/nooks-bench"), "--help"]).stdout
         for name in re.findall(r"(?m)^    ([a-z]+)", listed):
             self.assertIn(f".SS {name}\n", workbench)
-            told = run([os.path.join(TOP, "workbench/nooks-bench"), name, "--help"]).stdout
-            for option in set(re.findall(r"--[a-z-]+", told)) - {"--help"}:
+            help_text = run([os.path.join(TOP, "workbench/nooks-bench"), name, "--help"]).stdout
+            for option in set(re.findall(r"--[a-z-]+", help_text)) - {"--help"}:
                 self.assertIn(option.replace("-", "\\-"), workbench)
 
     @unittest.skipUnless(shutil.which("man"), "there is no man")
@@ -165,7 +165,7 @@ class Installed(unittest.TestCase):
             self.assertIn(f"nooks {__version__}", shown.stdout)
 
     def completed(self, command: str, *words: str) -> set[str]:
-        """What bash offers for the last of some words."""
+        """The completions that bash offers for the last word."""
         script = f"""
             source {self.path(f"usr/share/bash-completion/completions/{command}")}
             COMP_WORDS=({command} {" ".join(f"'{word}'" for word in words)}); COMP_CWORD={len(words)}
@@ -212,10 +212,10 @@ class Installed(unittest.TestCase):
 
     def test_what_is_no_program_is_refused(self):
         with tempfile.TemporaryDirectory() as other:
-            for named, told in [("/bin/true", "/bin/true is no program nooks"), ("/nowhere", "/nowhere is no program")]:
+            for named, message in [("/bin/true", "/bin/true is no program nooks"), ("/nowhere", "/nowhere is no program")]:
                 ended = make("install", f"DESTDIR={other}", f"PROGRAM={named}")
                 self.assertNotEqual(ended.returncode, 0)
-                self.assertIn(told, ended.stderr)
+                self.assertIn(message, ended.stderr)
             ended = make("install", f"DESTDIR={other}", "BUILT=/nowhere/nooks_main")
             self.assertIn("the proved program is not built yet: ./nooks --version proves and builds it", ended.stderr)
             old = os.path.join(other, "old")
@@ -241,7 +241,7 @@ class Versions(unittest.TestCase):
 @unittest.skipUnless(glob.glob(f"{WHEELS}/setuptools-*.whl") and glob.glob(f"{WHEELS}/wheel-*.whl"),
                      "python3-setuptools-whl and python3-wheel-whl are not installed")
 class Pip(unittest.TestCase):
-    """`pip install .` in a fresh virtual environment of Debian's Python, of a copy, which the build writes into."""
+    """`pip install .` in a fresh virtual environment of Debian's Python, from a copy, since the build writes files."""
 
     def test_a_fresh_environment(self):
         with tempfile.TemporaryDirectory() as folder:

@@ -1,5 +1,5 @@
-"""The journal of a sweep, and what an interruption leaves: the table so far, and a sweep that goes on to the same table
-as one that nothing disturbed."""
+"""The journal of a sweep: an interrupted sweep prints the table so far, and a resumed one ends with the table of one that
+was not interrupted."""
 
 import contextlib
 import json
@@ -20,12 +20,12 @@ from nooks_bench.program import TOP
 COMMAND = os.path.join(TOP, "workbench", "nooks-bench")
 CHOICE = ["--limit", "1", "--kind", "reg", "--kind", "trap", "--random", "300", "--seed", "4", "--jobs", "2", "--quiet"]
 
-# An end is awaited for so many seconds: much longer than it takes, for a machine that does other work.
+# The most seconds to wait for an end: many more than it takes, since the machine may be busy.
 PATIENCE = 90
 
 
 class Process(NamedTuple):
-    """A process of this machine, by Linux's /proc."""
+    """A process of this machine, as /proc shows it."""
 
     number: int
     state: str
@@ -34,7 +34,6 @@ class Process(NamedTuple):
 
 
 def processes() -> list[Process]:
-    """The processes that there are."""
     found = []
     for name in filter(str.isdecimal, os.listdir("/proc")):
         with contextlib.suppress(OSError):
@@ -62,14 +61,14 @@ class Resumed(unittest.TestCase):
         self.assertEqual(bench(*self.words), plain)
         whole = lines_of(self.journal)
         self.assertGreater(len(whole), 3)
-        for kept, torn in [(1, 0), (2, 0), (3, 20), (len(whole), 0), (0, 10)]:
+        for complete, torn in [(1, 0), (2, 0), (3, 20), (len(whole), 0), (0, 10)]:
             with open(self.journal, "w", encoding="utf-8") as file:
-                file.write("".join(whole[:kept]) + (whole[kept][:torn] if torn else ""))
-            self.assertEqual(bench(*self.words, "--resume"), plain, (kept, torn))
+                file.write("".join(whole[:complete]) + (whole[complete][:torn] if torn else ""))
+            self.assertEqual(bench(*self.words, "--resume"), plain, (complete, torn))
             outcomes = [len(json.loads(line)["outcomes"]) for line in lines_of(self.journal)[1:]]
-            self.assertEqual(sum(outcomes), 300, (kept, torn))
+            self.assertEqual(sum(outcomes), 300, (complete, torn))
 
-    def test_what_is_known_is_not_run_again(self):
+    def test_known_outcomes_are_not_run_again(self):
         bench(*self.words)
         heading, *lines = lines_of(self.journal)
         changed = json.loads(lines[0])
@@ -100,7 +99,7 @@ class Resumed(unittest.TestCase):
 
 class Interrupted(unittest.TestCase):
     def begun(self, journal: str, *words: str) -> subprocess.Popen:
-        """A sweep of many faults, of which the journal has some."""
+        """Starts a sweep of many faults, and waits until its journal has some."""
         choice = ["--limit", "1", "--kind", "reg", "--random", "100000", "--journal", journal, "--quiet"]
         environment = {**os.environ, "NOOKS": program().path}
         asked = [sys.executable, COMMAND, "sweep", example_path("block.json"), *choice, *words]
@@ -149,7 +148,7 @@ class Interrupted(unittest.TestCase):
         self.interrupted(True)
 
     def test_a_worker_that_is_killed(self):
-        """The sweep ends with a mistake, and does not wait for it."""
+        """The sweep ends with an error, and does not wait for the killed worker."""
         with tempfile.TemporaryDirectory() as folder:
             process = self.begun(os.path.join(folder, "journal"), "--jobs", "2")
             workers = [each.number for each in processes() if each.parent == process.pid]

@@ -1,4 +1,4 @@
-"""map: a cell for each place that a sweep struck, with its outcome, and the strip of what the driver did there."""
+"""map: a cell for each fault of a sweep, with its outcome, and the strip of what the driver did at its instruction."""
 
 import contextlib
 import json
@@ -20,7 +20,7 @@ SVG = "{http://www.w3.org/2000/svg}"
 
 
 def titles(text: str, tag: str = "rect") -> list[str]:
-    """What the pointer is told over each element of a kind."""
+    """The titles of the elements of a kind, which a browser shows under the pointer."""
     found = ElementTree.fromstring(text).iter(SVG + tag)
     return [each.find(SVG + "title").text for each in found if each.find(SVG + "title") is not None]
 
@@ -43,8 +43,8 @@ def mapped(*words: str) -> str:
 class Maps(unittest.TestCase):
     def test_each_fault_has_its_cell(self):
         words = [example_path("sound.json"), "--limit", "1"]
-        _, told, _ = bench("sweep", *words, "--json", "--instructions", "--quiet")
-        entries = json.loads(told)["runs"][0]["faults"]
+        _, swept, _ = bench("sweep", *words, "--json", "--instructions", "--quiet")
+        entries = json.loads(swept)["runs"][0]["faults"]
         out = mapped(*words)
         self.assertEqual(len(cells(out)), len(entries))
         for cell, entry in zip(cells(out), entries):
@@ -54,7 +54,7 @@ class Maps(unittest.TestCase):
             named = ", ".join(f"{kind} {number}" for kind, number in entry["losses"].items() if number)
             self.assertEqual(lost, [f"lost: {named}"] if named else [])
             self.assertEqual(at, f"at {entry['instruction']}")
-        with file_of(told) as path:
+        with file_of(swept) as path:
             again = mapped("--from", path, "--title", "Faults of speaker")
         self.assertEqual(again.split("nooks-bench map")[0], out.split("nooks-bench map")[0])
 
@@ -64,7 +64,7 @@ class Maps(unittest.TestCase):
         self.assertEqual((max(lost), min(lost)), (5, 1))
         words = drawn_words(out)
         for amount in range(1, 6):
-            # The legend has the least and the most, and the ruler the turn 5.
+            # The legend has the least and the most, and the ruler has the number 5.
             others = (amount in (1, 5)) + (amount == 5)
             self.assertEqual(words.count(str(amount)), lost.count(amount) + others)
         self.assertIn(f"recovered with losses: from 1 to 5 ({len(lost)})", words)
@@ -73,14 +73,14 @@ class Maps(unittest.TestCase):
         path = example_path("block.json")
         out = mapped(path, "--limit", "1", "--burst", "3")
         trace = program().ask(["trace", "0", "3"], example_text("block.json")).out
-        turns = [line for line in trace.split("\n") if re.match(r"\d+ \d+ [A-Z]", line)]
+        executed = [line for line in trace.split("\n") if re.match(r"\d+ \d+ [A-Z]", line)]
         steps = [title for title in titles(out) if re.match(r"after \d+: \d+: ", title)]
         instructions = {int(step.split(":")[0][6:]): step.split("\n")[0].split(": ", 1)[1] for step in steps}
-        told = {int(turn.split(" ")[0]) - 1: ": ".join(turn.split(" | ")[0].split(" ", 2)[1:]) for turn in turns}
-        self.assertEqual(instructions, told)
+        traced = {int(line.split(" ")[0]) - 1: ": ".join(line.split(" | ")[0].split(" ", 2)[1:]) for line in executed}
+        self.assertEqual(instructions, traced)
         mnemonics = [word for word in drawn_words(out) if re.fullmatch("[A-Z]{2,5}", word)]
         self.assertEqual(len(mnemonics), 176)
-        stores = [int(turn.split(" ")[0]) - 1 for turn in turns if " | store " in turn]
+        stores = [int(line.split(" ")[0]) - 1 for line in executed if " | store " in line]
         lines = [title for title in titles(out, "line") if title.startswith("after ")]
         self.assertEqual([int(re.match(r"after (\d+)", line)[1]) for line in lines], stores)
         self.assertIn("line ", lines[0])
@@ -100,7 +100,7 @@ class Maps(unittest.TestCase):
         counts = [re.findall(r"\((\d+)\)", "".join(drawn_words(out))) for out in (folded, whole)]
         self.assertEqual(counts[0], counts[1])
 
-    def test_pokes_stand_below_each_other_with_their_clause(self):
+    def test_each_poked_address_has_a_row_with_its_clause(self):
         words = ["--burst", "4", "--kind", "poke", "--address", "5184-5186", "--value", "99", "--every", "5", "--limit", "1"]
         out = mapped(example_path("block.json"), *words, "--no-instructions")
         self.assertEqual(len(cells(out)), 3 * 18)
@@ -121,8 +121,8 @@ class Maps(unittest.TestCase):
     def test_wrapped_maps(self):
         words = [example_path("block.json"), "--limit", "1", "--burst", "3"]
         out = mapped(*words, "--wrap", "40")
-        places = [word for word in drawn_words(out) if word.startswith("b3 t0 write")]
-        self.assertEqual(len(places), 5)
+        labels = [word for word in drawn_words(out) if word.startswith("b3 t0 write")]
+        self.assertEqual(len(labels), 5)
         self.assertEqual(len(cells(out)), 176)
         large = ElementTree.fromstring(mapped(*words, "--width", "1000", "--font-size", "22"))
         self.assertLessEqual(float(large.get("width")), 1001)
@@ -162,7 +162,7 @@ class Maps(unittest.TestCase):
 
 
 class Documented(unittest.TestCase):
-    """The maps of docs/WORKBENCH.md are those that the commands above them make, by whichever program."""
+    """Any program makes the maps of docs/WORKBENCH.md by the commands above them."""
 
     def test_each_map(self):
         with open(os.path.join(TOP, "docs/WORKBENCH.md"), encoding="utf-8") as file:
@@ -176,7 +176,7 @@ class Documented(unittest.TestCase):
                 continue
             with open(os.path.join(TOP, "docs", picture), encoding="utf-8") as file:
                 drawn = file.read()
-            # The caption has the versions that drew the map, which may be wider than the map and give it its width.
+            # The caption names the versions that drew the map. It may be wider than the map, and then sets the width.
             versions = re.search(r">(nooks-bench [^<]*); scenario", drawn)[1]
             with contextlib.chdir(TOP), mock.patch("nooks_bench.picture.version_of", return_value=versions):
                 status, out, _ = bench(*shlex.split(command))

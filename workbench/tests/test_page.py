@@ -1,4 +1,4 @@
-"""page: one file that needs nothing else, with each event in words and each traced burst."""
+"""page: a file that needs no other, with each event in words and each traced burst."""
 
 import glob
 import json
@@ -115,7 +115,7 @@ class Pages(unittest.TestCase):
         self.assertEqual(bench("page", WRITE_CUT, "--traces=-1")[0], 2)
 
     def test_a_guarded_run(self):
-        """The burst that the guard stopped is shown beside the driver's text, and says who stopped it."""
+        """The burst that the guard stopped is shown next to the driver's text, and says who stopped it."""
         data = data_of(page_of(example_path("sends-twice.json"), "--guard"))
         part = data["parts"][0]
         words = [words for words, *_ in part["events"] if "STOPS" in words]
@@ -146,7 +146,7 @@ class Pages(unittest.TestCase):
 
 
 class Deeds(unittest.TestCase):
-    """The deed that broke the contract is of the clause that the report names."""
+    """The deed that broke the contract belongs to the clause that the report names."""
 
     def deed(self, scenario: dict) -> tuple[int, str]:
         part = parse_report(program().report(scenario)).parts[0]
@@ -175,18 +175,18 @@ class Deeds(unittest.TestCase):
 
 
 class Scripts(unittest.TestCase):
-    def test_names_of_modules_do_not_meet(self):
-        """The modules are one in the page, so no two may declare the same name."""
+    def test_names_of_modules_differ(self):
+        """The page joins the modules into one script, so no two may declare the same name."""
         for modules in (MODULES, SERVED_MODULES):
             names = re.findall(r"(?m)^(?:const|let|function\*?|class) (\w+)", script_text(modules))
             self.assertEqual(sorted(names), sorted(set(names)))
 
-    def test_modules_stand_after_what_they_import(self):
+    def test_modules_follow_what_they_import(self):
         for modules in (MODULES, SERVED_MODULES):
-            for place, name in enumerate(modules):
+            for index, name in enumerate(modules):
                 with open(os.path.join(FOLDER, name), encoding="utf-8") as file:
-                    wanted = re.findall(r'^import .* from "\./(.*)";$', file.read(), re.MULTILINE)
-                self.assertLessEqual(set(wanted), set(modules[:place]), name)
+                    needed = re.findall(r'^import .* from "\./(.*)";$', file.read(), re.MULTILINE)
+                self.assertLessEqual(set(needed), set(modules[:index]), name)
             self.assertEqual(re.findall(r"(?m)^(?:import|export) .*", script_text(modules)), [])
         self.assertEqual(SCRIPTS, sorted(name for name in os.listdir(FOLDER) if name.endswith(".js")))
 
@@ -203,7 +203,7 @@ class Scripts(unittest.TestCase):
                 self.assertEqual((ended.returncode, ended.stderr), (0, ""))
 
     def types(self, *paths: str) -> str:
-        """What the type checker finds."""
+        """The errors that the type checker prints."""
         words = ["tsc", "--noEmit", "--allowJs", "--checkJs", "--target", "es2022", "--module", "es2022", "--lib", "es2022,dom,dom.iterable"]
         ended = subprocess.run([*words, *paths], capture_output=True, text=True, check=False)
         self.assertEqual(ended.returncode == 0, ended.stdout == "")

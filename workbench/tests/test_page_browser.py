@@ -1,4 +1,4 @@
-"""The page in a real browser: what is shown at each event, by the keyboard alone, and how fast."""
+"""The page in a browser: what it shows at each event, by the keyboard alone, and how fast."""
 
 import os
 import re
@@ -13,11 +13,11 @@ from write_cut import TABLE
 
 from nooks_bench.calls import BY_SHADOW
 
-# The most that a step may take, from the key to what is drawn, and over how many steps that is taken.
+# The most processor time for a step, from the key to the drawn page, and the number of steps to measure.
 MOST_SECONDS = 0.05
 MOST_STEPS = 20
 
-# What the page shows of the state, read from its tables.
+# Reads from the tables of the page what they show of the state.
 SHOWN = """(() => {
   const text = (element) => (element ? element.textContent.replace(/\\s+/g, " ").trim() : "");
   const cards = new Map([...document.querySelectorAll(".of-state .card")].map((card) => [text(card.querySelector("h3")), card]));
@@ -27,7 +27,7 @@ SHOWN = """(() => {
     event: text(document.querySelector(".event-where")),
     sentence: text(document.querySelector(".sentence")),
     part: text(cards.get("Part").querySelector("p")),
-    calls: rows("Calls, each thread's last one").map((row, place) => [row[0], `${row[1]} ${where[place]}`]),
+    calls: rows("Calls, each thread's last one").map((row, index) => [row[0], `${row[1]} ${where[index]}`]),
     configuration: rows("Configuration"),
     disk: rows("Disk"),
     rest: rows("Driver and applications"),
@@ -35,11 +35,11 @@ SHOWN = """(() => {
   };
 })()"""
 
-# Two frames, so that what was changed is drawn.
+# Waits for two frames, after which changes are drawn.
 DRAWN = "new Promise((done) => requestAnimationFrame(() => requestAnimationFrame(() => done(performance.now()))))"
 
 
-# Some presses of a key, each drawn before the next.
+# Presses a key several times, and waits each time until the page is drawn.
 STEPS = """(async () => {
   for (let step = 0; step < %d; step += 1) {
     dispatchEvent(new KeyboardEvent("keydown", { key: "%s" }));
@@ -61,7 +61,7 @@ class InABrowser(unittest.TestCase):
         cls.holder.cleanup()
 
     def page(self, path: str, *words: str) -> str:
-        """A page of a scenario, as a file."""
+        """Makes the page of a scenario; returns the path of its file."""
         made = os.path.join(self.holder.name, f"{os.path.basename(path)}.html")
         status, _, err = bench("page", path, "-o", made, *words)
         self.assertEqual((status, err.count("\n") <= 1), (0, True), err)
@@ -85,7 +85,7 @@ class InABrowser(unittest.TestCase):
         self.assertEqual(self.browser.errors, [])
 
     def test_each_event_of_write_cut(self):
-        """By the arrow alone, the state of the table is shown at each event."""
+        """At each event, reached by the arrow key, the page shows the state of the table worked out by hand."""
         self.open(example_path("write-cut.json"))
         for line in TABLE:
             shown = self.shown()
@@ -112,14 +112,14 @@ class InABrowser(unittest.TestCase):
                                          ("n", 1, False, 15), ("N", 1, True, 15)]:
             press(key, times, shift)
             self.assertEqual(shown()["event"].split(" ")[1 if event else 0], str(event) if event else "the", key)
-        turn = "document.querySelector('.turn-where').textContent"
-        self.assertEqual(self.browser.value(turn), "a fault, after turn 205")
+        position = "document.querySelector('.turn-where').textContent"
+        self.assertEqual(self.browser.value(position), "a fault, after turn 205")
         press("ArrowUp")
-        self.assertEqual(self.browser.value(turn), "turn 205 of 205")
+        self.assertEqual(self.browser.value(position), "turn 205 of 205")
         press("ArrowUp", 2, True)
-        self.assertEqual(self.browser.value(turn), "turn 185 of 205")
+        self.assertEqual(self.browser.value(position), "turn 185 of 205")
         press("ArrowDown", 5)
-        self.assertEqual(self.browser.value(turn), "turn 190 of 205")
+        self.assertEqual(self.browser.value(position), "turn 190 of 205")
         instruction = self.browser.value("document.querySelector('.items .chosen .instruction').textContent")
         self.assertIn(instruction.split(" ")[0], self.browser.value("document.querySelector('.source .chosen').textContent"))
         self.browser.value("document.activeElement.blur()")
@@ -132,8 +132,8 @@ class InABrowser(unittest.TestCase):
         for _ in range(60):
             self.browser.press("Tab")
             names.add(self.browser.value("document.activeElement.textContent.trim()"))
-        wanted = self.browser.value("[...document.querySelectorAll('button')].filter((each) => each.offsetParent).map((each) => each.textContent.trim())")
-        self.assertLessEqual(set(wanted), names)
+        buttons = self.browser.value("[...document.querySelectorAll('button')].filter((each) => each.offsetParent).map((each) => each.textContent.trim())")
+        self.assertLessEqual(set(buttons), names)
 
     def test_play(self):
         self.open(example_path("write-cut.json"))
@@ -158,7 +158,7 @@ class InABrowser(unittest.TestCase):
         self.browser.value("new Promise((done) => setTimeout(done, 400))")
         self.assertEqual(self.browser.value("location.hash"), "#p0e18")
 
-    def test_a_broken_contract_is_shown_at_its_turn(self):
+    def test_a_broken_contract_is_shown_at_its_instruction(self):
         made = example("block.json")
         made["parts"][0]["faults"] = [{"burst": 3, "after": 6, "kind": "reg", "register": 8, "value": 2}]
         with file_of(made) as path:
@@ -198,7 +198,7 @@ class InABrowser(unittest.TestCase):
         return self.browser.value("document.querySelector('.event-where').textContent")
 
     def test_ten_thousand_events(self):
-        """A step, with all that is drawn of it, takes less than 50 ms of the page's thread, and only what is seen is there."""
+        """A step takes less than 50 ms of the page's thread, and the page has only the visible elements."""
         with file_of(many_events()) as path:
             self.open(path, "", "--traces", "20")
         events = int(self.shown_event().split(" of ")[1])

@@ -1,4 +1,4 @@
-"""Work in several processes: each item once, mistakes from where they come, and nothing left when the caller stops."""
+"""Work in several processes: each item is done once, errors reach the caller, and no process outlives it."""
 
 import multiprocessing
 import os
@@ -12,7 +12,7 @@ from nooks_bench.program import Mistake, Refusal
 
 
 def square(number: int) -> tuple[int, int]:
-    """A square, and by which process."""
+    """The square of a number, and the process that computed it."""
     time.sleep(0.01)
     return number * number, os.getpid()
 
@@ -35,7 +35,7 @@ class Pools(unittest.TestCase):
     def test_each_item_once(self):
         for jobs in (1, 3, 100):
             found = dict(each_done(square, range(20), jobs))
-            self.assertEqual({place: result for place, (result, _) in found.items()}, {n: n * n for n in range(20)})
+            self.assertEqual({index: result for index, (result, _) in found.items()}, {n: n * n for n in range(20)})
             workers = {process for _, process in found.values()}
             self.assertEqual(os.getpid() in workers, jobs == 1)
             self.assertLessEqual(len(workers), jobs)

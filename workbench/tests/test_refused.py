@@ -1,4 +1,4 @@
-"""Refused inputs: each mistake is told in one sentence that says one thing, at its place, with a cure."""
+"""Refused inputs: each mistake is explained in one sentence, with its line and column and a fix."""
 
 import json
 import re
@@ -9,7 +9,7 @@ from common import bench, example, example_text, file_of, program
 
 from nooks_bench.asm_faults import DIRECTIVES, FORMS, KINDS, asm_fault
 from nooks_bench.refused import explain_asm, explain_fault, parse_fault
-from nooks_bench.source import Node, Place, Reader
+from nooks_bench.source import Node, Position, Reader
 
 try:
     import hypothesis
@@ -19,7 +19,7 @@ except ImportError:
 
 
 def set_at(value, path, new) -> None:
-    """Puts a value at a path; None takes it away."""
+    """Puts a value at a path; None removes the one that is there."""
     for step in path[:-1]:
         value = value[step]
     if new is None:
@@ -28,8 +28,8 @@ def set_at(value, path, new) -> None:
         value[path[-1]] = new
 
 
-def told(name: str, *changes) -> str:
-    """What is told of an example with some changes, without the file: by the program's line and explain, and by build."""
+def sentence_of(name: str, *changes) -> str:
+    """The sentence about an example with some changes, without its file and position; `build` must print the same."""
     given = example(name)
     for path, new in changes:
         set_at(given, path, json.loads(json.dumps(new)))
@@ -66,7 +66,7 @@ SENTENCES = [
     ("media-errors.json", [(("parts", 0, "bad", 0, "block"), 200)],
      "/parts/0/bad/0/block: 200 is out of range; expected 0 to 7, since there are 8 blocks"),
     ("block.json", [(("parts",), [])], "/parts: the list is too short: 0 items; expected a list of 1 to 8 items"),
-    ("block.json", [(("threads",), [{"name": f"x{place}", "ops": []} for place in range(17)])],
+    ("block.json", [(("threads",), [{"name": f"x{index}", "ops": []} for index in range(17)])],
      "/threads: the list is too long: 17 items; expected a list of up to 16 items"),
     ("block.json", [(("parts", 0, "class"), "blok")],
      '/parts/0/class: "blok" is not a class (did you mean "block"?); expected "block" or "net" or "sound"'),
@@ -101,7 +101,7 @@ EVERY = [(("faults",), None), (("every",), [{"kind": "trap"}])]
 MEMBERS = [(("faults",), None), (("members",), [[TRAP], [TRAP] * 16])]
 OWN_FAULTS = ("base", "parts", 0, "faults")
 
-# What only a program says whose campaigns have `members`, `every`, `guard` and `detail`.
+# These need a program whose campaigns have `members`, `every`, `guard` and `detail`.
 NEWER_SENTENCES = [
     ("campaign-block.json", [(("members",), [])], 'a campaign has one of "faults", "members", "every", and this one has more'),
     ("campaign-block.json", [*EVERY, (("members",), [])], 'a campaign has one of "faults", "members", "every", and this one has more'),
@@ -132,11 +132,11 @@ class Sentences(unittest.TestCase):
 
     def test_each_says_one_thing(self):
         for name, changes, sentence in SENTENCES:
-            self.assertEqual(told(name, *changes)[: len(sentence)], sentence)
+            self.assertEqual(sentence_of(name, *changes)[: len(sentence)], sentence)
 
     def test_none_says_two_things(self):
         for name, changes, _ in SENTENCES:
-            self.assertNotRegex(told(name, *changes).split("; expected")[0], r", or ")
+            self.assertNotRegex(sentence_of(name, *changes).split("; expected")[0], r", or ")
 
     def test_an_input_of_two_megabytes(self):
         text = json.dumps(example("block.json")) + " " * 2_000_000
@@ -147,7 +147,7 @@ class Sentences(unittest.TestCase):
 
     def test_build_knows_the_size_too(self):
         thread = {"name": "t", "ops": [{"repeat": 250, "of": {"part": 0, "op": "send", "frame": [{"repeat": 250, "of": 4_000_000_000}]}}]}
-        given = {**example("net.json"), "threads": [{**thread, "name": f"t{place}"} for place in range(2)]}
+        given = {**example("net.json"), "threads": [{**thread, "name": f"t{index}"} for index in range(2)]}
         with file_of(given) as path:
             status, out, err = bench("build", path)
         self.assertEqual((status, out), (2, ""))
@@ -204,14 +204,14 @@ ASM = [
 
 class Assembler(unittest.TestCase):
     def explained(self, text: str):
-        """What is said of a text by the program's own line."""
+        """The program's line about a text, and its explanation."""
         fault = parse_fault(program().ask(["asm"], text).out)
-        return fault, explain_asm(fault, Node(text, Place("f", 1, 1), origin="f"))
+        return fault, explain_asm(fault, Node(text, Position("f", 1, 1), origin="f"))
 
     def test_sentences_with_columns(self):
         for text, line, column, sentence in ASM:
             _, said = self.explained(text)
-            self.assertEqual((said.place.line, said.place.column), (line, column), (text[:60], said.wrong))
+            self.assertEqual((said.position.line, said.position.column), (line, column), (text[:60], said.wrong))
             self.assertEqual(said.wrong[: len(sentence)], sentence)
 
     def test_each_kind_has_a_case(self):
@@ -219,24 +219,24 @@ class Assembler(unittest.TestCase):
         self.assertEqual(kinds, set(KINDS))
 
     def test_damaged_examples_get_no_general_sentence(self):
-        """Each token of the examples left out, written twice, in lower case, or with another in its place."""
+        """Each token of the examples is omitted, doubled, written in lower case, or replaced."""
         general = {about for _, about in KINDS.values()}
-        told_of = 0
+        refused = 0
         for name in ("block.asm", "net.asm", "sound.asm"):
             text = example_text(name)
-            places = [each for each in re.finditer(r"[^\s,;]+", re.sub(r";[^\n]*", lambda each: " " * len(each.group()), text))]
-            for place, each in enumerate(places):
-                other = ["", f"{each.group()} {each.group()}", each.group().lower(), "99999", "r7", "x:", "?"][place % 7]
+            tokens = [each for each in re.finditer(r"[^\s,;]+", re.sub(r";[^\n]*", lambda each: " " * len(each.group()), text))]
+            for index, each in enumerate(tokens):
+                other = ["", f"{each.group()} {each.group()}", each.group().lower(), "99999", "r7", "x:", "?"][index % 7]
                 made = text[: each.start()] + other + text[each.end() :]
                 ended = program().ask(["asm"], made)
                 if ended.status == 3:
                     fault, said = self.explained(made)
                     self.assertNotIn(said.wrong.split(": '")[0], general, (fault, made.split("\n")[(fault.asm_line or 1) - 1]))
-                    told_of += 1
-        self.assertGreater(told_of, 60)
+                    refused += 1
+        self.assertGreater(refused, 60)
 
     def test_the_tables_are_those_of_the_program(self):
-        """Each instruction with its operands, and each directive, assembles; with an operand more it does not."""
+        """Each instruction assembles with its operands, and not with one more; each directive is known."""
         samples = {"a": "r1", "b": "r2", "imm": "0", "name": "init"}
         entries = "".join(f".entry {name} 0\n" for name in ("init", "open", "play", "close", "get", "set"))
         for name, form in FORMS.items():

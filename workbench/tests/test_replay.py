@@ -1,5 +1,5 @@
-"""replay: forty reports by threads come again under the schedules that are made from them; reports of no one run are
-refused, with the events that wait for one another."""
+"""replay: forty reports by threads are repeated under schedules made from them; a report that no run has is refused,
+with the events that wait for each other."""
 
 import json
 import re
@@ -15,13 +15,13 @@ from nooks_bench.replay import NoOrder, journals_and_answers, replayed
 
 REPORTS = 40
 
-# What an operation does on a disk: a read is answered by the driver, one of too many blocks at once.
+# The driver answers the first read; the kernel answers the second at once, since its blocks do not exist.
 READ = {"op": "read", "first": 0, "count": 1}
 AT_ONCE = {"op": "read", "first": 9, "count": 1}
 
 
 def of_disks(scripts):
-    """A scenario of disks, from the part and the operation of each of a thread's operations."""
+    """A scenario of disks. A script lists the operations of a thread, each with its part."""
     count = 1 + max(part for script in scripts for part, _ in script)
     parts = [{"name": f"d{part}", "class": "block", "blocks": 4, "driver": drawn.driver("block")} for part in range(count)]
     threads = [
@@ -31,7 +31,7 @@ def of_disks(scripts):
 
 
 def sections_of(given, order):
-    """The sections of the run in which threads come one after another, after every part has booted."""
+    """The sections of the run in which all parts boot, then the threads run one after another, in `order`."""
     boots = [len(given["threads"]) + 2 * part for part in range(len(given["parts"])) for _ in range(5)]
     picks = boots + [thread for thread in order for _ in range(50)]
     report = program().report({**given, "schedule": {"kind": "listed", "picks": picks}})
@@ -39,13 +39,13 @@ def sections_of(given, order):
 
 
 def mixed(given, orders):
-    """The report with each part's section of the run in one order. All runs have the same answers."""
+    """A report that has each part's section from a different run. All these runs have the same answers."""
     runs = [sections_of(given, order) for order in orders]
     return "".join(run[part] for part, run in enumerate(runs)) + runs[0][-1]
 
 
 def replay_one(seed: int) -> tuple[str, str, bool]:
-    """A drawn scenario's report by threads, and that of its replay; whether the scenario's own schedule gives another."""
+    """A drawn scenario's report by threads, the report of its replay, and whether its own schedule gives another."""
     given = drawn.scenario(seed)
     threads = program().report(given, threads=True)
     made = replayed(program(), given, threads)
@@ -117,7 +117,7 @@ class Replays(unittest.TestCase):
         )
 
     def assert_no_order(self, given, report, why):
-        """The report is refused with these events, also if the program's audit does not ask for one order."""
+        """The report is refused with these events, even if the program's audit accepts it."""
         self.assertFalse(program().fits(json.dumps(given), report))
         for fits in (False, True):
             with mock.patch.object(Program, "fits", lambda *_: fits):
@@ -125,7 +125,7 @@ class Replays(unittest.TestCase):
                     replayed(program(), given, report)
             self.assertEqual(str(found.exception), f"the journals of this report have no common order: {why}")
 
-    def test_sections_of_two_runs_have_an_order_of_their_own(self):
+    def test_sections_of_two_runs_may_have_an_order(self):
         given = of_disks([[(0, READ), (1, READ)], [(0, READ), (1, READ)]])
         report = mixed(given, [[0, 1], [1, 0]])
         again = program().report(replayed(program(), given, report))

@@ -1,4 +1,4 @@
-"""Reports are read whole: each line of the examples' reports is understood."""
+"""Reports are read completely: every line of the examples' reports is understood."""
 
 import glob
 import re
@@ -26,9 +26,9 @@ class Reports(unittest.TestCase):
 
     def test_a_burst_with_all_that_it_may_have(self):
         part = parse_report(example_text("sound-skips.report")).parts[0]
-        cut = part.event(27)
-        self.assertEqual((cut.burst, cut.turns, cut.text, cut.cause), (9, 24, "trap", "trap injected"))
-        self.assertEqual(cut.acts[0], "played 61 44100 3")
+        stopped = part.event(27)
+        self.assertEqual((stopped.burst, stopped.instructions, stopped.text, stopped.cause), (9, 24, "trap", "trap injected"))
+        self.assertEqual(stopped.acts[0], "played 61 44100 3")
         self.assertEqual(part.event(28).replies, ((7, "done"), (8, "busy stop")))
         self.assertEqual(losses_of_part(part), Losses(samples=3, busy=1))
 

@@ -1,4 +1,4 @@
-"""sweep --schedules: what becomes of the scenario itself under each schedule, compared with runs of the program."""
+"""sweep --schedules: the outcome of the scenario itself under each schedule, compared with runs of the program."""
 
 import json
 import re
@@ -9,7 +9,7 @@ from race import failing_driver, racing_scenario
 
 from nooks_bench.scenario import with_schedule
 
-# No burst has this number, so that no fault strikes: what is left is what the schedules do alone.
+# No burst has this number, so no fault strikes, and only the schedules make a difference.
 NOWHERE = ["--burst", "9999", "--quiet"]
 
 
@@ -27,13 +27,13 @@ class Schedules(unittest.TestCase):
         with file_of(scenario) as path:
             status, out, _ = bench("sweep", path, "--schedules", "200", *NOWHERE, "--fail-on", "broken")
             self.assertEqual(status, 1)
-            told = re.search(r"(?m)^ +(\d+)  contract broken: clause (\d+): .*\n +starts (.*)$", out)
-            self.assertIsNotNone(told, out)
-            self.assertEqual(told[3], ", ".join(str(start) for start in broken))
-            self.assertEqual(int(told[1]), len(broken))
+            row = re.search(r"(?m)^ +(\d+)  contract broken: clause (\d+): .*\n +starts (.*)$", out)
+            self.assertIsNotNone(row, out)
+            self.assertEqual(row[3], ", ".join(str(start) for start in broken))
+            self.assertEqual(int(row[1]), len(broken))
             self.assertIn("without: status 0,", out)
-            _, told, _ = bench("sweep", path, "--schedules", "200", *NOWHERE, "--json")
-        found = json.loads(told)
+            _, text, _ = bench("sweep", path, "--schedules", "200", *NOWHERE, "--json")
+        found = json.loads(text)
         starts = [start for group in found["schedules"] if group["outcome"] == "contract broken" for start in group["starts"]]
         self.assertEqual(sorted(starts), broken)
         self.assertEqual(sorted(start for group in found["schedules"] for start in group["starts"]), list(range(1, 201)))
@@ -55,10 +55,10 @@ class Schedules(unittest.TestCase):
             words = ["sweep", path, "--schedules", "12", *NOWHERE]
             status, out, _ = bench(*words, "--fail-on", "changed")
             self.assertEqual(bench(*words, "--fail-on", "broken")[0], 0)
-            _, told, _ = bench(*words, "--json")
+            _, text, _ = bench(*words, "--json")
         self.assertEqual(status, 1)
         self.assertIn("answers changed, contract kept: what is left", out)
-        groups = {group["outcome"]: group["starts"] for group in json.loads(told)["schedules"]}
+        groups = {group["outcome"]: group["starts"] for group in json.loads(text)["schedules"]}
         self.assertEqual(groups["answers changed, contract kept"], others)
         self.assertEqual(len(groups["the same"]), 12 - len(others))
 

@@ -1,4 +1,4 @@
-"""serve: what the server refuses, what it makes, and that it ends what nobody waits for."""
+"""serve: what the server refuses, what it makes, and that it ends runs for which no page waits."""
 
 import json
 import os
@@ -31,7 +31,7 @@ TRAP = {"burst": 5, "after": 40, "kind": "trap"}
 
 
 def ends(test: unittest.TestCase, is_so, seconds: float = 20) -> None:
-    """Waits until something is so."""
+    """Waits until a condition holds, and fails the test after some seconds."""
     last = time.monotonic() + seconds
     while not is_so():
         test.assertLess(time.monotonic(), last)
@@ -39,7 +39,7 @@ def ends(test: unittest.TestCase, is_so, seconds: float = 20) -> None:
 
 
 def is_alive(process: int) -> bool:
-    """Whether a process is there that is not only left to be waited for."""
+    """Whether a process exists and is not a zombie."""
     try:
         with open(f"/proc/{process}/stat", encoding="utf-8") as file:
             return file.read().rpartition(")")[2].split()[0] not in ("Z", "X")
@@ -48,7 +48,7 @@ def is_alive(process: int) -> bool:
 
 
 def group(process: int) -> list[int]:
-    """The processes of a group."""
+    """The live processes of a group."""
     found = []
     for name in filter(str.isdigit, os.listdir("/proc")):
         try:
@@ -188,7 +188,7 @@ class Refuses(unittest.TestCase):
             self.assertEqual((status, list(made)), (200, ["refused"]), more)
 
     def test_a_run_of_another_path(self):
-        """Neither an option of the command line nor a path outside is taken for the scenario's name."""
+        """The name of a scenario may be neither an option of the command line nor a path outside the folder."""
         journal = os.path.join(os.path.dirname(self.site.folder), "journal.json")
         text = self.site.text("write-cut.json")
         for name in (f"--journal={journal}", "-o", "../write-cut.json", "/tmp/x.json"):
@@ -200,7 +200,7 @@ class Refuses(unittest.TestCase):
         self.assertFalse(os.path.exists(journal))
 
     def test_a_scenario_of_too_many_bytes(self):
-        """It is refused as the command line refuses it."""
+        """It is refused with the message of the command line."""
         text = json.dumps({**example("write-cut.json"), "threads": [{"name": "t" * 1_100_000, "ops": []}]})
         refused = self.site.work("run", "large.json", texts={"large.json": text})["refused"]
         self.assertRegex(refused["text"], r"^large\.json:1:1: the scenario has 1,1\d\d,\d{3} bytes as the program reads it; it reads at most 1,048,576$")
@@ -211,11 +211,11 @@ class Refuses(unittest.TestCase):
     def test_headers(self):
         ended = socket.create_connection(("127.0.0.1", self.site.server.server_port))
         ended.sendall(f"GET /?token={self.site.token} HTTP/1.1\r\nHost: {self.site.host}\r\n\r\n".encode())
-        front = b""
-        while b"\r\n\r\n" not in front:
-            front += ended.recv(4096)
+        response = b""
+        while b"\r\n\r\n" not in response:
+            response += ended.recv(4096)
         ended.close()
-        head = front.split(b"\r\n\r\n")[0].decode().lower()
+        head = response.split(b"\r\n\r\n")[0].decode().lower()
         for line in ("cache-control: no-store", "referrer-policy: no-referrer", "x-frame-options: deny", "x-content-type-options: nosniff"):
             self.assertIn(line, head)
         self.assertRegex(head, r"content-security-policy: default-src 'none'; .*connect-src 'self'; .*frame-ancestors 'none'")
@@ -246,7 +246,7 @@ class Ends(unittest.TestCase):
             self.assertIn(list(made), [["ended"], ["refused"]])
 
     def test_a_page_that_goes_away(self):
-        """Its run is ended, with the program that it runs."""
+        """The run of the page is ended, together with the program."""
         with site() as served:
             body = json.dumps(self.long(served)).encode()
             head = f"POST /work HTTP/1.1\r\nHost: {served.host}\r\nX-Nooks-Token: {served.token}\r\n"
@@ -262,7 +262,7 @@ class Ends(unittest.TestCase):
             ends(self, lambda: not group(number))
 
     def test_a_server_that_is_killed(self):
-        """Its runs end themselves."""
+        """The runs of a killed server end by themselves."""
         with tempfile.TemporaryDirectory() as folder:
             words = [sys.executable, "-B", os.path.join(os.path.dirname(HERE), "nooks-bench"), "serve", folder]
             server = subprocess.Popen(words, stdout=subprocess.PIPE, stderr=subprocess.DEVNULL, text=True)
@@ -306,7 +306,7 @@ class Ends(unittest.TestCase):
 
 
 class Makes(unittest.TestCase):
-    """What the page makes is what the command line makes of the same files."""
+    """The page makes the same as the command line from the same files."""
 
     def test_opening_gives_each_driver_a_text(self):
         with site("write-cut.json") as served:
@@ -328,7 +328,7 @@ class Makes(unittest.TestCase):
             self.assertEqual(list(made["texts"]), ["write-cut-2.jsonc", "write-cut-2.asm"])
             self.assertEqual([each["was"] for each in made["texts"].values()], ["", ""])
 
-    def test_a_text_that_is_no_scenario_is_opened_to_be_mended(self):
+    def test_a_text_that_is_no_scenario_is_opened_to_be_fixed(self):
         with site() as served:
             for text in ("{", "[]", '{"version": 1, "parts": 3}', ""):
                 served.put("bad.json", text)
@@ -369,12 +369,12 @@ class Makes(unittest.TestCase):
     def test_a_guard(self):
         with site("sends-twice.json") as served:
             broken = served.work("run", "sends-twice.json")["made"]["data"]
-            kept = served.work("run", "sends-twice.json", guard=True)["made"]["data"]
+            guarded = served.work("run", "sends-twice.json", guard=True)["made"]["data"]
             self.assertIn("status 7", broken["status"])
-            self.assertIn("status 0", kept["status"])
-            self.assertEqual([each["broken"] > 0 for each in (broken["parts"][0], kept["parts"][0])], [True, False])
+            self.assertIn("status 0", guarded["status"])
+            self.assertEqual([each["broken"] > 0 for each in (broken["parts"][0], guarded["parts"][0])], [True, False])
 
-    def test_a_refused_input_is_told_as_the_command_line_tells_it(self):
+    def test_a_refused_input_has_the_message_of_the_command_line(self):
         made = example("write-cut.json")
         del made["parts"][0]["driver"]
         made["parts"][0]["limit"] = 22
@@ -389,7 +389,7 @@ class Makes(unittest.TestCase):
                 self.assertEqual(err.replace(served.path("bad.json"), "bad.json"), f"nooks-bench: {refused['text']}\n")
                 self.assertTrue(refused["text"].startswith(f"bad.json:{refused['line']}:{refused['column']}: "))
 
-    def test_an_assembler_fault_has_its_line(self):
+    def test_an_assembler_error_has_its_line(self):
         with site() as served:
             text = json.dumps({**example("write-cut.json"), "parts": [{"name": "d", "class": "block", "blocks": 16, "driver": {"asm_file": "d.asm"}}]})
             served.put("w.json", text)
@@ -463,7 +463,7 @@ class Makes(unittest.TestCase):
             with self.assertRaises(Outside):
                 folder.write("no/block.asm", "", None)
 
-    def test_nothing_is_left_beside_the_files(self):
+    def test_no_other_file_is_left(self):
         with site("write-cut.json") as served:
             for task in ("run", "check"):
                 served.work(task, "write-cut.json")
@@ -479,7 +479,7 @@ CALLS = "open,openat,creat,mkdir,mkdirat,mknod,mknodat,link,linkat,symlink,symli
 @unittest.skipUnless(shutil.which("strace"), "there is no strace, which sees what is written: apt-get install strace")
 class Writes(unittest.TestCase):
     def written(self, folder: str, log: str, asked: list[tuple[str, dict]]) -> list[str]:
-        """The calls of the system by which a server, and all that it begins, write files while it is asked."""
+        """The system calls by which a server and its children write files while it answers some requests."""
         words = ["strace", "-f", "-qq", "-y", "-e", "signal=none", "-e", f"trace={CALLS}", "-o", log]
         words += [sys.executable, "-B", os.path.join(os.path.dirname(HERE), "nooks-bench"), "serve", folder]
         tracer = subprocess.Popen(words, stdout=subprocess.PIPE, stderr=subprocess.DEVNULL, text=True)
@@ -513,30 +513,30 @@ class Writes(unittest.TestCase):
 
 
 class Texts(unittest.TestCase):
-    """A change leaves all else of a text as it is."""
+    """A change of a text leaves the rest as it is."""
 
     FAULT = {"burst": 3, "after": 7, "kind": "trap"}
 
-    def placed(self, text: str, place: int = 0) -> str:
-        made = with_fault(text, "x.jsonc", place, self.FAULT)
+    def with_the_fault(self, text: str, part: int = 0) -> str:
+        made = with_fault(text, "x.jsonc", part, self.FAULT)
         before, after = (Reader(each, "x.jsonc").whole().plain() for each in (text, made))
-        self.assertEqual(after["parts"][place]["faults"], [*before["parts"][place].get("faults", []), self.FAULT])
-        for part in (before, after):
-            part["parts"][place].pop("faults", None)
+        self.assertEqual(after["parts"][part]["faults"], [*before["parts"][part].get("faults", []), self.FAULT])
+        for scenario in (before, after):
+            scenario["parts"][part].pop("faults", None)
         self.assertEqual(after, before)
         return made
 
     def test_faults(self):
         written = json.dumps(self.FAULT)
-        self.assertEqual(self.placed('{"parts": [{"limit": 1}]}'), '{"parts": [{"limit": 1, "faults": [' + written + "]}]}")
-        self.assertEqual(self.placed('{"parts": [{"x": 1}]}'), '{"parts": [{"faults": [' + written + '], "x": 1}]}')
-        self.assertEqual(self.placed('{"parts": [{}]}'), '{"parts": [{"faults": [' + written + "]}]}")
-        self.assertEqual(self.placed('{"parts": [{"faults": [ ]}]}'), '{"parts": [{"faults": [' + written + " ]}]}")
-        self.assertEqual(self.placed('{"parts": [{"faults": [1, // one\n]}]}'), '{"parts": [{"faults": [1, ' + written + ", // one\n]}]}")
+        self.assertEqual(self.with_the_fault('{"parts": [{"limit": 1}]}'), '{"parts": [{"limit": 1, "faults": [' + written + "]}]}")
+        self.assertEqual(self.with_the_fault('{"parts": [{"x": 1}]}'), '{"parts": [{"faults": [' + written + '], "x": 1}]}')
+        self.assertEqual(self.with_the_fault('{"parts": [{}]}'), '{"parts": [{"faults": [' + written + "]}]}")
+        self.assertEqual(self.with_the_fault('{"parts": [{"faults": [ ]}]}'), '{"parts": [{"faults": [' + written + " ]}]}")
+        self.assertEqual(self.with_the_fault('{"parts": [{"faults": [1, // one\n]}]}'), '{"parts": [{"faults": [1, ' + written + ", // one\n]}]}")
         text = '{\n  "parts": [\n    {},\n    {\n      "limit": 1, // why\n      "faults": [\n        1, // a\n        2, // b\n      ],\n    },\n  ],\n}'
-        self.assertEqual(self.placed(text, 1), text.replace("2, // b", f"2,\n        {written}, // b"))
+        self.assertEqual(self.with_the_fault(text, 1), text.replace("2, // b", f"2,\n        {written}, // b"))
         text = '{"parts": [\n  {\n    "name": "a", // the name\n    "limit": 1\n  }\n]}'
-        self.assertEqual(self.placed(text), text.replace('"limit": 1', f'"limit": 1,\n    "faults": [{written}]'))
+        self.assertEqual(self.with_the_fault(text), text.replace('"limit": 1', f'"limit": 1,\n    "faults": [{written}]'))
 
     def test_parts_that_are_not_written_out(self):
         for text in ('{"parts": [{"repeat": 2, "of": {}}]}', '{"parts": []}', '{"parts": 1}', "{}", "[]", '{"parts": [{"faults": 1}]}'):
@@ -567,7 +567,7 @@ class Texts(unittest.TestCase):
 
 class Orders(unittest.TestCase):
     def test_a_program_without_it(self):
-        """A program that answers with its usage line."""
+        """A program without `explore` prints its usage."""
         with tempfile.TemporaryDirectory() as folder, site("block.json") as served:
             path = os.path.join(folder, "nooks")
             with open(path, "w", encoding="utf-8") as file:
@@ -578,7 +578,7 @@ class Orders(unittest.TestCase):
             self.assertEqual(refused, f"{path} is too old: it has no `explore`; the program that ./nooks-plain builds has it")
 
     def test_a_race(self):
-        """Some orders of the racing driver break its contract; each outcome is opened as a schedule that has it."""
+        """Some orders of the racing driver break its contract; each outcome has a schedule that leads to it."""
         with site() as served:
             served.put("race.json", json.dumps(racing_scenario()))
             made = served.work("explore", "race.json")["made"]

@@ -1,4 +1,4 @@
-"""The page of `serve` in a real browser: what is made by the pointer and by the keyboard is what the command line makes."""
+"""The page of `serve` in a browser: the pointer and the keyboard make the same as the command line."""
 
 import json
 import os
@@ -44,7 +44,7 @@ class Served(unittest.TestCase):
         self.browser.value(CHOOSE.format(selector, value))
 
     def until_run(self) -> str:
-        """Waits until a run is shown; how it ended."""
+        """Waits until a run is shown; returns how it ended."""
         return self.browser.until(f"document.querySelector('.bench-said.ran') && /status \\d/.test({SAID}) && {SAID}")
 
     def until_said(self, pattern: str) -> str:
@@ -59,7 +59,7 @@ class Served(unittest.TestCase):
         self.browser.value(DRAWN)
 
     def report(self) -> str:
-        """The report of what the page runs, as it makes it."""
+        """The report that the page makes of its run."""
         name = f"made-{len(os.listdir(self.site.folder))}"
         self.choose(".makes", "report")
         self.browser.value(f"document.querySelector('.field-target').value = '{name}'; 0")
@@ -81,24 +81,24 @@ class Served(unittest.TestCase):
         self.assertIn("the token is missing", self.browser.value("document.body.textContent"))
 
     def test_another_origin_is_refused(self):
-        """A page of another origin in the same browser, which knows the token, gets no answer and makes no file."""
+        """A page of another origin in the same browser gets no answer and makes no file, even with the token."""
         self.browser.visit("data:text/html,<title>elsewhere</title>")
         for headers in ("{}", f"{{'X-Nooks-Token': '{self.site.token}', 'Content-Type': 'application/json'}}"):
             asked = f"fetch('http://{self.site.host}/save', {{method: 'POST', headers: {headers}, body: '{{\"name\":\"x.json\",\"text\":\"\",\"was\":\"\"}}'}})"
             self.assertEqual(self.browser.value(f"{asked}.then((one) => one.status, () => 'refused')"), "refused")
         self.assertFalse(os.path.exists(self.site.path("x.json")))
 
-    def test_a_fault_placed_by_a_click_on_a_turn(self):
+    def test_a_click_on_an_instruction_adds_a_fault(self):
         self.open("write-cut.json")
         self.go(9)
         self.assertIn("b3", self.text(".said .line"))
         self.browser.press("ArrowUp", 2)
         self.browser.value(DRAWN)
         row = "document.querySelector('.items .chosen')"
-        turn = int(self.browser.value(f"{row}.querySelector('.number').textContent"))
+        instruction = int(self.browser.value(f"{row}.querySelector('.number').textContent"))
         self.browser.click(f"{row}.querySelector('.place')")
         self.browser.until("document.querySelectorAll('.note.fault').length > 0")
-        fault = {"burst": 3, "after": turn - 1, "kind": "trap"}
+        fault = {"burst": 3, "after": instruction - 1, "kind": "trap"}
         expected = program().report(with_faults(example("write-cut.json"), 0, [fault]))
         part = parse_report(expected).parts[0]
         struck = next(event for event in part.events if event.burst == 3)
@@ -112,7 +112,7 @@ class Served(unittest.TestCase):
         self.assertEqual(self.report(), program().report(example("write-cut.json")))
         self.assertEqual(self.browser.errors, [])
 
-    def test_a_fault_placed_by_a_click_on_a_cell(self):
+    def test_a_click_on_a_cell_adds_a_fault(self):
         self.open("block.json")
         self.browser.press("Home")
         event = next(each.number for each in parse_report(program().report(example("block.json"))).parts[0].events if each.burst == 3)
@@ -130,12 +130,12 @@ class Served(unittest.TestCase):
         self.assertEqual(self.report(), expected)
         self.assertEqual(self.browser.errors, [])
 
-    def test_an_assembler_fault_stands_at_its_line(self):
+    def test_an_assembler_error_is_shown_at_its_line(self):
         self.open("write-cut.json")
         self.browser.click("document.querySelectorAll('.text-tabs button')[1]")
         lines = example("write-cut.json")["parts"][0]["driver"]["asm"].split("\n")
-        place = sum(len(line) + 1 for line in lines[:11])
-        self.browser.value(f"(() => {{ const one = document.querySelector('.text-area'); one.focus(); one.setSelectionRange({place}, {place}); return 0; }})()")
+        offset = sum(len(line) + 1 for line in lines[:11])
+        self.browser.value(f"(() => {{ const one = document.querySelector('.text-area'); one.focus(); one.setSelectionRange({offset}, {offset}); return 0; }})()")
         self.browser.type("  LI r1, r99x y\n")
         said = self.until_said("write-cut.asm:12:")
         self.assertEqual(self.text(".bad-number"), "12")
@@ -153,7 +153,7 @@ class Served(unittest.TestCase):
         for name in ("write-cut.jsonc", "write-cut.asm"):
             os.unlink(self.site.path(name))
 
-    def test_a_fault_of_the_scenario_stands_at_its_line(self):
+    def test_an_error_of_the_scenario_is_shown_at_its_line(self):
         self.open("block.json")
         self.browser.value("(() => { const one = document.querySelector('.text-area'); one.value = one.value.replace('\"blocks\": ', '\"limit\": 99, \"blocks\": '); "
                            "one.dispatchEvent(new Event('input')); return 0; })()")
@@ -194,7 +194,7 @@ class Served(unittest.TestCase):
         self.browser.until("/without a guard: status 7/.test(%s)" % SAID)
 
     def test_by_the_keyboard_alone(self):
-        """A scenario is chosen, its driver looked at, a fault placed, a map drawn and a cell of it chosen, and all saved."""
+        """Chooses a scenario, looks at its driver, adds a fault, draws a map, chooses a cell, and saves all."""
         press = self.browser.press
         self.browser.visit(self.site.address)
         self.browser.errors.clear()
@@ -235,12 +235,12 @@ class Served(unittest.TestCase):
         for _ in range(60):
             self.browser.press("Tab")
             names.add(self.browser.value("document.activeElement.className || document.activeElement.textContent"))
-        wanted = self.browser.value("[...document.querySelectorAll('.bench button, .bench select, .bench input, .bench textarea')]"
-                                    ".filter((one) => one.offsetParent && !one.disabled).map((one) => one.className || one.textContent)")
-        self.assertLessEqual(set(wanted), names)
+        controls = self.browser.value("[...document.querySelectorAll('.bench button, .bench select, .bench input, .bench textarea')]"
+                                      ".filter((one) => one.offsetParent && !one.disabled).map((one) => one.className || one.textContent)")
+        self.assertLessEqual(set(controls), names)
 
     def test_a_long_run_is_stopped(self):
-        """By Esc, and by a page that goes away."""
+        """Esc stops a run, and so does leaving the page."""
         runs = self.site.server.served.runs
         self.site.put("long.json", json.dumps(many_events()))
         for way in ("Escape", "away"):
@@ -306,7 +306,7 @@ class Served(unittest.TestCase):
             about["program"] = known
 
     def test_orders(self):
-        """Each outcome is opened by its button, and the run is the one of its schedule."""
+        """The button of an outcome opens the run of its schedule."""
         self.site.put("race.json", json.dumps(racing_scenario()))
         self.open("race.json")
         self.assertIn("status 0", self.text(".status"))

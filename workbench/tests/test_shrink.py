@@ -1,4 +1,4 @@
-"""shrink: what is asked holds of what is left, and what is left is small."""
+"""shrink: the result still has what was asked for, and is small."""
 
 import json
 import os
@@ -46,7 +46,7 @@ class Shrinks(unittest.TestCase):
 
     def test_unneeded_faults_and_operations_go(self):
         given = example("write-cut.json")
-        given["parts"][0]["faults"] += [{"burst": 90 + place, "after": 0, "kind": "trap"} for place in range(9)]
+        given["parts"][0]["faults"] += [{"burst": 90 + index, "after": 0, "kind": "trap"} for index in range(9)]
         made = shrunk(given, "--text", "try 2")
         self.assertEqual(len(made["parts"][0]["faults"]), 1)
         self.assertLessEqual(operations(made), 3)

@@ -1,4 +1,4 @@
-"""The state of a part after each event: that of a table made by hand, and what reports say of it in other lines."""
+"""The state of a part after each event, compared with a table made by hand and with other lines of reports."""
 
 import bisect
 import glob
@@ -11,21 +11,21 @@ from write_cut import TABLE, Worked
 
 from nooks_bench.report import Part, parse_report
 from nooks_bench.state import HELD, PartState, states_of
-from nooks_bench.state_rows import SECTIONS, WITHOUT, held_words, histories
+from nooks_bench.state_rows import SECTIONS, WITHOUT, histories, resource_words
 from nooks_bench.times import GIVEN_UP
 
 
 def shown(event: int, now: PartState) -> Worked:
     """A state as a line of the table."""
-    calls = {thread: f"c{told.call} answered" for thread, told in now.told.items()}
+    calls = {thread: f"c{answered.call} answered" for thread, answered in now.last_answers.items()}
     calls |= {call.thread: f"c{call.number} {call.where}" for call in now.calls}
     blocks = {block: int(words.strip("[]").split(",")[0]) for block, words in now.blocks.items()}
     return Worked(event, now.mode, now.stage, now.shadow, (calls.get(0, ""), calls.get(1, "")), now.record, now.registers, blocks,
-                  ", ".join(held_words(now.held, now.lent)), now.failures)
+                  ", ".join(resource_words(now.resources, now.lent)), now.failures)
 
 
 def parts() -> list[Part]:
-    """The parts of the examples, and of drawn scenarios."""
+    """The parts of the examples and of drawn scenarios."""
     found = []
     for path in sorted(glob.glob(example_path("*.report"))):
         with open(path, encoding="utf-8") as file:
@@ -35,7 +35,7 @@ def parts() -> list[Part]:
 
 
 def opening(start: int) -> dict:
-    """Two threads that open a stream and leave it while its driver fails, under a drawn schedule."""
+    """Two threads that open and close a stream while its driver fails, under a drawn schedule."""
     part = {"name": "audio", "class": "sound", "limit": 9, "driver": {"asm": example_text("sound.asm")},
             "faults": [{"burst": burst, "after": 0, "kind": "trap"} for burst in (3, 6, 9, 12)]}
     asked = [{"part": 0, "op": name} for name in ("open", "close") * 4]
@@ -50,7 +50,7 @@ class Table(unittest.TestCase):
 
 
 class Reports(unittest.TestCase):
-    """What a report says in one place follows from the state that its other lines give."""
+    """Some lines of a report follow from the state that its other lines give."""
 
     @classmethod
     def setUpClass(cls) -> None:
@@ -87,9 +87,9 @@ class Reports(unittest.TestCase):
             for event in part.events:
                 if event.kind == "stage" and event.text == "collect":
                     now = states[event.number - 1]
-                    told = "".join(" " + each for each in held_words(now.held, now.lent))
-                    self.assertEqual(event.line.partition("stage collect")[2], told)
-                    found += bool(told)
+                    collected = "".join(" " + each for each in resource_words(now.resources, now.lent))
+                    self.assertEqual(event.line.partition("stage collect")[2], collected)
+                    found += bool(collected)
         self.assertGreater(found, 10)
 
     def test_calls_enter_that_wait_for_none(self):
@@ -97,7 +97,7 @@ class Reports(unittest.TestCase):
             for event in part.events:
                 call = states[event.number - 1].call(event.call)
                 if event.kind == "enter":
-                    self.assertEqual((call.where, call.behind, event.attempt), (HELD, (), call.attempts + 1))
+                    self.assertEqual((call.where, call.waits_for, event.attempt), (HELD, (), call.attempts + 1))
                 if event.kind == "burst" and event.call:
                     self.assertEqual(call.where, "inside")
 
@@ -105,8 +105,8 @@ class Reports(unittest.TestCase):
         for part, states in self.runs:
             for event in part.events:
                 before, after = states[event.number - 1], states[event.number]
-                told = [event.answer] if event.answer else [answer for _, answer in event.replies]
-                for answer in told:
+                answers = [event.answer] if event.answer else [answer for _, answer in event.replies]
+                for answer in answers:
                     if answer.startswith("frame ") and event.kind != "burst":
                         self.assertIn(answer[6:], before.queue)
                     if answer.startswith("in_use "):
@@ -149,9 +149,9 @@ class Reports(unittest.TestCase):
 
 
 def at(history: list, event: int) -> object:
-    """What a row says at an event."""
-    place = bisect.bisect_right([first for first, _ in history], event)
-    return history[place - 1][1] if place else None
+    """The value of a row at an event; None before its first one."""
+    count = bisect.bisect_right([first for first, _ in history], event)
+    return history[count - 1][1] if count else None
 
 
 if __name__ == "__main__":

@@ -1,4 +1,4 @@
-"""sweep: each outcome is that of the single run with that fault, told here from the texts of the reports alone."""
+"""sweep: each outcome is that of the single run with that fault, found here from the texts of the reports alone."""
 
 import json
 import os
@@ -12,7 +12,7 @@ from nooks_bench.scenario import with_faults, with_schedule
 
 
 def numbers(text: str, line: str) -> int:
-    """The sum of a number over all lines of a form."""
+    """The sum of a number over all lines that begin with a pattern."""
     return sum(int(found) for found in re.findall(rf"(?m)^{line}", text))
 
 
@@ -41,10 +41,10 @@ def burst_line(text: str, burst: int) -> str:
 
 
 def expected(base: str, member: str, fault: dict, limits: list[int]) -> str:
-    """The outcome of a fault by two reports."""
+    """The outcome of a fault, from the reports without it and with it."""
     line = burst_line(base, fault["burst"])
-    turns = int(re.search(r" n(\d+) ", line)[1]) if line else 0
-    if fault["after"] >= turns:
+    instructions = int(re.search(r" n(\d+) ", line)[1]) if line else 0
+    if fault["after"] >= instructions:
         assert base == member, "a fault that does not strike changed the report"
         return "did not strike"
     if "contract broken" in member:
@@ -68,7 +68,7 @@ def swept(*words: str) -> dict:
 
 class Sweeps(unittest.TestCase):
     def one_for_one(self, name: str, *words: str, limit: int = 1) -> set[str]:
-        """Compares each outcome of a sweep with the single run; gives the outcomes that came."""
+        """Compares each outcome of a sweep with the single run; returns the outcomes that occurred."""
         found = swept(example_path(name), "--limit", str(limit), *words)
         for run in found["runs"]:
             base = program().report(run["base"])
@@ -101,7 +101,7 @@ class Sweeps(unittest.TestCase):
         for name in ["block.json", "net.json", "sound-skips.json"]:
             self.one_for_one(name, *words)
 
-    def test_a_base_with_faults_of_its_own(self):
+    def test_a_base_with_its_own_faults(self):
         self.one_for_one("write-cut.json", "--every", "40", limit=2)
 
     def test_own_hangs_end_bursts_early(self):

@@ -18,7 +18,7 @@ def shapes(text: str) -> list[ElementTree.Element]:
 
 
 def texts_of(text: str) -> list[str]:
-    """The words that are drawn, without what the pointer is told."""
+    """The drawn texts, without the titles, which a browser shows under the pointer."""
     elements = [each for each in shapes(text) if each.tag == SVG + "text"]
     return [(each.text or "") + "".join(inner.tail or "" for inner in each) for each in elements]
 
@@ -36,7 +36,7 @@ class Timelines(unittest.TestCase):
         self.assertEqual(lanes["player"][22:28], "i.(=XH")
         self.assertEqual({len(lane) for lane in lanes.values()}, {47})
 
-    def test_text_is_cut_to_a_width(self):
+    def test_text_is_wrapped_to_a_width(self):
         status, out, _ = bench("timeline", "--text", "--width", "50", example_path("link-loses.report"))
         self.assertEqual(status, 0)
         self.assertIn("losses: sends 1, frames by a reset 16, frames at a full ring 2", out)

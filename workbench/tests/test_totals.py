@@ -1,5 +1,5 @@
-"""The rows and the totals of a sweep: losses with their kinds and amounts, shares with their intervals, the turns that
-were struck, and the counts of each group."""
+"""The rows and the totals of a sweep: losses with their kinds and amounts, shares with their intervals, the struck
+instructions, and the counts of each group."""
 
 import json
 import re
@@ -24,7 +24,7 @@ def swept(*words: str) -> dict:
 
 class Amounts(unittest.TestCase):
     def test_each_row_has_its_kinds(self):
-        """The play is cut before each of its five samples; the calls before it lose an answer `busy` of the guest."""
+        """The play is interrupted before each of its five samples; before it, calls of the guest are answered busy."""
         _, out, _ = bench("sweep", *SOUND)
         self.assertEqual(re.findall(r"(?m)^ +lost: (.*)\n +(b\d+)", out),
                          [("busy 2", "b3"), ("busy 1", "b4"), ("busy 1", "b5"), ("samples 1-5", "b6")])
@@ -57,7 +57,7 @@ class Amounts(unittest.TestCase):
 
 class Shares(unittest.TestCase):
     def test_intervals(self):
-        """Against numbers that the formula is published with, and its form at the ends."""
+        """Compares with published values of the formula, and with its values at the ends."""
         for count, whole, low, high in [(10, 100, 0.0552, 0.1744), (0, 20, 0.0, 0.1611), (20, 20, 0.8389, 1.0), (1, 2, 0.0945, 0.9055)]:
             found = wilson(count, whole)
             self.assertAlmostEqual(found[0], low, 4)
@@ -75,11 +75,11 @@ class Shares(unittest.TestCase):
             low, high = found["intervals"][name]
             line = rf"(?m)^ +{count}  {name} +{count / 0.4:.1f} % \({100 * low:.1f} to {100 * high:.1f}\)$"
             self.assertRegex(out, line)
-        places = {entry["fault"]["after"] for entry in found["runs"][0]["faults"]}
-        self.assertEqual(found["struck"], {"struck": len(places), "turns": 176, "bursts": 1})
+        instructions = {entry["fault"]["after"] for entry in found["runs"][0]["faults"]}
+        self.assertEqual(found["struck"], {"struck": len(instructions), "turns": 176, "bursts": 1})
         self.assertIn("40  faults drawn", out)
 
-    def test_turns_that_are_not_there(self):
+    def test_bursts_that_do_not_exist(self):
         found = swept(example_path("block.json"), "--burst", "3,99", "--every", "100", "--quiet")
         self.assertEqual(found["struck"], {"struck": 2, "turns": 176, "bursts": 1})
 
@@ -105,10 +105,10 @@ class Groups(unittest.TestCase):
 
     def test_the_other_groups(self):
         words = [example_path("sound.json"), "--limit", "1", "--quiet", "--every", "4", "--instructions", "--kind", "trap", "--kind", "hang"]
-        wanted = ["burst", "kind", "instruction", "schedule"]
-        found = swept(*words, "--schedules", "2", *[word for by in wanted for word in ("--per", by)])
+        groupings = ["burst", "kind", "instruction", "schedule"]
+        found = swept(*words, "--schedules", "2", *[word for by in groupings for word in ("--per", by)])
         whole = sum(found["outcomes"].values())
-        for by in wanted:
+        for by in groupings:
             self.assertEqual(sum(group["faults"] for group in found["per"][by]), whole)
         self.assertEqual([group["name"] for group in found["per"]["kind"]], ["trap", "hang"])
         self.assertEqual([group["name"] for group in found["per"]["schedule"]], ["1", "2"])
@@ -124,7 +124,7 @@ class Lists(unittest.TestCase):
         self.assertTrue(starts_text(many).endswith(", .. (40 of them)"), starts_text(many))
 
     def test_a_fault_that_fails_is_one_of_its_row(self):
-        """A row's fault, run alone, loses an amount that the row has."""
+        """A row's fault, run alone, loses the amount of the row."""
         base = example("sound.json")
         base["parts"][0]["limit"] = 1
         with file_of(base) as path:

@@ -1,4 +1,4 @@
-"""trace: a burst beside the driver's source, with the words that go to the device's ports and come from them."""
+"""trace: a burst next to the driver's source, with the words that it writes to ports and reads from them."""
 
 import json
 import os
@@ -17,17 +17,17 @@ def traced(*words: str) -> list[str]:
     return out.rstrip("\n").split("\n")
 
 
-def turns_of(lines: list[str]) -> list[str]:
+def instruction_lines(lines: list[str]) -> list[str]:
     return [line for line in lines if re.match(r" *\d+ +\d+  [A-Z-]", line)]
 
 
 class Traces(unittest.TestCase):
-    def test_turns_beside_the_source(self):
+    def test_instructions_next_to_the_source(self):
         lines = traced("0", "4", example_path("foreign-write.json"))
         self.assertEqual(lines[0], "part 0 disk, block, burst 4, event 11, context 0: c2 read 3 1")
         self.assertEqual(lines[1], "start at 4 (read), r1 = 3, r2 = 1, r3 = 5184, r14 = 4160; all other registers 0")
         self.assertEqual(lines[2], "device: block register = 3 (set in b3, context 0)")
-        told = [re.split(r" {2,}", line.strip()) for line in lines]
+        rows = [re.split(r" {2,}", line.strip()) for line in lines]
         for row in [
             ["3", "6", "OUT r1 1", "3 to block register", "13", "rblk: OUT r1 1"],
             ["4", "7", "OUT r6 0", "1 to command (load) | load 3", "14", "OUT r6 0"],
@@ -37,15 +37,15 @@ class Traces(unittest.TestCase):
             ["10", "13", "BLT r7 r5 9", "1 < 16, goto 9", "20", "BLT r7 r5 rword"],
             ["12", "10", "ST r8 r3 0", "would store 302 at 7691", "17", "ST r8 r3 0"],
         ]:
-            self.assertIn(row, told)
+            self.assertIn(row, rows)
         self.assertEqual(lines[-1], "      trap foreign_write 7691: it wrote to address 7691, which is not its own")
 
     def test_each_out_has_its_word(self):
         given = example("sound-skips.json")
         for burst in range(1, 17):
             trace = parse_trace(program().answer(["trace", "0", str(burst)], json.dumps(given)).out)
-            played = [act.split(" ")[1] for turn in trace.turns() for act in turn.acts if act.startswith("played ")]
-            words = [str(turn.value(0)) for turn in trace.turns() if turn.instruction.startswith("OUT") and turn.acts]
+            played = [act.split(" ")[1] for executed in trace.executed() for act in executed.acts if act.startswith("played ")]
+            words = [str(executed.value(0)) for executed in trace.executed() if executed.instruction.startswith("OUT") and executed.acts]
             words = words if played else []
             self.assertEqual(words, played)
 
@@ -56,7 +56,7 @@ class Traces(unittest.TestCase):
         self.assertEqual(lines[2], "device: register 0, rate = 44100 (set in b5); register 1, volume = 3 (set in b7)")
 
     def test_the_device_as_another_context_left_it(self):
-        """Two sends race: the driver yields between the transmit length and the words."""
+        """Two sends race, since the driver yields between the transmit length and the words."""
         text = example_text("net.asm").replace("LI r6 1             ; the command to send", "KCALL 8\n        LI r6 1")
         self.assertIn("KCALL 8\n", text)
         threads = [{"name": f"t{number}", "ops": [{"part": 0, "op": "send", "frame": [number + 1] * (2 + 3 * number)}]}
@@ -80,7 +80,7 @@ class Traces(unittest.TestCase):
         self.assertNotEqual(given, example("block.json"))
         with file_of(given) as path:
             lines = traced("0", "3", path)
-        at = next(place for place, line in enumerate(lines) if line.strip() == "wword:")
+        at = next(index for index, line in enumerate(lines) if line.strip() == "wword:")
         self.assertIn("LD r8 r3 0", lines[at + 1])
 
     def test_an_image_has_its_entries(self):
@@ -90,7 +90,7 @@ class Traces(unittest.TestCase):
             lines = traced("0", "3", path)
         self.assertEqual(lines[1].split(",")[0], "start at 18 (write)")
         self.assertEqual(len([line for line in lines if line.strip() == "write:"]), 1)
-        self.assertEqual(len(turns_of(lines)), 90)
+        self.assertEqual(len(instruction_lines(lines)), 90)
 
     def test_code_that_was_overwritten(self):
         given = example("write-and-read.json")
@@ -113,11 +113,11 @@ class Traces(unittest.TestCase):
         text = "trace 0 d burst 3 context 0 call 1\nstart 4 r2 7\nfault 0 reg 2 9\n1 4 MOV r1 r2 | r1 9\n2 5 OUT r1 0\nn2 pause\n"
         trace = parse_trace(text)
         self.assertEqual(trace.items[0], Struck(0, "reg 2 9"))
-        self.assertEqual([turn.before for turn in trace.turns()], [{2: 9}, {2: 9, 1: 9}])
+        self.assertEqual([executed.before for executed in trace.executed()], [{2: 9}, {2: 9, 1: 9}])
 
     def test_scenarios_as_people_write_them(self):
         path = os.path.join(TOP, "workbench/examples/write.jsonc")
-        self.assertEqual(len(turns_of(traced("0", "3", path))), 176)
+        self.assertEqual(len(instruction_lines(traced("0", "3", path))), 176)
 
     def test_mistakes(self):
         path = example_path("block.json")
@@ -126,7 +126,7 @@ class Traces(unittest.TestCase):
 
 
 class Ports(unittest.TestCase):
-    """The names of ports are held against docs/DEVICES.md."""
+    """The names of ports are those of docs/DEVICES.md."""
 
     def sections(self) -> dict[str, str]:
         with open(os.path.join(TOP, "docs/DEVICES.md"), encoding="utf-8") as file:
@@ -138,8 +138,8 @@ class Ports(unittest.TestCase):
         for kind, section in self.sections().items():
             text = section.partition("| Word |")[0]
             rows = re.findall(r"(?m)^\| (\d) \| (.*?) ?\| (.*?) ?\|$", text)
-            there = {(way, int(port)) for port, given, taken in rows for way, told in (("IN", given), ("OUT", taken)) if told}
-            self.assertEqual(set(PORTS[kind]), there, kind)
+            documented = {(way, int(port)) for port, read, written in rows for way, about in (("IN", read), ("OUT", written)) if about}
+            self.assertEqual(set(PORTS[kind]), documented, kind)
 
     def test_each_command(self):
         for kind, text in self.sections().items():
@@ -151,8 +151,8 @@ class Ports(unittest.TestCase):
             rows = re.findall(r"(?m)^\| (block|net|sound) \| (.*) \|$", file.read())
         self.assertEqual(len(rows), 3)
         for kind, row in rows:
-            told = tuple((name, int(default)) for name, default in re.findall(r"(\w+): (\d+)", row))
-            self.assertEqual(REGISTERS[kind], told)
+            documented = tuple((name, int(default)) for name, default in re.findall(r"(\w+): (\d+)", row))
+            self.assertEqual(REGISTERS[kind], documented)
 
     def test_names(self):
         self.assertEqual(port_name("sound", "OUT", FIRST_REGISTER), "register 0, rate")

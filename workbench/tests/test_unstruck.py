@@ -1,4 +1,4 @@
-"""Which faults struck, by a report and its scenario: against the program's own traces, which say it burst by burst."""
+"""Which faults struck, by a report and its scenario, compared with the program's own traces of each burst."""
 
 import json
 import random
@@ -24,7 +24,7 @@ def fault(draw: random.Random) -> dict:
 
 
 def trace_form(given: dict) -> str:
-    """A fault as a trace has it."""
+    """A fault as a trace writes it."""
     words = [given[key] for key in ("register", "address", "value") if key in given]
     return " ".join(map(str, [given["after"], given["kind"], *words]))
 
@@ -61,11 +61,11 @@ class Unstruck(unittest.TestCase):
             {"burst": 99, "after": 0, "kind": "trap"},
         ]}
         report = program().report(given)
-        with file_of(given) as path, file_of(report, ".report") as told:
-            _, explained, _ = bench("explain", told, "--input", path)
-            _, text, _ = bench("timeline", "--text", told, "--input", path)
-            _, svg, _ = bench("timeline", told, "--input", path)
-            _, alone, _ = bench("explain", told)
+        with file_of(given) as path, file_of(report, ".report") as report_path:
+            _, explained, _ = bench("explain", report_path, "--input", path)
+            _, text, _ = bench("timeline", "--text", report_path, "--input", path)
+            _, svg, _ = bench("timeline", report_path, "--input", path)
+            _, alone, _ = bench("explain", report_path)
         count = len(parse_report(report).parts[0].bursts())
         for line in [
             "fault 0: trap after 90 turns of burst 5 did not strike: burst 5 ended after 2 turns",

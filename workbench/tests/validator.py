@@ -1,4 +1,4 @@
-"""As much of JSON Schema 2020-12 as the schemas of the package use."""
+"""A validator for the part of JSON Schema 2020-12 that the schemas of the package use."""
 
 from __future__ import annotations
 
@@ -38,12 +38,12 @@ def of_list(schema: dict[str, Any], value: list[Any], file: str) -> bool:
 
 
 def same(value: Any, other: Any) -> bool:
-    """Whether two values are the same as JSON: true is not 1."""
+    """Whether two values are equal as JSON, in which true is not 1."""
     return value == other and isinstance(value, bool) == isinstance(other, bool)
 
 
 def plain(schema: dict[str, Any], value: Any) -> bool:
-    """The keywords that look at the value alone."""
+    """Whether a value satisfies the keywords that need only the value itself."""
     if "type" in schema and not is_type(value, schema["type"]):
         return False
     if "const" in schema and not same(value, schema["const"]):
@@ -58,16 +58,16 @@ def plain(schema: dict[str, Any], value: Any) -> bool:
 
 
 def referred(reference: str, file: str) -> tuple[dict[str, Any], str]:
-    """The schema that a reference of a file names, and the file that it stands in."""
-    named, _, place = reference.partition("#")
+    """The schema that a reference in a file names, and the file of that schema."""
+    named, _, pointer = reference.partition("#")
     found = schema_file(named or file)
-    for step in place.split("/")[1:]:
+    for step in pointer.split("/")[1:]:
         found = found[step]
     return found, named or file
 
 
 def valid(schema: Any, value: Any, file: str) -> bool:
-    """Whether a value is one of a schema's, which stands in a file of the package."""
+    """Whether a value satisfies a schema, which is in a file of the package."""
     if isinstance(schema, bool):
         return schema
     assert set(schema) <= KNOWN, set(schema) - KNOWN

@@ -1,8 +1,8 @@
 """The state after each event of examples/write-cut, worked out by hand from its report.
 
-Each line: the event; the mode and the stage that is due, `*` if the shadow is in the driver for it; the last call of the
-writer and that of the reader, each with where it is; the shadow's record; the device's registers; the blocks that are not
-blank, each with the word that it is full of; what the driver holds; the failures."""
+Each line has the event; the mode and the stage that is due, with `*` if the shadow is in the driver for it; the last
+call of the writer and of the reader, each with its state; the shadow's record; the device's registers; the blocks that
+are not blank, each with the word that fills it; what the driver holds; the number of failures."""
 
 from __future__ import annotations
 

@@ -1,12 +1,12 @@
-/** Requests to the server that brought the page. */
+/** Requests to the server that sent the page. */
 
-/** What the server answers: `made`, `refused` with a text and perhaps a place, or `ended` with a text. */
+/** Sends requests. The server answers `made`, `refused` with a text and perhaps a position, or `ended` with a text. */
 export class Asking {
   constructor(token) {
     this.token = token;
   }
 
-  /** Asks for something; `signal` ends the request, and with it what the server does for it. */
+  /** Sends a request; `signal` ends it, and with it what the server does for it. */
   async ask(path, given, signal = undefined) {
     const headers = { "Content-Type": "application/json", "X-Nooks-Token": this.token };
     try {

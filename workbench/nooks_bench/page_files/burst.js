@@ -1,4 +1,4 @@
-/** A traced burst, turn by turn, beside the driver's text, with the registers and the words that change. */
+/** A traced burst, instruction by instruction, next to the driver's text, with the registers and the words that change. */
 
 import { LongList, element } from "./elements.js";
 import { at } from "./history.js";
@@ -7,15 +7,15 @@ const TURN_ROW = 18;
 const MOST_WORDS = 12;
 
 export class BurstView {
-  /** `go` is called with the item that was chosen; `place`, if it is there, with the turn that a fault is placed before. */
-  constructor(go, place = null) {
+  /** `go` is called with the chosen item; `addFault`, if there is one, with the number of the instruction that a fault is added before. */
+  constructor(go, addFault = null) {
     this.go = go;
-    this.place = place;
+    this.addFault = addFault;
     this.part = null;
     this.burst = null;
     this.turn = 0;
-    this.items = new LongList("items mono", TURN_ROW, (place) => this.itemRow(place + 1));
-    this.source = new LongList("source mono", TURN_ROW, (place) => this.sourceRow(place));
+    this.items = new LongList("items mono", TURN_ROW, (index) => this.itemRow(index + 1));
+    this.source = new LongList("source mono", TURN_ROW, (index) => this.sourceRow(index));
     this.head = element("div", { class: "burst-head" });
     this.slider = element("input", { type: "range", min: 0, "aria-label": "turn of the burst", oninput: () => go(Number(this.slider.value)) });
     this.where = element("output", { class: "turn-where" });
@@ -35,7 +35,7 @@ export class BurstView {
     this.holder = element("div", { class: "burst" }, this.head, this.without, this.whole);
   }
 
-  /** The driver's text of another part. An image has no lines: its words stand in their place. */
+  /** Takes the driver's text of another part. An image has no lines: its words are shown instead. */
   take(part) {
     this.part = part;
     this.lines = part.source.lines.length > 1 ? part.source.lines : null;
@@ -43,7 +43,7 @@ export class BurstView {
     this.source.resize(this.lines ? this.lines.length : this.addresses.length);
   }
 
-  /** Where a burst is looked at first: where it broke the contract, else at its end. */
+  /** The item that is selected first: the one that broke the contract, else the last. */
   firstTurn(number) {
     const burst = this.part.bursts[number];
     return burst ? burst.breaks || burst.items.length : 0;
@@ -60,7 +60,7 @@ export class BurstView {
     this.whole.hidden = this.burst === null;
     this.without.hidden = this.burst !== null;
     if (this.burst === null) {
-      // A scroll event may still come for the rows of the burst before.
+      // A scroll event for the rows of the previous burst may still come.
       this.items.resize(0);
       this.head.replaceChildren(element("h3", {}, number ? `Burst ${number}` : "Burst"));
       const command = `nooks-bench trace ${this.part.place} ${number} SCENARIO`;
@@ -92,37 +92,37 @@ export class BurstView {
     this.said.replaceChildren(...said);
   }
 
-  /** Where a turn's instruction stands, and the driver's text there. A word that was written over is shown as it is now. */
+  /** The line of an executed instruction, and the driver's text there. A word that was overwritten is shown as it is now. */
   textOf(item) {
     const [line, instruction] = this.part.source.words[item[1]] ?? [0, ""];
     if (item[3] || !line || !this.lines) return [`@${item[1]}`, item[3] ? `${item[3]} (written over)` : instruction];
     return [String(line), this.lines[line - 1].split(";")[0].trim()];
   }
 
-  itemRow(place) {
-    const item = this.burst.items[place - 1];
-    const chosen = place === this.turn ? "chosen" : place > this.turn ? "later" : "";
-    const choose = { onclick: () => this.go(place) };
+  itemRow(number) {
+    const item = this.burst.items[number - 1];
+    const chosen = number === this.turn ? "chosen" : number > this.turn ? "later" : "";
+    const choose = { onclick: () => this.go(number) };
     if (!item[0]) {
       return element("div", { class: `row item fault-row ${chosen}`, ...choose }, element("span", { class: "cell wide" }, item[3] ? `-- after ${item[1]} ${item[2]}` : `-- fault strikes after ${item[1]}: ${item[2]}`));
     }
-    const breaks = place === this.burst.breaks;
+    const breaks = number === this.burst.breaks;
     const [line, text] = this.textOf(item);
     const cells = [[String(item[0]), "number"], [line, "number"], [text, "instruction"], [(breaks ? "\u25c0 BREAKS: " : "") + item[2], `effect ${breaks ? "broken" : ""}`]];
-    return element("div", { class: `row item ${chosen}`, title: `at ${item[1]}: ${item[2]}`, ...choose }, ...cells.map(([text, kind]) => element("span", { class: `cell ${kind}` }, text)), this.placeButton(item[0]));
+    return element("div", { class: `row item ${chosen}`, title: `at ${item[1]}: ${item[2]}`, ...choose }, ...cells.map(([text, kind]) => element("span", { class: `cell ${kind}` }, text)), this.faultButton(item[0]));
   }
 
-  /** What places a fault before a turn. By the keyboard it is the key f, at the turn that is looked at. */
-  placeButton(turn) {
-    if (this.place === null) return "";
-    const place = (click) => {
+  /** A button that adds a fault before an instruction. The key f does so at the selected instruction. */
+  faultButton(turn) {
+    if (this.addFault === null) return "";
+    const clicked = (click) => {
       click.stopPropagation();
-      this.place(turn);
+      this.addFault(turn);
     };
-    return element("button", { type: "button", class: "place", tabindex: -1, title: `place the fault before turn ${turn} (f)`, onclick: place }, "fault");
+    return element("button", { type: "button", class: "place", tabindex: -1, title: `place the fault before turn ${turn} (f)`, onclick: clicked }, "fault");
   }
 
-  /** The turn before which a fault is placed at what is looked at: the turn itself, or the one after a fault; 0 for none. */
+  /** The instruction before which a fault is added: the selected one, or the one after a selected fault; 0 for none. */
   get turnHere() {
     if (this.burst === null) return 0;
     const item = this.burst.items[Math.max(this.turn - 1, 0)];
@@ -151,7 +151,7 @@ export class BurstView {
     this.words.replaceChildren(...(known.length ? rows : [element("span", { class: "none" }, "none so far")]));
   }
 
-  /** The line of the text of the turn that is looked at, or of the first one. */
+  /** The line of the text of the selected instruction, or of the next one after a selected fault. */
   lineOf(turn) {
     const items = this.burst.items;
     const item = items[turn - 1]?.[0] ? items[turn - 1] : items.slice(Math.max(turn - 1, 0)).find((each) => each[0]) ?? items.findLast((each) => each[0]);
@@ -165,11 +165,11 @@ export class BurstView {
     else this.source.draw();
   }
 
-  sourceRow(place) {
-    const chosen = this.burst !== null && place === this.line ? "chosen" : "";
-    const address = this.addresses[place];
-    const text = this.lines ? this.lines[place] : this.wordText(address);
-    return element("div", { class: `row line ${chosen}` }, element("span", { class: "cell number" }, String(this.lines ? place + 1 : address)), element("span", { class: "cell effect" }, text));
+  sourceRow(index) {
+    const chosen = this.burst !== null && index === this.line ? "chosen" : "";
+    const address = this.addresses[index];
+    const text = this.lines ? this.lines[index] : this.wordText(address);
+    return element("div", { class: `row line ${chosen}` }, element("span", { class: "cell number" }, String(this.lines ? index + 1 : address)), element("span", { class: "cell effect" }, text));
   }
 
   wordText(address) {
@@ -177,7 +177,7 @@ export class BurstView {
     return names.map((name) => `${name}: `).join("") + text;
   }
 
-  /** Everything at once, for print. */
+  /** Draws everything at once, for print. */
   draw(most) {
     if (this.burst === null) return;
     this.items.draw(most);

@@ -1,4 +1,4 @@
-/** The texts of a scenario and its drivers, one at a time, with the numbers of its lines and the place of a fault. */
+/** The texts of a scenario and its drivers, one at a time, with line numbers and the position of an input error. */
 
 import { element } from "./elements.js";
 
@@ -6,7 +6,7 @@ const LINE_HEIGHT = 17;
 const TOP_MARGIN = 4;
 
 export class Editor {
-  /** `changed` is called after the text was changed by hand. */
+  /** `changed` is called after the text was edited by hand. */
   constructor(changed) {
     this.changed = changed;
     this.texts = new Map();
@@ -22,24 +22,24 @@ export class Editor {
     this.holder = element("div", { class: "editor" }, this.tabs, element("div", { class: "text-box" }, this.gutter, element("div", { class: "text-holder" }, this.badLine, this.area)));
   }
 
-  /** Other texts, by their names; the first one is the scenario. */
+  /** Takes other texts, by name; the first one is the scenario. */
   take(texts) {
     this.texts = new Map(Object.entries(texts));
     this.fault = null;
     this.show([...this.texts.keys()][0]);
   }
 
-  /** The texts as they stand. */
+  /** The texts as edited. */
   get plain() {
     return Object.fromEntries([...this.texts].map(([name, each]) => [name, each.text]));
   }
 
-  /** Whether there are changes that are not saved. */
+  /** Whether there are unsaved changes. */
   get isEdited() {
     return [...this.texts.values()].some((each) => each.edited && !each.saved);
   }
 
-  /** The names of the texts that are not saved. */
+  /** The names of the unsaved texts. */
   get unsaved() {
     return [...this.texts].filter(([, each]) => !each.saved).map(([name]) => name);
   }
@@ -62,7 +62,7 @@ export class Editor {
     const count = this.area.value.split("\n").length;
     if (count !== this.count) {
       this.count = count;
-      this.numbers.textContent = Array.from({ length: count }, (_, place) => String(place + 1)).join("\n");
+      this.numbers.textContent = Array.from({ length: count }, (_, index) => String(index + 1)).join("\n");
     }
     this.scrolled();
   }
@@ -78,7 +78,7 @@ export class Editor {
     this.changed();
   }
 
-  /** Puts another text in the place of one, as if it was typed. */
+  /** Replaces a text, as if the new one was typed. */
   put(name, text) {
     const known = this.texts.get(name);
     known.saved = known.saved && known.text === text;
@@ -93,7 +93,7 @@ export class Editor {
     this.showLines();
   }
 
-  /** A text was saved. */
+  /** Records that a text was saved. */
   keep(name, text, was) {
     const known = this.texts.get(name);
     known.was = was;
@@ -101,14 +101,14 @@ export class Editor {
     this.showTabs();
   }
 
-  /** Marks the line of a fault, or none, in the text that has it. */
+  /** Marks the line of an input error, or none, in the text that has it. */
   mark(fault) {
     this.fault = fault !== null && this.texts.has(fault.file) ? fault : null;
     if (this.fault && this.fault.file !== this.name && document.activeElement !== this.area) this.show(this.fault.file);
     this.scrolled();
   }
 
-  /** Goes to the line and the column of the fault. */
+  /** Goes to the line and the column of the input error. */
   goFault() {
     if (!this.fault) return;
     const { file, line, column } = this.fault;
@@ -120,7 +120,7 @@ export class Editor {
     this.scrolled();
   }
 
-  /** The numbers and the mark stand beside their lines. */
+  /** Keeps the numbers and the mark next to their lines. */
   scrolled() {
     const top = this.area.scrollTop;
     this.numbers.style.top = `${TOP_MARGIN - top}px`;

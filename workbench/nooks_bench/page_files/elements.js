@@ -1,4 +1,4 @@
-/** Elements of the page and shapes of its drawings. Texts are set as texts, so that nothing in a scenario is markup. */
+/** Elements of the page and shapes of its drawings. Texts are set as text, so that nothing in a scenario is markup. */
 
 const SVG = "http://www.w3.org/2000/svg";
 
@@ -11,24 +11,24 @@ function filled(made, attributes, children) {
   return made;
 }
 
-/** An element with attributes; one whose name begins with `on` is a listener. */
+/** Makes an element with attributes; one whose name begins with `on` is a listener. */
 export function element(tag, attributes = {}, ...children) {
   return filled(document.createElement(tag), attributes, children);
 }
 
-/** A shape of a drawing, with a title that the pointer is shown. */
+/** Makes a shape of a drawing, with a title that is shown under the pointer. */
 export function shape(tag, attributes = {}, title = "", ...children) {
   const made = filled(document.createElementNS(SVG, tag), attributes, children);
   if (title) made.prepend(filled(document.createElementNS(SVG, "title"), {}, [title]));
   return made;
 }
 
-/** The address of an event in this page, and of a turn of its burst. */
+/** The address of an event in this page, and of an item of its burst. */
 export function addressOf(part, event, turn = 0) {
   return `#p${part}e${event}` + (turn ? `t${turn}` : "");
 }
 
-/** A text in which each `event 15` is a link to it. */
+/** A text in which each `event 15` is a link to that event. */
 export function linked(text, part) {
   const pieces = [];
   let end = 0;
@@ -44,7 +44,7 @@ export function linked(text, part) {
 }
 
 /**
- * A long list, of which only those rows are made that are seen. Each row is as high as the others.
+ * A long list that makes its visible rows only. All rows have the same height.
  */
 export class LongList {
   constructor(name, rowHeight, drawRow) {
@@ -57,13 +57,13 @@ export class LongList {
     this.holder = element("div", { class: `long ${name}`, tabindex: 0, onscroll: () => this.draw() }, this.space);
   }
 
-  /** The list has another number of rows. */
+  /** Sets the number of rows. */
   resize(count) {
     this.count = count;
     this.space.style.height = `${count * this.rowHeight}px`;
   }
 
-  /** Makes the rows that are seen, or all for print, at most so many. */
+  /** Makes the visible rows, or for print all rows up to `most`. */
   draw(most = 0) {
     const high = this.holder.clientHeight || 300;
     let first = Math.max(0, Math.floor(this.holder.scrollTop / this.rowHeight) - 2);
@@ -71,7 +71,7 @@ export class LongList {
     if (most > 0) [first, last] = this.printed(first, most);
     this.rows.style.top = `${first * this.rowHeight}px`;
     const made = [];
-    for (let place = first; place < last; place += 1) made.push(this.drawRow(place));
+    for (let index = first; index < last; index += 1) made.push(this.drawRow(index));
     this.rows.replaceChildren(...made);
   }
 
@@ -81,9 +81,9 @@ export class LongList {
     return [Math.floor(start), Math.floor(start) + most];
   }
 
-  /** Scrolls so that a row is seen, with some rows around it, and draws. */
-  show(place) {
-    const top = place * this.rowHeight;
+  /** Scrolls so that a row is visible, with some rows around it, and draws. */
+  show(index) {
+    const top = index * this.rowHeight;
     const high = this.holder.clientHeight || 300;
     const margin = high / 3;
     if (top - margin < this.holder.scrollTop) this.holder.scrollTop = Math.max(0, top - margin);

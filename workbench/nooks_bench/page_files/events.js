@@ -4,7 +4,7 @@ import { LongList, element } from "./elements.js";
 
 const EVENT_ROW = 38;
 
-/** What stands before an event's words: that it broke the contract, failed, or was struck by a fault. */
+/** The mark before an event's words: that it broke the contract, failed, or was struck by a fault. */
 export function markOf(part, event) {
   if (event === part.broken) return "CONTRACT ";
   if (part.failed.has(event)) return "FAILED ";
@@ -12,15 +12,15 @@ export function markOf(part, event) {
 }
 
 export class EventList {
-  /** `go` is called with the event that was chosen. */
+  /** `go` is called with the chosen event. */
   constructor(go) {
-    this.list = new LongList("events", EVENT_ROW, (place) => this.row(place));
+    this.list = new LongList("events", EVENT_ROW, (index) => this.row(index));
     this.go = go;
     this.part = null;
     this.event = 0;
   }
 
-  /** The events of another part. */
+  /** Shows the events of another part. */
   take(part) {
     this.part = part;
     this.list.resize(part.events.length);
@@ -31,12 +31,12 @@ export class EventList {
     this.list.show(Math.max(event - 1, 0));
   }
 
-  row(place) {
-    const number = place + 1;
+  row(index) {
+    const number = index + 1;
     const mark = markOf(this.part, number);
-    const words = [element("span", { class: "number" }, String(number)), element("b", {}, mark), this.part.events[place][0]];
+    const words = [element("span", { class: "number" }, String(number)), element("b", {}, mark), this.part.events[index][0]];
     const chosen = number === this.event ? "chosen" : number > this.event ? "later" : "";
-    return element("div", { class: `row ${chosen}`, title: this.part.events[place][0], onclick: () => this.go(number) },
+    return element("div", { class: `row ${chosen}`, title: this.part.events[index][0], onclick: () => this.go(number) },
       element("div", { class: "two" }, ...words));
   }
 }

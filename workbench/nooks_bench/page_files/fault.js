@@ -1,8 +1,8 @@
-/** The fault that is placed or tried: its kind, and the fields of that kind. */
+/** The fault to add or to try: its kind, and the fields of that kind. */
 
 import { element } from "./elements.js";
 
-/** What a kind does, in words. */
+/** What each kind does, in words. */
 const KIND_WORDS = {
   trap: "the driver stops",
   hang: "the driver goes on for ever",
@@ -11,11 +11,11 @@ const KIND_WORDS = {
   code: "a word of its text gets another value",
 };
 
-/** What stands in a field at first. */
+/** The initial text of each field. */
 const FIRST = { register: "8", address: "4096", value: "2" };
 
 export class FaultForm {
-  /** `kinds` has for each kind its fields, with the least and the greatest number of each. */
+  /** `kinds` has the fields of each kind, with the least and the greatest number of each field. */
   constructor(kinds) {
     this.fieldsOf = Object.fromEntries(Object.entries(kinds).map(([kind, fields]) => [kind, Object.keys(fields)]));
     const options = Object.keys(kinds).map((kind) => element("option", { value: kind }, kind in KIND_WORDS ? `${kind}: ${KIND_WORDS[kind]}` : kind));
@@ -34,7 +34,7 @@ export class FaultForm {
     return this.kinds.value;
   }
 
-  /** The elements of the form. */
+  /** Makes the elements of the form. */
   get elements() {
     return [this.kinds, ...Object.values(this.labels)];
   }
@@ -43,17 +43,17 @@ export class FaultForm {
     for (const [name, label] of Object.entries(this.labels)) label.hidden = !this.fieldsOf[this.kind].includes(name);
   }
 
-  /** What stands in the fields, as a map takes it. */
+  /** The texts of the fields, as a map takes them. */
   get written() {
     return Object.fromEntries(this.fieldsOf[this.kind].map((name) => [name, this.fields[name].value.trim()]));
   }
 
-  /** The name of a field that has no single number, or nothing. */
+  /** The name of a field that does not have a single number, if there is one. */
   get several() {
     return Object.entries(this.written).find(([, value]) => !/^\d+$/.test(value))?.[0];
   }
 
-  /** The fault before a turn of a burst. */
+  /** The fault before an instruction of a burst. */
   before(turn, burst) {
     const numbers = Object.entries(this.written).map(([name, value]) => [name, Number(value)]);
     return { burst, after: turn - 1, kind: this.kind, ...Object.fromEntries(numbers) };

@@ -10,10 +10,10 @@ export const MARGIN = 86;
 const SHADOW = 16;
 
 
-// With more threads than these their calls have no labels, so that all lanes fit on a screen.
+// With more threads than these, calls have no labels, so that all lanes fit on a screen.
 const MOST_LABELLED = 5;
 
-// How wide an event is if all of them fit, at least and at most, and if they do not.
+// The least and the greatest width of an event if all of them fit, and the width if they do not.
 const NARROW = 18;
 const WIDE = 64;
 const USUAL = 24;
@@ -21,7 +21,7 @@ const USUAL = 24;
 // Acts that reach beyond the device.
 const OUTWARD = "stpr";
 
-/** How wide an event is drawn, and how many stand side by side. */
+/** The width of an event, and how many events are drawn next to each other. */
 export function columnsOf(part, width, zoom) {
   const room = Math.max(width - MARGIN - 8, 100);
   const all = room / Math.max(part.events.length, 1);
@@ -29,7 +29,7 @@ export function columnsOf(part, width, zoom) {
   return { step, count: Math.max(1, Math.floor(room / step)) };
 }
 
-/** The events that are drawn: the window moves only if the event comes near its end. */
+/** The events that are drawn: the window moves only when the selected event comes near its end. */
 export function windowOf(part, event, count, before) {
   const last = part.events.length;
   const edge = Math.min(3, Math.floor(count / 4));
@@ -62,7 +62,7 @@ class Drawing {
     return this.left(event) + this.step / 2;
   }
 
-  /** The events that are seen. */
+  /** The visible events. */
   * events() {
     for (let event = this.view.first; event <= this.view.last; event += 1) yield event;
   }
@@ -71,7 +71,7 @@ class Drawing {
     this.add(shape("text", { x: MARGIN - 8, y: this.y + BAR - 3, "text-anchor": "end", class: "lane-name" }, title, name));
   }
 
-  /** A bar over some events, as far as they are seen. */
+  /** Draws a bar over some events, as far as they are visible. */
   bar(first, last, kind, title) {
     if (first > this.view.last || last < this.view.first) return;
     const x = this.left(Math.max(first, this.view.first));
@@ -128,7 +128,7 @@ class Drawing {
     this.add(shape("rect", { x: this.middle(event) - 1.5, y: this.y + 2.5, width: 3, height: BAR - 5, class: "tick-mark" }, title));
   }
 
-  /** The calls of a thread that are open in what is seen; a thread has one open call at a time. */
+  /** The calls of a thread that are open in the visible events; a thread has one open call at a time. */
   seen(calls) {
     let low = 0;
     let high = calls.length;
@@ -138,9 +138,9 @@ class Drawing {
       else high = middle;
     }
     const found = [];
-    for (let place = low - 1; place >= 0; place -= 1) {
-      if (calls[place][2] && calls[place][2] < this.view.first) break;
-      found.push(calls[place]);
+    for (let index = low - 1; index >= 0; index -= 1) {
+      if (calls[index][2] && calls[index][2] < this.view.first) break;
+      found.push(calls[index]);
     }
     return found.reverse();
   }
@@ -152,15 +152,15 @@ class Drawing {
   }
 
   call(call) {
-    const [number, invoked, answered, , inside, cuts, title] = call;
+    const [number, invoked, answered, , inside, interruptions, title] = call;
     const last = answered || this.part.events.length;
     this.bar(invoked, last, answered === invoked ? "at-once" : "held", title);
     for (const [first, end] of inside) this.bar(first, end, "inside", `${title}: inside the driver, events ${first} to ${end}`);
     for (const event of this.events()) {
       const burst = this.lanes.bursts[event];
-      if (burst && burst[2] === number && event !== answered && !cuts.includes(event)) this.tick(event, `burst ${burst[1]}`);
+      if (burst && burst[2] === number && event !== answered && !interruptions.includes(event)) this.tick(event, `burst ${burst[1]}`);
     }
-    for (const event of cuts) if (this.isSeen(event)) this.cross(event, `cut at event ${event}`);
+    for (const event of interruptions) if (this.isSeen(event)) this.cross(event, `cut at event ${event}`);
     if (answered && this.isSeen(answered)) this.answer(call);
     if (this.isCrowded) return;
     const x = this.left(Math.max(invoked, this.view.first));
@@ -174,7 +174,7 @@ class Drawing {
     return event >= this.view.first && event <= this.view.last;
   }
 
-  /** Who answered: a disc for the driver, a diamond for the shadow, a ring at its enter, a square at once or gone. */
+  /** Marks who answered: a disc for the driver, a diamond for the shadow, a ring at its enter, a square at once or gone. */
   answer(call) {
     const [, , event, by, , , title] = call;
     if (!this.isSeen(event)) return;
@@ -224,14 +224,14 @@ class Drawing {
     this.begin("wire", "frames that came: kept in the ring, or lost");
     for (const event of this.events()) {
       if (!(event in this.lanes.frames)) continue;
-      const kept = this.lanes.frames[event];
+      const delivered = this.lanes.frames[event];
       const [x, y] = [this.middle(event), this.y + BAR / 2];
-      this.add(shape("path", { d: `M${x - 5},${y - 5} L${x + 5},${y - 5} L${x},${y + 5} Z`, class: kept ? "kept" : "lost" }, kept ? "a frame, kept" : "a frame, lost"));
+      this.add(shape("path", { d: `M${x - 5},${y - 5} L${x + 5},${y - 5} L${x},${y + 5} Z`, class: delivered ? "kept" : "lost" }, delivered ? "a frame, kept" : "a frame, lost"));
     }
     this.y += LANE;
   }
 
-  /** What broke the contract, below all marks. */
+  /** Draws what broke the contract, below all marks. */
   broken() {
     if (!this.isSeen(this.part.broken)) return;
     const x = this.middle(this.part.broken);
@@ -239,21 +239,21 @@ class Drawing {
   }
 }
 
-/** A stage by its name if that fits, else by its letter. */
+/** The name of a stage if that fits, else its letter. */
 function stageText([letter, name], step) {
   return name.length * 5.4 <= step ? name : letter;
 }
 
-/** Stripes for what is held, so that it differs by more than its colour. */
+/** Stripes for held calls, so that they differ by more than their colour. */
 function stripes() {
   const ground = shape("rect", { width: 6, height: 6, class: "stripe-ground" });
   const line = shape("path", { d: "M0,0 L0,6", class: "stripe-line" });
   return shape("defs", {}, "", shape("pattern", { id: "held", width: 6, height: 6, patternUnits: "userSpaceOnUse", patternTransform: "rotate(45)" }, "", ground, line));
 }
 
-/** The lanes of some events of a part. It is drawn once; a step to another of these events moves its mark alone. */
+/** The lanes of some events of a part. They are drawn once; a step to another of these events only moves the mark. */
 export class LanesDrawing {
-  /** `go` is called with the event that was chosen. */
+  /** `go` is called with the chosen event. */
   constructor(part, view, step, go) {
     this.part = part;
     this.view = view;
@@ -273,7 +273,7 @@ export class LanesDrawing {
     });
   }
 
-  /** Marks the event that is looked at; none that is not drawn. */
+  /** Marks the selected event, if it is drawn. */
   mark(event) {
     const isSeen = event >= this.view.first && event <= this.view.last;
     const x = MARGIN + (event - this.view.first) * this.step;
@@ -306,7 +306,7 @@ function laneWords(part, event) {
   return event ? `lanes, at event ${event}: ${markOf(part, event)}${part.events[event - 1][0]}` : "lanes, at the beginning";
 }
 
-/** What the marks of the lanes mean: a class of a shape, and words. Only those that the part has are told. */
+/** What the marks of the lanes mean: a class of a shape, and words. Only those that the part has are listed. */
 export function legendOf(part, step) {
   const modes = new Set(part.lanes.spans.map(([mode]) => mode));
   const calls = part.lanes.threads.flatMap(([, , each]) => each);

@@ -1,4 +1,4 @@
-/** A map of one burst, drawn by the server: each cell is a fault that was tried, and places it. */
+/** A map of one burst, drawn by the server: each cell is a fault that was tried, and a click adds the fault. */
 
 import { element } from "./elements.js";
 
@@ -6,9 +6,9 @@ const SIDE = { ArrowLeft: -1, ArrowRight: 1 };
 const DOWN = { ArrowUp: -1, ArrowDown: 1 };
 
 export class DrawnMap {
-  /** `place` is called with the fault of the cell that was chosen, and with its part. */
-  constructor(place) {
-    this.place = place;
+  /** `addFault` is called with the fault of the chosen cell, and with its part. */
+  constructor(addFault) {
+    this.addFault = addFault;
     this.part = 0;
     this.rows = [];
     this.here = [0, 0];
@@ -21,7 +21,7 @@ export class DrawnMap {
       this.drawing, this.cellWords);
   }
 
-  /** Shows a map; nothing in it is run or asked for. */
+  /** Shows a map. Nothing in it is run or loaded. */
   take(svg, part) {
     this.part = part;
     const read = new DOMParser().parseFromString(svg, "image/svg+xml").documentElement;
@@ -41,16 +41,16 @@ export class DrawnMap {
 
   clicked(click) {
     const fault = faultOf(click.target.closest("rect"));
-    if (fault) this.place(fault, this.part);
+    if (fault) this.addFault(fault, this.part);
   }
 
-  /** The arrows go from cell to cell, and Enter places; other keys are those of the page. */
+  /** The arrows go from cell to cell, and Enter adds the fault; other keys are those of the page. */
   pressed(press) {
     if (press.ctrlKey || press.altKey || press.metaKey || !this.rows.length) return;
     const [row, column] = this.here;
     if (press.key in SIDE) this.here = [row, column + SIDE[press.key]];
     else if (press.key in DOWN) this.here = [row + DOWN[press.key], column];
-    else if (press.key === "Enter") this.place(faultOf(this.cell), this.part);
+    else if (press.key === "Enter") this.addFault(faultOf(this.cell), this.part);
     else return;
     press.preventDefault();
     press.stopPropagation();
@@ -62,7 +62,7 @@ export class DrawnMap {
     return this.rows[row][column];
   }
 
-  /** The chosen cell, with what became of its fault in words. */
+  /** Shows the chosen cell, with the outcome of its fault in words. */
   showCell() {
     if (!this.rows.length) return;
     const row = Math.max(0, Math.min(this.here[0], this.rows.length - 1));
@@ -77,7 +77,7 @@ function titleOf(cell) {
   return cell?.querySelector("title")?.textContent ?? "";
 }
 
-/** The fault of a cell: its title begins with it. Null for what is no cell. */
+/** The fault of a cell, with which its title begins; null for what is not a cell. */
 function faultOf(cell) {
   const first = titleOf(cell).split("\n")[0];
   return first.startsWith("{") ? JSON.parse(first) : null;

@@ -3,7 +3,7 @@
 import { element } from "./elements.js";
 
 export class OrderList {
-  /** `open` is called with the schedule that was chosen. */
+  /** `open` is called with the chosen schedule. */
   constructor(open) {
     this.open = open;
     this.words = element("p", {});

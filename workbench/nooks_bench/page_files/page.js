@@ -1,4 +1,4 @@
-/** The page: where one is in the run, and how one gets elsewhere. */
+/** The page: what is selected in the run, and how the selection moves. */
 
 import { BurstView } from "./burst.js";
 import { addressOf, element, linked } from "./elements.js";
@@ -21,8 +21,8 @@ const KEYS = [
   ["?", "these keys"],
 ];
 
-/** Keys in words, what each does, and what a click on a turn places: what a page has beside what each page has. */
-const NOTHING_MORE = { keys: [], acts: {}, place: null };
+/** What a page has in addition to every page: keys in words, what each does, and what adds a fault before an instruction. */
+const NOTHING_MORE = { keys: [], acts: {}, addFault: null };
 
 export class Page {
   /** Shows runs in an element. */
@@ -37,7 +37,7 @@ export class Page {
     this.here = { part: 0, event: 0, turn: 0 };
   }
 
-  /** Shows a run from its beginning on. */
+  /** Shows a run from its beginning. */
   take(data) {
     this.data = data;
     this.view = null;
@@ -49,7 +49,7 @@ export class Page {
       part.marks = marksOf(part);
     }
     this.events = new EventList((event) => this.goEvent(event));
-    this.burst = new BurstView((turn) => this.go({ ...this.here, turn }), this.more.place);
+    this.burst = new BurstView((turn) => this.go({ ...this.here, turn }), this.more.addFault);
     this.build();
   }
 
@@ -65,21 +65,21 @@ export class Page {
     return this.data.parts[this.here.part];
   }
 
-  /** The turn before which a fault is placed at what is looked at, 0 for none. */
+  /** The instruction before which a fault is added, 0 for none. */
   get turnHere() {
     return this.data === null ? 0 : this.burst.turnHere;
   }
 
-  /** The burst of the event that is looked at, 0 if it is none. */
+  /** The burst of the selected event, 0 if it is not a burst. */
   get burstNumber() {
     return this.here.event ? this.part.events[this.here.event - 1][2] : 0;
   }
 
-  /** Makes the elements that stay. What happened is told at the beginning, and in print. */
+  /** Makes the elements that stay. What happened is shown at the beginning, and in print. */
   build() {
     const button = (text, label, act) => element("button", { type: "button", title: label, "aria-label": label, onclick: act }, text);
-    this.tabs = element("nav", { class: "tabs", "aria-label": "parts" }, ...this.data.parts.map((part, place) =>
-      element("button", { type: "button", onclick: () => this.goPart(place) }, `${part.name}`, element("small", {}, ` part ${part.place}, ${part.head}`))));
+    this.tabs = element("nav", { class: "tabs", "aria-label": "parts" }, ...this.data.parts.map((part, index) =>
+      element("button", { type: "button", onclick: () => this.goPart(index) }, `${part.name}`, element("small", {}, ` part ${part.place}, ${part.head}`))));
     this.summary = element("section", { class: "summary" });
     this.overview = element("canvas", { class: "overview", height: 10, "aria-hidden": "true", onclick: (click) => this.chooseOverview(click) });
     this.lanes = element("div", { class: "lanes" });
@@ -105,17 +105,17 @@ export class Page {
       element("footer", {}, ...this.data.made.map((line) => element("p", {}, line))));
   }
 
-  /** Goes to a part, an event and a turn, as far as they are there. */
+  /** Goes to a part, an event and an item of its burst, as far as they exist. */
   go({ part, event, turn }) {
-    const place = Math.max(0, Math.min(part, this.data.parts.length - 1));
-    const isOther = place !== this.here.part || this.burst.part === null;
-    const events = this.data.parts[place].events;
+    const index = Math.max(0, Math.min(part, this.data.parts.length - 1));
+    const isOther = index !== this.here.part || this.burst.part === null;
+    const events = this.data.parts[index].events;
     const number = Math.max(0, Math.min(event, events.length));
-    this.here.part = place;
+    this.here.part = index;
     if (isOther) this.takePart();
     const burst = number ? events[number - 1][2] : 0;
     const last = this.burst.last(burst);
-    this.here = { part: place, event: number, turn: turn === null ? this.burst.firstTurn(burst) : Math.max(0, Math.min(turn, last)) };
+    this.here = { part: index, event: number, turn: turn === null ? this.burst.firstTurn(burst) : Math.max(0, Math.min(turn, last)) };
     this.show(burst);
     this.writeAddress();
   }
@@ -124,25 +124,25 @@ export class Page {
     this.go({ part: this.here.part, event, turn: null });
   }
 
-  /** The event of a burst; the last event if the run has no such burst. */
+  /** Goes to the event of a burst, or to the last event if the run has no such burst. */
   goBurst(part, burst) {
     const events = this.data.parts[part].events;
-    const place = events.findIndex((event) => event[2] === burst);
-    this.go({ part, event: place < 0 ? events.length : place + 1, turn: null });
+    const index = events.findIndex((event) => event[2] === burst);
+    this.go({ part, event: index < 0 ? events.length : index + 1, turn: null });
   }
 
   goPart(part) {
     this.go({ part, event: 0, turn: null });
   }
 
-  /** The next event, or the one before, at which something went wrong. */
+  /** Goes to the next event, or the one before, at which something went wrong. */
   goWrong(direction) {
     const marks = this.part.marks;
     const found = direction > 0 ? marks.find((each) => each > this.here.event) : marks.findLast((each) => each < this.here.event);
     if (found !== undefined) this.goEvent(found);
   }
 
-  /** What depends on the part alone. */
+  /** Shows what depends on the part only. */
   takePart() {
     const part = this.part;
     this.view = null;
@@ -150,7 +150,7 @@ export class Page {
     this.burst.take(part);
     this.slider.max = String(part.events.length);
     this.next.hidden = part.marks.length === 0;
-    [...this.tabs.children].forEach((tab, place) => tab.setAttribute("aria-pressed", String(place === this.here.part)));
+    [...this.tabs.children].forEach((tab, index) => tab.setAttribute("aria-pressed", String(index === this.here.part)));
     this.summary.replaceChildren(element("h2", {}, `What happened to ${part.name}`),
       element("ul", {}, ...part.summary.map((line) => element("li", { class: line.startsWith("CONTRACT") ? "broken" : line.startsWith("failed") ? "failed" : "" }, ...linked(line, part.place)))));
     this.width = this.lanes.clientWidth;
@@ -199,7 +199,7 @@ export class Page {
     this.drawing.mark(this.here.event);
   }
 
-  /** The whole run on a strip: its modes, and where something went wrong. */
+  /** Draws the whole run on a strip: its modes, and where something went wrong. */
   drawOverview() {
     const part = this.part;
     const wide = Math.max(this.width - MARGIN - 8, 100);
@@ -223,7 +223,7 @@ export class Page {
     this.goEvent(1 + Math.floor(((click.clientX - box.left) / box.width) * this.part.events.length));
   }
 
-  /** Writes the address a little later, so that fast steps do not write it each time. */
+  /** Writes the address after a delay, so that fast steps do not write it each time. */
   writeAddress() {
     clearTimeout(this.writing);
     this.writing = setTimeout(() => {
@@ -233,7 +233,7 @@ export class Page {
     }, WRITE_AFTER);
   }
 
-  /** Goes to where the address says. */
+  /** Goes to what the address names. */
   readAddress() {
     clearTimeout(this.writing);
     const found = /^#p(\d+)e(\d+)(?:t(\d+))?$/.exec(location.hash);
@@ -264,7 +264,7 @@ export class Page {
     this.drawLanes();
   }
 
-  /** What a key does; false if nothing. */
+  /** Does what a key does; false if that is nothing. */
   key(name, isShifted) {
     const keys = this.data === null ? this.more.acts : { ...this.keysOfRun(isShifted ? 10 : 1), ...this.more.acts };
     if (/^[1-8]$/.test(name) && this.data !== null && Number(name) <= this.data.parts.length) this.goPart(Number(name) - 1);
@@ -299,7 +299,7 @@ export class Page {
     if (this.key(press.key, press.shiftKey)) press.preventDefault();
   }
 
-  /** For print the lists are whole, and the lanes go on in rows. */
+  /** For print the lists are whole, and the lanes continue in further rows. */
   print(begins) {
     if (this.data === null) return;
     this.events.list.draw(begins ? MOST_PRINTED : 0);
@@ -342,7 +342,7 @@ function marksOf(part) {
   return [...found].sort((one, other) => one - other);
 }
 
-/** Whether a key is for what it is pressed in: a field that one types or chooses in, or a drawing with its own arrows. */
+/** Whether a key is for the focused element: a field to type or choose in, or a drawing with its own arrows. */
 function isTyping(target, key) {
   if (!(target instanceof Element)) return false;
   if (target.matches("[role=application]")) return /^(Arrow|Enter)/.test(key);

@@ -1,4 +1,4 @@
-/** The page of a server: texts that are edited, faults that are placed, and the run of what stands there. */
+/** The page of a server: texts to edit, faults to add, and the run of the texts. */
 
 import { Asking } from "./ask.js";
 import { Editor } from "./editor.js";
@@ -15,7 +15,7 @@ const MAKES = { exact: ["exact JSON", ".json"], report: ["report", ".report"], p
 
 const NO_SCENARIO = "There is no scenario (.json, .jsonc) in this folder: copy one of the examples into it, and load this page again.";
 
-/** What can be done, for who sees the page for the first time. */
+/** What can be done, for anyone who sees the page for the first time. */
 const INTRODUCTION = [
   "A scenario opens as text, with the text of its drivers, and is run at once. Below the texts its run is gone through event by event.",
   "Change a text, and run it again (r). Place a fault before a turn of a burst (f), and take it back (u).",
@@ -52,10 +52,10 @@ class Bench {
     this.checking = 0;
     this.fault = new FaultForm(kinds);
     this.editor = new Editor(() => this.changed());
-    this.map = new DrawnMap((fault, part) => this.place(part, fault));
+    this.map = new DrawnMap((fault, part) => this.addFault(part, fault));
     this.orders = new OrderList((schedule) => this.openOrder(schedule));
     this.root = element("div", { class: "run" });
-    this.page = new Page(this.root, { keys: BENCH_KEYS, acts: this.acts(), place: (turn) => this.placeAt(turn) });
+    this.page = new Page(this.root, { keys: BENCH_KEYS, acts: this.acts(), addFault: (turn) => this.addFaultAt(turn) });
     this.build(folder);
   }
 
@@ -64,7 +64,7 @@ class Bench {
     return {
       r: () => this.run(),
       g: () => this.toggleGuard(),
-      f: () => this.placeAt(this.page.turnHere),
+      f: () => this.addFaultAt(this.page.turnHere),
       u: () => this.undo(),
       m: () => this.drawMap(),
       x: () => this.explore(),
@@ -90,7 +90,7 @@ class Bench {
   faultTools() {
     this.undoer = button("undo", "take the last fault or schedule back (u)", () => this.undo(), { disabled: true, class: "undo" });
     return element("div", { class: "tool" }, element("b", {}, "Fault"), ...this.fault.elements,
-      button("place (f)", "place it before the turn that is looked at (f)", () => this.placeAt(this.page.turnHere), { class: "place-here" }), this.undoer,
+      button("place (f)", "place it before the turn that is looked at (f)", () => this.addFaultAt(this.page.turnHere), { class: "place-here" }), this.undoer,
       element("span", { class: "none" }, "or a click on 'fault' at a turn, or on a cell of a map"));
   }
 
@@ -127,7 +127,7 @@ class Bench {
     this.say(scenarios.length ? "Choose a scenario in the list above." : NO_SCENARIO, "");
   }
 
-  /** Lists the scenarios of the folder, the open one chosen. */
+  /** Lists the scenarios of the folder, with the open one selected. */
   async listFiles() {
     const { made, refused } = await this.asking.ask("/files", {});
     if (!made) {
@@ -147,7 +147,7 @@ class Bench {
     this.said.title = kind === "refused" ? "a click, or F8, goes to the place" : "";
   }
 
-  /** Says what the server refused or ended, and marks its place. */
+  /** Says what the server refused or ended, and marks the position. */
   sayRefused({ refused, ended }) {
     this.say((refused ?? ended).text, "refused");
     this.editor.mark(refused && refused.line ? refused : null);
@@ -158,14 +158,14 @@ class Bench {
     toggle.textContent = isHidden ? "show texts" : "hide texts";
   }
 
-  // What is asked for.
+  // Requests.
 
-  /** What every request of a run has: the texts as they stand. */
+  /** What every request of a run has: the texts as edited. */
   get given() {
     return { file: this.file, texts: this.editor.plain, guard: this.guard.checked };
   }
 
-  /** Asks for a run, which another one, or Esc, stops. What was made, or null. */
+  /** Requests a run, which another one, or Esc, stops. Returns what was made, or null. */
   async work(task, more = {}) {
     if (!this.file) {
       this.say("no scenario is open", "refused");
@@ -221,14 +221,14 @@ class Bench {
     await this.run(() => this.page.readAddress());
   }
 
-  /** The address names the scenario that is open, so that it can be loaded again. */
+  /** Names the open scenario in the address, so that it can be loaded again. */
   writeOpened(address) {
     const query = new URLSearchParams(location.search);
     query.set("open", this.opened);
     history.replaceState(null, "", `?${query}${address}`);
   }
 
-  /** Runs what stands in the texts; what is looked at is where it was, or where `go` goes. */
+  /** Runs the texts as edited. The selection stays, or moves to where `go` goes. */
   async run(go = null) {
     const texts = JSON.stringify(this.editor.plain);
     const made = await this.work("run");
@@ -245,7 +245,7 @@ class Bench {
     this.showStale();
   }
 
-  /** Whether the run that is shown is of other texts than those that stand there now. */
+  /** Shows whether the texts were edited after the run that is shown. */
   showStale() {
     this.root.classList.toggle("stale", this.page.data !== null && JSON.stringify(this.editor.plain) !== this.ran);
   }
@@ -255,17 +255,17 @@ class Bench {
     this.run();
   }
 
-  /** Places the fault of the form before a turn of the burst that is looked at. */
-  placeAt(turn) {
+  /** Adds the fault of the form before an instruction of the selected burst. */
+  addFaultAt(turn) {
     const burst = this.page.burstNumber;
     if (!burst || !turn) return this.say("look at an event in which the driver works: a fault strikes in a burst, before a turn", "refused");
     const { several } = this.fault;
     if (several) return this.say(`a fault has one ${several}, a number; only a map takes several`, "refused");
-    return this.place(this.page.here.part, this.fault.before(turn, burst));
+    return this.addFault(this.page.here.part, this.fault.before(turn, burst));
   }
 
-  /** Places a fault in the scenario, runs it, and goes to where it struck. */
-  async place(part, fault) {
+  /** Adds a fault to the scenario, runs it, and goes to where the fault struck. */
+  async addFault(part, fault) {
     const made = await this.work("place", { part, fault });
     if (made) await this.change(made.text, () => this.page.goBurst(part, fault.burst));
   }
@@ -275,13 +275,13 @@ class Bench {
     if (made) await this.change(made.text, () => this.goFirstWrong());
   }
 
-  /** Where a run first went wrong, or its beginning. */
+  /** Goes to where a run first went wrong, or to its beginning. */
   goFirstWrong() {
     const part = Math.max(0, this.page.data.parts.findIndex((each) => each.marks.length));
     this.page.go({ part, event: this.page.data.parts[part].marks[0] ?? 0, turn: null });
   }
 
-  /** Puts another text in the place of the scenario's, and runs it. */
+  /** Replaces the scenario's text, and runs it. */
   async change(text, go) {
     this.before.push([this.editor.texts.get(this.file).text, text]);
     this.undoer.disabled = false;
@@ -303,7 +303,7 @@ class Bench {
     await this.run();
   }
 
-  /** The burst that is looked at and the fault of the form, as a map takes them. */
+  /** The selected burst and the fault of the form, as a map takes them. */
   mapOptions() {
     const width = Math.max(600, this.root.clientWidth - 20);
     return { part: this.page.here.part, burst: this.page.burstNumber, kind: this.fault.kind, ...this.fault.written, width };
@@ -328,7 +328,7 @@ class Bench {
 
   // Files.
 
-  /** Saves the texts that are not saved, each under its name. */
+  /** Saves the unsaved texts, each under its name. */
   async save() {
     const saved = [];
     for (const name of this.editor.unsaved) {
@@ -342,7 +342,7 @@ class Bench {
     this.say(saved.length ? `saved: ${saved.join(", ")}` : "all texts are saved", "ran");
   }
 
-  /** Makes a file of the scenario. */
+  /** Makes a file from the scenario. */
   async make(over) {
     const makes = this.makes.value;
     const ending = MAKES[makes][1];
@@ -352,7 +352,7 @@ class Bench {
     if (made) this.say(`made: ${made.name}`, "ran");
   }
 
-  /** After a pause in typing, asks whether the program takes the texts. */
+  /** After a pause in typing, asks whether the program accepts the texts. */
   changed() {
     this.showStale();
     clearTimeout(this.checking);
@@ -369,7 +369,7 @@ class Bench {
     } else this.sayRefused(answer);
   }
 
-  /** The keys that work in a text too. */
+  /** The keys that also work in a text. */
   pressed(press) {
     const isCtrl = press.ctrlKey || press.metaKey;
     const inText = document.activeElement === this.editor.area;
@@ -382,7 +382,7 @@ class Bench {
     if (!inText || press.key !== "Escape") press.preventDefault();
   }
 
-  /** Stops what is under way, or leaves what one types in. */
+  /** Stops what is running, or leaves the focused field. */
   escape() {
     if (this.stop) this.stop.abort();
     else if (document.activeElement instanceof HTMLElement) document.activeElement.blur();

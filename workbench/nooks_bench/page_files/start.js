@@ -1,4 +1,4 @@
-/** A page of one run, which stands in it as data. */
+/** A page of one run, with the run in it as data. */
 
 import { element } from "./elements.js";
 import { Page } from "./page.js";

@@ -1,4 +1,4 @@
-/** What is so after an event: the rows of the page's data, as tables. Nothing is computed here. */
+/** The state after an event: the rows of the page's data, as tables. Nothing is computed here. */
 
 import { element, linked } from "./elements.js";
 import { at, rowsAt } from "./history.js";
@@ -14,7 +14,7 @@ function none(text) {
   return element("p", { class: "none" }, text);
 }
 
-/** A row of a table; one that is new has a mark before it, which is also a word for those who hear the page. */
+/** A row of a table. A new one has a mark before it, with a title for those who hear the page. */
 function row(isNew, ...cells) {
   const mark = isNew ? element("span", { title: "changed by this event" }, "\u25b8") : "";
   const made = cells.map((cell) => (cell instanceof Element ? cell : element("td", {}, cell)));
@@ -26,8 +26,8 @@ function table(heads, rows) {
   return element("table", {}, element("thead", {}, head), element("tbody", {}, ...rows));
 }
 
-function modeCard(part, place) {
-  const rows = Object.fromEntries(rowsAt(part.state.part, place).map((each) => [each.name, each]));
+function modeCard(part, event) {
+  const rows = Object.fromEntries(rowsAt(part.state.part, event).map((each) => [each.name, each]));
   const failures = `failures ${rows.failures.says}, limit ${part.limit}`;
   return card("Part",
     element("p", { class: "mode" },
@@ -37,8 +37,8 @@ function modeCard(part, place) {
       element("span", { class: rows.failures.isNew ? "new" : "" }, failures)));
 }
 
-function callCard(part, place) {
-  const rows = rowsAt(part.state.calls, place).map(({ name, says, isNew }) => {
+function callCard(part, event) {
+  const rows = rowsAt(part.state.calls, event).map(({ name, says, isNew }) => {
     const [where, call, asks, words] = says;
     return row(isNew, part.names[name] ?? name, call, asks,
       element("td", { class: `where ${where}` }, ...linked(words, part.place)));
@@ -47,32 +47,32 @@ function callCard(part, place) {
   return card("Calls, each thread's last one", rows.length ? table(heads, rows) : none("no thread has asked for anything yet"));
 }
 
-function registerCard(part, place) {
+function registerCard(part, event) {
   const rows = part.registers.map((name, number) => {
-    const record = at(part.state.record[number], place);
-    const device = at(part.state.registers[number], place);
-    const isNew = place > 0 && (record[0] === place || device[0] === place);
+    const record = at(part.state.record[number], event);
+    const device = at(part.state.registers[number], event);
+    const isNew = event > 0 && (record[0] === event || device[0] === event);
     const differs = record[1] === device[1] ? "" : "differs";
     return row(isNew, `${number} ${name}`, record[1], device[1], differs);
   });
   return card("Configuration", table(["register", "shadow's record", "device", ""], rows));
 }
 
-function listCard(name, section, place, heads, empty) {
-  const rows = rowsAt(section, place).map(({ name: number, says, isNew }) =>
+function listCard(name, section, event, heads, empty) {
+  const rows = rowsAt(section, event).map(({ name: number, says, isNew }) =>
     row(isNew, number, element("td", { title: says[1], class: "words" }, says[0])));
   return card(name, rows.length ? table(heads, rows) : none(empty));
 }
 
-/** Frames side by side, as many as fit into the page. */
+/** The first frames of a list, and how many there are. */
 function frames(list, most) {
   const shown = list.slice(0, 12).join(" ");
   return `${list.length}${most ? ` of ${most}` : ""}${list.length ? ": " : ""}${shown}${list.length > 12 ? " .." : ""}`;
 }
 
-function frameCard(part, place) {
-  const rows = Object.fromEntries(rowsAt(part.state.frames, place).map((each) => [each.name, each]));
-  const wire = rowsAt(part.state.wire, place)[0];
+function frameCard(part, event) {
+  const rows = Object.fromEntries(rowsAt(part.state.frames, event).map((each) => [each.name, each]));
+  const wire = rowsAt(part.state.wire, event)[0];
   return card("Frames", table(["where", "frames, the oldest first"], [
     row(rows.ring.isNew, "device's ring", frames(rows.ring.says, RING)),
     row(rows.driver.isNew, "driver's hands", frames(rows.driver.says, 0)),
@@ -81,8 +81,8 @@ function frameCard(part, place) {
   ]));
 }
 
-function streamCard(part, place) {
-  const rows = Object.fromEntries(rowsAt(part.state.stream, place).map((each) => [each.name, each]));
+function streamCard(part, event) {
+  const rows = Object.fromEntries(rowsAt(part.state.stream, event).map((each) => [each.name, each]));
   const holder = part.names[rows.holder.says] ?? rows.holder.says;
   return card("Stream", table(["", ""], [
     row(rows.holder.isNew, "held by", holder),
@@ -90,8 +90,8 @@ function streamCard(part, place) {
   ]));
 }
 
-function restCard(part, place) {
-  const [holds, losses, contract] = ["holds", "losses", "contract"].map((name) => rowsAt(part.state[name], place)[0]);
+function restCard(part, event) {
+  const [holds, losses, contract] = ["holds", "losses", "contract"].map((name) => rowsAt(part.state[name], event)[0]);
   const broken = element("td", { class: contract.says ? "broken" : "" },
     ...linked(contract.says || "not broken so far", part.place));
   return card("Driver and applications", table(["", ""], [
@@ -102,15 +102,15 @@ function restCard(part, place) {
 }
 
 /** The cards of a part after an event; 0 is the beginning. */
-export function stateCards(part, place) {
-  const cards = [modeCard(part, place), callCard(part, place), registerCard(part, place)];
+export function stateCards(part, event) {
+  const cards = [modeCard(part, event), callCard(part, event), registerCard(part, event)];
   if (part.class === "block") {
-    cards.push(listCard("Disk", part.state.blocks, place, ["block", "words"], "all blocks are blank"));
+    cards.push(listCard("Disk", part.state.blocks, event, ["block", "words"], "all blocks are blank"));
   }
-  if (part.class === "net") cards.push(frameCard(part, place));
-  if (part.class === "sound") cards.push(streamCard(part, place));
-  if (rowsAt(part.state.objects, place).length) {
-    cards.push(listCard("Kernel objects that were changed", part.state.objects, place, ["object", "words"], ""));
+  if (part.class === "net") cards.push(frameCard(part, event));
+  if (part.class === "sound") cards.push(streamCard(part, event));
+  if (rowsAt(part.state.objects, event).length) {
+    cards.push(listCard("Kernel objects that were changed", part.state.objects, event, ["object", "words"], ""));
   }
-  return [...cards, restCard(part, place)];
+  return [...cards, restCard(part, event)];
 }
